@@ -1,0 +1,161 @@
+-- What follows for a whole run.
+use Rattle.std.proofs.Common.{◌≡◌, ℕ, zero, suc, ◌+◌, ◌<◌, Bool, true, false, cond, List, [], ◌∷◌, ◌++◌, length, map, take, Some, refl, ap, sym, ◌∙◌, subst, arith, add-one}
+use Rattle.std.specs.Prelude.{count_by, filter, slice_index_or, slice_get, ◌||◌}
+use Rattle.std.specs.List.{list_any}
+use Rattle.std.proofs.lemmas.List.Recursion.{is_count_by}
+use Rattle.record_model.specs.declared.words.CacheLine.{CacheLine}
+use Rattle.record_model.specs.State.{Content, State}
+use Rattle.record_model.specs.Run.{Line, Turn, line_step, turn, turns, state_at, is_quit, is_committed, commit_marks, commits_among, committed_tables, next_listing, later_listings, left_by, listings_after}
+use Rattle.record_model.specs.Laws.{IsCountedIn, EachLineHasATurn, TurnsFollow, CommitsMakeTheTable}
+use Rattle.record_model.proofs.StepLaws.{commits_once}
+
+neither : (a b : Bool) → (a || b) ≡ false → (a ≡ false) × (b ≡ false)
+neither true b h = absurd cc
+neither false b h = (refl, h)
+
+pub each_line_has_a_turn : EachLineHasATurn
+each_line_has_a_turn checkpoints s [] listings h = refl
+each_line_has_a_turn checkpoints s (line ∷ lines) listings h =
+    let quits = neither (is_quit line) (list_any is_quit lines) h in
+    rw quits.0 (ap suc (each_line_has_a_turn checkpoints (turn checkpoints s line (next_listing listings)).after lines (later_listings line listings) quits.1))
+
+-- a run goes on where it stopped
+pub turns-append : (checkpoints : Bool) (xs ys : List Line) (s : State) (listings : List (List CacheLine)) → list_any is_quit xs ≡ false →
+    turns checkpoints s (xs ++ ys) listings
+    ≡ turns checkpoints s xs listings ++ turns checkpoints (left_by s (turns checkpoints s xs listings)) ys (listings_after xs listings)
+turns-append checkpoints [] ys s listings h = refl
+turns-append checkpoints (x ∷ xs) ys s listings h =
+    let quits = neither (is_quit x) (list_any is_quit xs) h in
+    let first = turn checkpoints s x (next_listing listings) in
+    rw quits.0 (ap (λ run. first ∷ run) (turns-append checkpoints xs ys first.after (later_listings x listings) quits.1))
+
+-- A turn that quits is the last one.
+
+ends : (checkpoints : Bool) (s : State) (line : Line) (lines : List Line) (listings : List (List CacheLine)) → is_quit line ≡ true →
+    turns checkpoints s (line ∷ lines) listings ≡ turn checkpoints s line (next_listing listings) ∷ []
+ends checkpoints s line lines listings h = rw h refl
+
+goes_on : (checkpoints : Bool) (s : State) (line : Line) (lines : List Line) (listings : List (List CacheLine)) → is_quit line ≡ false →
+    turns checkpoints s (line ∷ lines) listings
+    ≡ turn checkpoints s line (next_listing listings) ∷ turns checkpoints (turn checkpoints s line (next_listing listings)).after lines (later_listings line listings)
+goes_on checkpoints s line lines listings h = rw h refl
+
+-- a turn of a run, with the place after it as a successor
+IsTurnOf : Bool → State → List Turn → ℕ → Line → List CacheLine → Type 0
+IsTurnOf checkpoints s run i line listing =
+    (slice_get run i ≡ Some (turn checkpoints (state_at run s i) line listing))
+    × (state_at run s (suc i) ≡ (line_step checkpoints (state_at run s i) line listing).after)
+
+later_turn : (checkpoints : Bool) (s : State) (x : Line) (lines : List Line) (listings : List (List CacheLine)) (i : ℕ) (line : Line) (b : Bool) → is_quit x ≡ b →
+    let after = (turn checkpoints s x (next_listing listings)).after in
+    let rest = turns checkpoints after lines (later_listings x listings) in
+    let listing = next_listing (listings_after (take i lines) (later_listings x listings)) in
+    suc i < length (turns checkpoints s (x ∷ lines) listings) → (i < length rest → IsTurnOf checkpoints after rest i line listing) →
+    IsTurnOf checkpoints s (turns checkpoints s (x ∷ lines) listings) (suc i) line listing
+unfolding IsTurnOf
+later_turn checkpoints s x lines listings i line true h below k = absurd (ended (subst (λ (run : List Turn). suc i < length run) (ends checkpoints s x lines listings h) below))
+  where
+    ended : suc i < 1 → ⊥
+    ended k = omega (arith, k)
+later_turn checkpoints s x lines listings i line false h below k =
+    let after = (turn checkpoints s x (next_listing listings)).after in
+    let rest = turns checkpoints after lines (later_listings x listings) in
+    let listing = next_listing (listings_after (take i lines) (later_listings x listings)) in
+    let long : suc i < suc (length rest) = subst (λ (run : List Turn). suc i < length run) (goes_on checkpoints s x lines listings h) below in
+    subst (λ (run : List Turn). IsTurnOf checkpoints s run (suc i) line listing) (sym (goes_on checkpoints s x lines listings h)) (k (omega (arith, long)))
+
+turn_at : (checkpoints : Bool) (s : State) (lines : List Line) (listings : List (List CacheLine)) (i : ℕ) (line : Line) →
+    i < length (turns checkpoints s lines listings) → slice_get lines i ≡ Some line →
+    IsTurnOf checkpoints s (turns checkpoints s lines listings) i line (next_listing (listings_after (take i lines) listings))
+unfolding IsTurnOf
+turn_at checkpoints s [] listings i line below is = absurd cc
+turn_at checkpoints s (x ∷ lines) listings zero line below is =
+    let same : x ≡ line = cc in
+    (ap (λ l. Some (turn checkpoints s l (next_listing listings))) same, ap (λ l. (line_step checkpoints s l (next_listing listings)).after) same)
+turn_at checkpoints s (x ∷ lines) listings (suc i) line below is =
+    later_turn checkpoints s x lines listings i line (is_quit x) refl below (λ inside. turn_at checkpoints (turn checkpoints s x (next_listing listings)).after lines (later_listings x listings) i line inside is)
+
+pub turns_follow : TurnsFollow
+unfolding IsTurnOf
+turns_follow checkpoints s lines listings i line below is =
+    let t = turn_at checkpoints s lines listings i line below is in
+    record { turn = t.0; next = ap (state_at (turns checkpoints s lines listings) s) (add-one i) ∙ t.1 }
+
+-- Each turn starts from the state before it.
+
+abbrev pub IsRun : Bool → State → List Turn → Type 0
+IsRun checkpoints s [] = Unit {0}
+IsRun checkpoints s (t ∷ run) = (listing : List CacheLine) × (t ≡ turn checkpoints s t.line listing) × IsRun checkpoints t.after run
+
+pub turns_are_run : (checkpoints : Bool) (s : State) (lines : List Line) (listings : List (List CacheLine)) → IsRun checkpoints s (turns checkpoints s lines listings)
+turns_are_run checkpoints s [] listings = tt
+turns_are_run checkpoints s (line ∷ lines) listings =
+    (next_listing listings, refl, quit_or (is_quit line) _ _ tt (turns_are_run checkpoints (turn checkpoints s line (next_listing listings)).after lines (later_listings line listings)))
+  where
+    quit_or : (b : Bool) (s : State) (run : List Turn) → Unit {0} → IsRun checkpoints s run → IsRun checkpoints s (cond b [] run)
+    quit_or true s run u h = tt
+    quit_or false s run u h = h
+
+-- Commits.
+
+marks_of : List Bool → ℕ
+marks_of [] = 0
+marks_of (mark ∷ marks) = cond mark (1 + marks_of marks) (marks_of marks)
+
+marks_are : (marks : List Bool) → marks_of marks ≡ count_by (λ mark. mark) marks
+unfolding marks_of
+marks_are marks = is_count_by marks_of (λ mark. mark) refl (λ mark marks. refl) marks
+
+commits_cons : (i : ℕ) (mark : Bool) (marks : List Bool) → commits_among (suc i) (mark ∷ marks) ≡ cond mark (1 + commits_among i marks) (commits_among i marks)
+unfolding marks_of
+commits_cons i mark marks = sym (marks_are (mark ∷ take i marks)) ∙ ap (λ n. cond mark (1 + n) n) (marks_are (take i marks))
+
+cond_same : {A : Type 0} (b : Bool) (x y z : A) → (b ≡ true → x ≡ z) → (b ≡ false → y ≡ z) → cond b x y ≡ z
+cond_same true x y z h k = h refl
+cond_same false x y z h k = k refl
+
+-- the tables from a turn on
+tables_cons : (b : Bool) (table default : List Content) (t : Turn) (run : List Turn) (n : ℕ) →
+    slice_index_or (table ∷ map (λ (u : Turn). u.after.table) (cond b (t ∷ run) run)) (cond b (1 + n) n) default
+    ≡ cond b (slice_index_or (t.after.table ∷ map (λ (u : Turn). u.after.table) run) n default) (slice_index_or (table ∷ map (λ (u : Turn). u.after.table) run) n default)
+tables_cons true table default t run n =
+    let one : 1 + n ≡ suc n = omega arith in
+    ap (λ k. slice_index_or (table ∷ t.after.table ∷ map (λ (u : Turn). u.after.table) run) k default) one
+tables_cons false table default t run n = refl
+
+-- what a turn of a run does to the count and to the table
+turn_counts : (checkpoints : Bool) (s : State) (t : Turn) (listing : List CacheLine) → t ≡ turn checkpoints s t.line listing →
+    IsCountedIn s (record { after = t.after; reply = t.reply })
+turn_counts checkpoints s t listing is =
+    let c = commits_once checkpoints s t.line listing in
+    subst (λ (u : Turn). IsCountedIn s (record { after = u.after; reply = u.reply })) (sym is) (record { committed = c.committed; others = c.others })
+
+tables_at : (checkpoints : Bool) (s : State) (run : List Turn) (i : ℕ) (table default : List Content) → IsRun checkpoints s run → table ≡ s.table →
+    slice_index_or (table ∷ committed_tables run) (commits_among i (commit_marks run)) default ≡ (state_at run s i).table
+tables_at checkpoints s run zero table default is e = e
+tables_at checkpoints s [] (suc i) table default is e = e
+tables_at checkpoints s (t ∷ run) (suc i) table default is e =
+    ap (λ n. slice_index_or (table ∷ committed_tables (t ∷ run)) n default) (commits_cons i (is_committed t.reply) (commit_marks run))
+    ∙ tables_cons (is_committed t.reply) table default t (filter (λ u. is_committed u.reply) run) (commits_among i (commit_marks run))
+    ∙ cond_same (is_committed t.reply) _ _ _
+    (λ h. tables_at checkpoints t.after run i t.after.table default is.2 refl)
+    (λ h. tables_at checkpoints t.after run i table default is.2 (e ∙ sym ((turn_counts checkpoints s t is.0 is.1).others h).0))
+
+counts_at : (checkpoints : Bool) (s : State) (run : List Turn) (i : ℕ) → IsRun checkpoints s run →
+    (state_at run s i).commits ≡ s.commits + commits_among i (commit_marks run)
+counts_at checkpoints s run zero is = omega arith
+counts_at checkpoints s [] (suc i) is = omega arith
+counts_at checkpoints s (t ∷ run) (suc i) is =
+    counts_at checkpoints t.after run i is.2 ∙ more (is_committed t.reply) (commits_among i (commit_marks run)) (λ h. ((turn_counts checkpoints s t is.0 is.1).committed h).1) (λ h. ((turn_counts checkpoints s t is.0 is.1).others h).1)
+    ∙ ap (λ n. s.commits + n) (sym (commits_cons i (is_committed t.reply) (commit_marks run)))
+  where
+    more : (b : Bool) (n : ℕ) → (b ≡ true → t.after.commits ≡ s.commits + 1) → (b ≡ false → t.after.commits ≡ s.commits) →
+        t.after.commits + n ≡ s.commits + cond b (1 + n) n
+    more true n h k = let e = h refl in omega (arith, e)
+    more false n h k = let e = k refl in omega (arith, e)
+
+pub commits_make_the_table : CommitsMakeTheTable
+commits_make_the_table checkpoints s lines listings i = record {
+  table = sym (tables_at checkpoints s (turns checkpoints s lines listings) i s.table s.table (turns_are_run checkpoints s lines listings) refl);
+  commits = counts_at checkpoints s (turns checkpoints s lines listings) i (turns_are_run checkpoints s lines listings);
+}

@@ -1,0 +1,179 @@
+-- What follows from the step of the model.
+use Rattle.std.proofs.Common.{◌≡◌, ℕ, ◌+◌, ◌-◌, Bool, true, false, cond, List, [], ◌∷◌, length, Option, Some, None, refl, ap, sym, ◌∙◌, arith, slice_set}
+use Rattle.std.specs.Prelude.{not, ◌&&◌, is_none, if◌then◌else◌, option_map, map}
+use Rattle.std.specs.List.{AllByRecursion, range_with_len}
+use Rattle.std.proofs.lemmas.Grind.{common_steps}
+use Rattle.record_model.specs.declared.words.Command.{Command}
+use Rattle.record_model.specs.declared.words.Command.TheVariants.{Begin, Read, Write, Erase, Scan, Commit, Abort, Get, Set, Checkpoint, Cache, Stat, Quit}
+use Rattle.record_model.specs.declared.words.CacheLine.{CacheLine}
+use Rattle.record_model.specs.declared.words.Why.{Why}
+use Rattle.record_model.specs.declared.words.Why.TheVariants.{BadSession, NoRecord, TooLong}
+use Rattle.record_model.specs.declared.words.Reply.{Reply}
+use Rattle.record_model.specs.declared.words.Reply.TheVariants as reply
+use Rattle.record_model.specs.State.{kept_by_checkpoint, Content, Session, State, table_with, session_at, writes_of, seen, content_at, busy_read, busy_write}
+use Rattle.record_model.specs.State as state
+use Rattle.record_model.specs.Step.{lacks_room, wants_checkpoint, Outcome, step, outcome, refusal, first_refusal, refuse_if, wants_active, wants_record, wants_short, may_read, may_write, ready, effect, answer, found}
+use Rattle.record_model.specs.Run.{is_committed}
+use Rattle.record_model.specs.Laws.{IsCountedIn, KeepsSizes, CommitsOnce, SizesStay, RefusedChangesNothing}
+
+-- a command that is refused before the budget is looked at leaves the state as it was
+pub step_refused : (checkpoints : Bool) (s : State) (command : Command) (listing : List CacheLine) (refused : Reply) → refusal s command ≡ Some refused →
+    step checkpoints s command listing ≡ record { after = s; reply = refused }
+step_refused checkpoints s command listing refused h = ap (outcome checkpoints s command listing) h
+
+-- a commit is refused only where the session isn't active
+pub step_commit : (checkpoints : Bool) (s : State) (n : ℕ) (listing : List CacheLine) (session : Session) → session_at s n ≡ Some session →
+    (step checkpoints s (Commit n) listing).reply ≡ reply.Committed (s.commits + 1)
+step_commit checkpoints s n listing session h = rw h refl
+
+-- Sizes.
+
+length_table_with : (table : List Content) (writes : List state.Write) → length (table_with table writes) ≡ length table
+length_table_with table [] = refl
+length_table_with table (w ∷ writes) = length_table_with (slice_set table w.0 w.1) writes ∙ grind (arith, common_steps)
+
+with_length : (s : State) (n : ℕ) (session : Option Session) → length (slice_set s.sessions n session) ≡ length s.sessions
+with_length s n session = grind (arith, common_steps)
+
+effect_keeps : (s : State) (command : Command) → KeepsSizes s (effect s command)
+effect_keeps s (Begin n) = record { table = refl; sessions = with_length s n _; cap = refl }
+effect_keeps s (Read n number) = record { table = refl; sessions = with_length s n _; cap = refl }
+effect_keeps s (Write n number value) = record { table = refl; sessions = with_length s n _; cap = refl }
+effect_keeps s (Erase n number) = record { table = refl; sessions = with_length s n _; cap = refl }
+effect_keeps s (Scan n number count) = record { table = refl; sessions = with_length s n _; cap = refl }
+effect_keeps s (Commit n) = record { table = length_table_with s.table (writes_of (session_at s n)); sessions = with_length s n _; cap = refl }
+effect_keeps s (Abort n) = record { table = refl; sessions = with_length s n _; cap = refl }
+effect_keeps s (Get number) = record { table = refl; sessions = refl; cap = refl }
+effect_keeps s (Set number value) = record { table = length_table_with s.table ((number, Some value) ∷ []); sessions = refl; cap = refl }
+effect_keeps s Checkpoint = record { table = refl; sessions = refl; cap = refl }
+effect_keeps s Cache = record { table = refl; sessions = refl; cap = refl }
+effect_keeps s Stat = record { table = refl; sessions = refl; cap = refl }
+effect_keeps s Quit = record { table = refl; sessions = refl; cap = refl }
+
+-- an outcome that is one of two
+chosen : (P : Outcome → Type 0) (b : Bool) (o p : Outcome) → P o → P p → P (cond b o p)
+chosen P true o p h k = h
+chosen P false o p h k = k
+
+outcome_keeps : (checkpoints : Bool) (s : State) (command : Command) (listing : List CacheLine) (r : Option Reply) →
+    KeepsSizes s (outcome checkpoints s command listing r).after
+outcome_keeps checkpoints s command listing (Some refused) = record { table = refl; sessions = refl; cap = refl }
+outcome_keeps checkpoints s command listing None =
+    chosen (λ o. KeepsSizes s o.after) _ _ _
+    (record { table = refl; sessions = refl; cap = refl })
+    (let kept = effect_keeps (ready checkpoints s command) command in record { table = kept.table; sessions = kept.sessions; cap = kept.cap })
+
+pub sizes_stay : SizesStay
+sizes_stay checkpoints s None listing = record { table = refl; sessions = refl; cap = refl }
+sizes_stay checkpoints s (Some command) listing = outcome_keeps checkpoints s command listing (refusal s command)
+
+-- Commits.
+
+carried : State → Command → List CacheLine → Outcome
+carried s command listing = record { after = effect s command; reply = answer s command listing }
+
+still : (s : State) (o : Outcome) → is_committed o.reply ≡ false → o.after.table ≡ s.table → o.after.commits ≡ s.commits → IsCountedIn s o
+still s o other table commits = record { committed = λ h. absurd cc; others = λ h. (table, commits) }
+
+found_is : (content : Content) → is_committed (found content) ≡ false
+found_is None = refl
+found_is (Some value) = refl
+
+counted : (s : State) (command : Command) (listing : List CacheLine) → IsCountedIn s (carried s command listing)
+unfolding carried
+counted s (Begin n) listing = still s _ refl refl refl
+counted s (Read n number) listing = still s _ (found_is (seen s n number)) refl refl
+counted s (Write n number value) listing = still s _ refl refl refl
+counted s (Erase n number) listing = still s _ refl refl refl
+counted s (Scan n number count) listing = still s _ refl refl refl
+counted s (Commit n) listing = record { committed = λ h. (refl, refl); others = λ h. absurd cc }
+counted s (Abort n) listing = still s _ refl refl refl
+counted s (Get number) listing = still s _ (found_is (content_at s.table number)) refl refl
+counted s (Set number value) listing = record { committed = λ h. (refl, refl); others = λ h. absurd cc }
+counted s Checkpoint listing = still s _ refl refl refl
+counted s Cache listing = still s _ refl refl refl
+counted s Stat listing = still s _ refl refl refl
+counted s Quit listing = still s _ refl refl refl
+
+-- a test's reply is no commit
+IsNoCommit : Option Reply → Type 0
+IsNoCommit None = Unit {0}
+IsNoCommit (Some refused) = is_committed refused ≡ false
+
+refused_if : (test : Bool) (why : Why) → IsNoCommit (refuse_if test (reply.Refused why))
+unfolding IsNoCommit
+refused_if true why = refl
+refused_if false why = tt
+
+busy_with : (holder : Option ℕ) → IsNoCommit (option_map reply.Busy holder)
+unfolding IsNoCommit
+busy_with None = tt
+busy_with (Some n) = refl
+
+first_of : (tests : List (Option Reply)) → AllByRecursion IsNoCommit tests → IsNoCommit (first_refusal tests)
+unfolding IsNoCommit
+first_of [] h = tt
+first_of (None ∷ tests) h = first_of tests h.1
+first_of (Some refused ∷ tests) h = h.0
+
+all_busy : (s : State) (own : Option ℕ) (numbers : List ℕ) → AllByRecursion IsNoCommit (map (may_read s own) numbers)
+all_busy s own [] = tt
+all_busy s own (number ∷ numbers) = (busy_with (busy_read s own number), all_busy s own numbers)
+
+refusals : (s : State) (command : Command) → IsNoCommit (refusal s command)
+unfolding IsNoCommit
+refusals s (Begin n) = refused_if _ BadSession
+refusals s (Read n number) = first_of (wants_active s n ∷ wants_record s number ∷ may_read s (Some n) number ∷ []) (refused_if _ BadSession, (refused_if _ NoRecord, (busy_with (busy_read s (Some n) number), tt)))
+refusals s (Write n number value) = first_of (wants_active s n ∷ wants_record s number ∷ wants_short value ∷ may_write s (Some n) number ∷ []) (refused_if _ BadSession, (refused_if _ NoRecord, (refused_if _ TooLong, (busy_with (busy_write s (Some n) number), tt))))
+refusals s (Erase n number) = first_of (wants_active s n ∷ wants_record s number ∷ may_write s (Some n) number ∷ []) (refused_if _ BadSession, (refused_if _ NoRecord, (busy_with (busy_write s (Some n) number), tt)))
+refusals s (Scan n number count) = first_of (wants_active s n ∷ wants_record s (number + count - 1) ∷ map (may_read s (Some n)) (range_with_len number count)) (refused_if _ BadSession, (refused_if _ NoRecord, all_busy s (Some n) (range_with_len number count)))
+refusals s (Commit n) = refused_if _ BadSession
+refusals s (Abort n) = refused_if _ BadSession
+refusals s (Get number) = first_of (wants_record s number ∷ may_read s None number ∷ []) (refused_if _ NoRecord, (busy_with (busy_read s None number), tt))
+refusals s (Set number value) = first_of (wants_record s number ∷ wants_short value ∷ may_write s None number ∷ []) (refused_if _ NoRecord, (refused_if _ TooLong, (busy_with (busy_write s None number), tt)))
+refusals s Checkpoint = tt
+refusals s Cache = tt
+refusals s Stat = tt
+refusals s Quit = tt
+
+counted_outcome : (checkpoints : Bool) (s : State) (command : Command) (listing : List CacheLine) (r : Option Reply) → IsNoCommit r →
+    IsCountedIn s (outcome checkpoints s command listing r)
+unfolding carried IsNoCommit
+counted_outcome checkpoints s command listing (Some refused) h = still s _ h refl refl
+counted_outcome checkpoints s command listing None h =
+    chosen (IsCountedIn s) _ _ _ (still s _ refl refl refl)
+    (let c = counted (ready checkpoints s command) command listing in record { committed = c.committed; others = c.others })
+
+pub commits_once : CommitsOnce
+commits_once checkpoints s None listing = still s _ refl refl refl
+commits_once checkpoints s (Some command) listing = counted_outcome checkpoints s command listing (refusal s command) (refusals s command)
+
+-- Refusals.
+
+and_true : (b : Bool) → (b && true) ≡ b
+and_true true = refl
+and_true false = refl
+
+and_false : (b : Bool) → (b && false) ≡ false
+and_false true = refl
+and_false false = refl
+
+negated : (b : Bool) → not b ≡ false → b ≡ true
+negated true h = refl
+negated false h = absurd cc
+
+kept_where : State → Bool → State
+kept_where s b = record s { kept = if b then kept_by_checkpoint s else s.kept }
+
+refused_leaves : (checkpoints : Bool) (s : State) (command : Command) (listing : List CacheLine) (r : Option Reply) →
+    (is_none r && not (lacks_room (ready checkpoints s command) command)) ≡ false →
+    (outcome checkpoints s command listing r).after ≡ kept_where s (wants_checkpoint checkpoints s command && is_none r)
+unfolding kept_where
+refused_leaves checkpoints s command listing (Some refused) h = ap (kept_where s) (sym (and_false (wants_checkpoint checkpoints s command)))
+refused_leaves checkpoints s command listing None h =
+    let full : lacks_room (ready checkpoints s command) command ≡ true = negated _ h in
+    rw full (ap (kept_where s) (sym (and_true (wants_checkpoint checkpoints s command))))
+
+pub refused_changes_nothing : RefusedChangesNothing
+unfolding kept_where
+refused_changes_nothing checkpoints s command listing h = refused_leaves checkpoints s command listing (refusal s command) h

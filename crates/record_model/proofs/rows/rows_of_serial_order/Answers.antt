@@ -1,0 +1,11 @@
+use Rattle.std.proofs.Common.{refl}
+use Rattle.record_model.proofs.rows.rows_of_serial_order.Goals as goal
+
+pub returns-clause-second_transaction : goal.returns-clause-second_transaction
+returns-clause-second_transaction c = refl
+
+pub returns-clause-answered_among_others : goal.returns-clause-answered_among_others
+returns-clause-answered_among_others c = refl
+
+pub returns-clause-answered_alone : goal.returns-clause-answered_alone
+returns-clause-answered_alone c = refl

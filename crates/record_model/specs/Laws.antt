@@ -1,0 +1,61 @@
+-- What follows from the model, for those who build on it.
+use Rattle.std.specs.Prelude.{◌≡◌, ℕ, ◌+◌, ◌<◌, Bool, false, List, length, take, slice_get, Some, IsTrue, if◌then◌else◌}
+use Rattle.std.specs.List.{list_any}
+use Rattle.record_model.specs.declared.words.Command.{Command}
+use Rattle.record_model.specs.declared.words.CacheLine.{CacheLine}
+use Rattle.record_model.specs.declared.words.Reply.TheVariants as reply
+use Rattle.record_model.specs.State.{State, kept_by_checkpoint}
+use Rattle.record_model.specs.Step.{Outcome, step, is_accepted, makes_checkpoint}
+use Rattle.record_model.specs.Run.{Line, Turn, turn as turn_of, line_step, turns, state_at, next_listing, listings_after, is_quit, is_committed, commit_marks, commits_among, after_commits}
+
+-- What a line does to a state. Where it commits, the count of commits rises by one, and the reply names the new count.
+-- Otherwise the table and the count stay.
+pub record IsCountedIn (s : State) (o : Outcome) : Type 0 where
+  pub committed : IsTrue (is_committed o.reply) → (o.reply ≡ reply.Committed (s.commits + 1)) × (o.after.commits ≡ s.commits + 1)
+  pub others : is_committed o.reply ≡ false → (o.after.table ≡ s.table) × (o.after.commits ≡ s.commits)
+
+-- the sizes that no line changes
+pub record KeepsSizes (before after : State) : Type 0 where
+  pub table : length after.table ≡ length before.table
+  pub sessions : length after.sessions ≡ length before.sessions
+  pub cap : after.cap ≡ before.cap
+
+-- a line commits at most once
+abbrev pub CommitsOnce : Type 0
+CommitsOnce = (checkpoints : Bool) (s : State) (line : Line) (listing : List CacheLine) →
+    IsCountedIn s (line_step checkpoints s line listing)
+
+-- a command that isn't carried out changes nothing, but that a checkpoint is made where one comes before the refusal
+abbrev pub RefusedChangesNothing : Type 0
+RefusedChangesNothing = (checkpoints : Bool) (s : State) (command : Command) (listing : List CacheLine) →
+    is_accepted checkpoints s command ≡ false →
+    (step checkpoints s command listing).after
+    ≡ record s { kept = if makes_checkpoint checkpoints s command then kept_by_checkpoint s else s.kept }
+
+abbrev pub SizesStay : Type 0
+SizesStay = (checkpoints : Bool) (s : State) (line : Line) (listing : List CacheLine) →
+    KeepsSizes s (line_step checkpoints s line listing).after
+
+-- where no line quits, each line has its turn
+abbrev pub EachLineHasATurn : Type 0
+EachLineHasATurn = (checkpoints : Bool) (s : State) (lines : List Line) (listings : List (List CacheLine)) →
+    list_any is_quit lines ≡ false → length (turns checkpoints s lines listings) ≡ length lines
+
+-- a turn of a run that begins at s: it answers its line from the state that the turns before it left
+pub record IsTurnAt (checkpoints : Bool) (s : State) (run : List Turn) (i : ℕ) (line : Line) (listing : List CacheLine) : Type 0 where
+  pub turn : slice_get run i ≡ Some (turn_of checkpoints (state_at run s i) line listing)
+  pub next : state_at run s (i + 1) ≡ (line_step checkpoints (state_at run s i) line listing).after
+
+abbrev pub TurnsFollow : Type 0
+TurnsFollow = (checkpoints : Bool) (s : State) (lines : List Line) (listings : List (List CacheLine)) (i : ℕ) (line : Line) →
+    i < length (turns checkpoints s lines listings) → slice_get lines i ≡ Some line →
+    IsTurnAt checkpoints s (turns checkpoints s lines listings) i line (next_listing (listings_after (take i lines) listings))
+
+-- after the first turns of a run that begins at s, the table is that of the commits among them, and they are counted
+pub record IsCountedAt (s : State) (run : List Turn) (i : ℕ) : Type 0 where
+  pub table : (state_at run s i).table ≡ after_commits s.table run (commits_among i (commit_marks run))
+  pub commits : (state_at run s i).commits ≡ s.commits + commits_among i (commit_marks run)
+
+abbrev pub CommitsMakeTheTable : Type 0
+CommitsMakeTheTable = (checkpoints : Bool) (s : State) (lines : List Line) (listings : List (List CacheLine)) (i : ℕ) →
+    IsCountedAt s (turns checkpoints s lines listings) i

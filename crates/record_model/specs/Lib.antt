@@ -1,0 +1,7 @@
+pub mod State
+pub mod Step
+pub mod Run
+pub mod Touches
+pub mod Serial
+pub mod Laws
+pub mod Rows

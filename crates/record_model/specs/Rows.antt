@@ -1,0 +1,202 @@
+-- Runs that were worked out by hand. Of each, the lines and what they are answered.
+use Rattle.std.specs.Prelude.{◌≡◌, ℕ, List, [], ◌∷◌, ◌++◌, replicate, map, reverse, slice_set, take, Bool, true, false, Some, None}
+use Rattle.std.specs.List.{range_with_len}
+use Rattle.record_model.specs.declared.words.Command.TheVariants.{Begin, Read, Write, Erase, Scan, Commit, Abort, Get, Set, Checkpoint, Stat, Quit}
+use Rattle.record_model.specs.declared.words.Reply.{Reply}
+use Rattle.record_model.specs.declared.words.Reply.TheVariants as reply
+use Rattle.record_model.specs.declared.words.Why.TheVariants.{BadSession, NoRecord, TooLong}
+use Rattle.record_model.specs.State.{Content, State, opened}
+use Rattle.record_model.specs.Run.{Line, Turn, turns, replies, acknowledged, asked_for, after_commits}
+use Rattle.record_model.specs.Serial.{lines_of, since_begin}
+use Rattle.record_model.specs.Touches.{touch, flush, run_touches}
+
+-- 512 records, none of which has a value
+abbrev pub blank : List Content
+blank = replicate 512 None
+
+-- a blank database whose log has room for so many records
+abbrev pub fresh : ℕ → State
+fresh cap = opened blank 0 0 cap
+
+-- with checkpoints, and without
+abbrev pub answers : ℕ → List Line → List Reply
+answers cap lines = replies (turns true (fresh cap) lines [])
+
+abbrev pub plain_answers : ℕ → List Line → List Reply
+plain_answers cap lines = replies (turns false (fresh cap) lines [])
+
+-- the octet that the rows write
+abbrev pub aa : List ℕ
+aa = 170 ∷ []
+
+-- Values: the longest, one that is too long, and the empty one.
+abbrev pub LongestValue : Type 0
+LongestValue =
+    answers 63 (Some (Set 3 (replicate 120 90)) ∷ Some (Set 3 (replicate 121 90)) ∷ Some (Set 3 []) ∷ Some (Get 3) ∷ Some (Get 4) ∷ [])
+    ≡ reply.Committed 1 ∷ reply.Refused TooLong ∷ reply.Committed 2 ∷ reply.Value [] ∷ reply.Nothing ∷ []
+
+abbrev pub LastRecord : Type 0
+LastRecord =
+    answers 63 (Some (Set 511 (1 ∷ [])) ∷ Some (Set 512 (1 ∷ [])) ∷ Some (Get 511) ∷ [])
+    ≡ reply.Committed 1 ∷ reply.Refused NoRecord ∷ reply.Value (1 ∷ []) ∷ []
+
+-- a pending write keeps the readers of other sessions off until it is dropped
+abbrev pub WriteKeepsReadersOff : Type 0
+WriteKeepsReadersOff =
+    answers 63 (Some (Begin 0) ∷ Some (Write 0 7 (1 ∷ [])) ∷ Some (Begin 1) ∷ Some (Read 1 7) ∷ Some (Abort 0) ∷ Some (Read 1 7) ∷ [])
+    ≡ reply.Done ∷ reply.Done ∷ reply.Done ∷ reply.Busy 0 ∷ reply.Aborted ∷ reply.Nothing ∷ []
+
+-- a read keeps the writers of other sessions off until its session ends
+abbrev pub two_readers : List Line
+two_readers =
+    Some (Begin 0) ∷ Some (Begin 1) ∷ Some (Read 0 9) ∷ Some (Read 1 9) ∷ Some (Write 0 9 aa) ∷ Some (Commit 1)
+    ∷ Some (Write 0 9 aa) ∷ Some (Commit 0) ∷ Some (Get 9) ∷ []
+
+abbrev pub ReadKeepsWritersOff : Type 0
+ReadKeepsWritersOff =
+    answers 63 two_readers
+    ≡ reply.Done ∷ reply.Done ∷ reply.Nothing ∷ reply.Nothing ∷ reply.Busy 1 ∷ reply.Committed 1
+    ∷ reply.Done ∷ reply.Committed 2 ∷ reply.Value aa ∷ []
+
+-- sessions that aren't there, or are there already
+abbrev pub SessionsRefused : Type 0
+SessionsRefused =
+    answers 63 (Some (Begin 8) ∷ Some (Read 0 0) ∷ Some (Begin 0) ∷ Some (Begin 0) ∷ Some (Set 5 (171 ∷ [])) ∷ Some (Get 5) ∷ [])
+    ≡ reply.Refused BadSession ∷ reply.Refused BadSession ∷ reply.Done ∷ reply.Refused BadSession ∷ reply.Committed 1 ∷ reply.Value (171 ∷ []) ∷ []
+
+-- a scan answers for the records that have a value, and for its first busy one
+abbrev pub ScanAmongWrites : Type 0
+ScanAmongWrites =
+    answers 63 (Some (Set 2 aa) ∷ Some (Set 4 []) ∷ Some (Begin 0) ∷ Some (Scan 0 0 6) ∷ Some (Begin 1) ∷ Some (Write 1 9 (1 ∷ []))
+    ∷ Some (Scan 0 5 8) ∷ Some (Set 6 (187 ∷ [])) ∷ Some (Scan 0 500 64) ∷ [])
+    ≡ reply.Committed 1 ∷ reply.Committed 2 ∷ reply.Done
+    ∷ reply.Items (record { number = 2; value = aa } ∷ record { number = 4; value = [] } ∷ [])
+    ∷ reply.Done ∷ reply.Done ∷ reply.Busy 1 ∷ reply.Committed 3 ∷ reply.Refused NoRecord ∷ []
+
+abbrev pub ErasedBeforeCommit : Type 0
+ErasedBeforeCommit =
+    answers 63 (Some (Begin 0) ∷ Some (Write 0 1 aa) ∷ Some (Erase 0 1) ∷ Some (Read 0 1) ∷ Some (Commit 0) ∷ Some (Get 1) ∷ [])
+    ≡ reply.Done ∷ reply.Done ∷ reply.Done ∷ reply.Nothing ∷ reply.Committed 1 ∷ reply.Nothing ∷ []
+
+-- the lines after a quit aren't read
+abbrev pub QuitEnds : Type 0
+QuitEnds = answers 63 (Some Quit ∷ Some (Get 5) ∷ []) ≡ reply.Bye ∷ []
+
+-- The log's budget. A session fills the log, and a checkpoint makes room for what follows it.
+abbrev pub one_writer : List Line
+one_writer = Some (Begin 0) ∷ replicate 7 (Some (Write 0 1 aa)) ++ Some (Abort 0) ∷ Some Stat ∷ Some (Set 0 aa) ∷ []
+
+abbrev pub CheckpointMakesRoom : Type 0
+CheckpointMakesRoom =
+    answers 15 one_writer
+    ≡ replicate 7 reply.Done ++ reply.Full 7 7 15 ∷ reply.Aborted
+    ∷ reply.Stat (record { commits = 0; used = 14; owed = 0; cap = 15; active = 0 }) ∷ reply.Committed 1 ∷ []
+
+abbrev pub NoRoomWithoutCheckpoint : Type 0
+NoRoomWithoutCheckpoint =
+    plain_answers 15 one_writer
+    ≡ replicate 7 reply.Done ++ reply.Full 7 7 15 ∷ reply.Aborted
+    ∷ reply.Stat (record { commits = 0; used = 14; owed = 0; cap = 15; active = 0 }) ∷ reply.Full 14 0 15 ∷ []
+
+abbrev pub HundredSets : Type 0
+HundredSets =
+    answers 15 (replicate 100 (Some (Set 0 aa)) ++ Some Stat ∷ [])
+    ≡ map reply.Committed (range_with_len 1 100) ++ reply.Stat (record { commits = 100; used = 3; owed = 0; cap = 15; active = 0 }) ∷ []
+
+-- eight sessions want to begin, and the last one only can when another has ended and a checkpoint has made room
+abbrev pub eight_sessions : List Line
+eight_sessions =
+    Some (Begin 0) ∷ Some (Begin 1) ∷ Some (Begin 2) ∷ Some (Begin 3) ∷ Some (Begin 4) ∷ Some (Begin 5) ∷ Some (Begin 6) ∷ Some (Begin 7)
+    ∷ Some (Commit 0) ∷ Some (Begin 7) ∷ []
+
+abbrev pub EightSessions : Type 0
+EightSessions =
+    answers 15 (eight_sessions ++ Some Stat ∷ [])
+    ≡ replicate 7 reply.Done ++ reply.Full 7 7 15 ∷ reply.Committed 1 ∷ reply.Done
+    ∷ reply.Stat (record { commits = 1; used = 8; owed = 7; cap = 15; active = 7 }) ∷ []
+
+abbrev pub SevenSessionsWithoutCheckpoint : Type 0
+SevenSessionsWithoutCheckpoint =
+    plain_answers 15 eight_sessions
+    ≡ replicate 7 reply.Done ++ reply.Full 7 7 15 ∷ reply.Committed 1 ∷ reply.Full 8 6 15 ∷ []
+
+-- Without checkpoints four sets fill a log of 16 blocks, and it is full again where a run begins on the 12 records of
+-- the one before.
+abbrev pub FourSetsFillTheLog : Type 0
+FourSetsFillTheLog =
+    plain_answers 15 (replicate 5 (Some (Set 0 aa)))
+    ≡ reply.Committed 1 ∷ reply.Committed 2 ∷ reply.Committed 3 ∷ reply.Committed 4 ∷ reply.Full 12 0 15 ∷ []
+
+abbrev pub FullFromTheStart : Type 0
+FullFromTheStart =
+    replies (turns false (opened (slice_set blank 0 (Some aa)) 4 12 15) (Some (Set 0 aa) ∷ Some (Get 0) ∷ []) [])
+    ≡ reply.Full 12 0 15 ∷ reply.Value aa ∷ []
+
+-- without checkpoints the command is answered, and frees nothing
+abbrev pub CheckpointOnlyAnswered : Type 0
+CheckpointOnlyAnswered =
+    plain_answers 15 (Some (Set 0 aa) ∷ Some Checkpoint ∷ Some Stat ∷ [])
+    ≡ reply.Committed 1 ∷ reply.Checked ∷ reply.Stat (record { commits = 1; used = 3; owed = 0; cap = 15; active = 0 }) ∷ []
+
+-- What a run asks of the cache.
+abbrev pub TouchesOfTwoReaders : Type 0
+TouchesOfTwoReaders =
+    run_touches true (turns true (fresh 63) two_readers [])
+    ≡ touch 0 false ∷ touch 0 false ∷ touch 0 true ∷ touch 0 false ∷ []
+
+-- an abort touches the pages of its writes from the last one back, and the set that finds the log full makes a checkpoint first
+abbrev pub TouchesOfAnAbort : Type 0
+TouchesOfAnAbort =
+    run_touches true (turns true (fresh 15) (Some (Begin 0) ∷ Some (Write 0 33 aa) ∷ Some (Write 0 64 aa) ∷ Some (Write 0 1 aa) ∷ Some (Abort 0) ∷ Some (Set 511 aa) ∷ []) [])
+    ≡ touch 1 true ∷ touch 2 true ∷ touch 0 true ∷ touch 0 true ∷ touch 2 true ∷ touch 1 true ∷ flush ∷ touch 15 true ∷ []
+
+-- What may be left of a run. The opening was told, the text of the first line, which was no commit, and half of that of the
+-- second. The second and the third were commits.
+abbrev pub told : List ℕ
+told = 1 ∷ 2 ∷ 3 ∷ []
+
+abbrev pub texts : List (List ℕ)
+texts = (1 ∷ []) ∷ (2 ∷ []) ∷ (3 ∷ 4 ∷ []) ∷ (5 ∷ 6 ∷ []) ∷ (7 ∷ []) ∷ []
+
+abbrev pub marks : List Bool
+marks = false ∷ true ∷ true ∷ false ∷ []
+
+abbrev pub AcknowledgedNone : Type 0
+AcknowledgedNone = acknowledged told texts marks ≡ 0
+
+abbrev pub AskedForOne : Type 0
+AskedForOne = asked_for told texts marks ≡ 1
+
+-- with the second line's text whole, and half of the third's
+abbrev pub AcknowledgedOne : Type 0
+AcknowledgedOne = acknowledged (told ++ 4 ∷ 5 ∷ []) texts marks ≡ 1
+
+abbrev pub AskedForTwo : Type 0
+AskedForTwo = asked_for (told ++ 4 ∷ 5 ∷ []) texts marks ≡ 2
+
+-- with no opening told, no commit can have been asked for
+abbrev pub AskedForNone : Type 0
+AskedForNone = asked_for [] texts marks ≡ 0
+
+-- with all texts told and a line about a fault after them, all commits are acknowledged, and no more were asked for
+abbrev pub AskedForAll : Type 0
+AskedForAll = asked_for (told ++ 4 ∷ 5 ∷ 6 ∷ 7 ∷ 9 ∷ 9 ∷ []) texts marks ≡ 2
+
+-- The second transaction of the two readers, and what it is answered alone, on the table that the first one left.
+abbrev pub two_readers_run : List Turn
+two_readers_run = turns true (fresh 63) two_readers []
+
+abbrev pub second_transaction : List Turn
+second_transaction = since_begin true 0 (reverse (take 8 two_readers_run))
+
+abbrev pub SecondTransaction : Type 0
+SecondTransaction = lines_of second_transaction ≡ Some (Begin 0) ∷ Some (Read 0 9) ∷ Some (Write 0 9 aa) ∷ Some (Commit 0) ∷ []
+
+abbrev pub second_answers : List Reply
+second_answers = reply.Done ∷ reply.Nothing ∷ reply.Done ∷ reply.Committed 2 ∷ []
+
+abbrev pub AnsweredAmongOthers : Type 0
+AnsweredAmongOthers = replies second_transaction ≡ second_answers
+
+abbrev pub AnsweredAlone : Type 0
+AnsweredAlone = replies (turns true (opened (after_commits blank two_readers_run 1) 1 0 16) (lines_of second_transaction) []) ≡ second_answers

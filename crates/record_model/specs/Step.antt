@@ -1,0 +1,168 @@
+-- What each command answers, and what it leaves.
+use Rattle.std.specs.Prelude.{ℕ, ◌+◌, ◌-◌, Bool, true, false, not, ◌&&◌, ◌||◌, nat_lt, nat_le, List, [], ◌∷◌, ◌++◌, length, map, filter_map, slice_set, Option, Some, None, option_map, is_none, is_some, if◌then◌else◌}
+use Rattle.std.specs.List.{range_with_len}
+use Rattle.byte_fields.specs.declared.TheConstants.{VALUE_MAX}
+use Rattle.record_model.specs.declared.words.Command.{Command}
+use Rattle.record_model.specs.declared.words.Command.TheVariants.{Begin, Read, Write, Erase, Scan, Commit, Abort, Get, Set, Checkpoint, Cache, Stat, Quit}
+use Rattle.record_model.specs.declared.words.Why.TheVariants.{BadSession, NoRecord, TooLong}
+use Rattle.record_model.specs.declared.words.Item.{Item}
+use Rattle.record_model.specs.declared.words.CacheLine.{CacheLine}
+use Rattle.record_model.specs.declared.words.Reply.{Reply}
+use Rattle.record_model.specs.declared.words.Reply.TheVariants as reply
+use Rattle.record_model.specs.State.{Content, Session, State, session_count, content_at, table_with, session_at, writes_of, seen, busy_read, busy_write, active_sessions, used, owed, kept_by_checkpoint, is_due}
+use Rattle.record_model.specs.State as state
+
+-- Tests. Each gives the reply that refuses the command, or none where it is passed.
+
+abbrev pub refuse_if : Bool → Reply → Option Reply
+refuse_if test answer = if test then Some answer else None
+
+abbrev pub first_refusal : List (Option Reply) → Option Reply
+first_refusal [] = None
+first_refusal (Some answer ∷ tests) = Some answer
+first_refusal (None ∷ tests) = first_refusal tests
+
+abbrev pub wants_free : State → ℕ → Option Reply
+wants_free s n = refuse_if (nat_le session_count n || is_some (session_at s n)) (reply.Refused BadSession)
+
+abbrev pub wants_active : State → ℕ → Option Reply
+wants_active s n = refuse_if (is_none (session_at s n)) (reply.Refused BadSession)
+
+abbrev pub wants_record : State → ℕ → Option Reply
+wants_record s number = refuse_if (nat_le (length s.table) number) (reply.Refused NoRecord)
+
+abbrev pub wants_short : List ℕ → Option Reply
+wants_short value = refuse_if (nat_lt VALUE_MAX (length value)) (reply.Refused TooLong)
+
+abbrev pub may_read : State → Option ℕ → ℕ → Option Reply
+may_read s own number = option_map reply.Busy (busy_read s own number)
+
+abbrev pub may_write : State → Option ℕ → ℕ → Option Reply
+may_write s own number = option_map reply.Busy (busy_write s own number)
+
+-- The reply of the first test that fails, in the order of the tests.
+abbrev pub refusal : State → Command → Option Reply
+refusal s (Begin n) = wants_free s n
+refusal s (Read n number) = first_refusal (wants_active s n ∷ wants_record s number ∷ may_read s (Some n) number ∷ [])
+refusal s (Write n number value) = first_refusal (wants_active s n ∷ wants_record s number ∷ wants_short value ∷ may_write s (Some n) number ∷ [])
+refusal s (Erase n number) = first_refusal (wants_active s n ∷ wants_record s number ∷ may_write s (Some n) number ∷ [])
+refusal s (Scan n number count) = first_refusal (wants_active s n ∷ wants_record s (number + count - 1) ∷ map (may_read s (Some n)) (range_with_len number count))
+refusal s (Commit n) = wants_active s n
+refusal s (Abort n) = wants_active s n
+refusal s (Get number) = first_refusal (wants_record s number ∷ may_read s None number ∷ [])
+refusal s (Set number value) = first_refusal (wants_record s number ∷ wants_short value ∷ may_write s None number ∷ [])
+refusal s Checkpoint = None
+refusal s Cache = None
+refusal s Stat = None
+refusal s Quit = None
+
+-- The log's budget. Where checkpoints are made, a begin and a set make one first where it is due, and the command itself does.
+
+abbrev pub asks_for_checkpoint : State → Command → Bool
+asks_for_checkpoint s (Begin n) = is_due s
+asks_for_checkpoint s (Set number value) = is_due s
+asks_for_checkpoint s Checkpoint = true
+asks_for_checkpoint s _ = false
+
+abbrev pub wants_checkpoint : Bool → State → Command → Bool
+wants_checkpoint checkpoints s command = checkpoints && asks_for_checkpoint s command
+
+-- the state in which a command that its tests let through is carried out
+abbrev pub ready : Bool → State → Command → State
+ready checkpoints s command = record s { kept = if wants_checkpoint checkpoints s command then kept_by_checkpoint s else s.kept }
+
+-- whether the cap has no room for the log records that a command may come to need
+abbrev pub lacks_room : State → Command → Bool
+lacks_room s (Begin n) = nat_lt s.cap (used s + owed s + 2)
+lacks_room s (Write n number value) = nat_lt s.cap (used s + owed s + 2)
+lacks_room s (Erase n number) = nat_lt s.cap (used s + owed s + 2)
+lacks_room s (Set number value) = nat_lt s.cap (used s + owed s + 4)
+lacks_room s _ = false
+
+abbrev pub full : State → Reply
+full s = reply.Full (used s) (owed s) s.cap
+
+-- whether a command makes a checkpoint, and whether it is carried out
+abbrev pub makes_checkpoint : Bool → State → Command → Bool
+makes_checkpoint checkpoints s command = wants_checkpoint checkpoints s command && is_none (refusal s command)
+
+abbrev pub is_accepted : Bool → State → Command → Bool
+is_accepted checkpoints s command = is_none (refusal s command) && not (lacks_room (ready checkpoints s command) command)
+
+-- What an accepted command leaves.
+
+abbrev pub making : ℕ → State → State
+making count s = record s { made = s.made + count }
+
+abbrev pub with_session : State → ℕ → Option Session → State
+with_session s n session = record s { sessions = slice_set s.sessions n session }
+
+abbrev pub having_read : List ℕ → Session → Session
+having_read numbers session = record session { reads = session.reads ++ numbers }
+
+abbrev pub having_written : state.Write → Session → Session
+having_written write session = record session { writes = session.writes ++ write ∷ [] }
+
+abbrev pub committed : State → List state.Write → State
+committed s writes = record s { table = table_with s.table writes; commits = s.commits + 1 }
+
+abbrev pub effect : State → Command → State
+effect s (Begin n) = making 1 (with_session s n (Some (record { born = s.made; writes = []; reads = [] })))
+effect s (Read n number) = with_session s n (option_map (having_read (number ∷ [])) (session_at s n))
+effect s (Write n number value) = making 1 (with_session s n (option_map (having_written (number, Some value)) (session_at s n)))
+effect s (Erase n number) = making 1 (with_session s n (option_map (having_written (number, None)) (session_at s n)))
+effect s (Scan n number count) = with_session s n (option_map (having_read (range_with_len number count)) (session_at s n))
+effect s (Commit n) = making 1 (with_session (committed s (writes_of (session_at s n))) n None)
+effect s (Abort n) = making (length (writes_of (session_at s n)) + 1) (with_session s n None)
+effect s (Get number) = s
+effect s (Set number value) = making 3 (committed s ((number, Some value) ∷ []))
+effect s Checkpoint = s
+effect s Cache = s
+effect s Stat = s
+effect s Quit = s
+
+-- What an accepted command answers.
+
+abbrev pub found : Content → Reply
+found None = reply.Nothing
+found (Some value) = reply.Value value
+
+abbrev pub item : (ℕ → Content) → ℕ → Option Item
+item view number = option_map (λ value. record { number = number; value = value }) (view number)
+
+abbrev pub answer : State → Command → List CacheLine → Reply
+answer s (Begin n) listing = reply.Done
+answer s (Read n number) listing = found (seen s n number)
+answer s (Write n number value) listing = reply.Done
+answer s (Erase n number) listing = reply.Done
+answer s (Scan n number count) listing = reply.Items (filter_map (item (seen s n)) (range_with_len number count))
+answer s (Commit n) listing = reply.Committed (s.commits + 1)
+answer s (Abort n) listing = reply.Aborted
+answer s (Get number) listing = found (content_at s.table number)
+answer s (Set number value) listing = reply.Committed (s.commits + 1)
+answer s Checkpoint listing = reply.Checked
+answer s Cache listing = reply.Listing listing
+answer s Stat listing = reply.Stat (record { commits = s.commits; used = used s; owed = owed s; cap = s.cap; active = length (active_sessions s) })
+answer s Quit listing = reply.Bye
+
+-- The step.
+
+pub record Outcome : Type 0 where
+  pub after : State
+  pub reply : Reply
+
+-- a command that its tests let through
+abbrev pub carried_out : State → Command → List CacheLine → Outcome
+carried_out s command listing =
+    if lacks_room s command
+    then record { after = s; reply = full s }
+    else record { after = effect s command; reply = answer s command listing }
+
+abbrev pub outcome : Bool → State → Command → List CacheLine → Option Reply → Outcome
+outcome checkpoints s command listing (Some refused) = record { after = s; reply = refused }
+outcome checkpoints s command listing None = carried_out (ready checkpoints s command) command listing
+
+-- What a command answers, and the state that it leaves, where the cache has this listing. The first argument says whether
+-- checkpoints are made.
+abbrev pub step : Bool → State → Command → List CacheLine → Outcome
+step checkpoints s command listing = outcome checkpoints s command listing (refusal s command)

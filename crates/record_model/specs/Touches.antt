@@ -1,0 +1,48 @@
+-- What commands ask of the page cache.
+use Rattle.std.specs.Prelude.{ℕ, ◌/◌, Bool, true, false, List, [], ◌∷◌, ◌++◌, map, flat_map, reverse, Some, None, if◌then◌else◌}
+use Rattle.std.specs.List.{range_with_len}
+use Rattle.record_model.specs.declared.words.Command.{Command}
+use Rattle.record_model.specs.declared.words.Command.TheVariants.{Read, Write, Erase, Scan, Abort, Get, Set}
+use Rattle.record_model.specs.State.{State, session_at, writes_of}
+use Rattle.record_model.specs.Step.{makes_checkpoint, is_accepted}
+use Rattle.record_model.specs.Run.{Line, Turn}
+
+-- a touch of a page, with a change or without, or a flush of all changed pages
+pub data CacheWork : Type 0 where
+  touch : (page : ℕ) (changed : Bool) → CacheWork
+  flush : CacheWork
+
+-- the page of a record
+abbrev pub page_of : ℕ → ℕ
+page_of number = number / 32
+
+abbrev pub read_touch : ℕ → CacheWork
+read_touch number = touch (page_of number) false
+
+abbrev pub write_touch : ℕ → CacheWork
+write_touch number = touch (page_of number) true
+
+-- the touches of a command that is accepted: an abort goes from the last write to the first
+abbrev pub record_touches : State → Command → List CacheWork
+record_touches s (Read n number) = read_touch number ∷ []
+record_touches s (Write n number value) = write_touch number ∷ []
+record_touches s (Erase n number) = write_touch number ∷ []
+record_touches s (Scan n number count) = map read_touch (range_with_len number count)
+record_touches s (Abort n) = map (λ write. write_touch write.0) (reverse (writes_of (session_at s n)))
+record_touches s (Get number) = read_touch number ∷ []
+record_touches s (Set number value) = write_touch number ∷ []
+record_touches s _ = []
+
+-- what a command asks of the cache: the flush of its checkpoint, and its touches
+abbrev pub command_touches : Bool → State → Command → List CacheWork
+command_touches checkpoints s command =
+    (if makes_checkpoint checkpoints s command then flush ∷ [] else [])
+    ++ (if is_accepted checkpoints s command then record_touches s command else [])
+
+abbrev pub line_touches : Bool → State → Line → List CacheWork
+line_touches checkpoints s None = []
+line_touches checkpoints s (Some command) = command_touches checkpoints s command
+
+-- what a run asks of the cache
+abbrev pub run_touches : Bool → List Turn → List CacheWork
+run_touches checkpoints run = flat_map (λ t. line_touches checkpoints t.before t.line) run

@@ -1,0 +1,53 @@
+// Runs that were worked out by hand, which the model answers as it should. The functions do nothing: each states rows as clauses.
+ghost use Rattle.record_model.specs.Rows.{LongestValue, LastRecord, WriteKeepsReadersOff, ReadKeepsWritersOff, SessionsRefused, ScanAmongWrites, ErasedBeforeCommit, QuitEnds, CheckpointMakesRoom, NoRoomWithoutCheckpoint, HundredSets, EightSessions, SevenSessionsWithoutCheckpoint, FourSetsFillTheLog, FullFromTheStart, CheckpointOnlyAnswered, TouchesOfTwoReaders, TouchesOfAnAbort, AcknowledgedNone, AskedForOne, AcknowledgedOne, AskedForTwo, AskedForNone, AskedForAll, SecondTransaction, AnsweredAmongOthers, AnsweredAlone};
+
+/// The longest value, one octet more, the empty value, and the last record.
+pub fn rows_of_values()
+    ensures longest_value { LongestValue }
+    ensures last_record { LastRecord }
+{}
+
+/// Sessions that keep each other off, scans, erasures, refused sessions, and the end by `quit`.
+pub fn rows_of_sessions()
+    ensures write_keeps_readers_off { WriteKeepsReadersOff }
+    ensures read_keeps_writers_off { ReadKeepsWritersOff }
+    ensures sessions_refused { SessionsRefused }
+    ensures scan_among_writes { ScanAmongWrites }
+    ensures erased_before_commit { ErasedBeforeCommit }
+    ensures quit_ends { QuitEnds }
+{}
+
+/// The log's budget, with checkpoints and without.
+pub fn rows_of_the_budget()
+    ensures checkpoint_makes_room { CheckpointMakesRoom }
+    ensures no_room_without_checkpoint { NoRoomWithoutCheckpoint }
+    ensures hundred_sets { HundredSets }
+    ensures eight_sessions { EightSessions }
+    ensures seven_sessions_without_checkpoint { SevenSessionsWithoutCheckpoint }
+    ensures four_sets_fill_the_log { FourSetsFillTheLog }
+    ensures full_from_the_start { FullFromTheStart }
+    ensures checkpoint_only_answered { CheckpointOnlyAnswered }
+{}
+
+/// What two runs ask of the page cache.
+pub fn rows_of_touches()
+    ensures touches_of_two_readers { TouchesOfTwoReaders }
+    ensures touches_of_an_abort { TouchesOfAnAbort }
+{}
+
+/// Which commits may be left where a run was cut off.
+pub fn rows_of_ranges()
+    ensures acknowledged_none { AcknowledgedNone }
+    ensures asked_for_one { AskedForOne }
+    ensures acknowledged_one { AcknowledgedOne }
+    ensures asked_for_two { AskedForTwo }
+    ensures asked_for_none { AskedForNone }
+    ensures asked_for_all { AskedForAll }
+{}
+
+/// A transaction among others, and alone.
+pub fn rows_of_serial_order()
+    ensures second_transaction { SecondTransaction }
+    ensures answered_among_others { AnsweredAmongOthers }
+    ensures answered_alone { AnsweredAlone }
+{}
