@@ -1,0 +1,5 @@
+mod Past
+mod Scatter
+mod Syncs
+mod Tells
+mod Writes

@@ -1,0 +1,21 @@
+use Rattle.std.proofs.Common.{◌≡◌, ◌++◌, ◌-◌, ◌≤◌, length, take, IsTrue}
+use Rattle.site.specs.Calls.{Goes, SameReads}
+use Rattle.site.specs.Moments.{EachMoment}
+use Rattle.site.specs.Telling.{TellsPart, SameDevices}
+use Rattle.site.proofs.telling.tell_all.Given as goal
+
+abbrev pub invariant-loop-at : goal.invariant-loop-at
+invariant-loop-at g l =
+    let old = g.S.Site.state l.fn.site in
+    let now = g.S.Site.state l.site in
+    record {
+      at : l.at ≤ length l.piece;
+      goes : Goes old now;
+      reads : SameReads old now;
+      same : IsTrue old.honest → SameDevices old now;
+      told : IsTrue old.honest → now.told ≡ old.told ++ take l.at l.piece;
+      any_moment : IsTrue old.honest → EachMoment old now (TellsPart l.piece old);
+    }
+
+abbrev pub decreases-loop-at : goal.decreases-loop-at
+decreases-loop-at g l = length l.piece - l.at

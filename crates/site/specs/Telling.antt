@@ -1,0 +1,15 @@
+-- What telling leaves.
+use Rattle.std.specs.Prelude.{◌≡◌, ℕ, List, ◌++◌, take}
+use Rattle.site.specs.State.{State, Moment}
+
+-- the devices, and the octets left to hear, are as they were
+pub record SameDevices (old new : State) : Type 0 where
+  pub image : new.image ≡ old.image
+  pub loose : new.loose ≡ old.loose
+  pub left : new.left ≡ old.left
+
+-- the devices as they were, and whatever is told is what was told and some front of the piece
+pub record TellsPart (piece : List ℕ) (old : State) (moment : Moment) : Type 0 where
+  pub image : moment.image ≡ old.image
+  pub loose : moment.loose ≡ old.loose
+  pub told : (j : ℕ) → (k : ℕ) × (moment.told ++ take j moment.telling ≡ old.told ++ take k piece)

@@ -1,0 +1,24 @@
+//! Everything that the product is handed: three devices, an input and an output.
+#![tactic(auto)]
+
+mod area;
+mod change;
+mod crash;
+mod geometry;
+mod input;
+mod limits;
+mod lives;
+mod mem;
+mod named;
+mod output;
+mod outside;
+mod telling;
+
+pub use geometry::Geometry;
+pub use mem::MemSite;
+pub use named::Call;
+pub use outside::{Dev, Failed, Site, Stop};
+pub use telling::tell_all;
+
+#[cfg(test)]
+mod tests;
