@@ -1,0 +1,163 @@
+-- What keeps a ring's form and units: contents that differ only in the body of one slot and the gate of one slot.
+use Rattle.std.proofs.Common.{◌≡◌, ◌≢◌, ◌⊎◌, inl, inr, ℕ, zero, suc, ◌+◌, ◌-◌, ◌%◌, ◌^◌, ◌≤◌, ◌<◌, List, [], ◌∷◌, ◌++◌, length, get_or, take, drop, min, refl, sym, ◌∙◌, ap, arith}
+use Rattle.std.proofs.lemmas.List.{same_lists, length-take, length-drop, get_or-take, get_or-drop, get_or_default, length_push}
+use Rattle.std.proofs.lemmas.Bool.{cases_lt, cases_eq}
+use Rattle.std.proofs.lemmas.Nat.{mod_below}
+use Rattle.std.specs.Int.{from_be_bytes, w64}
+use Rattle.sealed_ring.specs.declared.slots.Shape.{Shape}
+use Rattle.sealed_ring.specs.Ring.{place, gate, number, content_at, HasForm, IsStaged, units_from, live, SameOutside, last_of, Keeps, Adds}
+use Rattle.sealed_ring.proofs.Rows.{mod_apart, mod_self}
+
+-- the same octets from a place on
+abbrev pub SamePart : ℕ → ℕ → List ℕ → List ℕ → Type 0
+SamePart at n old new = (p : ℕ) → at ≤ p → p < at + n → get_or new p 0 ≡ get_or old p 0
+
+-- contents that differ at most in the number and content of the slot `body`, and in the gate of the slot `gated`
+pub record Alters (s : Shape) (body gated : ℕ) (old new : List ℕ) : Type 0 where
+  pub size : length new ≡ length old
+  pub parts : (j : ℕ) → j < s.slots → j ≢ body → SamePart (place s j + 1) (8 + s.room) old new
+  pub gates : (j : ℕ) → j < s.slots → j ≢ gated → gate s new j ≡ gate s old j
+  pub outside : SameOutside s old new
+
+-- lists that are the same in a part
+pub part_same : (at n : ℕ) (old new : List ℕ) → length new ≡ length old → SamePart at n old new → take n (drop at new) ≡ take n (drop at old)
+part_same at n old new size same =
+    same_lists _ _ (omega (arith, size, length-take n (drop at new), length-take n (drop at old), length-drop at new, length-drop at old))
+    (λ k d lt.
+    let short : k < min n (length (drop at new)) = omega (arith, lt, length-take n (drop at new)) in
+    let k_n : k < n = omega arith in
+    let k_new : at + k < length new = omega (arith, length-drop at new) in
+    let k_old : at + k < length old = omega (arith, size) in
+    get_or-take n (drop at new) k d k_n ∙ get_or-drop at new k d ∙ get_or_default new (at + k) d 0 k_new
+    ∙ same (at + k) (omega arith) (omega arith)
+    ∙ sym (get_or-take n (drop at old) k d k_n ∙ get_or-drop at old k d ∙ get_or_default old (at + k) d 0 k_old))
+
+pub number_same : (s : Shape) (j : ℕ) (old new : List ℕ) → length new ≡ length old → SamePart (place s j + 1) (8 + s.room) old new → number s new j ≡ number s old j
+unfolding number
+number_same s j old new size same = ap (from_be_bytes w64) (part_same (place s j + 1) 8 old new size (λ p lo hi. same p lo (omega arith)))
+
+pub content_same : (s : Shape) (j : ℕ) (old new : List ℕ) → length new ≡ length old → SamePart (place s j + 1) (8 + s.room) old new → content_at s new j ≡ content_at s old j
+content_same s j old new size same = part_same (place s j + 9) s.room old new size (λ p lo hi. same p (omega arith) (omega arith))
+
+-- the units from a number on are the same where each one's content is
+pub units_same : (s : Shape) (old new : List ℕ) (first k : ℕ) → ((n : ℕ) → first ≤ n → n < first + k → content_at s new (n % s.slots) ≡ content_at s old (n % s.slots)) → units_from s new first k ≡ units_from s old first k
+units_same s old new first zero same = refl
+units_same s old new first (suc k) same = λ i. same first (omega arith) (omega arith) i ∷ units_same s old new (first + 1) k (λ n lo hi. same n (omega arith) (omega arith)) i
+
+module _ (s : Shape) (hi : ℕ) (old new : List ℕ) (slots : 3 ≤ s.slots) (form : HasForm s hi old) where
+  slot : (n : ℕ) → n % s.slots < s.slots
+  slot n = mod_below n s.slots (omega arith)
+
+  live_same : (body : ℕ) → ((n : ℕ) → n < hi → hi < n + s.slots → n % s.slots ≢ body) → length new ≡ length old → ((j : ℕ) → j < s.slots → j ≢ body → SamePart (place s j + 1) (8 + s.room) old new) → live s hi new ≡ live s hi old
+  live_same body apart size parts =
+      units_same s old new (hi - (s.slots - 1)) (min hi (s.slots - 1)) (λ n lo below.
+      content_same s (n % s.slots) old new size (parts (n % s.slots) (slot n) (apart n (omega arith) (omega arith))))
+
+  -- the body of the next slot and the gate of the one after it may be anything
+  pub next_alters : Alters s (hi % s.slots) ((hi + 1) % s.slots) old new → Keeps s hi old new
+  next_alters a = record {
+    form = record {
+      numbers = λ n lt near. number_same s (n % s.slots) old new a.size (a.parts (n % s.slots) (slot n) (mod_apart n hi s.slots lt near)) ∙ form.numbers n lt near;
+      gates = λ n lt near. a.gates (n % s.slots) (slot n) (mod_apart n (hi + 1) s.slots (omega arith) (omega arith)) ∙ form.gates n lt near;
+      closed = λ is_open. form.closed (sym (a.gates (hi % s.slots) (slot hi) (mod_apart hi (hi + 1) s.slots (omega arith) (omega arith))) ∙ is_open);
+      bounded = form.bounded;
+      unused = λ j lt above has. form.unused j lt above (ap (λ (n : ℕ). n % s.slots) (sym (number_same s j old new a.size (a.parts j lt (λ is. let self = mod_self hi s.slots (omega arith) in omega (arith, self))))) ∙ has);
+    };
+    live = live_same (hi % s.slots) (λ n lt near. mod_apart n hi s.slots lt near) a.size a.parts;
+    outside = a.outside;
+    size = a.size;
+  }
+
+-- one unit more
+
+pub length-units : (s : Shape) (c : List ℕ) (first k : ℕ) → length (units_from s c first k) ≡ k
+length-units s c first zero = refl
+length-units s c first (suc k) = ap suc (length-units s c (first + 1) k)
+
+units_push : (s : Shape) (c : List ℕ) (first k : ℕ) → units_from s c first (suc k) ≡ units_from s c first k ++ content_at s c ((first + k) % s.slots) ∷ []
+units_push s c first zero = let e : first ≡ first + 0 = omega arith in ap (λ (n : ℕ). content_at s c (n % s.slots) ∷ []) e
+units_push s c first (suc k) =
+    let e : first + 1 + k ≡ first + suc k = omega arith in
+    ap (λ (l : List (List ℕ)). content_at s c (first % s.slots) ∷ l) (units_push s c (first + 1) k ∙ ap (λ (n : ℕ). units_from s c (first + 1) k ++ content_at s c (n % s.slots) ∷ []) e)
+
+last_all : (m : ℕ) (xs : List (List ℕ)) → length xs ≤ m → last_of m xs ≡ xs
+last_all m xs le = let e : length xs - m ≡ 0 = omega arith in ap (λ (n : ℕ). drop n xs) e
+
+last_but_one : (m : ℕ) (x : List ℕ) (xs : List (List ℕ)) → length xs ≡ m → last_of m (x ∷ xs) ≡ xs
+last_but_one m x xs is = let e : suc (length xs) - m ≡ 1 = omega arith in ap (λ (n : ℕ). drop n (x ∷ xs)) e
+
+-- the live units with one more, where there are fewer than can live
+push_few : (s : Shape) (c : List ℕ) (hi m first k first' k' : ℕ) → hi < m → first ≡ 0 → k ≡ suc hi → first' ≡ 0 → k' ≡ hi → units_from s c first k ≡ last_of m (units_from s c first' k' ++ content_at s c (hi % s.slots) ∷ [])
+push_few s c hi m first k first' k' lt f n f' n' =
+    let zero_hi : 0 + hi ≡ hi = omega arith in
+    (λ i. units_from s c (f i) (n i)) ∙ units_push s c 0 hi ∙ ap (λ (x : ℕ). units_from s c 0 hi ++ content_at s c (x % s.slots) ∷ []) zero_hi
+    ∙ sym (last_all m (units_from s c 0 hi ++ content_at s c (hi % s.slots) ∷ []) (omega (arith, length_push (units_from s c 0 hi) (content_at s c (hi % s.slots)), length-units s c 0 hi)))
+    ∙ sym (λ i. last_of m (units_from s c (f' i) (n' i) ++ content_at s c (hi % s.slots) ∷ []))
+
+-- and where as many live as can
+push_full : (s : Shape) (c : List ℕ) (hi m first k first' k' : ℕ) → first ≡ first' + 1 → k ≡ m → k' ≡ m → first' + m ≡ hi → units_from s c first k ≡ last_of m (units_from s c first' k' ++ content_at s c (hi % s.slots) ∷ [])
+push_full s c hi m first k first' k' f n n' top =
+    (λ i. units_from s c (f i) (n i))
+    ∙ sym (last_but_one m (content_at s c (first' % s.slots)) (units_from s c (first' + 1) m) (length-units s c (first' + 1) m))
+    ∙ ap (last_of m) (units_push s c first' m ∙ ap (λ (x : ℕ). units_from s c first' m ++ content_at s c (x % s.slots) ∷ []) top)
+    ∙ sym (ap (λ (x : ℕ). last_of m (units_from s c first' x ++ content_at s c (hi % s.slots) ∷ [])) n')
+
+pub live_push : (s : Shape) (hi : ℕ) (c : List ℕ) → live s (hi + 1) c ≡ last_of (s.slots - 1) (live s hi c ++ content_at s c (hi % s.slots) ∷ [])
+live_push s hi c = elim (cases_lt hi (s.slots - 1)) [
+  | inl few ↦ push_few s c hi (s.slots - 1) _ _ _ _ few (omega arith) (omega arith) (omega arith) (omega arith)
+  | inr full ↦ push_full s c hi (s.slots - 1) _ _ _ _ (omega arith) (omega arith) (omega arith) (omega arith)
+]
+
+-- the gate of the staged unit may be anything: closed it keeps the units, open it adds this one
+module _ (s : Shape) (hi : ℕ) (old new : List ℕ) (slots : 3 ≤ s.slots) (staged : IsStaged s hi old) (a : Alters s s.slots (hi % s.slots) old new) where
+  inside : (n : ℕ) → n % s.slots < s.slots
+  inside n = mod_below n s.slots (omega arith)
+
+  same_number : (j : ℕ) → j < s.slots → number s new j ≡ number s old j
+  same_number j lt = number_same s j old new a.size (a.parts j lt (omega arith))
+
+  same_content : (first k : ℕ) → units_from s new first k ≡ units_from s old first k
+  same_content first k = units_same s old new first k (λ n lo below. content_same s (n % s.slots) old new a.size (a.parts (n % s.slots) (inside n) (let lt = inside n in omega arith)))
+
+  same_gate : (n : ℕ) → n < hi → hi < n + s.slots → gate s new (n % s.slots) ≡ gate s old (n % s.slots)
+  same_gate n lt near = a.gates (n % s.slots) (inside n) (mod_apart n hi s.slots lt near)
+
+  pub stays_closed : gate s new (hi % s.slots) ≢ 165 → Keeps s hi old new
+  stays_closed shut = record {
+    form = record {
+      numbers = λ n lt near. same_number (n % s.slots) (inside n) ∙ staged.form.numbers n lt near;
+      gates = λ n lt near. same_gate n lt (omega arith) ∙ staged.form.gates n lt near;
+      closed = shut;
+      bounded = staged.form.bounded;
+      unused = λ j lt above has. staged.form.unused j lt above (ap (λ (n : ℕ). n % s.slots) (sym (same_number j lt)) ∙ has);
+    };
+    live = same_content _ _;
+    outside = a.outside;
+    size = a.size;
+  }
+
+  pub is_opened : gate s new (hi % s.slots) ≡ 165 → hi < 2 ^ 40 → Adds s hi old new
+  is_opened is room = record {
+    form = record {
+      numbers = λ n lt near. same_number (n % s.slots) (inside n) ∙ (elim (cases_eq n hi) [
+        | inl newest ↦ ap (λ (x : ℕ). number s old (x % s.slots)) newest ∙ staged.number ∙ sym newest
+        | inr older ↦ staged.form.numbers n (omega arith) (omega arith)
+      ]);
+      gates = λ n lt near. elim (cases_eq n hi) [
+        | inl newest ↦ ap (λ (x : ℕ). gate s new (x % s.slots)) newest ∙ is
+        | inr older ↦ same_gate n (omega arith) (omega arith) ∙ staged.form.gates n (omega arith) (omega arith)
+      ];
+      closed = λ opened. staged.next (sym (a.gates ((hi + 1) % s.slots) (inside (hi + 1)) (λ same. mod_apart hi (hi + 1) s.slots (omega arith) (omega arith) (sym same))) ∙ opened);
+      bounded = omega arith;
+      unused = λ j lt above has. staged.form.unused j lt (omega arith) (ap (λ (n : ℕ). n % s.slots) (sym (same_number j lt)) ∙ has);
+    };
+    live = same_content _ _ ∙ live_push s hi old;
+    outside = a.outside;
+    size = a.size;
+  }
+
+  pub either : hi < 2 ^ 40 → Keeps s hi old new ⊎ Adds s hi old new
+  either room = elim (cases_eq (gate s new (hi % s.slots)) 165) [
+    | inl is ↦ inr (is_opened is room)
+    | inr shut ↦ inl (stays_closed shut)
+  ]

@@ -1,0 +1,38 @@
+-- The octets of a slot's head.
+use Rattle.std.proofs.Common.{◌≡◌, ℕ, zero, suc, ◌+◌, ◌-◌, ◌%◌, ◌≤◌, ◌<◌, min, List, [], get_or, take, drop, sym, ◌∙◌, ap, arith}
+use Rattle.std.proofs.lemmas.List.{drop-drop, drop-take, take-take}
+use Rattle.std.specs.Int.{from_be_bytes, w64}
+use Rattle.sealed_ring.specs.declared.slots.Shape.{Shape}
+use Rattle.sealed_ring.specs.Ring.{place, first_number, number, content_at, units_from, unit_at, units_of, hi_of, IsLive}
+
+-- the number in a head that was read
+pub number_read : (s : Shape) (c head : List ℕ) (j : ℕ) → head ≡ take 9 (drop (place s j) c) → first_number (drop 1 head) ≡ number s c j
+unfolding number
+number_read s c head j is =
+    ap first_number (ap (drop 1) is ∙ drop-take 1 8 (drop (place s j) c) ∙ ap (take 8) (drop-drop 1 (place s j) c))
+    ∙ ap (from_be_bytes w64) (take-take 8 8 (drop (place s j + 1) c) (omega arith))
+
+-- what was read from a slot's number on
+
+pub number_front : (s : Shape) (c head : List ℕ) (j k : ℕ) → 8 ≤ k → head ≡ take k (drop (place s j + 1) c) → from_be_bytes w64 (take 8 head) ≡ number s c j
+unfolding number
+number_front s c head j k long is = ap (from_be_bytes w64) (ap (take 8) is ∙ take-take 8 k (drop (place s j + 1) c) long)
+
+pub content_front : (s : Shape) (c head : List ℕ) (j k : ℕ) → 8 ≤ k → k ≤ 8 + s.room → head ≡ take k (drop (place s j + 1) c) → drop 8 head ≡ take (k - 8) (content_at s c j)
+content_front s c head j k long short is =
+    let split : k ≡ 8 + (k - 8) = omega arith in
+    let at : place s j + 1 + 8 ≡ place s j + 9 = omega arith in
+    ap (drop 8) (is ∙ ap (λ (n : ℕ). take n (drop (place s j + 1) c)) split) ∙ drop-take 8 (k - 8) (drop (place s j + 1) c)
+    ∙ ap (take (k - 8)) (drop-drop 8 (place s j + 1) c ∙ ap (λ (p : ℕ). drop p c) at)
+    ∙ sym (take-take (k - 8) s.room (drop (place s j + 9) c) (omega arith))
+
+-- the unit at a place of the live ones
+pub units_from_at : (s : Shape) (c : List ℕ) (first k i : ℕ) → i < k → get_or (units_from s c first k) i [] ≡ content_at s c ((first + i) % s.slots)
+units_from_at s c first zero i lt = absurd (omega arith)
+units_from_at s c first (suc k) zero lt = let e : first ≡ first + 0 = omega arith in ap (λ (n : ℕ). content_at s c (n % s.slots)) e
+units_from_at s c first (suc k) (suc i) lt = let e : first + 1 + i ≡ first + suc i = omega arith in units_from_at s c (first + 1) k i (omega arith) ∙ ap (λ (n : ℕ). content_at s c (n % s.slots)) e
+
+pub unit_is : (s : Shape) (hi n : ℕ) (c : List ℕ) → 3 ≤ s.slots → hi ≡ hi_of s c → IsLive s hi n → unit_at s (units_of s c) n ≡ content_at s c (n % s.slots)
+unit_is s hi n c slots is live =
+    let e : hi_of s c - (s.slots - 1) + (n - (hi_of s c - (s.slots - 1))) ≡ n = omega (arith, is, live.below, live.near) in
+    units_from_at s c (hi_of s c - (s.slots - 1)) (min (hi_of s c) (s.slots - 1)) (n - (hi_of s c - (s.slots - 1))) (omega (arith, is, live.below, live.near)) ∙ ap (λ (x : ℕ). content_at s c (x % s.slots)) e

@@ -1,0 +1,78 @@
+-- A ring and the site that it stands on.
+use Rattle.std.specs.Prelude.{◌≡◌, ◌⊎◌, ℕ, ◌+◌, ◌^◌, ◌≤◌, List, length, Result, OnOk}
+use Rattle.site.specs.declared.outside.Dev.{Dev}
+use Rattle.site.specs.declared.outside.Failed.{Failed}
+use Rattle.site.specs.State.{State, Snapshot, content_of, faults_of, IsSettled}
+use Rattle.site.specs.Calls.{Rose}
+use Rattle.site.specs.Moments.{LeavesOnly, OnlyDevice}
+use Rattle.sealed_ring.specs.declared.slots.Shape.{Shape}
+use Rattle.sealed_ring.specs.declared.ring.Ring.{Ring}
+use Rattle.sealed_ring.specs.Ring.{FitsIn, HasForm, IsRing, hi_of, Units, units_of, appended, Keeps, Adds, OldOrNew, Stages, Seals}
+
+-- the content of the ring's device
+abbrev pub region : Shape → State → List ℕ
+region s site = content_of s.dev site.image
+
+abbrev pub region_left : Shape → Snapshot → List ℕ
+region_left s snapshot = content_of s.dev snapshot.image
+
+-- the units that stand there
+abbrev pub units_in : Shape → State → Units
+units_in s site = units_of s (region s site)
+
+-- the device's count of faults rose
+abbrev pub FaultRose : Dev → State → State → Type 0
+FaultRose dev old new = Rose (faults_of dev old) (faults_of dev new)
+
+-- over every site: the ring's shape lies inside its device
+pub record IsUsable (ring : Ring) (site : State) : Type 0 where
+  pub fits : FitsIn ring.shape (length (region ring.shape site))
+  pub bounded : ring.hi ≤ 2 ^ 40
+
+-- over an honest site: the ring's next unit is that of the content
+abbrev pub Fits : Ring → State → Type 0
+Fits ring site = ring.hi ≡ hi_of ring.shape (region ring.shape site)
+
+-- over an honest site: the ring fits, nothing of its device is loose, and its content is of the form
+pub record IsReady (ring : Ring) (site : State) : Type 0 where
+  pub settled : IsSettled ring.shape.dev site
+  pub form : IsRing ring.shape (region ring.shape site)
+  pub hi : Fits ring site
+
+-- nothing was told, no other device changed, and nothing was heard
+pub record ChangesOnly (dev : Dev) (old new : State) : Type 0 where
+  pub only : OnlyDevice dev old new
+  pub left : new.left ≡ old.left
+
+-- each snapshot has the old units, or the new one too
+abbrev pub LeavesOldOrNew : Shape → List ℕ → List ℕ → Snapshot → Type 0
+LeavesOldOrNew s old bytes snapshot = OldOrNew s old bytes (region_left s snapshot)
+
+-- within an append, by the number of its unit
+
+-- nothing is loose, and the content is a ring whose next unit is hi
+pub record IsAtRest (s : Shape) (hi : ℕ) (site : State) : Type 0 where
+  pub settled : IsSettled s.dev site
+  pub form : HasForm s hi (region s site)
+
+abbrev pub LeavesKept : Shape → ℕ → List ℕ → Snapshot → Type 0
+LeavesKept s hi old snapshot = Keeps s hi old (region_left s snapshot)
+
+abbrev pub LeavesEither : Shape → ℕ → List ℕ → Snapshot → Type 0
+LeavesEither s hi old snapshot = Keeps s hi old (region_left s snapshot) ⊎ Adds s hi old (region_left s snapshot)
+
+-- the unit was put behind its closed gate; a crash leaves the units below it
+pub record HasStaged {T : Type 0} (s : Shape) (hi : ℕ) (bytes : List ℕ) (old new : State) (result : Result T Failed) : Type 0 where
+  pub any_moment : IsAtRest s hi old → LeavesOnly old new (LeavesKept s hi (region s old))
+  pub changes : ChangesOnly s.dev old new
+  pub stages : OnOk result (Stages s hi bytes (region s old) (region s new))
+  pub settled : OnOk result (IsSettled s.dev new)
+
+-- the unit was staged and its gate opened; a crash leaves the units below it, or this one too
+pub record HasSealed {T : Type 0} (s : Shape) (hi : ℕ) (bytes : List ℕ) (old new : State) (result : Result T Failed) : Type 0 where
+  pub any_moment : IsAtRest s hi old → LeavesOnly old new (LeavesOldOrNew s (region s old) bytes)
+  pub changes : ChangesOnly s.dev old new
+  pub seals : OnOk result (Seals s hi bytes (region s old) (region s new))
+  pub settled : OnOk result (IsSettled s.dev new)
+  pub form : IsAtRest s hi old → OnOk result (HasForm s (hi + 1) (region s new))
+  pub stands : IsAtRest s hi old → OnOk result (units_of s (region s new) ≡ appended s (units_of s (region s old)) bytes)

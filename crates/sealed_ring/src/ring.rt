@@ -1,0 +1,229 @@
+// A ring on a device: finding it, reading its units, appending to it.
+ghost use Rattle.std.specs.Prelude.{◌≡◌, ◌≢◌, ◌⊎◌, ◌↔◌, ◌+◌, ◌-◌, ◌%◌, ◌^◌, ◌<◌, ◌≤◌, length, take, drop, true, false, IsTrue, IfOk, OnOk, OnErr, IfErr, IsErrOf};
+ghost use Rattle.site.specs.declared.outside.Dev.{Dev};
+ghost use Rattle.site.specs.State.{reads_of, IsSettled, IsQuiet};
+ghost use Rattle.site.specs.Calls.{Goes, SameReads, ReadsMore, IsUnchanged};
+ghost use Rattle.site.specs.Moments.{LeavesOnly};
+ghost use Rattle.sealed_ring.specs.Ring.{FitsIn, IsRing, Seals, appended, gate, number, first_number, unit_at, IsLive};
+ghost use Rattle.sealed_ring.specs.Ready.{region, units_in, FaultRose, IsUsable, Fits, IsReady, ChangesOnly, LeavesOldOrNew};
+
+use crate::Shape;
+use crate::sealing::{OPEN, seal};
+use byte_fields::get_u64;
+use site::{Failed, Site, Stop};
+
+// A ring is worn once it took this many units.
+const HI_MAX: u64 = 1 << 40;
+
+/// A ring, by its shape and the number of its next unit. It is ended once an append gave an error.
+#[derive(Debug, PartialEq, Eq, Drop)]
+pub struct Ring {
+    pub shape: Shape,
+    pub hi: u64,
+    pub ended: bool,
+}
+
+impl Ring {
+    /// Finds the ring that stands there: reads gate and number of each slot once, and once more those of slot `hi`.
+    /// Content that isn't of the form may be refused or answered from.
+    pub fn scan<S: Site>(site: &mut S, shape: Shape) -> Result<Ring, Stop>
+        requires { FitsIn shape (length (region shape (S.state site.old))) }
+
+        ensures shape { IfOk result (λ ring. ring.shape ≡ shape) }
+        ensures usable { IfOk result (λ ring. IsUsable ring (S.state site.new)) }
+        ensures ended { IfOk result (λ ring. ring.ended ≡ false) }
+        ensures fits { IsTrue (S.state site.old).honest
+            → IfOk result (λ ring. Fits ring (S.state site.new)) }
+        ensures closed { IsTrue (S.state site.old).honest
+            → IfOk result (λ ring.
+            gate shape (region shape (S.state site.old)) (ring.hi % shape.slots) ≢ 165) }
+        ensures same { IsTrue (S.state site.old).honest
+            → IsUnchanged (S.state site.old) (S.state site.new) }
+        ensures goes { Goes (S.state site.old) (S.state site.new) }
+        ensures reads { reads_of shape.dev (S.state site.new)
+            ≤ reads_of shape.dev (S.state site.old) + (shape.slots + 1) }
+        ensures others { (d : Dev) → d ≢ shape.dev
+            → reads_of d (S.state site.new) ≡ reads_of d (S.state site.old) }
+
+        // When each answer comes.
+        ensures device { IsErrOf result (Stop.Device shape.dev)
+            → FaultRose shape.dev (S.state site.old) (S.state site.new) }
+        ensures foreign { IsErrOf result Stop.Foreign → IsTrue (S.state site.old).honest
+            → IsRing shape (region shape (S.state site.old)) → ⊥ }
+        ensures stops { IfErr result (λ e. (e ≡ Stop.Device shape.dev) ⊎ (e ≡ Stop.Foreign)) }
+    {
+        let mut hi = 0;
+        for slot in 0..shape.slots {
+            let Ok(head) = read_head(site, shape, slot) else {
+                return Err(Stop::Device(shape.dev));
+            };
+            if head.gate == OPEN && head.number % shape.slots == slot {
+                if head.number >= HI_MAX {
+                    return Err(Stop::Foreign);
+                }
+                hi = hi.max(head.number + 1);
+            }
+        }
+        let Ok(head) = read_head(site, shape, hi % shape.slots) else {
+            return Err(Stop::Device(shape.dev));
+        };
+        if head.gate == OPEN {
+            return Err(Stop::Foreign);
+        }
+        Ok(Ring {
+            shape,
+            hi,
+            ended: false,
+        })
+    }
+
+    /// One past the newest live unit.
+    pub fn hi(&self) -> u64
+        ensures { result ≡ self.now.hi }
+    {
+        self.hi
+    }
+
+    /// The oldest live unit, `hi` if there is none.
+    pub fn oldest(&self) -> u64
+        requires { 1 ≤ self.now.shape.slots }
+        ensures { result ≡ self.now.hi - (self.now.shape.slots - 1) }
+    {
+        self.hi.saturating_sub(self.shape.slots - 1)
+    }
+
+    /// Whether an append gave an error. No further call on the ring is lawful then, though each stays safe.
+    pub fn ended(&self) -> bool
+        ensures { result ≡ self.now.ended }
+    {
+        self.ended
+    }
+
+    /// Reads the number of the live unit `n` into 8 octets, and the first octets of its content into those behind them,
+    /// by one read.
+    pub fn read_unit<S: Site>(&self, site: &mut S, n: u64, into: &mut [u8]) -> Result<(), Stop>
+        requires usable { IsUsable self.now (S.state site.old) }
+        requires live { IsLive self.now.shape self.now.hi n }
+        requires number { 8 ≤ length into.old }
+        requires room { length into.old ≤ 8 + self.now.shape.room }
+
+        ensures unit { IsTrue (S.state site.old).honest → Fits self.now (S.state site.old)
+            → OnOk result (drop 8 into.new
+            ≡ take (length into.old - 8) (unit_at self.now.shape (units_in self.now.shape (S.state site.old)) n)) }
+        ensures same { IsTrue (S.state site.old).honest
+            → IsUnchanged (S.state site.old) (S.state site.new) }
+        ensures goes { Goes (S.state site.old) (S.state site.new) }
+        ensures reads { ReadsMore self.now.shape.dev (length into.old) (S.state site.old) (S.state site.new) }
+
+        // When each answer comes.
+        ensures device { IsErrOf result (Stop.Device self.now.shape.dev)
+            → FaultRose self.now.shape.dev (S.state site.old) (S.state site.new) }
+        ensures read_foreign { IsErrOf result Stop.Foreign → first_number into.new ≢ n }
+        ensures read_own { OnOk result (first_number into.new ≡ n) }
+        ensures foreign { IsErrOf result Stop.Foreign → IsTrue (S.state site.old).honest
+            → number self.now.shape (region self.now.shape (S.state site.old)) (n % self.now.shape.slots) ≢ n }
+        ensures own { IsTrue (S.state site.old).honest
+            → OnOk result (number self.now.shape (region self.now.shape (S.state site.old)) (n % self.now.shape.slots) ≡ n) }
+        ensures stops { IfErr result (λ e. (e ≡ Stop.Device self.now.shape.dev)
+            ⊎ (e ≡ Stop.Foreign)) }
+    {
+        let shape = self.shape;
+        let at = shape.base + n % shape.slots * shape.stride + 1;
+        let Ok(()) = site.read_at(shape.dev, at, into) else {
+            return Err(Stop::Device(shape.dev));
+        };
+        if get_u64(into, 0) != n {
+            return Err(Stop::Foreign);
+        }
+        Ok(())
+    }
+
+    /// Appends a unit of `room` octets: its number and content behind a closed gate, synced, then its gate open, synced.
+    /// A crash at any moment leaves the old units, or the new one too. After an error the ring is ended: what stands
+    /// there may be either, and is found by a scan. A ring takes 2^40 units and is then worn.
+    pub fn append<S: Site>(&mut self, site: &mut S, content: &[u8]) -> Result<(), Stop>
+        requires usable { IsUsable self.old (S.state site.old) }
+        requires room { length content.now ≡ self.old.shape.room }
+
+        ensures any_moment { IsTrue (S.state site.old).honest → IsReady self.old (S.state site.old)
+            → LeavesOnly (S.state site.old) (S.state site.new)
+            (LeavesOldOrNew self.old.shape (region self.old.shape (S.state site.old)) content.now) }
+        ensures changes { IsTrue (S.state site.old).honest
+            → ChangesOnly self.old.shape.dev (S.state site.old) (S.state site.new) }
+        ensures ready { IsTrue (S.state site.old).honest → IsReady self.old (S.state site.old)
+            → OnOk result (IsReady self.new (S.state site.new)) }
+        ensures stands { IsTrue (S.state site.old).honest → IsReady self.old (S.state site.old)
+            → OnOk result (units_in self.old.shape (S.state site.new)
+            ≡ appended self.old.shape (units_in self.old.shape (S.state site.old)) content.now) }
+
+        // Of every honest site, whatever stood in the ring.
+        ensures seals { IsTrue (S.state site.old).honest
+            → OnOk result (Seals self.old.shape self.old.hi content.now
+            (region self.old.shape (S.state site.old)) (region self.old.shape (S.state site.new))) }
+        ensures settled { IsTrue (S.state site.old).honest
+            → OnOk result (IsSettled self.old.shape.dev (S.state site.new)) }
+        ensures quiet { IsTrue (S.state site.old).honest → IsQuiet (S.state site.old)
+            → OnOk result (IsQuiet (S.state site.new)) }
+        ensures fits { IsTrue (S.state site.old).honest → Fits self.old (S.state site.old)
+            → OnOk result (Fits self.new (S.state site.new)) }
+
+        // Of every site.
+        ensures ok { OnOk result (self.new ≡ record self.old { hi = self.old.hi + 1 }) }
+        ensures err { OnErr result (self.new ≡ record self.old { ended = true }) }
+        ensures shape { self.new.shape ≡ self.old.shape }
+        ensures usable { IsUsable self.new (S.state site.new) }
+        ensures goes { Goes (S.state site.old) (S.state site.new) }
+        ensures reads { SameReads (S.state site.old) (S.state site.new) }
+
+        // When each answer comes.
+        ensures worn { IsErrOf result (Stop.Worn self.old.shape.dev) ↔ (self.old.hi ≡ 2 ^ 40) }
+        ensures unchanged { self.old.hi ≡ 2 ^ 40 → site.new ≡ site.old }
+        ensures device { IsErrOf result (Stop.Device self.old.shape.dev)
+            → FaultRose self.old.shape.dev (S.state site.old) (S.state site.new) }
+        ensures stops { IfErr result (λ e. (e ≡ Stop.Device self.old.shape.dev)
+            ⊎ (e ≡ Stop.Worn self.old.shape.dev)) }
+    {
+        let dev = self.shape.dev;
+        if self.hi == HI_MAX {
+            self.ended = true;
+            return Err(Stop::Worn(dev));
+        }
+        let Ok(()) = seal(site, self.shape, self.hi, content) else {
+            self.ended = true;
+            return Err(Stop::Device(dev));
+        };
+        self.hi += 1;
+        Ok(())
+    }
+}
+
+#[derive(Clone, Copy, Debug, PartialEq, Eq, Drop)]
+struct Head {
+    gate: u8,
+    number: u64,
+}
+
+// The gate and the number of a slot.
+fn read_head<S: Site>(site: &mut S, shape: Shape, slot: u64) -> Result<Head, Failed>
+    requires fits { FitsIn shape (length (region shape (S.state site.old))) }
+    requires slot { slot < shape.slots }
+    ensures gate { IsTrue (S.state site.old).honest
+        → IfOk result (λ head. head.gate ≡ gate shape (region shape (S.state site.old)) slot) }
+    ensures number { IsTrue (S.state site.old).honest
+        → IfOk result (λ head. head.number ≡ number shape (region shape (S.state site.old)) slot) }
+    ensures same { IsTrue (S.state site.old).honest
+        → IsUnchanged (S.state site.old) (S.state site.new) }
+    ensures goes { Goes (S.state site.old) (S.state site.new) }
+    ensures reads { reads_of shape.dev (S.state site.new)
+        ≤ reads_of shape.dev (S.state site.old) + 1 }
+    ensures others { (d : Dev) → d ≢ shape.dev
+        → reads_of d (S.state site.new) ≡ reads_of d (S.state site.old) }
+    ensures cause { OnErr result (FaultRose shape.dev (S.state site.old) (S.state site.new)) }
+{
+    let mut head = [0u8; 9];
+    site.read_at(shape.dev, shape.base + slot * shape.stride, &mut head)?;
+    Ok(Head {
+        gate: head[0],
+        number: get_u64(&head, 1),
+    })
+}

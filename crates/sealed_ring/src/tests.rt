@@ -1,0 +1,102 @@
+// Rings on a site in memory.
+use crate::{Ring, Shape};
+use site::{Call, Dev, Geometry, MemSite, Site, Stop};
+use std::test::Fail;
+
+const SMALL: Geometry = Geometry {
+    pages: 1,
+    groups: 8,
+    blocks: 16,
+};
+
+const SHORT: Shape = Shape {
+    dev: Dev::Log,
+    base: 0,
+    slots: 3,
+    stride: 512,
+    room: 503,
+};
+
+const LONG: Shape = Shape {
+    dev: Dev::Flash,
+    base: 0,
+    slots: 3,
+    stride: 33_280,
+    room: 32_896,
+};
+
+#[test]
+fn the_last_two_of_five_units_live(rt: HostRuntime) -> Result<(), Fail> {
+    let mut site = MemSite::new(rt.alloc(), &SMALL)?;
+    let mut ring = Ring::scan(&mut site, SHORT)?;
+    ring.append(&mut site, &[10; 503])?;
+    ring.append(&mut site, &[11; 503])?;
+    ring.append(&mut site, &[12; 503])?;
+    ring.append(&mut site, &[13; 503])?;
+    ring.append(&mut site, &[14; 503])?;
+    let again = Ring::scan(&mut site, ring.shape)?;
+    assert_eq!(rt; again, ring);
+    assert_eq!(rt; again.hi(), 5);
+    assert_eq!(rt; again.oldest(), 3);
+
+    let mut unit = [0; 10];
+    again.read_unit(&mut site, 3, &mut unit)?;
+    assert_eq!(rt; unit, [0, 0, 0, 0, 0, 0, 0, 3, 13, 13]);
+    again.read_unit(&mut site, 4, &mut unit)?;
+    assert_eq!(rt; unit, [0, 0, 0, 0, 0, 0, 0, 4, 14, 14]);
+
+    // Unit 3 in slot 0, unit 4 in slot 1, and unit 2 behind a closed gate in slot 2.
+    let log = site.content(Dev::Log);
+    assert!(rt; log.starts_with(&[0xA5, 0, 0, 0, 0, 0, 0, 0, 3, 13]));
+    assert!(rt; log.iter().skip(9).take(503).all(|octet| *octet == 13));
+    assert_eq!(rt; log.get(512), Some(&0xA5));
+    assert_eq!(rt; log.get(520), Some(&4));
+    assert_eq!(rt; log.get(1_024), Some(&0));
+    assert_eq!(rt; log.get(1_032), Some(&2));
+    assert_eq!(rt; log.get(1_033), Some(&12));
+    Ok(())
+}
+
+#[test]
+fn a_worn_ring_makes_no_call(rt: HostRuntime) -> Result<(), Fail> {
+    let mut site = MemSite::new(rt.alloc(), &SMALL)?;
+    site.write_at(Dev::Log, 0, &[0xA5, 0, 0, 0, 0xFF, 0xFF, 0xFF, 0xFF, 0xFF])?;
+    site.write_at(Dev::Log, 1_025, &[0, 0, 0, 0xFF, 0xFF, 0xFF, 0xFF, 0xFE])?;
+    let mut ring = Ring::scan(&mut site, SHORT)?;
+    assert_eq!(rt; ring.hi(), 1_099_511_627_776);
+    assert!(rt; !ring.ended());
+    let worn = ring.append(&mut site, &[7; 503]);
+    assert_eq!(rt; worn, Err(Stop::Worn(Dev::Log)));
+    assert!(rt; ring.ended());
+    assert_eq!(rt; site.changes(), 2);
+    Ok(())
+}
+
+#[test]
+fn a_fault_ends_the_ring(rt: HostRuntime) -> Result<(), Fail> {
+    let mut site = MemSite::new(rt.alloc(), &SMALL)?;
+    site.fail(Call::Sync(Dev::Log), 2)?;
+    let mut ring = Ring::scan(&mut site, SHORT)?;
+    let stopped = ring.append(&mut site, &[7; 503]);
+    assert_eq!(rt; stopped, Err(Stop::Device(Dev::Log)));
+    assert!(rt; ring.ended());
+    assert_eq!(rt; ring.hi(), 0);
+    // Its gate was written, but a crash may take it back.
+    assert_eq!(rt; site.content(Dev::Log).first(), Some(&0xA5));
+    let site = site.crash(1);
+    assert_eq!(rt; site.content(Dev::Log).first(), Some(&0));
+    Ok(())
+}
+
+#[test]
+fn a_long_unit(rt: HostRuntime) -> Result<(), Fail> {
+    let mut site = MemSite::new(rt.alloc(), &SMALL)?;
+    let mut ring = Ring::scan(&mut site, LONG)?;
+    ring.append(&mut site, &[9; 32_896])?;
+    assert_eq!(rt; Ring::scan(&mut site, ring.shape)?, ring);
+    let flash = site.content(Dev::Flash);
+    assert!(rt; flash.starts_with(&[0xA5, 0, 0, 0, 0, 0, 0, 0, 0, 9]));
+    assert_eq!(rt; flash.get(32_904), Some(&9));
+    assert_eq!(rt; flash.get(32_905), Some(&0));
+    Ok(())
+}
