@@ -1,0 +1,66 @@
+-- How a text is cut at its spaces.
+use Rattle.std.proofs.Common.{◌≡◌, ℕ, ◌+◌, ◌-◌, ◌≤◌, ◌<◌, Bool, List, [], ◌∷◌, length, take, drop, Option, Some, None, refl, sym, ap, ◌∙◌, arith, inl, inr, length-drop}
+use Rattle.std.specs.Prelude.{◌==◌, position, not, if◌then◌else◌, IfNone}
+use Rattle.std.specs.List.{position_or_len, onto_first}
+use Rattle.std.proofs.lemmas.List.{take_all}
+use Rattle.std.proofs.lemmas.List.Splits.{slice_split_first, length-slice_split}
+use Rattle.std.proofs.lemmas.Bool.{cases_Bool, cases_lt, lt-ltb, le-ltb}
+use Rattle.shell_text.specs.Reading.{words_of, command_in}
+
+abbrev pub is_space : ℕ → Bool
+is_space x = x == 32
+
+-- a text with no space is one word
+one_word : (text : List ℕ) → length text ≤ position_or_len is_space text → words_of text ≡ text ∷ []
+one_word [] all = refl
+one_word (x ∷ text) all =
+    elim (cases_Bool (is_space x)) [
+      | inl space ↦
+          let none : position_or_len is_space (x ∷ text) ≡ 0 = λ i. if not (space i) then 1 + position_or_len is_space text else 0 in
+          absurd (omega (arith, none, all))
+      | inr other ↦
+          let more : position_or_len is_space (x ∷ text) ≡ 1 + position_or_len is_space text = λ i. if not (other i) then 1 + position_or_len is_space text else 0 in
+          (λ i. if other i then [] ∷ words_of text else onto_first x (words_of text)) ∙ ap (onto_first x) (one_word text (omega (arith, more, all)))
+    ]
+
+-- where no space was found
+pub words_of-none : (text : List ℕ) → position is_space text ≡ None → words_of text ≡ text ∷ []
+words_of-none text none =
+    elim (cases_lt (position_or_len is_space text) (length text)) [
+      | inl found ↦ cc (sym none ∙ (λ i. if lt-ltb (position_or_len is_space text) (length text) found i then Some (position_or_len is_space text) else None))
+      | inr all ↦ one_word text all
+    ]
+
+-- the place of the first space
+place_is : (text : List ℕ) (place : ℕ) → position is_space text ≡ Some place → (position_or_len is_space text ≡ place) × (position_or_len is_space text < length text)
+place_is text place some =
+    elim (cases_lt (position_or_len is_space text) (length text)) [
+      | inl found ↦
+          let is : Some (position_or_len is_space text) ≡ Some place = sym (λ i. if lt-ltb (position_or_len is_space text) (length text) found i then Some (position_or_len is_space text) else None) ∙ some in
+          (cc, found)
+      | inr all ↦ cc (sym some ∙ (λ i. if le-ltb (position_or_len is_space text) (length text) all i then Some (position_or_len is_space text) else None))
+    ]
+
+-- where one was found
+pub words_of-some : (text : List ℕ) (place : ℕ) → position is_space text ≡ Some place → words_of text ≡ take place text ∷ words_of (drop (place + 1) text)
+words_of-some text place some =
+    let at = place_is text place some in
+    slice_split_first is_space text 0 at.1 ∙ ap (λ (n : ℕ). take n text ∷ words_of (drop (n + 1) text)) at.0
+
+-- all that stands behind a place
+pub rest_of : (text : List ℕ) (place : ℕ) → take (length text - place) (drop place text) ≡ drop place text
+rest_of text place = take_all (length text - place) (drop place text) (let len = length-drop place text in omega arith)
+
+pub if_none : {X : Type 0} (o : Option X) (P : Type 0) → P → IfNone o P
+if_none None P p = p
+if_none (Some x) P p = tt
+
+-- a line of five words or more is no command
+five_words : (a b c d : List ℕ) (more : List (List ℕ)) → 0 < length more → command_in (a ∷ b ∷ c ∷ d ∷ more) ≡ None
+five_words a b c d [] some = absurd (omega (arith, some))
+five_words a b c d (e ∷ more) some = refl
+
+pub too_many : (line one two three four a b c d : List ℕ) → words_of line ≡ a ∷ words_of one → words_of one ≡ b ∷ words_of two → words_of two ≡ c ∷ words_of three → words_of three ≡ d ∷ words_of four → command_in (words_of line) ≡ None
+too_many line one two three four a b c d first second third fourth =
+    ap command_in (first ∙ ap (λ (w : List (List ℕ)). a ∷ w) (second ∙ ap (λ (w : List (List ℕ)). b ∷ w) (third ∙ ap (λ (w : List (List ℕ)). c ∷ w) fourth)))
+    ∙ five_words a b c d (words_of four) (omega (arith, length-slice_split is_space four))

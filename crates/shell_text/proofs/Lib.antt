@@ -1,0 +1,9 @@
+pub mod Digits
+pub mod Cuts
+pub mod Numbers
+pub mod Values
+pub mod Commands
+pub mod Spacing
+pub mod Read
+pub mod Lines
+pub mod Decimals

@@ -1,0 +1,6 @@
+pub mod Grammar
+pub mod Reading
+pub mod Texts
+pub mod Runs
+pub mod Laws
+pub mod Rows

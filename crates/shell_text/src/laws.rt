@@ -1,0 +1,20 @@
+// Facts about lines. The functions do nothing: each states its laws as clauses.
+ghost use Rattle.shell_text.specs.Laws.{LinesAreRead, LinesAreOneCommand, EndsAtNewline, WaitsForNewline, EndsWithInput, WholeLinesStay};
+
+/// What a line says is a command exactly where the grammar has the line as that command.
+pub fn lines_are_read()
+    ensures { LinesAreRead }
+{}
+
+/// No line is two commands.
+pub fn lines_are_one_command()
+    ensures { LinesAreOneCommand }
+{}
+
+/// The input is cut at its newlines; octets behind the last one are a line where the input has ended and there are any.
+pub fn lines_are_cut()
+    ensures at_newline { EndsAtNewline }
+    ensures waits { WaitsForNewline }
+    ensures at_end { EndsWithInput }
+    ensures whole_stay { WholeLinesStay }
+{}
