@@ -1,0 +1,3 @@
+pub mod BySession
+pub mod Changes
+pub mod Places
