@@ -1,0 +1,4 @@
+pub mod Changes
+pub mod Laws
+pub mod Reached
+pub mod Rings
