@@ -1,0 +1,94 @@
+-- The newest blocks of an image.
+use Rattle.std.proofs.Common.{◌≡◌, ℕ, zero, suc, ◌+◌, ◌-◌, ◌≤◌, List, [], ◌∷◌, ◌++◌, length, drop, sym, ap, ◌∙◌, arith}
+use Rattle.std.specs.Prelude.{max}
+use Rattle.std.specs.List.{AllByRecursion}
+use Rattle.std.proofs.lemmas.List.{length-append, length-drop, drop-drop, drop-append-le, drop-map, map-append}
+use Rattle.site.specs.declared.geometry.Geometry.{Geometry}
+use Rattle.site.specs.State.{Image}
+use Rattle.sealed_ring.specs.Ring.{IsRing, Units, last_of, appended}
+use Rattle.sealed_ring.proofs.Units.{live_count}
+use Rattle.log_records.specs.declared.log_record.LogRecord.{LogRecord}
+use Rattle.log_records.specs.Spelling.{block, AreBlock}
+use Rattle.image_changes.specs.Rings.{log_shape, units_on, KeepsUnits}
+use Rattle.log_store.specs.Held.{HasBlocks}
+
+-- the last ones of the last ones
+last_twice : (k m : ℕ) (xs : List (List ℕ)) → k ≤ m → last_of k (last_of m xs) ≡ last_of k xs
+last_twice k m xs le =
+    let size = length-drop (length xs - m) xs in
+    drop-drop (length (drop (length xs - m) xs) - k) (length xs - m) xs
+    ∙ ap (λ (n : ℕ). drop n xs) (omega (arith, size, le))
+
+-- of a list with one more
+last_more : (k : ℕ) (xs : List (List ℕ)) (x : List ℕ) → k ≤ length xs → last_of (k + 1) (xs ++ x ∷ []) ≡ last_of k xs ++ x ∷ []
+last_more k xs x le =
+    let size = length-append xs (x ∷ []) in
+    ap (λ (n : ℕ). drop n (xs ++ x ∷ [])) (omega (arith, size, le))
+    ∙ drop-append-le (length xs - k) xs (x ∷ []) (omega arith)
+
+all_more : (blocks : List (List LogRecord)) (records : List LogRecord) → AllByRecursion AreBlock blocks → AreBlock records → AllByRecursion AreBlock (blocks ++ records ∷ [])
+all_more [] records all are = (are, tt)
+all_more (first ∷ blocks) records all are = (all.0, all_more blocks records all.1 are)
+
+all_behind : (n : ℕ) (blocks : List (List LogRecord)) → AllByRecursion AreBlock blocks → AllByRecursion AreBlock (drop n blocks)
+all_behind zero blocks all = all
+all_behind (suc n) [] all = tt
+all_behind (suc n) (first ∷ blocks) all = all_behind n blocks all.1
+
+-- they stay where the ring has the same units
+pub blocks_stay : (g : Geometry) (first : ℕ) (blocks : List (List LogRecord)) (a b : Image) → HasBlocks g first blocks a → KeepsUnits (log_shape g) a b → HasBlocks g first blocks b
+blocks_stay g first blocks a b has keeps = record {
+  form = keeps.form has.form;
+  next = has.next ∙ sym (ap (λ (u : Units). u.hi) keeps.units);
+  few = has.few;
+  are_blocks = has.are_blocks;
+  units = ap (λ (u : Units). last_of (length blocks) u.live) keeps.units ∙ has.units;
+}
+
+-- as many units live
+lives : (g : Geometry) (first : ℕ) (blocks : List (List LogRecord)) (a : Image) → HasBlocks g first blocks a → length blocks ≤ length (units_on (log_shape g) a).live
+lives g first blocks a has =
+    let count = live_count (log_shape g) a.log in
+    let next = has.next in
+    let few = has.few in
+    omega (arith, count, next, few)
+
+-- one block more
+pub blocks_more : (g : Geometry) (first : ℕ) (blocks : List (List LogRecord)) (records : List LogRecord) (a b : Image) → HasBlocks g first blocks a → length blocks + 1 ≤ g.blocks - 1 → AreBlock records →
+    IsRing (log_shape g) b.log → units_on (log_shape g) b ≡ appended (log_shape g) (units_on (log_shape g) a) (block records) → HasBlocks g first (blocks ++ records ∷ []) b
+blocks_more g first blocks records a b has room are form units =
+    let live = (units_on (log_shape g) a).live in
+    let size = length-append blocks (records ∷ []) in
+    let hi = ap (λ (u : Units). u.hi) units in
+    let next = has.next in record {
+      form = form;
+      next = omega (arith, size, hi, next);
+      few = omega (arith, size, room);
+      are_blocks = all_more blocks records has.are_blocks are;
+      units =
+          ap (λ (u : Units). last_of (length (blocks ++ records ∷ [])) u.live) units
+          ∙ ap (λ (n : ℕ). last_of n (last_of (g.blocks - 1) (live ++ block records ∷ []))) size
+          ∙ last_twice (length blocks + 1) (g.blocks - 1) (live ++ block records ∷ []) room
+          ∙ last_more (length blocks) live (block records) (lives g first blocks a has)
+          ∙ ap (λ (l : List (List ℕ)). l ++ block records ∷ []) has.units
+          ∙ sym (map-append block blocks (records ∷ []));
+    }
+
+-- and fewer, from a later one on
+pub blocks_from : (g : Geometry) (first from : ℕ) (blocks : List (List LogRecord)) (a : Image) → HasBlocks g first blocks a → from ≤ first + length blocks → HasBlocks g (max first from) (drop (from - first) blocks) a
+blocks_from g first from blocks a has within =
+    let live = (units_on (log_shape g) a).live in
+    let n = from - first in
+    let size = length-drop n blocks in
+    let next = has.next in
+    let few = has.few in
+    let enough = lives g first blocks a has in record {
+      form = has.form;
+      next = omega (arith, size, next, within);
+      few = omega (arith, size, few);
+      are_blocks = all_behind n blocks has.are_blocks;
+      units =
+          ap (λ (k : ℕ). drop k live) (omega (arith, size, enough, within))
+          ∙ sym (drop-drop n (length live - length blocks) live)
+          ∙ ap (drop n) has.units ∙ drop-map block n blocks;
+    }

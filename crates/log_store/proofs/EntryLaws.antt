@@ -1,0 +1,56 @@
+-- The list of a log's records.
+use Rattle.std.proofs.Common.{◌≡◌, ℕ, ◌+◌, ◌*◌, Bool, true, false, List, [], ◌∷◌, ◌++◌, length, refl, sym, ap, ◌∙◌, append_assoc, arith}
+use Rattle.std.specs.Prelude.{flat_map}
+use Rattle.std.proofs.lemmas.List.{append-nil, length-append}
+use Rattle.log_records.specs.declared.log_record.LogRecord.{LogRecord}
+use Rattle.log_records.specs.Spelling.{spelling, used_by}
+use Rattle.log_records.specs.Log.{Entry, entries_from, log_from}
+use Rattle.site.specs.State.{State}
+use Rattle.log_store.specs.declared.store.LogStore.{LogStore}
+use Rattle.log_store.specs.Held.{Fits, Holds}
+use Rattle.log_store.specs.Laws.{BlocksAreThere}
+use Rattle.log_store.specs.LogList.{LogList, next_block, sealed, entries, sealed_if, with_record}
+
+abbrev entry : ℕ → LogRecord → Entry
+entry lsn rec = record { lsn = lsn; rec = rec }
+
+-- the last of records one after the other stands behind all before it
+entries_more : (lsn : ℕ) (records : List LogRecord) (rec : LogRecord) → entries_from lsn (records ++ rec ∷ []) ≡ entries_from lsn records ++ record { lsn = lsn + length (flat_map spelling records); rec = rec } ∷ []
+entries_more lsn [] rec = ap (λ (n : ℕ). entry n rec ∷ []) (omega arith)
+entries_more lsn (first ∷ records) rec =
+    ap (λ (l : List Entry). record { lsn = lsn; rec = first } ∷ l) (entries_more (lsn + length (spelling first)) records rec
+    ∙ ap (λ (n : ℕ). entries_from (lsn + length (spelling first)) records ++ entry n rec ∷ []) (omega (arith, length-append (spelling first) (flat_map spelling records))))
+
+-- the last of blocks one after the other
+blocks_more : (first : ℕ) (blocks : List (List LogRecord)) (records : List LogRecord) → log_from first (blocks ++ records ∷ []) ≡ log_from first blocks ++ entries_from (512 * (first + length blocks) + 2) records
+blocks_more first [] records = append-nil (entries_from (512 * first + 2) records) ∙ ap (λ (n : ℕ). entries_from (512 * n + 2) records) (omega arith)
+blocks_more first (block ∷ blocks) records =
+    ap (λ (l : List Entry). entries_from (512 * first + 2) block ++ l) (blocks_more (first + 1) blocks records
+    ∙ ap (λ (n : ℕ). log_from (first + 1) blocks ++ entries_from (512 * n + 2) records) (omega arith))
+    ∙ sym (append_assoc (entries_from (512 * first + 2) block) (log_from (first + 1) blocks) _)
+
+-- sealing changes no record
+pub sealing_keeps : (sealing : Bool) (log : LogList) → entries (sealed_if sealing log) ≡ entries log
+sealing_keeps true log = append-nil (log_from log.first (log.blocks ++ log.tail ∷ [])) ∙ blocks_more log.first log.blocks log.tail
+sealing_keeps false log = refl
+
+-- a record more stands behind them
+pub one_more : (rec : LogRecord) (log : LogList) (lsn : ℕ) → lsn ≡ 512 * next_block log + used_by log.tail → entries (with_record rec log) ≡ entries log ++ record { lsn = lsn; rec = rec } ∷ []
+one_more rec log lsn is =
+    ap (λ (l : List Entry). sealed log ++ l) (entries_more (512 * next_block log + 2) log.tail rec ∙ ap (λ (n : ℕ). entries_from (512 * next_block log + 2) log.tail ++ entry n rec ∷ []) (omega (arith, is)))
+    ∙ sym (append_assoc (sealed log) (entries_from (512 * next_block log + 2) log.tail) _)
+
+-- where a store puts its next record
+pub next_place : (store : LogStore) (site : State) (log : LogList) (lsn : ℕ) → Fits store site → Holds store site.image log → lsn ≡ 512 * store.ring.hi + store.used → lsn ≡ 512 * next_block log + used_by log.tail
+next_place store site log lsn fits holds is =
+    let next = holds.blocks.next in
+    let hi = fits.hi in
+    let end = holds.tail.end in
+    omega (arith, next, hi, end, is)
+
+-- the sealed records are the first ones
+pub blocks_are_there : BlocksAreThere
+blocks_are_there log = record {
+  unsealed = (entries_from (512 * next_block log + 2) log.tail, refl);
+  all = blocks_more log.first log.blocks log.tail;
+}

@@ -1,0 +1,8 @@
+pub mod BlockLaws
+pub mod EntryLaws
+pub mod Finding
+pub mod GoingOn
+pub mod OneLog
+pub mod Standing
+pub mod SealLaws
+pub mod TailLaws

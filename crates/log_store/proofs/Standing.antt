@@ -1,0 +1,151 @@
+-- What stands on the devices.
+use Rattle.std.proofs.Common.{◌≡◌, ◌≢◌, ℕ, zero, suc, get_or, ◌+◌, ◌-◌, ◌%◌, ◌≤◌, ◌<◌, ◌*◌, ◌/◌, List, [], ◌∷◌, length, take, drop, replicate, refl, sym, ap, ◌∙◌, subst, arith}
+use Rattle.std.specs.Prelude.{slice_index, Option}
+use Rattle.std.specs.List.{AllByRecursion}
+use Rattle.std.specs.Int.{w16, from_be_bytes}
+use Rattle.std.proofs.lemmas.List.{get_or-map, get_or-drop, length-replicate, take-take}
+use Rattle.std.proofs.lemmas.Nat.{mod_below, div-add-mod'}
+use Rattle.site.specs.declared.geometry.Geometry.{Geometry}
+use Rattle.site.specs.Geometry.{log_length}
+use Rattle.site.specs.State.{State, Image}
+use Rattle.site.specs.Laws.{stays_honest}
+use Rattle.sealed_ring.specs.declared.slots.Shape.{Shape}
+use Rattle.sealed_ring.specs.Ring.{FitsIn, Units, IsLive, hi_of, units_of, unit_at, place, last_of}
+use Rattle.sealed_ring.specs.Ready.{region}
+use Rattle.sealed_ring.proofs.Examples.{blank_is_ring}
+use Rattle.sealed_ring.proofs.Heads.{unit_is}
+use Rattle.sealed_ring.proofs.Units.{live_count}
+use Rattle.log_records.specs.declared.log_record.LogRecord.{LogRecord}
+use Rattle.log_records.specs.Spelling.{block, used_by, AreBlock, IsBlock}
+use Rattle.log_records.proofs.Blocks.{used_is}
+use Rattle.image_changes.specs.Rings.{log_shape, units_on}
+use Rattle.log_store.specs.declared.store.LogStore.{LogStore}
+use Rattle.log_store.specs.LogList.{LogList, next_block, entries, at_lsn, sealed_block}
+use Rattle.log_store.specs.Held.{MayGoOn, end_of, Fits, HasBlocks, HasRecords, Holds, block_on}
+use Rattle.log_records.specs.Log.{entries_from}
+use Rattle.log_store.proofs.BlockLaws.{blocks_stay}
+use Rattle.log_store.proofs.Finding.{in_block, in_tail, tail_has, block_has}
+use Rattle.log_store.specs.Laws.{FitsBeside, HoldsBeside, BlankHasNoBlocks}
+
+-- beside the log's ring
+
+pub fits_beside : FitsBeside
+fits_beside store old new keeps goes settled fits = record {
+  honest = stays_honest old new goes fits.honest;
+  settled = settled;
+  form = keeps.form fits.form;
+  hi = fits.hi ∙ sym (ap (λ (u : Units). u.hi) keeps.units);
+}
+
+pub holds_beside : HoldsBeside
+holds_beside store old new log keeps holds = record { kept = holds.kept; blocks = blocks_stay store.geometry log.first log.blocks old new holds.blocks keeps; tail = holds.tail }
+
+-- blank devices
+
+pub blank_has_no_blocks : BlankHasNoBlocks
+blank_has_no_blocks g limits =
+    let c : List ℕ = replicate (log_length g) 0 in
+    let low = limits.blocks in
+    let high = limits.few_blocks in
+    let size = length-replicate {A = ℕ} (log_length g) 0 in
+    let fits : FitsIn (log_shape g) (length c) = record { slots = omega (arith, low); room = omega arith; stride = omega arith; inside = omega (arith, size); addresses = omega (arith, high) } in
+    let ring = blank_is_ring (log_shape g) c fits (λ p. zero_at (log_length g) p) in record {
+      form = ring.0;
+      next = sym (ap (λ (u : Units). u.hi) ring.1);
+      few = omega arith;
+      are_blocks = tt;
+      units = ap (λ (u : Units). last_of 0 u.live) ring.1;
+    }
+  where
+    zero_at : (n p : ℕ) → slice_index (replicate n 0) p ≡ 0
+    zero_at zero p = refl
+    zero_at (suc n) zero = refl
+    zero_at (suc n) (suc p) = zero_at n p
+
+-- a sealed block
+
+are_at : (blocks : List (List LogRecord)) (i : ℕ) → i < length blocks → AllByRecursion AreBlock blocks → AreBlock (get_or blocks i [])
+are_at [] i less all = absurd (omega (arith, less))
+are_at (first ∷ blocks) zero less all = all.0
+are_at (first ∷ blocks) (suc i) less all = are_at blocks i (omega (arith, less)) all.1
+
+pub stands_there : (g : Geometry) (log : LogList) (image : Image) (n : ℕ) → HasBlocks g log.first log.blocks image → log.first ≤ n → n < next_block log → IsBlock (block_on g image n) (sealed_block log n)
+stands_there g log image n has from to =
+    let live = (units_on (log_shape g) image).live in
+    let i = n - log.first in
+    let count = live_count (log_shape g) image.log in
+    let next = has.next in
+    let few = has.few in
+    let at : n - (hi_of (log_shape g) image.log - (g.blocks - 1)) ≡ length live - length log.blocks + i = omega (arith, count, next, few, from, to) in
+    record {
+      are_block = are_at log.blocks i (omega (arith, from, to)) has.are_blocks;
+      spelled =
+          ap (λ (k : ℕ). get_or live k []) at
+          ∙ sym (get_or-drop (length live - length log.blocks) live i [])
+          ∙ ap (λ (l : List (List ℕ)). get_or l i []) has.units
+          ∙ get_or-map block log.blocks i [] [] (omega (arith, from, to));
+    }
+
+-- a unit that was read
+
+read_whole : (s : Shape) (hi n : ℕ) (c : List ℕ) → 3 ≤ s.slots → hi ≡ hi_of s c → IsLive s hi n → take s.room (unit_at s (units_of s c) n) ≡ unit_at s (units_of s c) n
+read_whole s hi n c slots is live =
+    ap (take s.room) (unit_is s hi n c slots is live)
+    ∙ take-take s.room s.room (drop (place s (n % s.slots) + 9) c) (omega arith)
+    ∙ sym (unit_is s hi n c slots is live)
+
+pub unit_read : (store : LogStore) (site : State) (n : ℕ) (read octets : List ℕ) → MayGoOn store site → Fits store site → IsLive store.ring.shape store.ring.hi n →
+    octets ≡ take 503 read → read ≡ take 503 (unit_at store.ring.shape (units_of store.ring.shape (region store.ring.shape site)) n) → octets ≡ block_on store.geometry site.image n
+unit_read store site n read octets going fits live copied is =
+    let blocks = going.limits.blocks in
+    copied ∙ ap (take 503) is
+    ∙ take-take 503 503 (unit_at store.ring.shape (units_of store.ring.shape (region store.ring.shape site)) n) (omega arith)
+    ∙ ap (λ (s : Shape). take 503 (unit_at s (units_of s (region s site)) n)) going.shape
+    ∙ read_whole (log_shape store.geometry) store.ring.hi n site.image.log (omega (arith, blocks)) fits.hi (subst (λ (s : Shape). IsLive s store.ring.hi n) going.shape live)
+
+-- where the records of a block end
+pub one_end : (octets : List ℕ) (a b : List LogRecord) → IsBlock octets a → IsBlock octets b → used_by a ≡ used_by b
+one_end octets a b first second =
+    let used = from_be_bytes w16 (take 2 octets) in
+    sym (used_is octets a used first refl) ∙ used_is octets b used second refl
+
+-- a block of the log that the store holds
+pub held_block : (store : LogStore) (site : State) (log : LogList) (n : ℕ) → Fits store site → Holds store site.image log → log.first ≤ n → n < store.ring.hi → IsBlock (block_on store.geometry site.image n) (sealed_block log n)
+held_block store site log n fits holds from below =
+    let next = holds.blocks.next in
+    let hi = fits.hi in
+    stands_there store.geometry log site.image n holds.blocks from (omega (arith, next, hi, below))
+
+-- what was found in the tail, and in a sealed block
+module _ (store : LogStore) (site : State) (log : LogList) (lsn : ℕ) (fits : Fits store site) (holds : Holds store site.image log) (result : Option LogRecord) where
+  abbrev b : ℕ
+  b = lsn / 512
+
+  abbrev offset : ℕ
+  offset = lsn % 512
+
+  parts : lsn ≡ 512 * b + offset
+  parts = let all = div-add-mod' lsn 512 in omega (arith, all)
+
+  pub found_in_tail : b ≡ store.ring.hi → ((records : List LogRecord) → HasRecords store.tail store.used records → result ≡ at_lsn offset (entries_from 2 records)) → at_lsn lsn (entries log) ≡ result
+  found_in_tail at found =
+      let next = holds.blocks.next in
+      let hi = fits.hi in
+      in_tail log lsn b offset holds.blocks.are_blocks (omega (arith, at, next, hi)) parts ∙ sym (found log.tail (tail_has store.tail store.used log.tail holds.tail))
+
+  pub found_in_block : 512 * log.first ≤ lsn → b < store.ring.hi → (octets : List ℕ) (used : ℕ) → IsBlock octets (sealed_block log b) × (used ≡ used_by (sealed_block log b)) →
+      ((records : List LogRecord) → HasRecords octets used records → result ≡ at_lsn offset (entries_from 2 records)) → at_lsn lsn (entries log) ≡ result
+  found_in_block from below octets used is found =
+      let next = holds.blocks.next in
+      let hi = fits.hi in
+      let small = mod_below lsn 512 (omega arith) in
+      let all = parts in
+      in_block log lsn b offset holds.blocks.are_blocks (omega (arith, from, all, small)) (omega (arith, below, next, hi)) small parts
+      ∙ sym (found (sealed_block log b) (block_has octets used (sealed_block log b) is.0 is.1))
+
+-- an LSN before the tail is of a sealed block
+pub block_bounds : (store : LogStore) (log : LogList) (lsn : ℕ) → store.used ≤ 503 → lsn < end_of store → 512 * log.first ≤ lsn → lsn / 512 ≢ store.ring.hi → (log.first ≤ lsn / 512) × (lsn / 512 < store.ring.hi)
+block_bounds store log lsn high before from ne =
+    let all = div-add-mod' lsn 512 in
+    let small = mod_below lsn 512 (omega arith) in
+    (omega (arith, all, small, from), omega (arith, all, small, high, before, ne))

@@ -1,0 +1,40 @@
+use Rattle.std.proofs.Common.{ℕ, List, ◌∙◌, sym, subst, arith}
+use Rattle.log_records.specs.Spelling.{IsBlock}
+use Rattle.log_records.proofs.Blocks.{used_low}
+use Rattle.log_store.specs.LogList.{sealed_block}
+use Rattle.log_store.proofs.SealLaws.{ring_ready}
+use Rattle.log_store.proofs.Standing.{unit_read, held_block, one_end}
+use Rattle.log_store.proofs.store.LogStore.read_block.Goals as goal
+
+pub returns-in_default-clause-foreign : goal.returns-in_default-clause-foreign
+returns-in_default-clause-foreign g c says fits records is =
+    let store = c.args.self.now in
+    let site = g.S.Site.state c.args.site.now in
+    let read = unit_read store site c.args.block _ _ c.requires.going fits c.requires.live c.copy_from_slice.ensures.after
+    (c.in_ok-read_unit.ensures.unit fits.honest (ring_ready store site c.requires.going fits).hi) in
+    c.in_default.ensures.bad records (subst (λ (l : List ℕ). IsBlock l records) (sym read) is)
+
+pub returns-clause-block : goal.returns-clause-block
+returns-clause-block g c fits =
+    let store = c.args.self.now in
+    let site = g.S.Site.state c.args.site.now in
+    unit_read store site c.args.block _ _ c.requires.going fits c.requires.live c.copy_from_slice.ensures.after
+    (c.in_ok-read_unit.ensures.unit fits.honest (ring_ready store site c.requires.going fits).hi)
+
+pub returns-clause-holds : goal.returns-clause-holds
+returns-clause-holds g c log fits holds from =
+    let store = c.args.self.now in
+    let site = g.S.Site.state c.args.site.now in
+    let read = unit_read store site c.args.block _ _ c.requires.going fits c.requires.live c.copy_from_slice.ensures.after
+    (c.in_ok-read_unit.ensures.unit fits.honest (ring_ready store site c.requires.going fits).hi) in
+    let is = subst (λ (l : List ℕ). IsBlock l (sealed_block log c.args.block)) (sym read) (held_block store site log c.args.block fits holds from c.requires.live.below) in
+    let found = c.in-Ok.ensures.found in
+    (is, found.2 ∙ one_end _ found.0 (sealed_block log c.args.block) found.1 is)
+
+pub returns-clause-within : goal.returns-clause-within
+returns-clause-within g c =
+    let found = c.in-Ok.ensures.found in
+    let low = used_low found.0 found.1.are_block in
+    let high = found.1.are_block.room in
+    let is = found.2 in
+    (omega (arith, low, is), omega (arith, high, is))

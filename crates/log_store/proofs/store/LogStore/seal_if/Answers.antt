@@ -1,0 +1,87 @@
+use Rattle.std.proofs.Common.{◌≡◌, ap, arith, refl, true, rules}
+use Rattle.sealed_ring.specs.declared.ring.Ring.{Ring}
+use Rattle.log_store.proofs.GoingOn.{goes_on}
+use Rattle.log_store.proofs.SealLaws.{none_left, none_front, ring_ready, seal_left, seal_front, seal_reaches, seal_holds}
+use Rattle.log_store.proofs.store.LogStore.seal_if.Goals as goal
+
+pub returns-then-not-wanted-clause-any_moment : goal.returns-then-not-wanted-clause-any_moment
+returns-then-not-wanted-clause-any_moment g c log fits holds = none_left _ c.args.wanted log (g.S.Site.state c.args.site.now) fits.settled holds.blocks
+
+pub returns-then-not-wanted-clause-front : goal.returns-then-not-wanted-clause-front
+returns-then-not-wanted-clause-front g c log fits holds quiet = none_front _ _ (g.S.Site.state c.args.site.now) quiet
+
+pub returns-in_err-append-clause-any_moment : goal.returns-in_err-append-clause-any_moment
+returns-in_err-append-clause-any_moment g c log fits holds =
+    let old = g.S.Site.state c.args.site.now in
+    let new = g.S.Site.state c.append.new.site in
+    let store = c.args.self.now in
+    let wants : c.args.wanted ≡ true = search rules in
+    let ready = ring_ready store old c.requires.going fits in
+    seal_left store old new log c.tail_block-content.result c.requires.going fits holds c.requires.room (c.requires.some wants) (c.tail_block-content.ensures log.tail holds.tail)
+    (c.append.ensures.any_moment fits.honest ready) (c.append.ensures.changes fits.honest).only c.args.wanted wants
+
+pub returns-in_err-append-clause-front : goal.returns-in_err-append-clause-front
+returns-in_err-append-clause-front g c log fits holds quiet =
+    let old = g.S.Site.state c.args.site.now in
+    let new = g.S.Site.state c.append.new.site in
+    let store = c.args.self.now in
+    let wants : c.args.wanted ≡ true = search rules in
+    let ready = ring_ready store old c.requires.going fits in
+    seal_front store old new log c.tail_block-content.result c.requires.going fits holds c.requires.room (c.requires.some wants) (c.tail_block-content.ensures log.tail holds.tail)
+    (c.append.ensures.any_moment fits.honest ready) (c.append.ensures.changes fits.honest).only quiet c.args.wanted wants
+
+pub returns-clause-any_moment : goal.returns-clause-any_moment
+returns-clause-any_moment g c log fits holds =
+    let old = g.S.Site.state c.args.site.now in
+    let new = g.S.Site.state c.append.new.site in
+    let store = c.args.self.now in
+    let wants : c.args.wanted ≡ true = search rules in
+    let ready = ring_ready store old c.requires.going fits in
+    seal_left store old new log c.tail_block-content.result c.requires.going fits holds c.requires.room (c.requires.some wants) (c.tail_block-content.ensures log.tail holds.tail)
+    (c.append.ensures.any_moment fits.honest ready) (c.append.ensures.changes fits.honest).only c.args.wanted wants
+
+pub returns-clause-front : goal.returns-clause-front
+returns-clause-front g c log fits holds quiet =
+    let old = g.S.Site.state c.args.site.now in
+    let new = g.S.Site.state c.append.new.site in
+    let store = c.args.self.now in
+    let wants : c.args.wanted ≡ true = search rules in
+    let ready = ring_ready store old c.requires.going fits in
+    seal_front store old new log c.tail_block-content.result c.requires.going fits holds c.requires.room (c.requires.some wants) (c.tail_block-content.ensures log.tail holds.tail)
+    (c.append.ensures.any_moment fits.honest ready) (c.append.ensures.changes fits.honest).only quiet c.args.wanted wants
+
+pub returns-clause-reaches : goal.returns-clause-reaches
+returns-clause-reaches g c log fits holds =
+    let old = g.S.Site.state c.args.site.now in
+    let new = g.S.Site.state c.append.new.site in
+    let store = c.args.self.now in
+    let wants : c.args.wanted ≡ true = search rules in
+    let ready = ring_ready store old c.requires.going fits in
+    seal_reaches store old new log c.tail_block-content.result c.requires.going fits holds c.requires.room (c.requires.some wants) (c.tail_block-content.ensures log.tail holds.tail)
+    (c.append.ensures.any_moment fits.honest ready) (c.append.ensures.changes fits.honest).only
+    (c.in_ok-append.ensures.stands fits.honest ready) c.args.wanted wants
+
+pub returns-clause-holds : goal.returns-clause-holds
+returns-clause-holds g c log fits holds =
+    let old = g.S.Site.state c.args.site.now in
+    let new = g.S.Site.state c.append.new.site in
+    let store = c.args.self.now in
+    let wants : c.args.wanted ≡ true = search rules in
+    let ready = ring_ready store old c.requires.going fits in
+    seal_holds store old new log c.tail_block-content.result c.requires.going fits holds c.requires.room (c.requires.some wants) (c.tail_block-content.ensures log.tail holds.tail)
+    (c.append.ensures.any_moment fits.honest ready) (c.append.ensures.changes fits.honest).only
+    (c.in_ok-append.ensures.stands fits.honest ready) c.args.wanted wants c.append.new.self
+
+pub returns-in_err-append-clause-going : goal.returns-in_err-append-clause-going
+returns-in_err-append-clause-going g c =
+    let going = c.requires.going in
+    let same = ap (λ (r : Ring). r.hi) c.in_err-append.ensures.err in
+    goes_on c.args.self.now _ (g.S.Site.state c.args.site.now) (g.S.Site.state c.append.new.site) going c.append.ensures.goes refl c.append.ensures.usable c.append.ensures.shape
+    (let kept = going.kept in omega (arith, kept, same)) (let live = going.live in omega (arith, live, same)) going.low going.high
+
+pub returns-clause-going : goal.returns-clause-going
+returns-clause-going g c =
+    let going = c.requires.going in
+    let more = ap (λ (r : Ring). r.hi) c.in_ok-append.ensures.ok in
+    goes_on c.args.self.now _ (g.S.Site.state c.args.site.now) (g.S.Site.state c.append.new.site) going c.append.ensures.goes refl c.append.ensures.usable c.append.ensures.shape
+    (let kept = going.kept in omega (arith, kept, more)) (let room = c.requires.room in let kept = going.kept in omega (arith, room, more, kept)) (omega arith) (omega arith)

@@ -1,0 +1,40 @@
+-- Laws on logs.
+use Rattle.std.specs.Prelude.{◌≡◌, Bool, List, [], ◌∷◌, ◌++◌}
+use Rattle.site.specs.declared.outside.Dev.TheVariants.{Log}
+use Rattle.site.specs.declared.geometry.Geometry.{Geometry}
+use Rattle.site.specs.Geometry.{HasLimits, blank_image}
+use Rattle.site.specs.State.{State, Image, IsSettled}
+use Rattle.site.specs.Calls.{Goes}
+use Rattle.log_records.specs.Log.{Entry}
+use Rattle.image_changes.specs.Rings.{log_shape, KeepsUnits}
+use Rattle.log_store.specs.declared.store.LogStore.{LogStore}
+use Rattle.log_store.specs.LogList.{LogList, sealed, entries, sealed_if}
+use Rattle.log_store.specs.Held.{Fits, HasBlocks, Holds}
+
+-- sealing the tail changes no record and no LSN
+abbrev pub SealingKeeps : Type 0
+SealingKeeps = (sealing : Bool) (log : LogList) → entries (sealed_if sealing log) ≡ entries log
+
+-- the sealed records of what was sealed are the first ones of the log, and once the tail is sealed they are all of them
+pub record SealedFront (log : LogList) : Type 0 where
+  pub unsealed : (left : List Entry) × (entries log ≡ sealed log ++ left)
+  pub all : sealed (record { first = log.first; blocks = log.blocks ++ log.tail ∷ []; tail = [] }) ≡ entries log
+
+abbrev pub BlocksAreThere : Type 0
+BlocksAreThere = (log : LogList) → SealedFront log
+
+-- calls that leave the units of the log's ring, and nothing of its device loose, leave a store fit
+abbrev pub FitsBeside : Type 0
+FitsBeside = (store : LogStore) (old new : State) → KeepsUnits (log_shape store.geometry) old.image new.image → Goes old new → IsSettled Log new → Fits store old → Fits store new
+
+-- and it holds its log
+abbrev pub HoldsBeside : Type 0
+HoldsBeside = (store : LogStore) (old new : Image) (log : LogList) → KeepsUnits (log_shape store.geometry) old new → Holds store old log → Holds store new log
+
+-- blank devices have no block
+abbrev pub BlankHasNoBlocks : Type 0
+BlankHasNoBlocks = (g : Geometry) → HasLimits g → HasBlocks g 0 [] (blank_image g)
+
+-- what stands there and the octets of the tail tell the log, from its first block on
+abbrev pub OneLog : Type 0
+OneLog = (store : LogStore) (image : Image) (a b : LogList) → Holds store image a → Holds store image b → a.first ≡ b.first → a ≡ b

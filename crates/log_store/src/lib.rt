@@ -1,0 +1,14 @@
+//! The log as a list of records: its blocks on a ring of the log device, and its tail in memory.
+#![tactic(auto)]
+
+mod laws;
+mod reading;
+mod store;
+#[cfg(test)]
+mod tests;
+
+pub use laws::{blank_log, list_kept, one_log, stays_beside};
+pub use store::LogStore;
+
+// Where the records of a block begin: behind the offset of their end.
+const RECORDS_AT: usize = 2;
