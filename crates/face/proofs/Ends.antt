@@ -1,0 +1,139 @@
+-- How a run comes to its end.
+use Rattle.std.proofs.Common.{◌≡◌, ◌≢◌, ◌⊎◌, inl, inr, ⊎_elim, IsTrue, ℕ, ◌≤◌, List, [], ◌∷◌, ◌++◌, length, suc, refl, sym, subst, arith}
+use Rattle.std.specs.Prelude.{Ok, Err, true, false, Bool}
+use Rattle.site.specs.State.{State as Site}
+use Rattle.site.specs.Calls.{Goes, Rose}
+use Rattle.site.specs.Laws.{rose_since}
+use Rattle.site.specs.declared.outside.Dev.TheVariants.{Log}
+use Rattle.site.specs.declared.outside.Stop.TheVariants.{Device}
+use Rattle.record_model.specs.Run.{Line, is_quit}
+use Rattle.face.specs.declared.halt.Halt.{Halt}
+use Rattle.face.specs.declared.halt.Halt.TheVariants as halt
+use Rattle.face.specs.declared.source.Source.{Source}
+use Rattle.face.specs.declared.source.Heard.{Heard}
+use Rattle.face.specs.declared.source.Heard.TheVariants as heard
+use Rattle.face.specs.declared.store.Store.{Store}
+use Rattle.face.specs.Causes.{HasCause}
+use Rattle.face.specs.Lines.{HasEnded, to_hear, total, IsSource, HearsLine, Hears, IsCutOff}
+use Rattle.face.specs.Run.{Run, HasHeard, StopsTaking, Stops, Works}
+use Rattle.face.specs.Going.{Going}
+use Rattle.face.proofs.Cuts.{Cut, has_heard_all, input_failed, over_limit, taken_by, heard_line, quit_is_last}
+use Rattle.face.proofs.Works.{stopped, ended}
+
+-- taking wasn't what failed
+pub not_taking : (h : Halt) (run : Run) (i : ℕ) (octets : List ℕ) (old new : Site) → (h ≢ halt.Input) × (h ≢ halt.Limit) → StopsTaking h run i octets old new
+not_taking (halt.Stop stop) run i octets old new ne = tt
+not_taking halt.Input run i octets old new ne = absurd (ne.0 refl)
+not_taking halt.Output run i octets old new ne = tt
+not_taking halt.Limit run i octets old new ne = absurd (ne.1 refl)
+
+-- before the first line
+pub never_opened : {T : Type 0} (run : Run) (old new : Site) (h : Halt) → Stops run 0 old new h → (h ≢ halt.Input) × (h ≢ halt.Limit) → new.left ≡ old.left → Works {T = T} run old new (Err h)
+never_opened run old new h stops ne left = record {
+  heard = 0;
+  octets = [];
+  ended = false;
+  has_heard = record { taken = sym left; end = λ no. cc; enough = omega arith; same = refl };
+  stops = (stops, not_taking h run 0 [] old new ne);
+  done = tt;
+}
+
+module _ (run : Run) (old mid new : Site) (store : Store) (source : Source) (i : ℕ) (cut : Cut old.left source mid i) (is_source : IsSource source) (going : Going run old new store i) where
+  -- taking failed within a line
+  pub taking_failed : {T : Type 0} (h : Halt) → (h ≡ halt.Input) ⊎ (h ≡ halt.Limit) → IsCutOff h source.ended (total source mid) (to_hear source mid) new.left → Works {T = T} run old new (Err h)
+  taking_failed (halt.Stop stop) which off = ⊎_elim (λ e. absurd cc) (λ e. absurd cc) which
+  taking_failed halt.Output which off = ⊎_elim (λ e. absurd cc) (λ e. absurd cc) which
+  taking_failed halt.Input which off =
+      let f = input_failed old.left source mid i cut is_source new.left off.octets off.rest off.none off.all_of_it off.going old new refl refl off.ends.0 off.ends.1 in
+      record {
+        heard = i;
+        octets = cut.octets ++ off.octets;
+        ended = false;
+        has_heard = f.0;
+        stops = (stopped run old new store i going halt.Input, record { count = f.1.0; no_quit = f.1.1; told = going.told });
+        done = tt;
+      }
+  taking_failed halt.Limit which off =
+      let f = over_limit old.left source mid i cut is_source new.left off.octets off.rest off.none off.all_of_it off.going off.ends.0 off.ends.1 off.ends.2 old new refl refl in
+      record {
+        heard = i;
+        octets = (cut.octets ++ off.octets) ++ off.ends.0 ∷ [];
+        ended = false;
+        has_heard = f.0;
+        stops = (stopped run old new store i going halt.Limit, (record { count = f.1.0; no_quit = f.1.1; told = going.told }, f.2));
+        done = tt;
+      }
+
+  -- there are no more lines
+  pub finished : {T : Type 0} (x : T) → to_hear source mid ≡ [] → new.left ≡ [] → Works run old new (Ok x)
+  finished x none left =
+      let f = has_heard_all old.left source mid i cut is_source old new refl none left in
+      record {
+        heard = i;
+        octets = cut.octets;
+        ended = true;
+        has_heard = f.0;
+        stops = tt;
+        done = (inl refl, f.1, going.moments, ended run old new store i going);
+      }
+
+module _ (run : Run) (old mid next new : Site) (source source' : Source) (i : ℕ) (cut : Cut old.left source mid i) (is_source : IsSource source) (line : Line) (h : HearsLine line source.ended source'.ended (to_hear source mid) (to_hear source' next))
+    (last : HasEnded source' next) (is' : IsSource source') (left : new.left ≡ next.left) where
+  has_heard_it : HasHeard (suc i) (taken_by old.left source mid i cut is_source source' next line h last is') source'.ended old new
+  has_heard_it = heard_line old.left source mid i cut is_source source' next line h last is' old new refl left
+
+  -- a line's answer failed
+  pub answer_failed : {T : Type 0} (fault : Halt) → Stops run (suc i) old new fault → (fault ≢ halt.Input) × (fault ≢ halt.Limit) → Works {T = T} run old new (Err fault)
+  answer_failed fault stops ne = record {
+    heard = suc i;
+    octets = taken_by old.left source mid i cut is_source source' next line h last is';
+    ended = source'.ended;
+    has_heard = has_heard_it;
+    stops = (stops, not_taking fault run (suc i) _ old new ne);
+    done = tt;
+  }
+
+  -- a quit was answered
+  pub quitted : {T : Type 0} (x : T) (store : Store) → is_quit line ≡ true → Going run old new store (suc i) → Works run old new (Ok x)
+  quitted x store quits going =
+      let all = quit_is_last old.left source mid i cut is_source source' next line h last is' quits in
+      record {
+        heard = suc i;
+        octets = taken_by old.left source mid i cut is_source source' next line h last is';
+        ended = source'.ended;
+        has_heard = has_heard_it;
+        stops = tt;
+        done = (inr all.1, all.0, going.moments, ended run old new store (suc i) going);
+      }
+
+-- what was heard
+pub heard_end : (h : Heard) (was ended : Bool) (before after : List ℕ) → Hears h was ended before after → h ≡ heard.End → (before ≡ []) × (ended ≡ true)
+heard_end h was ended before after hears is = subst (λ (x : Heard). Hears x was ended before after) is hears
+
+pub line_heard : (h : Heard) (line : Line) (was ended : Bool) (before after : List ℕ) → Hears h was ended before after → h ≡ heard.Line line → HearsLine line was ended before after
+line_heard h line was ended before after hears is = subst (λ (x : Heard). Hears x was ended before after) is hears
+
+-- why taking failed
+pub taking_cause : (h : Halt) (source : Source) (old mid new : Site) → (h ≡ halt.Input) ⊎ (h ≡ halt.Limit) → (h ≡ halt.Input → Rose mid.input_faults new.input_faults) → old.input_faults ≤ mid.input_faults
+    → (IsTrue old.honest → (total source mid ≡ length old.left) × IsCutOff h source.ended (total source mid) (to_hear source mid) new.left) → HasCause h old new
+taking_cause (halt.Stop stop) source old mid new which input low off = ⊎_elim (λ e. absurd cc) (λ e. absurd cc) which
+taking_cause halt.Output source old mid new which input low off = ⊎_elim (λ e. absurd cc) (λ e. absurd cc) which
+taking_cause halt.Input source old mid new which input low off = let rose = input refl in omega (arith, low, rose)
+taking_cause halt.Limit source old mid new which input low off = λ honest. let o = off honest in let same = o.0 in let many = o.1.ends.2 in omega (arith, same, many)
+
+-- an answer fails in two ways
+abbrev pub AnswerFails : Halt → Type 0
+AnswerFails h = (h ≡ halt.Stop (Device Log)) ⊎ (h ≡ halt.Output)
+
+pub answer_takes_nothing : (h : Halt) → AnswerFails h → (h ≢ halt.Input) × (h ≢ halt.Limit)
+answer_takes_nothing h (inl is) = (λ e. cc, λ e. cc)
+answer_takes_nothing h (inr is) = (λ e. cc, λ e. cc)
+
+pub answer_cause : (h : Halt) (old mid new : Site) → AnswerFails h → HasCause h mid new → Goes old mid → HasCause h old new
+answer_cause h old mid new (inl is) cause goes =
+    let rose : Rose mid.log_faults new.log_faults = subst (λ (x : Halt). HasCause x mid new) is cause in
+    let low = goes.faults Log in
+    subst (λ (x : Halt). HasCause x old new) (sym is) (rose_since old.log_faults mid.log_faults new.log_faults low rose)
+answer_cause h old mid new (inr is) cause goes =
+    let rose : Rose mid.output_faults new.output_faults = subst (λ (x : Halt). HasCause x mid new) is cause in
+    subst (λ (x : Halt). HasCause x old new) (sym is) (rose_since old.output_faults mid.output_faults new.output_faults goes.output_faults rose)

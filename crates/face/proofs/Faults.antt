@@ -1,0 +1,222 @@
+-- A run that halts, and its fault line.
+use Rattle.std.proofs.Common.{◌≡◌, ◌≢◌, ◌⊎◌, inl, inr, ⊎_elim, ℕ, ◌+◌, ◌≤◌, Bool, true, false, List, [], ◌++◌, length, take, drop, refl, sym, ◌∙◌, ap, subst, arith, append_assoc, length-append, take-append-drop}
+use Rattle.std.specs.Prelude.{Err, Ok}
+use Rattle.std.proofs.lemmas.List.{append-nil, take_all, take_at}
+use Rattle.site.specs.State.{State as Site, Snapshot}
+use Rattle.site.specs.Moments.{Leaves, LeavesOnly, EachMoment}
+use Rattle.site.specs.Laws.{in_sequence, leaves_weaker, told_is, tell_leaves}
+use Rattle.site.specs.Telling.{TellsPart}
+use Rattle.site.specs.declared.geometry.Geometry.{Geometry}
+use Rattle.site.specs.declared.outside.Stop.TheVariants.{Device, Memory, Worn, Foreign}
+use Rattle.record_model.specs.State.{Content, State}
+use Rattle.record_model.specs.Run.{Line, is_quit}
+use Rattle.std.specs.List.{AllByRecursion, list_any}
+use Rattle.face.specs.declared.halt.Halt.{Halt}
+use Rattle.face.specs.declared.halt.Halt.TheVariants as halt
+use Rattle.face.specs.Texts.{fault_line, status_of}
+use Rattle.face.specs.Causes.{HasCause, HasCauses, NoFaultRose, EndsInTime}
+use Rattle.face.specs.Lines.{commands_of, up_to_quit, answered_of, limit}
+use Rattle.face.specs.Run.{Run, told_after, StandsFor, StandsAt, StandsNear, IsAccounted, IsBetween, Begins, HasHeard, HasTakenAll, Stops, StopsTaking, Works}
+use Rattle.face.specs.Range.{run_of, run_text, StandsAfter, IsLeft}
+use Rattle.face.specs.Headline.{IsGood, IsToldWhole, Headline}
+use Rattle.face.proofs.Built.{all_built}
+use Rattle.face.proofs.Fronts.{accounted, told_same, state_same, take_within, up_append, no_quits, first_commands}
+use Rattle.face.proofs.Ranges.{IsFault, is_left, stands_after, all_among, all_text}
+
+output_or_not : (h : Halt) → (h ≡ halt.Output) ⊎ (h ≢ halt.Output)
+output_or_not (halt.Stop stop) = inr (λ e. cc)
+output_or_not halt.Input = inr (λ e. cc)
+output_or_not halt.Output = inl refl
+output_or_not halt.Limit = inr (λ e. cc)
+
+-- no part of a fault line is a part of any
+no_fault : (run : Run) (heard : ℕ) (so_far fault : List ℕ) (s : Snapshot) → IsAccounted run heard so_far [] s → IsAccounted run heard so_far fault s
+no_fault run heard so_far fault s a = record {
+  whole = a.whole;
+  begun = a.begun;
+  rest = a.rest;
+  told = a.told;
+  part = ⊎_elim (λ p. inl p) (λ f. inr (0, f.1 ∙ take_all f.0 [] (omega arith))) a.part;
+  stands = a.stands;
+}
+
+module _ (run : Run) (heard : ℕ) (old mid new : Site) where
+  told_whole : (fault : List ℕ) → LeavesOnly old mid (IsAccounted run heard old.told []) → IsBetween run heard old mid → EachMoment mid new (TellsPart fault mid) → LeavesOnly old new (IsAccounted run heard old.told fault)
+  told_whole fault so_far b tells =
+      in_sequence old mid new (Leaves (IsAccounted run heard old.told fault)) (leaves_weaker old mid (IsAccounted run heard old.told []) (IsAccounted run heard old.told fault) (no_fault run heard old.told fault) so_far)
+      (leaves_weaker mid new (λ s. ((k : ℕ) × (s.told ≡ mid.told ++ take k fault)) × StandsNear run heard b.whole s.image) (IsAccounted run heard old.told fault) (λ s p. record {
+        whole = b.whole;
+        begun = b.begun;
+        rest = take p.0.0 fault;
+        told = p.0.1 ∙ ap (λ (l : List ℕ). l ++ take p.0.0 fault) b.told ∙ append_assoc old.told (told_after run b.whole) (take p.0.0 fault);
+        part = inr (p.0.0, refl);
+        stands = p.1;
+      }) (tell_leaves (StandsNear run heard b.whole) fault mid new b.stands tells))
+
+  -- where the output failed nothing more is told
+  told_none : LeavesOnly old mid (IsAccounted run heard old.told []) → EachMoment mid new (TellsPart [] mid) → LeavesOnly old new (IsAccounted run heard old.told [])
+  told_none so_far tells =
+      in_sequence old mid new (Leaves (IsAccounted run heard old.told [])) so_far
+      (leaves_weaker mid new (λ s. ((k : ℕ) × (s.told ≡ mid.told ++ take k [])) × IsAccounted run heard old.told [] (record { told = mid.told; image = s.image })) (IsAccounted run heard old.told []) (λ s p. record {
+        whole = p.1.whole;
+        begun = p.1.begun;
+        rest = p.1.rest;
+        told = p.0.1 ∙ ap (λ (l : List ℕ). mid.told ++ l) (take_all p.0.0 [] (omega arith)) ∙ append-nil mid.told ∙ p.1.told;
+        part = p.1.part;
+        stands = p.1.stands;
+      }) (tell_leaves (λ image. IsAccounted run heard old.told [] (record { told = mid.told; image = image })) [] mid new (λ s left. subst (λ (t : List ℕ). IsAccounted run heard old.told [] (record { told = t; image = s.image })) (told_is mid s left) (so_far.now s left)) tells))
+
+  with_fault : (h : Halt) → Stops run heard old mid h → EachMoment mid new (TellsPart (fault_line h) mid) → LeavesOnly old new (IsAccounted run heard old.told (fault_line h))
+  with_fault h stops tells = ⊎_elim
+      (λ output. let none : fault_line h ≡ [] = ap fault_line output in
+      subst (λ (l : List ℕ). LeavesOnly old new (IsAccounted run heard old.told l)) (sym none) (told_none stops.any_moment (subst (λ (l : List ℕ). EachMoment mid new (TellsPart l mid)) none tells)))
+      (λ ne. told_whole (fault_line h) stops.any_moment (stops.between ne) tells) (output_or_not h)
+
+-- The run over all octets that are left is the one over those that were taken, as far as its lines were heard.
+all_of : (ls : List Line) → AllByRecursion (λ l. is_quit l ≡ false) ls → up_to_quit ls ≡ ls
+all_of ls none = ap up_to_quit (sym (append-nil ls)) ∙ up_append ls [] none ∙ append-nil ls
+
+module _ (g : Geometry) (table : List Content) (commits : ℕ) (old mid : Site) (heard : ℕ) (octets : List ℕ) (ended : Bool) (h : HasHeard heard octets ended old mid) where
+  abbrev all : Run
+  all = run_of g table commits true old.left
+
+  abbrev taken : Run
+  taken = run_of g table commits ended octets
+
+  pub left_by : (new : Site) (fault : List ℕ) → IsFault fault → LeavesOnly old new (IsAccounted all heard old.told fault) → LeavesOnly old new (IsLeft taken old.told fault)
+  left_by new fault is_fault moments =
+      leaves_weaker old new (IsAccounted all heard old.told fault) (IsLeft taken old.told fault) (λ s a. is_left taken (all_built ended octets) heard old.told fault s h.enough is_fault
+      (accounted all (commands_of ended octets) heard h.same old.told fault s a)) moments
+
+  -- all lines that stand whole in the first octets were heard
+  whole_lines : length (answered_of false (take limit octets)) ≡ heard → list_any is_quit (commands_of false (take limit octets)) ≡ false → answered_of false (take limit octets) ≡ take heard (answered_of true old.left)
+  whole_lines count none =
+      let first = first_commands ended (take limit octets) (drop limit octets) in
+      let is : commands_of ended octets ≡ commands_of false (take limit octets) ++ first.0 = ap (commands_of ended) (sym (take-append-drop limit octets)) ∙ first.1 in
+      let quiet = no_quits (commands_of false (take limit octets)) none in
+      let own : answered_of false (take limit octets) ≡ commands_of false (take limit octets) = all_of (commands_of false (take limit octets)) quiet in
+      let all : answered_of ended octets ≡ answered_of false (take limit octets) ++ up_to_quit first.0 = ap up_to_quit is ∙ up_append (commands_of false (take limit octets)) first.0 quiet ∙ ap (λ (l : List Line). l ++ up_to_quit first.0) (sym own) in
+      sym (ap (take heard) all ∙ take_at (answered_of false (take limit octets)) (up_to_quit first.0) heard count) ∙ h.same
+
+  pub told_whole_lines : (new : Site) (fault : List ℕ) → HasTakenAll all heard octets old mid → ((k : ℕ) × (new.told ≡ mid.told ++ take k fault)) → IsToldWhole (run_of g table commits false (take limit octets)) fault old new
+  told_whole_lines new fault t more =
+      let lines = commands_of false (take limit octets) in
+      let own = run_of g table commits false (take limit octets) in
+      let same : take heard (up_to_quit lines) ≡ take heard (answered_of true old.left) = take_all heard (up_to_quit lines) (let count = t.count in omega (arith, count)) ∙ whole_lines t.count t.no_quit in
+      let text : told_after all (heard + 1) ≡ run_text own =
+      sym (told_same all lines heard same (heard + 1) (omega arith))
+      ∙ ap (λ (n : ℕ). told_after own (n + 1)) (sym t.count)
+      ∙ all_text own (all_built false (take limit octets)) in
+      record {
+        rest = take more.0 fault;
+        told = more.1 ∙ ap (λ (l : List ℕ). l ++ take more.0 fault) (t.told ∙ ap (λ (l : List ℕ). old.told ++ l) text) ∙ append_assoc old.told (run_text own) (take more.0 fault);
+        front = (more.0, refl);
+      }
+
+-- what a run begins with
+pub begins : (g : Geometry) (table : List Content) (commits : ℕ) (old : Site) → IsGood g table commits old → Begins (run_of g table commits true old.left) old
+begins g table commits old good = record { honest = good.honest; quiet = good.quiet; stands = good.stands; opens = refl; lines = refl }
+
+not_zero : (h : Halt) → status_of h ≢ 0
+not_zero (halt.Stop (Device dev)) e = omega (arith, e)
+not_zero (halt.Stop Memory) e = omega (arith, e)
+not_zero (halt.Stop (Worn dev)) e = omega (arith, e)
+not_zero (halt.Stop Foreign) e = omega (arith, e)
+not_zero halt.Input e = omega (arith, e)
+not_zero halt.Output e = omega (arith, e)
+not_zero halt.Limit e = omega (arith, e)
+
+module _ (g : Geometry) (table : List Content) (commits : ℕ) (old : Site) where
+  abbrev run : Run
+  run = run_of g table commits true old.left
+
+  -- where taking failed all whole lines are answered
+  taken_by : (h : Halt) (heard : ℕ) (octets : List ℕ) (mid : Site) → StopsTaking h run heard octets old mid → (status_of h ≡ 5) ⊎ (status_of h ≡ 7) → HasTakenAll run heard octets old mid
+  taken_by (halt.Stop (Device dev)) heard octets mid s which = ⊎_elim (λ e. absurd (omega (arith, e))) (λ e. absurd (omega (arith, e))) which
+  taken_by (halt.Stop Memory) heard octets mid s which = ⊎_elim (λ e. absurd (omega (arith, e))) (λ e. absurd (omega (arith, e))) which
+  taken_by (halt.Stop (Worn dev)) heard octets mid s which = ⊎_elim (λ e. absurd (omega (arith, e))) (λ e. absurd (omega (arith, e))) which
+  taken_by (halt.Stop Foreign) heard octets mid s which = ⊎_elim (λ e. absurd (omega (arith, e))) (λ e. absurd (omega (arith, e))) which
+  taken_by halt.Output heard octets mid s which = ⊎_elim (λ e. absurd (omega (arith, e))) (λ e. absurd (omega (arith, e))) which
+  taken_by halt.Input heard octets mid s which = s
+  taken_by halt.Limit heard octets mid s which = s.0
+
+  over_by : (h : Halt) (heard : ℕ) (octets : List ℕ) (mid : Site) → StopsTaking h run heard octets old mid → status_of h ≡ 7 → (length octets ≡ limit + 1) × (list_any is_quit (commands_of false (take limit octets)) ≡ false)
+  over_by (halt.Stop (Device dev)) heard octets mid s e = absurd (omega (arith, e))
+  over_by (halt.Stop Memory) heard octets mid s e = absurd (omega (arith, e))
+  over_by (halt.Stop (Worn dev)) heard octets mid s e = absurd (omega (arith, e))
+  over_by (halt.Stop Foreign) heard octets mid s e = absurd (omega (arith, e))
+  over_by halt.Output heard octets mid s e = absurd (omega (arith, e))
+  over_by halt.Input heard octets mid s e = absurd (omega (arith, e))
+  over_by halt.Limit heard octets mid s e = (s.1, s.0.no_quit)
+
+  pub halted : {T : Type 0} (mid new : Site) (h : Halt) → Works {T = T} run old mid (Err h) → EachMoment mid new (TellsPart (fault_line h) mid) → new.left ≡ mid.left → new.loose ≡ mid.loose → HasCause h old new → (status : ℕ) → status ≡ status_of h → Headline g table commits old new status
+  halted mid new h works tells left loose cause status is =
+      let heard = works.has_heard in
+      let now = tells.now.told 0 in
+      record {
+        octets = works.octets;
+        ended = works.ended;
+        taken = heard.taken ∙ ap (λ (l : List ℕ). works.octets ++ l) (sym left);
+        end = λ e. left ∙ heard.end e;
+        fault = fault_line h;
+        of_status = inr (h, is, refl, cause);
+        any_moment = left_by g table commits old mid works.heard works.octets works.ended heard new (fault_line h) (inr (h, refl)) (with_fault run works.heard old mid new h works.stops.0 tells);
+        quiet = λ ne. loose ∙ works.stops.0.quiet (λ e. ne (is ∙ e));
+        heard = λ zero. absurd (not_zero h (sym is ∙ zero));
+        done = λ zero. absurd (not_zero h (sym is ∙ zero));
+        taking = λ which. told_whole_lines g table commits old mid works.heard works.octets works.ended heard new (fault_line h)
+            (taken_by h works.heard works.octets mid works.stops.1 (⊎_elim (λ e. inl (sym is ∙ e)) (λ e. inr (sym is ∙ e)) which))
+            (now.0, sym (append-nil new.told) ∙ now.1);
+        over = λ seven. over_by h works.heard works.octets mid works.stops.1 (sym is ∙ seven);
+      }
+
+  pub finished : {T : Type 0} (new : Site) (x : T) → Works run old new (Ok x) → Headline g table commits old new 0
+  finished new x works =
+      let heard = works.has_heard in
+      let lines = commands_of works.ended works.octets in
+      let count = works.done.1 in
+      let same = heard.same in
+      let own = run_of g table commits works.ended works.octets in
+      let built = all_built works.ended works.octets in
+      record {
+        octets = works.octets;
+        ended = works.ended;
+        taken = heard.taken;
+        end = heard.end;
+        fault = [];
+        of_status = inl (refl, refl);
+        any_moment = left_by g table commits old new works.heard works.octets works.ended heard new [] (inl refl) works.done.2;
+        quiet = λ ne. works.done.3.quiet;
+        heard = λ zero. works.done.0;
+        done = λ zero. record {
+          told = works.done.3.told ∙ ap (λ (l : List ℕ). old.told ++ l)
+              (sym (told_same run lines works.heard same (works.heard + 1) (omega arith)) ∙ ap (λ (n : ℕ). told_after own (n + 1)) (sym count) ∙ all_text own built);
+          stands = subst (λ (n : ℕ). StandsAfter own n new.image) (all_among own built) (stands_after own built (length (up_to_quit lines)) new.image
+              (subst (λ (n : ℕ). StandsAt own n new.image) (sym count) (subst (λ (s : State). StandsFor g new.image s) (sym (state_same run lines works.heard same works.heard (omega arith))) works.done.3.stands)));
+        };
+        taking = λ which. ⊎_elim (λ e. absurd (omega (arith, e))) (λ e. absurd (omega (arith, e))) which;
+        over = λ e. absurd (omega (arith, e));
+      }
+
+true_not_false : true ≡ false → ⊥
+true_not_false is = cc
+
+-- input that ends within n octets, or quits among them, doesn't go over n
+not_over : (n : ℕ) (left octets rest : List ℕ) → left ≡ octets ++ rest → (length left ≤ n) ⊎ (list_any is_quit (commands_of false (take n left)) ≡ true) → length octets ≡ n + 1 → list_any is_quit (commands_of false (take n octets)) ≡ false → ⊥
+not_over n left octets rest is (inl few) many none = let long = ap length is ∙ length-append octets rest in absurd (omega (arith, few, long, many))
+not_over n left octets rest is (inr quit) many none = true_not_false (sym quit ∙ ap (λ (l : List ℕ). list_any is_quit (commands_of false l)) same ∙ none)
+  where
+    front : take n (octets ++ rest) ≡ take n octets
+    front = sym (take_within n (length octets) (octets ++ rest) (omega (arith, many))) ∙ ap (take n) (take_at octets rest (length octets) refl)
+
+    same : take n left ≡ take n octets
+    same = ap (take n) is ∙ front
+
+-- where nothing fails and the input ends in time
+pub complete : (g : Geometry) (table : List Content) (commits : ℕ) (old new : Site) (status : ℕ) → IsGood g table commits old → NoFaultRose old new → EndsInTime old → HasCauses status old new → Headline g table commits old new status → (status ≡ 0) ⊎ (status ≡ 4)
+complete g table commits old new status good none ends causes h =
+    ⊎_elim (λ e. inl e) (⊎_elim (λ e. let c = causes.device e in absurd (none.devices c.0 c.1)) (⊎_elim (λ e. inr e) (⊎_elim (λ e. absurd (none.input (causes.input e)))
+    (⊎_elim (λ e. absurd (none.output (causes.output e))) (⊎_elim (λ e. absurd (in_time (h.over e))) (λ e. absurd (causes.foreign e good.honest g table commits good.stands))))))) causes.others
+  where
+    in_time : (length h.octets ≡ limit + 1) × (list_any is_quit (commands_of false (take limit h.octets)) ≡ false) → ⊥
+    in_time over = not_over limit old.left h.octets new.left h.taken ends over.0 over.1

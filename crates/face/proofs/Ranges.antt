@@ -1,0 +1,244 @@
+-- What was told whole, counted; and the commits that it allows.
+use Rattle.std.proofs.Common.{◌≡◌, ◌⊎◌, inl, inr, ⊎_elim, ℕ, zero, suc, ◌+◌, ◌-◌, ◌≤◌, ◌<◌, Bool, true, false, List, [], ◌∷◌, ◌++◌, length, take, drop, get_or, refl, sym, ◌∙◌, ap, subst, arith, append_assoc, length-append, take-append-drop}
+use Rattle.std.specs.Prelude.{flat_map, count_by, nat_eq, if◌then◌else◌}
+use Rattle.std.specs.List.{starts_with}
+use Rattle.std.proofs.lemmas.List.{drop_at, length-take-le, take_all, take_at}
+use Rattle.std.proofs.lemmas.Slice.Eq.{starts_is}
+use Rattle.std.proofs.lemmas.Bool.Decides.{Decides-eqb}
+use Rattle.site.specs.State.{Snapshot, Image}
+use Rattle.site.specs.declared.outside.Stop.TheVariants.{Device, Memory, Worn, Foreign}
+use Rattle.record_model.specs.State.{Content, State}
+use Rattle.record_model.specs.Step.{Outcome}
+use Rattle.record_model.specs.Run.{Line, Turn, whole_texts, is_committed, commit_marks, commits_among, after_commits}
+use Rattle.record_model.specs.Laws.{IsCountedIn, IsCountedAt}
+use Rattle.record_model.proofs.StepLaws.{commits_once}
+use Rattle.record_model.proofs.RunLaws.{commits_make_the_table}
+use Rattle.record_model.specs.declared.words.Reply.{Reply}
+use Rattle.record_model.specs.declared.words.Reply.TheVariants as reply
+use Rattle.record_model.specs.declared.words.CacheLine.TheVariants.{Frame, Pool}
+use Rattle.face.specs.declared.halt.Halt.{Halt}
+use Rattle.face.specs.declared.halt.Halt.TheVariants as halt
+use Rattle.face.specs.Image.{Stands}
+use Rattle.shell_text.specs.Texts.{open_text, reply_text}
+use Rattle.face.specs.Texts.{fault_line}
+use Rattle.face.specs.Run.{Run, answered, step, after_lines, reply_texts, line_texts, text_at, told_after, state_at, StandsAt, IsPart, IsFront, IsAccounted}
+use Rattle.face.specs.Range.{turns_of, texts, run_text, all_commits, StandsAfter, IsToldOf, IsLeft}
+use Rattle.face.proofs.Built.{AreBuilt, texts_are, states_are, turns_count}
+use Rattle.face.proofs.Runs.{length-reply_texts}
+
+-- a fault line, or none
+abbrev pub IsFault : List ℕ → Type 0
+IsFault fault = (fault ≡ []) ⊎ ((h : Halt) × (fault ≡ fault_line h))
+
+not_true : (b : Bool) → (b ≡ true → ⊥) → b ≡ false
+not_true true never = absurd (never refl)
+not_true false never = refl
+
+begins : (text rest : List ℕ) → starts_with nat_eq (text ++ rest) text ≡ true
+begins text rest = (starts_is Decides-eqb (text ++ rest) text (starts_with nat_eq (text ++ rest) text) refl).1 rest refl
+
+-- a list that no list goes on to doesn't begin so
+begins_not : (told text : List ℕ) → ((rest : List ℕ) → told ≡ text ++ rest → ⊥) → starts_with nat_eq told text ≡ false
+begins_not told text none = not_true (starts_with nat_eq told text) (λ yes. none (drop (length text) told) ((starts_is Decides-eqb told text (starts_with nat_eq told text) refl).0 yes))
+
+-- the whole texts are counted
+counts : (xs : List (List ℕ)) (w : ℕ) (rest : List ℕ) → w ≤ length xs → (w < length xs → starts_with nat_eq rest (get_or xs w []) ≡ false) → whole_texts (flat_map (λ (x : List ℕ). x) (take w xs) ++ rest) xs ≡ w
+counts [] zero rest le un = refl
+counts [] (suc w) rest le un = absurd (omega (arith, le))
+counts (x ∷ xs) zero rest le un = λ i. if un (omega arith) i then 1 + whole_texts (drop (length x) rest) xs else 0
+counts (x ∷ xs) (suc w) rest le un =
+    let told = flat_map (λ (x : List ℕ). x) (take w xs) ++ rest in
+    let same : flat_map (λ (x : List ℕ). x) (take (suc w) (x ∷ xs)) ++ rest ≡ x ++ told = append_assoc x (flat_map (λ (x : List ℕ). x) (take w xs)) rest in
+    let one : 1 + w ≡ suc w = omega arith in
+    ap (λ (l : List ℕ). whole_texts l (x ∷ xs)) same
+    ∙ (λ i. if begins x told i then 1 + whole_texts (drop (length x) (x ++ told)) xs else 0)
+    ∙ ap (λ (l : List ℕ). 1 + whole_texts l xs) (drop_at x told (length x) refl)
+    ∙ ap (λ (n : ℕ). 1 + n) (counts xs w rest (omega (arith, le)) (λ less. un (omega (arith, less)))) ∙ one
+
+-- the first two octets of a text aren't those of a fault line
+pub record Plain (text : List ℕ) : Type 0 where
+  pub first : ℕ
+  pub second : ℕ
+  pub more : List ℕ
+  pub is : text ≡ first ∷ second ∷ more
+  pub other : (first ≡ 102) → (second ≡ 97) → ⊥
+
+plain_text : (r : Reply) → Plain (reply_text r)
+plain_text (reply.Value value) = record { first = 118; second = 97; more = _; is = refl; other = λ a b. omega (arith, a) }
+plain_text reply.Nothing = record { first = 110; second = 111; more = _; is = refl; other = λ a b. omega (arith, a) }
+plain_text (reply.Committed count) = record { first = 99; second = 111; more = _; is = refl; other = λ a b. omega (arith, a) }
+plain_text reply.Done = record { first = 111; second = 107; more = _; is = refl; other = λ a b. omega (arith, a) }
+plain_text reply.Aborted = record { first = 97; second = 98; more = _; is = refl; other = λ a b. omega (arith, a) }
+plain_text reply.Checked = record { first = 99; second = 104; more = _; is = refl; other = λ a b. omega (arith, a) }
+plain_text (reply.Items []) = record { first = 101; second = 110; more = _; is = refl; other = λ a b. omega (arith, a) }
+plain_text (reply.Items (item ∷ items)) = record { first = 105; second = 116; more = _; is = refl; other = λ a b. omega (arith, a) }
+plain_text (reply.Listing []) = record { first = 101; second = 110; more = _; is = refl; other = λ a b. omega (arith, a) }
+plain_text (reply.Listing (Frame group index page valid dirty referenced ∷ lines)) = record { first = 102; second = 114; more = _; is = refl; other = λ a b. omega (arith, b) }
+plain_text (reply.Listing (Pool page changed ∷ lines)) = record { first = 112; second = 111; more = _; is = refl; other = λ a b. omega (arith, a) }
+plain_text (reply.Stat stat) = record { first = 115; second = 116; more = _; is = refl; other = λ a b. omega (arith, a) }
+plain_text reply.Bye = record { first = 98; second = 121; more = _; is = refl; other = λ a b. omega (arith, a) }
+plain_text (reply.Busy session) = record { first = 98; second = 117; more = _; is = refl; other = λ a b. omega (arith, a) }
+plain_text (reply.Full used owed cap) = record { first = 102; second = 117; more = _; is = refl; other = λ a b. omega (arith, b) }
+plain_text (reply.Refused why) = record { first = 114; second = 101; more = _; is = refl; other = λ a b. omega (arith, a) }
+
+plain_opening : (n : ℕ) → Plain (open_text n)
+plain_opening n = record { first = 111; second = 112; more = _; is = refl; other = λ a b. omega (arith, a) }
+
+-- a text of the run
+plain_reply : (b : State) (lines : List Line) (i : ℕ) → i < length (reply_texts b lines) → Plain (get_or (reply_texts b lines) i [])
+plain_reply b [] i less = absurd (omega (arith, less))
+plain_reply b (line ∷ lines) zero less = plain_text (step b line).reply
+plain_reply b (line ∷ lines) (suc i) less = plain_reply (step b line).after lines i (omega (arith, less))
+
+plain_at : (run : Run) (i : ℕ) → i < length (line_texts run) → Plain (text_at run i)
+plain_at run zero less = plain_opening run.opening.commits
+plain_at run (suc i) less = plain_reply run.opening (answered run) i (omega (arith, less))
+
+-- a fault line is none, or begins with fa
+fault_begins : (h : Halt) → (fault_line h ≡ []) ⊎ ((more : List ℕ) × (fault_line h ≡ 102 ∷ 97 ∷ more))
+fault_begins (halt.Stop (Device dev)) = inr (_, refl)
+fault_begins (halt.Stop Memory) = inr (_, refl)
+fault_begins (halt.Stop (Worn dev)) = inr (_, refl)
+fault_begins (halt.Stop Foreign) = inr (_, refl)
+fault_begins halt.Input = inr (_, refl)
+fault_begins halt.Output = inl refl
+fault_begins halt.Limit = inr (_, refl)
+
+no_front : (a b : ℕ) (more rest more' : List ℕ) (k : ℕ) → take k (102 ∷ 97 ∷ more') ≡ (a ∷ b ∷ more) ++ rest → (a ≡ 102) × (b ≡ 97)
+no_front a b more rest more' zero is = cc
+no_front a b more rest more' (suc zero) is = cc
+no_front a b more rest more' (suc (suc k)) is = (cc, cc)
+
+not_empty : (a b : ℕ) (more rest : List ℕ) (k : ℕ) → take k [] ≡ (a ∷ b ∷ more) ++ rest → ⊥
+not_empty a b more rest zero is = cc
+not_empty a b more rest (suc k) is = cc
+
+not_in_fault : (text fault rest : List ℕ) → Plain text → IsFault fault → IsFront rest fault → (more : List ℕ) → rest ≡ text ++ more → ⊥
+not_in_fault text fault rest p is front more e =
+    let front_is : take front.0 fault ≡ (p.first ∷ p.second ∷ p.more) ++ more = sym front.1 ∙ e ∙ ap (λ (l : List ℕ). l ++ more) p.is in
+    let none : fault ≡ [] → ⊥ = λ empty. not_empty p.first p.second p.more more front.0 (ap (take front.0) (sym empty) ∙ front_is) in
+    ⊎_elim none (λ line. ⊎_elim (λ empty. none (line.1 ∙ empty)) (λ begins.
+    let both = no_front p.first p.second p.more more begins.0 front.0 (ap (take front.0) (sym (line.1 ∙ begins.1)) ∙ front_is) in p.other both.0 both.1) (fault_begins line.0)) is
+
+-- commits never fall
+
+rises : (s : State) (o : Outcome) → IsCountedIn s o → (b : Bool) → is_committed o.reply ≡ b → s.commits ≤ o.after.commits
+rises s o h true is = let one = (h.committed is).1 in omega (arith, one)
+rises s o h false is = let same = (h.others is).1 in omega (arith, same)
+
+step_up : (s : State) (line : Line) → s.commits ≤ (step s line).after.commits
+step_up s line = rises s (step s line) (commits_once false s line []) _ refl
+
+one_up : (s : State) (lines : List Line) (i : ℕ) → (after_lines s (take i lines)).commits ≤ (after_lines s (take (suc i) lines)).commits
+one_up s [] zero = omega arith
+one_up s [] (suc i) = omega arith
+one_up s (line ∷ lines) zero = step_up s line
+one_up s (line ∷ lines) (suc i) = one_up (step s line).after lines i
+
+module _ (run : Run) (are : AreBuilt run.lines) where
+  -- the texts of the turns are those of the lines
+  texts_same : texts run ≡ line_texts run
+  texts_same = ap (λ (l : List (List ℕ)). open_text run.opening.commits ∷ l) (texts_are run.opening run.lines are)
+
+  abbrev marks : List Bool
+  marks = commit_marks (turns_of run)
+
+  counted : (i : ℕ) → IsCountedAt run.opening (turns_of run) i
+  counted i = commits_make_the_table false run.opening run.lines [] i
+
+  commits_are : (i : ℕ) → (state_at run i).commits ≡ run.opening.commits + commits_among i marks
+  commits_are i = ap (λ (s : State). s.commits) (sym (states_are run.opening run.lines i are)) ∙ (counted i).commits
+
+  table_is : (i : ℕ) → (state_at run i).table ≡ after_commits run.opening.table (turns_of run) (commits_among i marks)
+  table_is i = ap (λ (s : State). s.table) (sym (states_are run.opening run.lines i are)) ∙ (counted i).table
+
+  -- the table after some lines is the one after some commits
+  pub stands_after : (i : ℕ) (image : Image) → StandsAt run i image → StandsAfter run (commits_among i marks) image
+  stands_after i image stands =
+      subst (λ (n : ℕ). Stands run.geometry image (after_commits run.opening.table (turns_of run) (commits_among i marks)) n) (commits_are i)
+      (subst (λ (t : List Content). Stands run.geometry image t (state_at run i).commits) (table_is i) stands)
+
+  among_up : (i : ℕ) → commits_among i marks ≤ commits_among (suc i) marks
+  among_up i = let up = one_up run.opening (answered run) i in let one = commits_are i in let two = commits_are (suc i) in omega (arith, up, one, two)
+
+  near_up : (whole : ℕ) → commits_among (whole - 1) marks ≤ commits_among whole marks
+  near_up zero = omega arith
+  near_up (suc i) = let before : suc i - 1 ≡ i = omega arith in let same = ap (λ (n : ℕ). commits_among n marks) before in let up = among_up i in omega (arith, same, up)
+
+  length-marks : length marks ≡ length (answered run)
+  length-marks = length-map-marks (turns_of run) ∙ turns_count run.opening run.lines are
+    where
+      length-map-marks : (ts : List Turn) → length (commit_marks ts) ≡ length ts
+      length-map-marks [] = refl
+      length-map-marks (t ∷ ts) = ap suc (length-map-marks ts)
+
+  -- after all lines all commits are made
+  pub all_among : commits_among (length (answered run)) marks ≡ all_commits run
+  all_among = ap (count_by (λ (mark : Bool). mark)) (take_all (length (answered run)) marks (let same = length-marks in omega (arith, same)))
+
+  pub all_text : told_after run (length (answered run) + 1) ≡ run_text run
+  all_text =
+      let long = length-reply_texts run.opening (answered run) in
+      ap (flat_map (λ (x : List ℕ). x)) (take_all (length (answered run) + 1) (line_texts run) (omega (arith, long)) ∙ sym texts_same)
+
+  -- what is told of the texts, as a front of all of them
+  text_split : (xs : List (List ℕ)) (w : ℕ) → w < length xs → flat_map (λ (x : List ℕ). x) xs ≡ flat_map (λ (x : List ℕ). x) (take w xs) ++ (get_or xs w [] ++ flat_map (λ (x : List ℕ). x) (drop (suc w) xs))
+  text_split [] w less = absurd (omega (arith, less))
+  text_split (x ∷ xs) zero less = refl
+  text_split (x ∷ xs) (suc w) less = ap (λ (l : List ℕ). x ++ l) (text_split xs w (omega (arith, less))) ∙ sym (append_assoc x (flat_map (λ (x : List ℕ). x) (take w xs)) _)
+
+  module _ (heard : ℕ) (so_far fault : List ℕ) (s : Snapshot) (few : heard ≤ length (answered run)) (is_fault : IsFault fault) (a : IsAccounted run heard so_far fault s) where
+    long : length (line_texts run) ≡ suc (length (answered run))
+    long = ap suc (length-reply_texts run.opening (answered run))
+
+    abbrev told : List ℕ
+    told = told_after run a.whole ++ a.rest
+
+    whole_is : whole_texts told (line_texts run) ≡ a.whole
+    whole_is =
+        let begun = a.begun in
+        counts (line_texts run) a.whole a.rest (omega (arith, long, begun, few)) (λ less. begins_not a.rest (text_at run a.whole) (λ more e.
+        ⊎_elim (λ p. short a.rest (text_at run a.whole) more p.1 e) (λ front. not_in_fault (text_at run a.whole) fault a.rest (plain_at run a.whole less) is_fault front more e) a.part))
+      where
+        short : (rest text more : List ℕ) → IsPart rest text → rest ≡ text ++ more → ⊥
+        short rest text more part e =
+            let one : length rest ≡ length text + length more = ap length e ∙ length-append text more in
+            let two : length rest ≡ part.0 = ap length part.2 ∙ length-take-le part.0 text (let less = part.1 in omega (arith, less)) in
+            let less = part.1 in omega (arith, one, two, less)
+
+    is_told : IsToldOf run fault told
+    is_told = ⊎_elim
+        (λ p.
+        let less : a.whole < length (line_texts run) = let low = p.0 in omega (arith, low, few, long) in
+        let text = text_at run a.whole in
+        let more = flat_map (λ (x : List ℕ). x) (drop (suc a.whole) (line_texts run)) in
+        let k = p.1.0 in
+        let parted : text ≡ a.rest ++ drop k text = sym (take-append-drop k text) ∙ ap (λ (l : List ℕ). l ++ drop k text) (sym p.1.2) in
+        let all : run_text run ≡ told ++ (drop k text ++ more) =
+        ap (flat_map (λ (x : List ℕ). x)) texts_same ∙ text_split (line_texts run) a.whole less
+        ∙ ap (λ (l : List ℕ). told_after run a.whole ++ (l ++ more)) parted
+        ∙ ap (λ (l : List ℕ). told_after run a.whole ++ l) (append_assoc a.rest (drop k text) more)
+        ∙ sym (append_assoc (told_after run a.whole) a.rest (drop k text ++ more)) in
+        inl (length told, sym (ap (take (length told)) all ∙ take_at told (drop k text ++ more) (length told) refl)))
+        (λ front. inr (a.whole, (let same = ap length texts_same in let begun = a.begun in omega (arith, same, begun, few, long)), a.rest, ap (λ (l : List (List ℕ)). flat_map (λ (x : List ℕ). x) (take a.whole l) ++ a.rest) (sym texts_same), front))
+        a.part
+
+    left_at : (lines : ℕ) → commits_among (a.whole - 1) marks ≤ commits_among lines marks → commits_among lines marks ≤ commits_among a.whole marks → StandsAt run lines s.image → IsLeft run so_far fault s
+    left_at lines low high stands = record {
+      told = told;
+      told_is = a.told;
+      is_told = is_told;
+      k = commits_among lines marks;
+      in_range = record {
+        at_least = subst (λ (w : ℕ). commits_among (w - 1) marks ≤ commits_among lines marks) (sym counted_texts) low;
+        at_most = subst (λ (w : ℕ). commits_among lines marks ≤ commits_among w marks) (sym counted_texts) high;
+      };
+      stands = stands_after lines s.image stands;
+    }
+      where
+        counted_texts : whole_texts told (texts run) ≡ a.whole
+        counted_texts = ap (whole_texts told) texts_same ∙ whole_is
+
+    -- what is accounted for is left in the range of what was told
+    pub is_left : IsLeft run so_far fault s
+    is_left = ⊎_elim (λ before. left_at (a.whole - 1) (omega arith) (near_up a.whole) before) (λ after. left_at a.whole (near_up a.whole) (omega arith) after.1) a.stands

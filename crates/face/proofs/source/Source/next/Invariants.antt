@@ -1,0 +1,23 @@
+use Rattle.std.proofs.Common.{◌≡◌, ◌≤◌, ◌<◌, length, IsTrue}
+use Rattle.std.specs.Prelude.{false}
+use Rattle.site.specs.Calls.{Goes}
+use Rattle.face.specs.Lines.{to_hear, total, IsSource, HasEnded, HearsOnly}
+use Rattle.face.proofs.Heard.{HeardSoFar}
+use Rattle.face.proofs.source.Source.next.Given as goal
+
+abbrev pub invariant-loop-octet : goal.invariant-loop-octet
+invariant-loop-octet g l =
+    let old = g.S.Site.state l.fn.site in
+    let now = g.S.Site.state l.site in
+    record {
+      goes : Goes old now;
+      source : IsSource l.self;
+      len : l.len ≤ 501;
+      long : length l.line ≡ 500;
+      same : IsTrue old.honest → HearsOnly old now;
+      count : IsTrue old.honest → total l.self now ≡ total l.fn.self old;
+      still : IsTrue old.honest → HasEnded l.fn.self old → HasEnded l.self now;
+      going : IsTrue old.honest → HasEnded l.fn.self old → 0 < l._octet → l.fn.self.ended ≡ false;
+      same_end : IsTrue old.honest → HasEnded l.fn.self old → l.self.ended ≡ l.fn.self.ended;
+      so_far : IsTrue old.honest → HasEnded l.fn.self old → HeardSoFar (to_hear l.fn.self old) (to_hear l.self now) l.line l.len l._octet;
+    }

@@ -1,0 +1,53 @@
+use Rattle.std.proofs.Common.{◌≡◌, ◌<◌, ◌++◌, [], List, ℕ, length, get_or, refl, sym, ◌∙◌, ap, subst, arith, append_assoc, add-one}
+use Rattle.std.proofs.lemmas.List.{append-nil}
+use Rattle.site.specs.Moments.{EachMoment}
+use Rattle.site.specs.Telling.{TellsPart}
+use Rattle.site.specs.Laws.{stays_honest, goes_nowhere, no_call, goes_in_sequence, devices_in_sequence}
+use Rattle.shell_text.specs.Texts.{reply_text, reply_lines}
+use Rattle.face.proofs.Replies.{first_of, line_more, piece_told, nothing_told}
+use Rattle.face.proofs.text.tell_reply.Goals as goal
+
+pub loop-place-init : goal.loop-place-init
+loop-place-init g c =
+    let old = g.S.Site.state c.args.site.now in
+    record {
+      goes = goes_nowhere old;
+      same = λ honest. record { image = refl; loose = refl; left = refl };
+      told = λ honest. sym (append-nil old.told);
+      moments = λ honest. no_call old (TellsPart (reply_text c.args.reply.now) old) (nothing_told (reply_text c.args.reply.now) old);
+    }
+
+pub loop-place-preserved : goal.loop-place-preserved
+loop-place-preserved g c =
+    let old = g.S.Site.state c.args.site.now in
+    let mid = g.S.Site.state c.loop-place.site in
+    let new = g.S.Site.state c.tell_all.new.site in
+    let place = c.loop-place.place in
+    let lines = reply_lines c.args.reply.now in
+    let less : place < length lines = omega (arith, c.loop-place-test.true, c.line_count-place-end.ensures) in
+    let more = line_more lines place less in
+    let piece : c.as_slice.result.now ≡ get_or lines place [] = c.as_slice.ensures.value ∙ c.reply_line.ensures in
+    record {
+      goes = goes_in_sequence old mid new c.loop-place.invariant.goes c.tell_all.ensures.goes;
+      same = λ honest. devices_in_sequence old mid new (c.loop-place.invariant.same honest) (c.tell_all.ensures.same (stays_honest old mid c.loop-place.invariant.goes honest));
+      told = λ honest.
+          let told = c.in_ok-tell_all.ensures.told (stays_honest old mid c.loop-place.invariant.goes honest) in
+          told ∙ (λ i. c.loop-place.invariant.told honest i ++ piece i) ∙ append_assoc old.told (first_of place lines) (get_or lines place [])
+          ∙ ap (λ (l : List ℕ). old.told ++ l) (sym more.2 ∙ ap (λ (n : ℕ). first_of n lines) (sym (add-one place)));
+      moments = λ honest.
+          piece_told (first_of place lines) (get_or lines place []) more.0 (reply_text c.args.reply.now) old mid new more.1 (c.loop-place.invariant.same honest) (c.loop-place.invariant.told honest) (c.loop-place.invariant.moments honest)
+          (subst (λ (t : List ℕ). EachMoment mid new (TellsPart t mid)) piece (c.tell_all.ensures.any_moment (stays_honest old mid c.loop-place.invariant.goes honest)));
+    }
+
+pub returns-in_err-tell_all-clause-any_moment : goal.returns-in_err-tell_all-clause-any_moment
+returns-in_err-tell_all-clause-any_moment g c honest =
+    let old = g.S.Site.state c.args.site.now in
+    let mid = g.S.Site.state c.loop-place.site in
+    let new = g.S.Site.state c.tell_all.new.site in
+    let place = c.loop-place.place in
+    let lines = reply_lines c.args.reply.now in
+    let less : place < length lines = omega (arith, c.loop-place-test.true, c.line_count-place-end.ensures) in
+    let more = line_more lines place less in
+    let piece : c.as_slice.result.now ≡ get_or lines place [] = c.as_slice.ensures.value ∙ c.reply_line.ensures in
+    piece_told (first_of place lines) (get_or lines place []) more.0 (reply_text c.args.reply.now) old mid new more.1 (c.loop-place.invariant.same honest) (c.loop-place.invariant.told honest) (c.loop-place.invariant.moments honest)
+    (subst (λ (t : List ℕ). EachMoment mid new (TellsPart t mid)) piece (c.tell_all.ensures.any_moment (stays_honest old mid c.loop-place.invariant.goes honest)))

@@ -1,0 +1,18 @@
+use Rattle.std.proofs.Common.{◌≡◌, ◌++◌, IsTrue}
+use Rattle.site.specs.Calls.{Goes}
+use Rattle.site.specs.Moments.{EachMoment}
+use Rattle.site.specs.Telling.{TellsPart, SameDevices}
+use Rattle.shell_text.specs.Texts.{reply_text, reply_lines}
+use Rattle.face.proofs.Replies.{first_of}
+use Rattle.face.proofs.text.tell_reply.Given as goal
+
+abbrev pub invariant-loop-place : goal.invariant-loop-place
+invariant-loop-place g l =
+    let old = g.S.Site.state l.fn.site in
+    let now = g.S.Site.state l.site in
+    record {
+      goes : Goes old now;
+      same : IsTrue old.honest → SameDevices old now;
+      told : IsTrue old.honest → now.told ≡ old.told ++ first_of l.place (reply_lines l.reply);
+      moments : IsTrue old.honest → EachMoment old now (TellsPart (reply_text l.reply) old);
+    }

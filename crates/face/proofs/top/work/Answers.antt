@@ -1,0 +1,133 @@
+use Rattle.std.proofs.Common.{suc, List, drop, sym, ◌∙◌, ap, subst, arith, add-one}
+use Rattle.std.specs.Prelude.{Err}
+use Rattle.site.specs.Laws.{stays_honest, goes_in_sequence}
+use Rattle.record_model.specs.Run.{Line}
+use Rattle.face.specs.Going.{Going}
+use Rattle.face.specs.Lines.{up_to_quit}
+use Rattle.face.specs.Texts.{status_of}
+use Rattle.face.proofs.Cuts.{Cut, no_cut, cut_more, cut_stays, line_is, cut_few_octets}
+use Rattle.face.proofs.Ends.{never_opened, taking_failed, finished, answer_failed, heard_end, line_heard, quitted, taking_cause, answer_takes_nothing, answer_cause}
+use Rattle.face.proofs.Works.{moved, cut_short, goes_on}
+use Rattle.face.proofs.top.work.Goals as goal
+
+pub returns-in-Err-clause-works : goal.returns-in-Err-clause-works
+returns-in-Err-clause-works g c run begins = never_opened run (g.S.Site.state c.args.site.now) (g.S.Site.state c.open.new.site) c.in-Err.halt (c.in-Err.ensures.stops run begins) c.in-Err.ensures.halts (c.open.ensures.left begins.honest)
+
+pub loop-line-init : goal.loop-line-init
+loop-line-init g c = record {
+  goes = c.open.ensures.goes;
+  source = c.new-source.ensures.source;
+  store = c.in-Ok.ensures.goes_on;
+  cut = λ honest. no_cut _ c.new-source.result _ c.new-source.ensures.empty c.new-source.ensures.taken c.new-source.ensures.going (c.open.ensures.left honest);
+  going = c.in-Ok.ensures.going;
+}
+
+pub returns-in-Err-next-clause-works : goal.returns-in-Err-next-clause-works
+returns-in-Err-next-clause-works g c run begins =
+    let entry = g.S.Site.state c.args.site.now in
+    let mid = g.S.Site.state c.loop-line.site in
+    let next = g.S.Site.state c.next.new.site in
+    let cut = c.loop-line.invariant.cut begins.honest in
+    let so_far = c.loop-line.invariant.going run begins in
+    let going = moved run entry mid next c.loop-line.store c.loop-line._line so_far c.next.ensures.goes (c.next.ensures.same so_far.fits.honest) in
+    taking_failed run entry mid next c.loop-line.store c.loop-line.source c.loop-line._line cut c.loop-line.invariant.source going c.in-Err-next.halt c.in-Err-next.ensures.halts (c.in-Err-next.ensures.cut_off so_far.fits.honest cut.ended)
+
+pub returns-in-Err-next-clause-cause : goal.returns-in-Err-next-clause-cause
+returns-in-Err-next-clause-cause g c =
+    let entry = g.S.Site.state c.args.site.now in
+    let mid = g.S.Site.state c.loop-line.site in
+    let next = g.S.Site.state c.next.new.site in
+    taking_cause c.in-Err-next.halt c.loop-line.source entry mid next c.in-Err-next.ensures.halts (λ e. c.in-Err-next.ensures.input (ap Err e)) c.loop-line.invariant.goes.input_faults
+    (λ honest. let cut = c.loop-line.invariant.cut honest in (cut.taken, c.in-Err-next.ensures.cut_off (stays_honest entry mid c.loop-line.invariant.goes honest) cut.ended))
+
+pub returns-in-End-clause-works : goal.returns-in-End-clause-works
+returns-in-End-clause-works g c run begins =
+    let entry = g.S.Site.state c.args.site.now in
+    let mid = g.S.Site.state c.loop-line.site in
+    let next = g.S.Site.state c.next.new.site in
+    let cut = c.loop-line.invariant.cut begins.honest in
+    let so_far = c.loop-line.invariant.going run begins in
+    let honest = so_far.fits.honest in
+    let going = moved run entry mid next c.loop-line.store c.loop-line._line so_far c.next.ensures.goes (c.next.ensures.same honest) in
+    let end = heard_end c.in-Ok-next.heard _ _ _ _ (c.in-Ok-next.ensures.heard honest cut.ended) c.in-End.is in
+    finished run entry mid next c.loop-line.store c.loop-line.source c.loop-line._line cut c.loop-line.invariant.source going _ end.0 (c.in-Ok-next.ensures.ended honest cut.ended end.1)
+
+pub returns-in-Err-answer-clause-works : goal.returns-in-Err-answer-clause-works
+returns-in-Err-answer-clause-works g c run begins =
+    let entry = g.S.Site.state c.args.site.now in
+    let mid = g.S.Site.state c.loop-line.site in
+    let next = g.S.Site.state c.next.new.site in
+    let new = g.S.Site.state c.answer.new.site in
+    let i = c.loop-line._line in
+    let cut = c.loop-line.invariant.cut begins.honest in
+    let so_far = c.loop-line.invariant.going run begins in
+    let honest = so_far.fits.honest in
+    let going = moved run entry mid next c.loop-line.store i so_far c.next.ensures.goes (c.next.ensures.same honest) in
+    let hears = line_heard c.in-Ok-next.heard c.in-Line.line _ _ _ _ (c.in-Ok-next.ensures.heard honest cut.ended) c.in-Line.is in
+    let ended = c.in-Ok-next.ensures.ended honest cut.ended in
+    let is = ap (λ (l : List Line). drop i (up_to_quit l)) begins.lines ∙ line_is entry.left c.loop-line.source mid i cut c.loop-line.invariant.source c.next.new.self next c.in-Line.line hears ended c.next.ensures.source in
+    let stops = cut_short run entry next c.loop-line.store i going new c.in-Line.line _ is (c.answer.ensures.any_moment going.fits) c.in-Err-answer.halt
+    (λ ne. c.in-Err-answer.ensures.quiet going.fits (λ e. ne (ap status_of e))) (c.in-Err-answer.ensures.untold going.fits) in
+    answer_failed run entry mid next new c.loop-line.source c.next.new.self i cut c.loop-line.invariant.source c.in-Line.line hears ended c.next.ensures.source (c.answer.ensures.left going.fits.honest) c.in-Err-answer.halt stops (answer_takes_nothing c.in-Err-answer.halt c.in-Err-answer.ensures.halts)
+
+pub loop-line-preserved : goal.loop-line-preserved
+loop-line-preserved g c =
+    let entry = g.S.Site.state c.args.site.now in
+    let mid = g.S.Site.state c.loop-line.site in
+    let next = g.S.Site.state c.next.new.site in
+    let new = g.S.Site.state c.answer.new.site in
+    let i = c.loop-line._line in
+    record {
+      goes = goes_in_sequence _ _ _ c.loop-line.invariant.goes (goes_in_sequence _ _ _ c.next.ensures.goes c.answer.ensures.goes);
+      source = c.next.ensures.source;
+      store = c.answer.ensures.goes_on;
+      cut = λ honest-entry.
+          let honest = stays_honest entry mid c.loop-line.invariant.goes honest-entry in
+          let cut = c.loop-line.invariant.cut honest-entry in
+          let hears = line_heard c.in-Ok-next.heard c.in-Line.line _ _ _ _ (c.in-Ok-next.ensures.heard honest cut.ended) c.in-Line.is in
+          let ended = c.in-Ok-next.ensures.ended honest cut.ended in
+          subst (Cut entry.left c.next.new.self new) (sym (add-one i))
+          (cut_stays entry.left c.next.new.self next new (suc i) (cut_more entry.left c.loop-line.source mid i cut c.loop-line.invariant.source c.next.new.self next c.in-Line.line hears ended (c.in-Ok-next.ensures.count honest) (sym c.quits-last.ensures ∙ c.if-last.false)) (c.answer.ensures.left (stays_honest mid next c.next.ensures.goes honest)));
+      going = λ run begins.
+          let cut = c.loop-line.invariant.cut begins.honest in
+          let so_far = c.loop-line.invariant.going run begins in
+          let honest = so_far.fits.honest in
+          let going = moved run entry mid next c.loop-line.store i so_far c.next.ensures.goes (c.next.ensures.same honest) in
+          let hears = line_heard c.in-Ok-next.heard c.in-Line.line _ _ _ _ (c.in-Ok-next.ensures.heard honest cut.ended) c.in-Line.is in
+          let ended = c.in-Ok-next.ensures.ended honest cut.ended in
+          let is = ap (λ (l : List Line). drop i (up_to_quit l)) begins.lines ∙ line_is entry.left c.loop-line.source mid i cut c.loop-line.invariant.source c.next.new.self next c.in-Line.line hears ended c.next.ensures.source in
+          subst (Going run entry new c.answer.new.store) (sym (add-one i))
+          (goes_on run entry next c.loop-line.store i going new c.in-Line.line _ is (c.answer.ensures.any_moment going.fits)
+          c.answer.new.store c.in_default.ensures.after c.answer.ensures.geometry (c.in_default.ensures.fits going.fits) (c.in_default.ensures.told going.fits));
+    }
+
+pub returns-then-last-clause-works : goal.returns-then-last-clause-works
+returns-then-last-clause-works g c run begins =
+    let entry = g.S.Site.state c.args.site.now in
+    let mid = g.S.Site.state c.loop-line.site in
+    let next = g.S.Site.state c.next.new.site in
+    let new = g.S.Site.state c.answer.new.site in
+    let i = c.loop-line._line in
+    let cut = c.loop-line.invariant.cut begins.honest in
+    let so_far = c.loop-line.invariant.going run begins in
+    let honest = so_far.fits.honest in
+    let going = moved run entry mid next c.loop-line.store i so_far c.next.ensures.goes (c.next.ensures.same honest) in
+    let hears = line_heard c.in-Ok-next.heard c.in-Line.line _ _ _ _ (c.in-Ok-next.ensures.heard honest cut.ended) c.in-Line.is in
+    let ended = c.in-Ok-next.ensures.ended honest cut.ended in
+    let is = ap (λ (l : List Line). drop i (up_to_quit l)) begins.lines ∙ line_is entry.left c.loop-line.source mid i cut c.loop-line.invariant.source c.next.new.self next c.in-Line.line hears ended c.next.ensures.source in
+    let gone = goes_on run entry next c.loop-line.store i going new c.in-Line.line _ is (c.answer.ensures.any_moment going.fits)
+    c.answer.new.store c.in_default.ensures.after c.answer.ensures.geometry (c.in_default.ensures.fits going.fits) (c.in_default.ensures.told going.fits) in
+    quitted run entry mid next new c.loop-line.source c.next.new.self i cut c.loop-line.invariant.source c.in-Line.line hears ended c.next.ensures.source (c.answer.ensures.left going.fits.honest) _ c.answer.new.store (sym c.quits-last.ensures ∙ c.if-last.true) gone
+
+pub returns-clause-works : goal.returns-clause-works
+returns-clause-works g c run begins =
+    let few = cut_few_octets _ c.loop-line.source (g.S.Site.state c.loop-line.site) c.loop-line._line (c.loop-line.invariant.cut begins.honest) c.loop-line.invariant.source in
+    absurd (omega (arith, few, c.loop-line-test.false))
+
+pub returns-clause-cause : goal.returns-clause-cause
+returns-clause-cause g c = λ honest.
+    let few = cut_few_octets _ c.loop-line.source (g.S.Site.state c.loop-line.site) c.loop-line._line (c.loop-line.invariant.cut honest) c.loop-line.invariant.source in
+    absurd (omega (arith, few, c.loop-line-test.false))
+
+pub returns-in-Err-answer-clause-cause : goal.returns-in-Err-answer-clause-cause
+returns-in-Err-answer-clause-cause g c = answer_cause c.in-Err-answer.halt (g.S.Site.state c.args.site.now) (g.S.Site.state c.next.new.site) (g.S.Site.state c.answer.new.site) c.in-Err-answer.ensures.halts c.in-Err-answer.ensures.cause (goes_in_sequence _ _ _ c.loop-line.invariant.goes c.next.ensures.goes)

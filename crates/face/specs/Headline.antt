@@ -1,0 +1,58 @@
+-- The headline.
+use Rattle.std.specs.Prelude.{◌≡◌, ◌≢◌, ◌⊎◌, ℕ, ◌+◌, Bool, true, false, List, [], ◌++◌, length, take, IsTrue}
+use Rattle.site.specs.State.{State as Site, no_loose}
+use Rattle.site.specs.Moments.{LeavesOnly}
+use Rattle.site.specs.declared.geometry.Geometry.{Geometry}
+use Rattle.record_model.specs.State.{Content}
+use Rattle.face.specs.declared.halt.Halt.{Halt}
+use Rattle.face.specs.Texts.{fault_line, status_of}
+use Rattle.face.specs.Image.{Stands}
+use Rattle.face.specs.Causes.{HasCause}
+use Rattle.std.specs.List.{list_any}
+use Rattle.record_model.specs.Run.{is_quit}
+use Rattle.face.specs.Lines.{HeardAll, limit, commands_of}
+use Rattle.face.specs.Run.{Run, IsFront}
+use Rattle.face.specs.Range.{run_of, run_text, all_commits, StandsAfter, IsLeft}
+
+-- an honest and quiet site, whose image is sound and stands for this table and this number of commits
+pub record IsGood (g : Geometry) (table : List Content) (commits : ℕ) (site : Site) : Type 0 where
+  pub honest : IsTrue site.honest
+  pub quiet : site.loose ≡ no_loose
+  pub stands : Stands g site.image table commits
+
+-- a status, the fault line that may be told with it, and its cause
+abbrev pub IsFaultOf : ℕ → List ℕ → Site → Site → Type 0
+IsFaultOf status fault old new = ((status ≡ 0) × (fault ≡ [])) ⊎ ((halt : Halt) × (status ≡ status_of halt) × (fault ≡ fault_line halt) × HasCause halt old new)
+
+-- all of the run is told, and the devices stand for the table after all its commits
+pub record IsWhole (run : Run) (old new : Site) : Type 0 where
+  pub told : new.told ≡ old.told ++ run_text run
+  pub stands : StandsAfter run (all_commits run) new.image
+
+-- all of the run is told, and then a front of the fault line
+pub record IsToldWhole (run : Run) (fault : List ℕ) (old new : Site) : Type 0 where
+  pub rest : List ℕ
+  pub told : new.told ≡ old.told ++ (run_text run ++ rest)
+  pub front : IsFront rest fault
+
+-- What a run leaves that opens with this table and this number of commits, and what a crash at any moment of it leaves.
+pub record Headline (g : Geometry) (table : List Content) (commits : ℕ) (old new : Site) (status : ℕ) : Type 0 where
+  -- the octets that were taken, and whether a take has answered that the input ended
+  pub octets : List ℕ
+  pub ended : Bool
+  pub taken : old.left ≡ octets ++ new.left
+  pub end : ended ≡ true → new.left ≡ []
+  -- the fault line of the status
+  pub fault : List ℕ
+  pub of_status : IsFaultOf status fault old new
+  -- each snapshot stands for the table after some number of commits in the range of what it has told
+  pub any_moment : LeavesOnly old new (IsLeft (run_of g table commits ended octets) old.told fault)
+  -- with any status but 3 no range is loose
+  pub quiet : status ≢ 3 → new.loose ≡ no_loose
+  -- with status 0 the input was heard to its end or to a quit, and all is told and done
+  pub heard : status ≡ 0 → HeardAll ended octets
+  pub done : status ≡ 0 → IsWhole (run_of g table commits ended octets) old new
+  -- with 5 and 7 all lines were answered whose newline is among the first 2 ^ 40 octets
+  pub taking : (status ≡ 5) ⊎ (status ≡ 7) → IsToldWhole (run_of g table commits false (take limit octets)) fault old new
+  -- and with 7 there was no quit among these, and one octet more was taken
+  pub over : status ≡ 7 → (length octets ≡ limit + 1) × (list_any is_quit (commands_of false (take limit octets)) ≡ false)

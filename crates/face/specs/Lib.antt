@@ -1,0 +1,12 @@
+pub mod Causes
+pub mod Going
+pub mod Grammar
+pub mod Headline
+pub mod Image
+pub mod Leaves
+pub mod Lines
+pub mod Range
+pub mod Restart
+pub mod Run
+pub mod Texts
+pub mod Words

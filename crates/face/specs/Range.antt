@@ -1,0 +1,50 @@
+-- Which commits a told text allows.
+use Rattle.std.specs.Prelude.{◌≡◌, ◌⊎◌, ℕ, ◌+◌, ◌≤◌, Bool, false, List, [], ◌++◌, length, take, flat_map, count_by}
+use Rattle.site.specs.State.{Snapshot, Image}
+use Rattle.site.specs.declared.geometry.Geometry.{Geometry}
+use Rattle.record_model.specs.State.{Content}
+use Rattle.record_model.specs.Run.{Turn, turns, commit_marks, after_commits, IsInRange}
+use Rattle.face.specs.Image.{Stands, opening_of}
+use Rattle.shell_text.specs.Runs.{texts as run_texts}
+use Rattle.face.specs.Lines.{commands_of}
+use Rattle.face.specs.Run.{Run, IsFront}
+
+-- the run that opens with this table and this many commits, over the lines of these octets
+abbrev pub run_of : Geometry → List Content → ℕ → Bool → List ℕ → Run
+run_of g table commits ended octets = record { geometry = g; opening = opening_of g table commits; lines = commands_of ended octets }
+
+-- its turns, by the record model
+abbrev pub turns_of : Run → List Turn
+turns_of run = turns false run.opening run.lines []
+
+-- the opening's text, and one for each turn
+abbrev pub texts : Run → List (List ℕ)
+texts run = run_texts false run.opening run.lines []
+
+-- the first of the texts, one after the other
+abbrev pub first_texts : Run → ℕ → List ℕ
+first_texts run whole = flat_map (λ text. text) (take whole (texts run))
+
+-- all that the run tells
+abbrev pub run_text : Run → List ℕ
+run_text run = flat_map (λ text. text) (texts run)
+
+abbrev pub all_commits : Run → ℕ
+all_commits run = count_by (λ mark. mark) (commit_marks (turns_of run))
+
+-- the devices stand for the table when the run has made its first k commits
+abbrev pub StandsAfter : Run → ℕ → Image → Type 0
+StandsAfter run k image = Stands run.geometry image (after_commits run.opening.table (turns_of run) k) (run.opening.commits + k)
+
+-- a front of the run's text, or some of its texts whole and then a front of the fault line
+abbrev pub IsToldOf : Run → List ℕ → List ℕ → Type 0
+IsToldOf run fault told = IsFront told (run_text run) ⊎ ((whole : ℕ) × (whole ≤ length (texts run)) × (rest : List ℕ) × (told ≡ first_texts run whole ++ rest) × IsFront rest fault)
+
+-- What a crash may leave, where `so_far` was told before the run: the table after some number of commits in the range of what the run has told.
+pub record IsLeft (run : Run) (so_far fault : List ℕ) (snapshot : Snapshot) : Type 0 where
+  pub told : List ℕ
+  pub told_is : snapshot.told ≡ so_far ++ told
+  pub is_told : IsToldOf run fault told
+  pub k : ℕ
+  pub in_range : IsInRange told (texts run) (commit_marks (turns_of run)) k
+  pub stands : StandsAfter run k snapshot.image

@@ -1,0 +1,143 @@
+-- A run: its texts, and what a crash may leave of it.
+use Rattle.std.specs.Prelude.{◌≡◌, ◌⊎◌, ℕ, ◌+◌, ◌-◌, ◌<◌, List, [], ◌∷◌, ◌++◌, ◌≤◌, length, take, flat_map, slice_index_or, IsTrue, Result, IfErr, OnOk, ◌≢◌, Bool, true, false, ⊤}
+use Rattle.site.specs.State.{State as Site, Snapshot, Image, MayLeave, now_of, no_loose}
+use Rattle.site.specs.Moments.{LeavesOnly}
+use Rattle.site.specs.declared.geometry.Geometry.{Geometry}
+use Rattle.record_model.specs.State.{State}
+use Rattle.record_model.specs.Step.{Outcome}
+use Rattle.std.specs.List.{list_any}
+use Rattle.record_model.specs.Run.{Line, line_step, is_quit}
+use Rattle.face.specs.declared.halt.Halt.{Halt}
+use Rattle.face.specs.declared.halt.Halt.TheVariants.{Output, Input, Limit}
+use Rattle.shell_text.specs.Texts.{open_text, reply_text}
+use Rattle.face.specs.Texts.{status_of}
+use Rattle.face.specs.Image.{Stands, opening_of}
+use Rattle.face.specs.Lines.{commands_of, up_to_quit, answered_of, HeardAll, limit}
+
+-- what a line is answered, and the state that it leaves; no checkpoint steps are built yet, and no listing
+abbrev pub step : State → Line → Outcome
+step s line = line_step false s line []
+
+-- a run opens with a state, and has these lines to answer
+pub record Run : Type 0 where
+  pub geometry : Geometry
+  pub opening : State
+  pub lines : List Line
+
+abbrev pub after_lines : State → List Line → State
+after_lines s [] = s
+after_lines s (line ∷ lines) = after_lines (step s line).after lines
+
+abbrev pub reply_texts : State → List Line → List (List ℕ)
+reply_texts s [] = []
+reply_texts s (line ∷ lines) = reply_text (step s line).reply ∷ reply_texts (step s line).after lines
+
+-- the lines that are answered, up to a quit
+abbrev pub answered : Run → List Line
+answered run = up_to_quit run.lines
+
+-- the opening's text, and one for each line
+abbrev pub line_texts : Run → List (List ℕ)
+line_texts run = open_text run.opening.commits ∷ reply_texts run.opening (answered run)
+
+abbrev pub text_at : Run → ℕ → List ℕ
+text_at run i = slice_index_or (line_texts run) i []
+
+-- the first of the texts, one after the other
+abbrev pub told_after : Run → ℕ → List ℕ
+told_after run whole = flat_map (λ text. text) (take whole (line_texts run))
+
+-- the state after the first lines
+abbrev pub state_at : Run → ℕ → State
+state_at run lines = after_lines run.opening (take lines (answered run))
+
+-- the devices stand for the table and the count of a state
+abbrev pub StandsFor : Geometry → Image → State → Type 0
+StandsFor g image s = Stands g image s.table s.commits
+
+-- the devices stand for the table after some lines
+abbrev pub StandsAt : Run → ℕ → Image → Type 0
+StandsAt run lines image = StandsFor run.geometry image (state_at run lines)
+
+-- So many texts were told whole, the opening's among them, and so many lines were heard. The devices stand for the
+-- table after the lines that were answered, or after the next line too, where it was heard.
+abbrev pub StandsNear : Run → ℕ → ℕ → Image → Type 0
+StandsNear run heard whole image = StandsAt run (whole - 1) image ⊎ ((whole ≤ heard) × StandsAt run whole image)
+
+-- not all of a text
+abbrev pub IsPart : List ℕ → List ℕ → Type 0
+IsPart rest text = (k : ℕ) × (k < length text) × (rest ≡ take k text)
+
+abbrev pub IsFront : List ℕ → List ℕ → Type 0
+IsFront rest text = (k : ℕ) × (rest ≡ take k text)
+
+-- What a crash may leave of a run of which so many lines were heard, where `so_far` was told before it.
+pub record IsAccounted (run : Run) (heard : ℕ) (so_far fault : List ℕ) (snapshot : Snapshot) : Type 0 where
+  -- so many texts were told whole
+  pub whole : ℕ
+  pub begun : whole ≤ heard + 1
+  -- and behind them a part of the next one, or of a fault line
+  pub rest : List ℕ
+  pub told : snapshot.told ≡ so_far ++ (told_after run whole ++ rest)
+  pub part : ((whole ≤ heard) × IsPart rest (text_at run whole)) ⊎ IsFront rest fault
+  pub stands : StandsNear run heard whole snapshot.image
+
+-- the run of an honest and quiet site whose image is sound, where all octets that are left are heard
+pub record Begins (run : Run) (site : Site) : Type 0 where
+  pub honest : IsTrue site.honest
+  pub quiet : site.loose ≡ no_loose
+  pub stands : StandsFor run.geometry site.image run.opening
+  pub opens : run.opening ≡ opening_of run.geometry run.opening.table run.opening.commits
+  pub lines : run.lines ≡ commands_of true site.left
+
+-- What a crash may leave of the answer to one line: some front of the text is told, and none of it while the line isn't done
+pub record LeavesAnswer (g : Geometry) (before after : State) (text so_far : List ℕ) (snapshot : Snapshot) : Type 0 where
+  pub front : (k : ℕ) × (snapshot.told ≡ so_far ++ take k text)
+  pub stands : (StandsFor g snapshot.image before × (snapshot.told ≡ so_far)) ⊎ StandsFor g snapshot.image after
+
+-- so many texts were told, and the devices may be left as near to them
+pub record IsBetween (run : Run) (heard : ℕ) (old now : Site) : Type 0 where
+  pub whole : ℕ
+  pub begun : whole ≤ heard + 1
+  pub told : now.told ≡ old.told ++ told_after run whole
+  pub stands : (s : Snapshot) → MayLeave (now_of now) s → StandsNear run heard whole s.image
+
+-- These octets were taken. `ended` is whether a take has answered that the input ended. So many of their lines were heard, which are the first ones of all lines.
+pub record HasHeard (heard : ℕ) (octets : List ℕ) (ended : Bool) (old now : Site) : Type 0 where
+  pub taken : old.left ≡ octets ++ now.left
+  pub end : ended ≡ true → now.left ≡ []
+  pub enough : heard ≤ length (answered_of ended octets)
+  pub same : take heard (answered_of ended octets) ≡ take heard (answered_of true old.left)
+
+-- all was told, and the devices have it
+pub record IsDone (run : Run) (heard : ℕ) (old now : Site) : Type 0 where
+  pub told : now.told ≡ old.told ++ told_after run (heard + 1)
+  pub quiet : now.loose ≡ no_loose
+  pub stands : StandsAt run heard now.image
+
+-- all lines that stand whole in the first octets up to the limit were heard, and their replies told
+pub record HasTakenAll (run : Run) (heard : ℕ) (octets : List ℕ) (old now : Site) : Type 0 where
+  pub count : length (answered_of false (take limit octets)) ≡ heard
+  pub no_quit : list_any is_quit (commands_of false (take limit octets)) ≡ false
+  pub told : now.told ≡ old.told ++ told_after run (heard + 1)
+
+-- where taking was what failed
+abbrev pub StopsTaking : Halt → Run → ℕ → List ℕ → Site → Site → Type 0
+StopsTaking Input run heard octets old now = HasTakenAll run heard octets old now
+StopsTaking Limit run heard octets old now = HasTakenAll run heard octets old now × (length octets ≡ limit + 1)
+StopsTaking _ run heard octets old now = ⊤
+
+-- a run that stops, of which so many lines were heard, before its fault line
+pub record Stops (run : Run) (heard : ℕ) (old new : Site) (halt : Halt) : Type 0 where
+  pub any_moment : LeavesOnly old new (IsAccounted run heard old.told [])
+  pub between : halt ≢ Output → IsBetween run heard old new
+  pub quiet : status_of halt ≢ 3 → new.loose ≡ no_loose
+
+-- what comes of a run before its fault line
+pub record Works {T : Type 0} (run : Run) (old new : Site) (result : Result T Halt) : Type 0 where
+  pub heard : ℕ
+  pub octets : List ℕ
+  pub ended : Bool
+  pub has_heard : HasHeard heard octets ended old new
+  pub stops : IfErr result (λ halt. Stops run heard old new halt × StopsTaking halt run heard octets old new)
+  pub done : OnOk result (HeardAll ended octets × (length (answered_of ended octets) ≡ heard) × LeavesOnly old new (IsAccounted run heard old.told []) × IsDone run heard old new)

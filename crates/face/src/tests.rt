@@ -1,0 +1,295 @@
+// The top call over a site in memory. What is expected was worked out by hand or by another program.
+use crate::top::face;
+use site::{Call, Dev, Geometry, MemSite};
+use std::alloc::{AllocError, Global};
+use std::test::Fail;
+
+const STANDARD: Geometry = Geometry {
+    pages: 16,
+    groups: 8,
+    blocks: 64,
+};
+
+// Calls the program on a site, and answers its status.
+fn call(alloc: Global, words: &[&str], site: &mut MemSite) -> Result<u8, AllocError> {
+    let mut owned = Vec::new(alloc);
+    for word in words {
+        owned.push(String::from_str(alloc, word)?)?;
+    }
+    Ok(face(alloc, owned.as_slice(), site))
+}
+
+// Runs the program over some input, and answers its status.
+fn run(alloc: Global, site: &mut MemSite, input: &[u8]) -> Result<u8, Fail> {
+    site.feed(input)?;
+    Ok(call(alloc, &["run", "1"], site)?)
+}
+
+#[test]
+fn lines_are_answered(rt: HostRuntime) -> Result<(), Fail> {
+    let rows: [(&[u8], &[u8]); 6] = [
+        (b"set 5 0a0b\nget 5\n", b"open 0\ncommitted 1\nvalue 0a0b\n"),
+        (b"", b"open 0\n"),
+        (
+            b"set 511 01\nset 512 01\nget 511\n",
+            b"open 0\ncommitted 1\nrefused record\nvalue 01\n",
+        ),
+        (b"get 5", b"open 0\nnone\n"),
+        (
+            b"set 7 aa\nset 7 bb\nget 7\nget 512\n",
+            b"open 0\ncommitted 1\ncommitted 2\nvalue bb\nrefused record\n",
+        ),
+        (
+            b"set 3 00ff\n\nget 3",
+            b"open 0\ncommitted 1\nrefused line\nvalue 00ff\n",
+        ),
+    ];
+    for (input, told) in rows {
+        let mut site = MemSite::new(rt.alloc(), &STANDARD)?;
+        assert_eq!(rt; run(rt.alloc(), &mut site, input)?, 0);
+        assert!(rt; site.told() == told);
+    }
+    Ok(())
+}
+
+#[test]
+fn other_lines_are_refused(rt: HostRuntime) -> Result<(), Fail> {
+    let lines: [&[u8]; 18] = [
+        b"\n",
+        b"get 05\n",
+        b"get  5\n",
+        b"get 5 \n",
+        b" get 5\n",
+        b"set 5 0\n",
+        b"set 5 0g\n",
+        b"set 5\n",
+        b"set 5 \n",
+        b"set 5 --\n",
+        b"quit now\n",
+        b"GET 5\n",
+        b"get\n",
+        b"get -1\n",
+        b"get 1234567890\n",
+        b"begin 0\n",
+        b"stat\n",
+        b"get 5\r\n",
+    ];
+    for line in lines {
+        let mut site = MemSite::new(rt.alloc(), &STANDARD)?;
+        assert_eq!(rt; run(rt.alloc(), &mut site, line)?, 0);
+        assert!(rt; site.told() == b"open 0\nrefused line\n".as_slice());
+        assert_eq!(rt; site.changes(), 2);
+    }
+    Ok(())
+}
+
+// The log's first slot after a set of record 5 to 0a0b on blank devices.
+const FIRST_SLOT: [u8; 64] = [
+    0xA5, // gate
+    0, 0, 0, 0, 0, 0, 0, 0, // number
+    0x00, 0x2E, // used
+    0x01, // Begin
+    0x02, // Update
+    0, 0, 0, 0, 0, 0, 0, 2, // txn
+    0, 0, 0, 0, 0, 0, 0, 2, // prev
+    0, 0, 0, 0, // page
+    0x05, // slot
+    0x00, // before
+    0x03, 0x0A, 0x0B, // after
+    0x04, // Commit
+    0, 0, 0, 0, 0, 0, 0, 2, // txn
+    0, 0, 0, 0, 0, 0, 0, 1, // commit number
+    0, 0, 0, 0, 0, 0, 0, 0, 0, // nothing behind
+];
+
+#[test]
+fn a_set_fills_the_first_slot(rt: HostRuntime) -> Result<(), Fail> {
+    let mut site = MemSite::new(rt.alloc(), &STANDARD)?;
+    assert_eq!(rt; run(rt.alloc(), &mut site, b"set 5 0a0b\nget 5\n")?, 0);
+    let slot = site.content(Dev::Log).get(1_536..1_600);
+    assert!(rt; slot.is_some_and(|slot| slot == FIRST_SLOT.as_slice()));
+    Ok(())
+}
+
+#[test]
+fn values_have_every_spelling(rt: HostRuntime) -> Result<(), Fail> {
+    let mut site = MemSite::new(rt.alloc(), &STANDARD)?;
+    let input = b"set 3 -\nget 3\nget 4\nset 5 AB\nget 5\nset 5 aBcD\nget 5\n";
+    assert_eq!(rt; run(rt.alloc(), &mut site, input)?, 0);
+    assert!(rt;
+        site.told()
+            == b"open 0\ncommitted 1\nvalue -\nnone\ncommitted 2\nvalue ab\ncommitted 3\nvalue abcd\n".as_slice()
+    );
+    Ok(())
+}
+
+// Feeds a line that sets record 3 to so many octets 0x5A.
+fn feed_long_set(site: &mut MemSite, octets: usize) -> Result<(), Fail> {
+    site.feed(b"set 3 ")?;
+    for _octet in 0..octets {
+        site.feed(b"5a")?;
+    }
+    site.feed(b"\n")?;
+    Ok(())
+}
+
+#[test]
+fn a_long_value_is_refused(rt: HostRuntime) -> Result<(), Fail> {
+    let mut site = MemSite::new(rt.alloc(), &STANDARD)?;
+    feed_long_set(&mut site, 120)?;
+    feed_long_set(&mut site, 121)?;
+    assert_eq!(rt; run(rt.alloc(), &mut site, b"")?, 0);
+    assert!(rt; site.told() == b"open 0\ncommitted 1\nrefused long\n".as_slice());
+    Ok(())
+}
+
+#[test]
+fn quit_ends_the_run(rt: HostRuntime) -> Result<(), Fail> {
+    let mut site = MemSite::new(rt.alloc(), &STANDARD)?;
+    assert_eq!(rt; run(rt.alloc(), &mut site, b"quit\nget 5\n")?, 0);
+    assert!(rt; site.told() == b"open 0\nbye\n".as_slice());
+    Ok(())
+}
+
+#[test]
+fn a_long_line_is_refused_once(rt: HostRuntime) -> Result<(), Fail> {
+    let mut site = MemSite::new(rt.alloc(), &STANDARD)?;
+    site.feed(&[b'7'; 501])?;
+    site.feed(&[b'7'; 5000])?;
+    assert_eq!(rt; run(rt.alloc(), &mut site, b"\nget 5\n")?, 0);
+    assert!(rt; site.told() == b"open 0\nrefused line\nnone\n".as_slice());
+    Ok(())
+}
+
+#[test]
+fn a_log_fills_up(rt: HostRuntime) -> Result<(), Fail> {
+    let small = Geometry {
+        pages: 16,
+        groups: 8,
+        blocks: 16,
+    };
+    let mut site = MemSite::new(rt.alloc(), &small)?;
+    let input = b"set 0 aa\nset 0 aa\nset 0 aa\nset 0 aa\nset 0 aa\n";
+    assert_eq!(rt; run(rt.alloc(), &mut site, input)?, 0);
+    assert!(rt;
+        site.told()
+            == b"open 0\ncommitted 1\ncommitted 2\ncommitted 3\ncommitted 4\nfull 12 0 15\n".as_slice()
+    );
+    let mut site = site.crash(0);
+    assert_eq!(rt; run(rt.alloc(), &mut site, b"set 0 aa\nget 0\n")?, 0);
+    assert!(rt; site.told() == b"open 4\nfull 12 0 15\nvalue aa\n".as_slice());
+    Ok(())
+}
+
+#[test]
+fn other_words_are_refused(rt: HostRuntime) -> Result<(), Fail> {
+    let lists: [&[&str]; 10] = [
+        &[],
+        &["run"],
+        &["run", "0"],
+        &["run", "4097"],
+        &["run", "01"],
+        &["run", "1", "1"],
+        &["help"],
+        &["run", "-1"],
+        &["new", "16", "8", "64"],
+        &["run", ""],
+    ];
+    for words in lists {
+        let mut site = MemSite::new(rt.alloc(), &STANDARD)?;
+        assert_eq!(rt; call(rt.alloc(), words, &mut site)?, 2);
+        assert!(rt; site.told() == b"fault words\n".as_slice());
+        assert_eq!(rt; site.changes(), 1);
+    }
+    let mut site = MemSite::new(rt.alloc(), &STANDARD)?;
+    assert_eq!(rt; call(rt.alloc(), &["run", "4096"], &mut site)?, 0);
+    Ok(())
+}
+
+// Stops a run of one set at each of its changes, and answers whether the next run finds the set done.
+fn survives(alloc: Global, changes: u64, seed: u64) -> Result<Option<bool>, Fail> {
+    let mut site = MemSite::new(alloc, &STANDARD)?;
+    site.fuse(changes);
+    let _status = run(alloc, &mut site, b"set 5 0a0b")?;
+    let mut site = site.crash(seed);
+    if run(alloc, &mut site, b"get 5")? != 0 {
+        return Ok(None);
+    }
+    if site.told() == b"open 1\nvalue 0a0b\n".as_slice() {
+        Ok(Some(true))
+    } else if site.told() == b"open 0\nnone\n".as_slice() {
+        Ok(Some(false))
+    } else {
+        Ok(None)
+    }
+}
+
+#[test]
+fn a_stopped_set_is_done_or_not(rt: HostRuntime) -> Result<(), Fail> {
+    // By the change that is stopped, and by the seeds 0, 1, 2 and 77.
+    let rows: [[bool; 4]; 8] = [
+        [false, false, false, false],
+        [false, false, false, false],
+        [false, false, false, false],
+        [false, false, false, false],
+        [true, false, true, false],
+        [true, false, true, false],
+        [true, true, true, true],
+        [true, true, true, true],
+    ];
+    for (changes, row) in rows.iter().enumerate() {
+        for (seed, done) in [0, 1, 2, 77].iter().zip(row) {
+            assert_eq!(rt; survives(rt.alloc(), changes as u64, *seed)?, Some(*done));
+        }
+    }
+    Ok(())
+}
+
+#[test]
+fn faults_have_their_status(rt: HostRuntime) -> Result<(), Fail> {
+    let rows: [(Call, u64, u8, &[u8]); 6] = [
+        (Call::Read(Dev::Log), 1, 3, b"fault log\n"),
+        (Call::Write(Dev::Log), 1, 3, b"open 0\nfault log\n"),
+        (Call::Sync(Dev::Log), 2, 3, b"open 0\nfault log\n"),
+        (Call::Take, 1, 5, b"open 0\nfault input\n"),
+        (Call::Take, 2, 5, b"open 0\ncommitted 1\nfault input\n"),
+        (Call::Tell, 2, 6, b"open 0\n"),
+    ];
+    for (call, nth, status, told) in rows {
+        let mut site = MemSite::new(rt.alloc(), &STANDARD)?;
+        assert!(rt; nth >= 1);
+        site.fail(call, nth)?;
+        assert_eq!(rt; run(rt.alloc(), &mut site, b"set 5 0a0b\n")?, status);
+        assert!(rt; site.told() == told);
+    }
+    Ok(())
+}
+
+#[test]
+fn a_short_tell_goes_on(rt: HostRuntime) -> Result<(), Fail> {
+    let mut site = MemSite::new(rt.alloc(), &STANDARD)?;
+    site.short_tell(2, 3)?;
+    assert_eq!(rt; run(rt.alloc(), &mut site, b"set 5 0a0b\nget 5\n")?, 0);
+    assert!(rt; site.told() == b"open 0\ncommitted 1\nvalue 0a0b\n".as_slice());
+    assert_eq!(rt; site.reads(Dev::Flash), 0);
+    assert_eq!(rt; site.reads(Dev::Log), 65);
+    Ok(())
+}
+
+#[test]
+fn damaged_devices_are_foreign(rt: HostRuntime) -> Result<(), Fail> {
+    // An open gate over a block of zeros.
+    let mut site = MemSite::new(rt.alloc(), &STANDARD)?;
+    site.poke(Dev::Log, 1_536, 0xA5);
+    assert_eq!(rt; run(rt.alloc(), &mut site, b"get 5\n")?, 9);
+    assert!(rt; site.told() == b"fault foreign\n".as_slice());
+    // Lengths that no sizes have.
+    let odd = Geometry {
+        pages: 16,
+        groups: 9,
+        blocks: 64,
+    };
+    let mut site = MemSite::new(rt.alloc(), &odd)?;
+    assert_eq!(rt; run(rt.alloc(), &mut site, b"get 5\n")?, 9);
+    Ok(())
+}
