@@ -1,0 +1,87 @@
+-- The last frame of a page, and what pushing and dropping a group make of it.
+use Rattle.std.proofs.Common.{◌≡◌, ℕ, zero, suc, ◌⊎◌, inl, inr, ⊎_elim, Bool, true, false, cond, List, [], ◌∷◌, Some, None, refl, sym, ap, ◌∙◌, arith}
+use Rattle.std.specs.Prelude.{Option, ◌==◌}
+use Rattle.std.specs.Option.{option_or}
+use Rattle.std.proofs.lemmas.Bool.{eqb-true, eq-eqb, ne_eqb}
+use Rattle.std.proofs.lemmas.Option.{cond_some}
+use Rattle.frame_group.specs.Groups.{Frame}
+use Rattle.frame_group.specs.Versions.{last_frame, version_by}
+use Rattle.frame_group.specs.Laws.{LastOfBoth, LastIsOfPage, LastByIndex, NoneByIndex, NewVersion, OtherVersions, PushKeepsClean, DropKeepsVersion, DropKeepsClean}
+
+or_none : {A : Type 0} (a : Option A) → option_or a None ≡ a
+or_none None = refl
+or_none (Some x) = refl
+
+or_assoc : {A : Type 0} (a b c : Option A) → option_or (option_or a b) c ≡ option_or a (option_or b c)
+or_assoc None b c = refl
+or_assoc (Some x) b c = refl
+
+or_some : {A : Type 0} (a b : Option A) (x : A) → option_or a b ≡ Some x → (a ≡ Some x) ⊎ ((a ≡ None) × (b ≡ Some x))
+or_some None b x e = inr (refl, e)
+or_some (Some y) b x e = inl e
+
+abbrev one : ℕ → Frame → Option Frame
+one page frame = cond (frame.page == page) (Some frame) None
+
+pub last_of_both : LastOfBoth
+last_of_both page [] newer = sym (or_none (last_frame page newer))
+last_of_both page (frame ∷ older) newer =
+    ap (λ (o : Option Frame). option_or o (one page frame)) (last_of_both page older newer) ∙ or_assoc (last_frame page newer) (last_frame page older) (one page frame)
+
+pub last_is_of_page : LastIsOfPage
+last_is_of_page page [] frame e = absurd cc
+last_is_of_page page (other ∷ frames) frame e =
+    ⊎_elim (λ o. last_is_of_page page frames frame o)
+    (λ o. let c = cond_some (other.page == page) other frame o.1 in ap (λ (f : Frame). f.page) (sym c.1) ∙ eqb-true other.page page c.0)
+    (or_some (last_frame page frames) (one page other) frame e)
+
+pub none_by_index : NoneByIndex
+none_by_index page [] d h = refl
+none_by_index page (frame ∷ frames) d h =
+    let rest = none_by_index page frames d (λ j less. h (suc j) (omega arith)) in
+    let no : (frame.page == page) ≡ false = ne_eqb frame.page page (h 0 (omega arith)) in
+    rw (rest, no) refl
+
+pub last_by_index : LastByIndex
+last_by_index page [] i d less is others = absurd (omega (arith, less))
+last_by_index page (frame ∷ frames) zero d less is others =
+    let rest = none_by_index page frames d (λ j below. others (suc j) (omega arith) (omega arith)) in
+    let yes : (frame.page == page) ≡ true = eq-eqb frame.page page is in
+    rw (rest, yes) refl
+last_by_index page (frame ∷ frames) (suc i) d less is others =
+    ap (λ (o : Option Frame). option_or o (one page frame))
+    (last_by_index page frames i d (omega arith) is (λ j above below. others (suc j) (omega arith) (omega arith)))
+
+pub new_version : NewVersion
+new_version disk frames new page frame e =
+    ap (λ (o : Option Frame). version_by o (disk page)) (last_of_both page frames new ∙ ap (λ (o : Option Frame). option_or o (last_frame page frames)) e)
+
+pub other_versions : OtherVersions
+other_versions disk frames new page e =
+    ap (λ (o : Option Frame). version_by o (disk page)) (last_of_both page frames new ∙ ap (λ (o : Option Frame). option_or o (last_frame page frames)) e)
+
+pub push_keeps_clean : PushKeepsClean
+push_keeps_clean disk frames new before pushed page frame is clean =
+    ⊎_elim (λ o. pushed page frame o clean) (λ o. before page frame o.1 clean)
+    (or_some (last_frame page new) (last_frame page frames) frame (sym (last_of_both page frames new) ∙ is))
+
+true_or_false : (b : Bool) → (b ≡ true) ⊎ (b ≡ false)
+true_or_false true = inl refl
+true_or_false false = inr refl
+
+drop_by : (rest front : Option Frame) (on_disk : List ℕ) → ((frame : Frame) → option_or rest front ≡ Some frame → frame.dirty ≡ false → frame.octets ≡ on_disk) →
+    ((frame : Frame) → rest ≡ None → front ≡ Some frame → frame.dirty ≡ true → on_disk ≡ frame.octets) → version_by rest on_disk ≡ version_by (option_or rest front) on_disk
+drop_by (Some frame) front on_disk clean staged = refl
+drop_by None None on_disk clean staged = refl
+drop_by None (Some frame) on_disk clean staged =
+    ⊎_elim (λ dirty. staged frame refl refl dirty) (λ not_dirty. sym (clean frame refl not_dirty)) (true_or_false frame.dirty)
+
+pub drop_keeps_version : DropKeepsVersion
+drop_keeps_version disk front rest page clean staged =
+    drop_by (last_frame page rest) (last_frame page front) (disk page)
+    (λ frame is not_dirty. clean page frame (last_of_both page front rest ∙ is) not_dirty) staged
+    ∙ ap (λ (o : Option Frame). version_by o (disk page)) (sym (last_of_both page front rest))
+
+pub drop_keeps_clean : DropKeepsClean
+drop_keeps_clean disk front rest clean page frame is not_dirty =
+    clean page frame (last_of_both page front rest ∙ ap (λ (o : Option Frame). option_or o (last_frame page front)) is) not_dirty
