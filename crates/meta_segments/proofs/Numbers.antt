@@ -1,0 +1,76 @@
+-- Segments follow the groups, when one more comes.
+use Rattle.std.proofs.Common.{◌≡◌, ℕ, ◌+◌, ◌-◌, ◌*◌, ◌/◌, ◌%◌, ◌<◌, ◌≤◌, ◌⊎◌, inl, inr, ⊎_elim, List, [], ◌∷◌, ◌++◌, length, get_or, drop, refl, ap, sym, ◌∙◌, arith, subst, length-append}
+use Rattle.std.proofs.lemmas.Bool.{cases_lt}
+use Rattle.std.proofs.lemmas.List.{get_or-drop, get_or_append_left, get_or_push, length-drop}
+use Rattle.byte_fields.specs.declared.frame_head.FrameHead.{FrameHead}
+use Rattle.meta_segments.specs.Segments.{heads_of_group}
+use Rattle.meta_segments.specs.Following.{IsLive, heads_with, Follow}
+use Rattle.meta_segments.specs.Laws.{NoneFollow, GroupFollows, SegmentFollows}
+
+abbrev Heads : Type 0
+Heads = List FrameHead
+
+size_more : (gone : ℕ) (live : List Heads) (heads : Heads) → length (drop gone (live ++ heads ∷ [])) ≡ length live + 1 - gone
+size_more gone live heads = length-drop gone (live ++ heads ∷ []) ∙ ap (λ n. n - gone) (length-append live (heads ∷ []))
+
+-- what was live before, and still is, is the same
+pub older_same : (next gone n : ℕ) (live : List Heads) (heads : Heads) → IsLive (next + 1) (drop gone (live ++ heads ∷ [])) n → n < next →
+    IsLive next live n × (heads_with (next + 1) (drop gone (live ++ heads ∷ [])) n ≡ heads_with next live n)
+older_same next gone n live heads is less =
+    let size = size_more gone live heads in
+    let there : next ≤ n + length live = omega (arith, is.not_before, size, less) in
+    let place : gone + (n + length (drop gone (live ++ heads ∷ [])) - (next + 1)) ≡ n + length live - next = omega (arith, is.not_before, size, less, there) in (
+      record { not_before = there; before = less },
+      get_or-drop gone (live ++ heads ∷ []) (n + length (drop gone (live ++ heads ∷ [])) - (next + 1)) []
+          ∙ ap (λ (i : ℕ). get_or (live ++ heads ∷ []) i []) place ∙ get_or_append_left live (heads ∷ []) [] (n + length live - next) (omega (arith, there, less)),
+    )
+
+-- the new one
+pub newest_is : (next gone : ℕ) (live : List Heads) (heads : Heads) → IsLive (next + 1) (drop gone (live ++ heads ∷ [])) next →
+    heads_with (next + 1) (drop gone (live ++ heads ∷ [])) next ≡ heads
+newest_is next gone live heads is =
+    let size = size_more gone live heads in
+    let place : gone + (next + length (drop gone (live ++ heads ∷ [])) - (next + 1)) ≡ length live = omega (arith, is.not_before, size) in
+    get_or-drop gone (live ++ heads ∷ []) (next + length (drop gone (live ++ heads ∷ [])) - (next + 1)) []
+    ∙ ap (λ (i : ℕ). get_or (live ++ heads ∷ []) i []) place ∙ get_or_push live heads [] (length live) refl
+
+pub none_follow : NoneFollow
+none_follow = record {
+  low = omega arith;
+  high = omega arith;
+  same = λ n group segment. absurd (omega (arith, group.before));
+  saved = λ n group less. absurd (omega (arith, less));
+}
+
+pub group_follows : GroupFollows
+group_follows k h gone segments groups heads follow room = record {
+  low = omega (arith, follow.low);
+  high = omega (arith, room);
+  same = λ n group segment.
+      let old = older_same h gone n groups heads group (omega (arith, segment.before, follow.low)) in
+      follow.same n old.0 segment ∙ sym old.1;
+  saved = λ n group less. follow.saved n (older_same h gone n groups heads group (omega (arith, less, follow.low))).0 less;
+}
+
+reach : (k h gone n : ℕ) (segments groups : List Heads) (heads : Heads) → Follow k segments h groups → h ≡ 4 * k + 4 → IsLive h groups n →
+    (gone ≡ 0) ⊎ (length groups ≤ 4 * length (drop gone (segments ++ heads ∷ []))) → k + 1 ≤ n / 4 + length (drop gone (segments ++ heads ∷ []))
+reach k h gone n segments groups heads follow due group (inl none) =
+    let size = size_more gone segments heads in
+    ⊎_elim (λ less. let saved = follow.saved n group less in omega (arith, saved.not_before, size, none)) (λ le. omega (arith, le, size, none)) (cases_lt n (4 * k))
+reach k h gone n segments groups heads follow due group (inr room) = omega (arith, group.not_before, due, room)
+
+pub segment_follows : SegmentFollows
+segment_follows k h gone segments groups heads follow due new room = record {
+  low = omega (arith, due);
+  high = omega (arith, due);
+  same = λ n group segment. ⊎_elim
+      (λ less. let old = older_same k gone (n / 4) segments heads segment less in
+      ap (λ (s : Heads). heads_of_group s (n % 4)) old.1 ∙ follow.same n group old.0)
+      (λ le. let last : n / 4 ≡ k = omega (arith, le, segment.before) in
+      let here : 4 * k + n % 4 ≡ n = omega (arith, last) in
+      ap (λ (s : ℕ). heads_of_group (heads_with (k + 1) (drop gone (segments ++ heads ∷ [])) s) (n % 4)) last
+      ∙ ap (λ (s : Heads). heads_of_group s (n % 4)) (newest_is k gone segments heads (subst (IsLive (k + 1) (drop gone (segments ++ heads ∷ []))) last segment))
+      ∙ new (n % 4) (omega arith) (subst (IsLive h groups) (sym here) group) ∙ ap (heads_with h groups) here)
+      (cases_lt (n / 4) k);
+  saved = λ n group less. record { not_before = reach k h gone n segments groups heads follow due group room; before = omega (arith, less) };
+}
