@@ -1,0 +1,201 @@
+-- A flush, push by push.
+use Rattle.std.proofs.Common.{◌≡◌, ℕ, zero, suc, ◌+◌, ◌-◌, ◌<◌, ◌≤◌, ◌==◌, Bool, true, false, not, ◌&&◌, ◌||◌, cond, List, [], ◌∷◌, ◌++◌, length, take, map, reverse, filter, arith, refl, sym, ap, ◌∙◌}
+use Rattle.std.specs.List.{list_any, enumerate_from}
+use Rattle.std.proofs.lemmas.List.{length-map}
+use Rattle.std.proofs.lemmas.Grind.{reverse_onto}
+use Rattle.std.proofs.lemmas.Bool.{eq-eqb}
+use Rattle.byte_fields.specs.declared.frame_head.Mark.{Mark}
+use Rattle.second_chance.specs.declared.plan.PoolMark.{PoolMark}
+use Rattle.second_chance.specs.Plans.{Placed, chances_of, pulled_at_flush}
+use Rattle.second_chance.specs.Machine.{Rules, PoolPage, Cache, saved, saved_page, pool_mark, pool_marks, is_pulled, leaving, push_changed, wants_flush, flushed_by, flushed, staged_in_push, staged_in_flush}
+use Rattle.second_chance.specs.Laws.{changed_count}
+
+-- A push saves a page.
+
+few_chances : (given : Bool) (front : List Mark) → length (chances_of given front) ≤ 7
+few_chances true front = take_few 7 (filter (λ f. f.1.valid && f.1.referenced) (enumerate_from 0 front))
+  where
+    take_few : (n : ℕ) (xs : List Placed) → length (take n xs) ≤ n
+    take_few zero xs = omega arith
+    take_few (suc n) [] = omega arith
+    take_few (suc n) (x ∷ xs) = omega (arith, take_few n xs)
+few_chances false front = omega arith
+
+or_true : (b : Bool) → (b || true) ≡ true
+or_true true = refl
+or_true false = refl
+
+-- some page that is changed is among the first of the changed ones
+one_pulled : (n : ℕ) (marks : List PoolMark) → list_any (λ p. p.changed) marks ≡ true
+    → list_any (λ p. p.changed && is_pulled (take (suc n) (filter (λ q. q.changed) marks)) p.page) marks ≡ true
+one_pulled n [] some = absurd cc
+one_pulled n (mark ∷ marks) some = by mark.changed refl some (one_pulled n marks)
+  where
+    here : (mark.page == mark.page) ≡ true
+    here = eq-eqb mark.page mark.page refl
+
+    by : (b : Bool) → mark.changed ≡ b → (b || list_any (λ p. p.changed) marks) ≡ true
+        → (list_any (λ p. p.changed) marks ≡ true → list_any (λ p. p.changed && is_pulled (take (suc n) (filter (λ q. q.changed) marks)) p.page) marks ≡ true)
+        → ((b && is_pulled (take (suc n) (cond b (mark ∷ filter (λ q. q.changed) marks) (filter (λ q. q.changed) marks))) mark.page)
+        || list_any (λ p. p.changed && is_pulled (take (suc n) (cond b (mark ∷ filter (λ q. q.changed) marks) (filter (λ q. q.changed) marks))) p.page) marks) ≡ true
+    by true is any rest =
+        ap (λ t. (t || is_pulled (take n (filter (λ q. q.changed) marks)) mark.page)
+        || list_any (λ p. p.changed && is_pulled (take (suc n) (mark ∷ filter (λ q. q.changed) marks)) p.page) marks) here
+    by false is any rest = rest any
+
+any_map : {X Y : Type 0} (test : Y → Bool) (f : X → Y) (xs : List X) → list_any test (map f xs) ≡ list_any (λ x. test (f x)) xs
+any_map test f [] = refl
+any_map test f (x ∷ xs) = ap (λ b. test (f x) || b) (any_map test f xs)
+
+or_swap : (a b c : Bool) → ((a || b) || c) ≡ (b || (a || c))
+or_swap true true c = refl
+or_swap true false c = refl
+or_swap false true c = refl
+or_swap false false c = refl
+
+any_append : {X : Type 0} (test : X → Bool) (xs : List X) (y : X) → list_any test (xs ++ y ∷ []) ≡ (test y || list_any test xs)
+any_append test [] y = refl
+any_append test (x ∷ xs) y = ap (λ b. test x || b) (any_append test xs y) ∙ turn (test x) (test y) (list_any test xs)
+  where
+    turn : (a b c : Bool) → (a || (b || c)) ≡ (b || (a || c))
+    turn true true c = refl
+    turn true false c = refl
+    turn false true c = refl
+    turn false false c = refl
+
+any_reverse : {X : Type 0} (test : X → Bool) (xs : List X) → list_any test (reverse xs) ≡ list_any test xs
+any_reverse test [] = refl
+any_reverse test (x ∷ xs) = ap (list_any test) (reverse_onto xs x []) ∙ any_append test (reverse xs) x ∙ ap (λ b. test x || b) (any_reverse test xs)
+
+any_marks : (test : PoolMark → Bool) (cache : Cache) → list_any test (pool_marks cache) ≡ list_any (λ p. test (pool_mark cache.queue p)) cache.pool
+any_marks test cache = any_map test (pool_mark cache.queue) (reverse cache.pool) ∙ any_reverse (λ p. test (pool_mark cache.queue p)) cache.pool
+
+pulled_some : (rules : Rules) (cache : Cache) → wants_flush cache ≡ true
+    → list_any (λ p. p.changed && is_pulled (pulled_at_flush rules.chances (leaving rules cache.queue) (pool_marks cache)) p.page) cache.pool ≡ true
+pulled_some r cache wants =
+    let front : List Mark = leaving r cache.queue in
+    let marks : List PoolMark = pool_marks cache in
+    let chances : ℕ = length (chances_of r.chances front) in
+    let room : suc (7 - chances) ≡ 8 - chances = omega (arith, few_chances r.chances front) in
+    let found = one_pulled (7 - chances) marks (any_marks (λ p. p.changed) cache ∙ wants) in
+    sym (any_marks (λ p. p.changed && is_pulled (pulled_at_flush r.chances front marks) p.page) cache)
+    ∙ ap (λ n. list_any (λ p. p.changed && is_pulled (take n (filter (λ q. q.changed) marks)) p.page) marks) (sym room) ∙ found
+
+-- what a save leaves changed
+count_cons : (p : PoolPage) (pool : List PoolPage) → changed_count (p ∷ pool) ≡ cond p.changed 1 0 + changed_count pool
+count_cons p pool = by p.changed
+  where
+    by : (b : Bool) → length (cond b (p ∷ filter (λ q. q.changed) pool) (filter (λ q. q.changed) pool)) ≡ cond b 1 0 + length (filter (λ q. q.changed) pool)
+    by true = omega arith
+    by false = omega arith
+
+saved_le : (f : ℕ → Bool) (pool : List PoolPage) → changed_count (saved f pool) ≤ changed_count pool
+saved_le f [] = omega arith
+saved_le f (p ∷ pool) = omega (arith, count_cons p pool, count_cons (saved_page f p) (saved f pool), saved_le f pool, here p.changed (f p.page))
+  where
+    here : (b c : Bool) → cond (b && not c) 1 0 ≤ cond b 1 0
+    here true true = omega arith
+    here true false = omega arith
+    here false c = omega arith
+
+saved_lt : (f : ℕ → Bool) (pool : List PoolPage) → list_any (λ p. p.changed && f p.page) pool ≡ true → changed_count (saved f pool) < changed_count pool
+saved_lt f [] some = absurd cc
+saved_lt f (p ∷ pool) some = by p.changed (f p.page) some (count_cons p pool) (count_cons (saved_page f p) (saved f pool)) (saved_lt f pool)
+  where
+    by : (b c : Bool) → ((b && c) || list_any (λ q. q.changed && f q.page) pool) ≡ true
+        → changed_count (p ∷ pool) ≡ cond b 1 0 + changed_count pool → changed_count (saved f (p ∷ pool)) ≡ cond (b && not c) 1 0 + changed_count (saved f pool)
+        → (list_any (λ q. q.changed && f q.page) pool ≡ true → changed_count (saved f pool) < changed_count pool)
+        → changed_count (saved f (p ∷ pool)) < changed_count (p ∷ pool)
+    by true true any old new rest = omega (arith, old, new, saved_le f pool)
+    by true false any old new rest = omega (arith, old, new, rest any)
+    by false c any old new rest = omega (arith, old, new, rest any)
+
+pub push_saves : (rules : Rules) (cache : Cache) → wants_flush cache ≡ true → changed_count (push_changed rules cache).pool < changed_count cache.pool
+push_saves r cache wants = saved_lt (is_pulled (pulled_at_flush r.chances (leaving r cache.queue) (pool_marks cache))) cache.pool (pulled_some r cache wants)
+
+-- Enough pushes are as good as more.
+
+none_changed : (pool : List PoolPage) → changed_count pool ≡ 0 → list_any (λ p. p.changed) pool ≡ false
+none_changed [] none = refl
+none_changed (p ∷ pool) none = by p.changed (count_cons p pool) (none_changed pool)
+  where
+    by : (b : Bool) → changed_count (p ∷ pool) ≡ cond b 1 0 + changed_count pool → (changed_count pool ≡ 0 → list_any (λ q. q.changed) pool ≡ false)
+        → (b || list_any (λ q. q.changed) pool) ≡ false
+    by true is rest = absurd (omega (arith, is, none))
+    by false is rest = rest (omega (arith, is, none))
+
+flushed_more : (n m : ℕ) (rules : Rules) (cache : Cache) → changed_count cache.pool ≤ n → changed_count cache.pool ≤ m → flushed_by n rules cache ≡ flushed_by m rules cache
+flushed_more zero zero r cache a b = refl
+flushed_more zero (suc m) r cache a b = sym (ap (λ t. cond t (flushed_by m r (push_changed r cache)) cache) (none_changed cache.pool (omega (arith, a))))
+flushed_more (suc n) zero r cache a b = ap (λ t. cond t (flushed_by n r (push_changed r cache)) cache) (none_changed cache.pool (omega (arith, b)))
+flushed_more (suc n) (suc m) r cache a b = by (wants_flush cache) refl (λ wants. flushed_more n m r (push_changed r cache)
+    (omega (arith, push_saves r cache wants, a)) (omega (arith, push_saves r cache wants, b)))
+  where
+    by : (t : Bool) → wants_flush cache ≡ t → (wants_flush cache ≡ true → flushed_by n r (push_changed r cache) ≡ flushed_by m r (push_changed r cache))
+        → cond t (flushed_by n r (push_changed r cache)) cache ≡ cond t (flushed_by m r (push_changed r cache)) cache
+    by true wants rest = rest wants
+    by false wants rest = refl
+
+changed_le : (pool : List PoolPage) → changed_count pool ≤ length pool
+changed_le [] = omega arith
+changed_le (p ∷ pool) = omega (arith, count_cons p pool, changed_le pool, here p.changed)
+  where
+    here : (b : Bool) → cond b 1 0 ≤ 1
+    here true = omega arith
+    here false = omega arith
+
+long : (rules : Rules) (cache : Cache) → length (push_changed rules cache).pool ≡ length cache.pool
+long r cache = length-map cache.pool (saved_page (is_pulled (pulled_at_flush r.chances (leaving r cache.queue) (pool_marks cache))))
+
+no_flush : (n : ℕ) (rules : Rules) (cache : Cache) → wants_flush cache ≡ false → flushed_by n rules cache ≡ cache
+no_flush zero r cache none = refl
+no_flush (suc n) r cache none = ap (λ t. cond t (flushed_by n r (push_changed r cache)) cache) none
+
+pub flush_ends : (rules : Rules) (cache : Cache) → wants_flush cache ≡ false → flushed rules cache ≡ cache
+flush_ends r cache none = no_flush (length cache.pool) r cache none
+
+pub flush_goes_on : (rules : Rules) (cache : Cache) → wants_flush cache ≡ true → flushed rules cache ≡ flushed rules (push_changed rules cache)
+flush_goes_on r cache wants =
+    flushed_more (length cache.pool) (suc (length cache.pool)) r cache (changed_le cache.pool) (omega (arith, changed_le cache.pool))
+    ∙ ap (λ t. cond t (flushed_by (length cache.pool) r (push_changed r cache)) cache) wants
+    ∙ ap (λ n. flushed_by n r (push_changed r cache)) (sym (long r cache))
+
+saved_all : (n : ℕ) (rules : Rules) (cache : Cache) → changed_count cache.pool ≤ n → wants_flush (flushed_by n rules cache) ≡ false
+saved_all zero r cache few = none_changed cache.pool (omega (arith, few))
+saved_all (suc n) r cache few = by (wants_flush cache) refl (λ wants. saved_all n r (push_changed r cache) (omega (arith, push_saves r cache wants, few)))
+  where
+    by : (t : Bool) → wants_flush cache ≡ t → (wants_flush cache ≡ true → wants_flush (flushed_by n r (push_changed r cache)) ≡ false)
+        → wants_flush (cond t (flushed_by n r (push_changed r cache)) cache) ≡ false
+    by true wants rest = rest wants
+    by false none rest = none
+
+pub flush_saves_all : (rules : Rules) (cache : Cache) → wants_flush (flushed rules cache) ≡ false
+flush_saves_all r cache = saved_all (length cache.pool) r cache (changed_le cache.pool)
+
+staged_more : (n m : ℕ) (rules : Rules) (cache : Cache) → changed_count cache.pool ≤ n → changed_count cache.pool ≤ m → staged_in_flush n rules cache ≡ staged_in_flush m rules cache
+staged_more zero zero r cache a b = refl
+staged_more zero (suc m) r cache a b =
+    sym (ap (λ t. cond t (staged_in_push r cache.queue ++ staged_in_flush m r (push_changed r cache)) []) (none_changed cache.pool (omega (arith, a))))
+staged_more (suc n) zero r cache a b =
+    ap (λ t. cond t (staged_in_push r cache.queue ++ staged_in_flush n r (push_changed r cache)) []) (none_changed cache.pool (omega (arith, b)))
+staged_more (suc n) (suc m) r cache a b = by (wants_flush cache) refl (λ wants. staged_more n m r (push_changed r cache)
+    (omega (arith, push_saves r cache wants, a)) (omega (arith, push_saves r cache wants, b)))
+  where
+    by : (t : Bool) → wants_flush cache ≡ t → (wants_flush cache ≡ true → staged_in_flush n r (push_changed r cache) ≡ staged_in_flush m r (push_changed r cache))
+        → cond t (staged_in_push r cache.queue ++ staged_in_flush n r (push_changed r cache)) [] ≡ cond t (staged_in_push r cache.queue ++ staged_in_flush m r (push_changed r cache)) []
+    by true wants rest = ap (λ l. staged_in_push r cache.queue ++ l) (rest wants)
+    by false wants rest = refl
+
+pub staged_goes_on : (rules : Rules) (cache : Cache) → wants_flush cache ≡ true
+    → staged_in_flush (length cache.pool) rules cache ≡ staged_in_push rules cache.queue ++ staged_in_flush (length (push_changed rules cache).pool) rules (push_changed rules cache)
+staged_goes_on r cache wants =
+    staged_more (length cache.pool) (suc (length cache.pool)) r cache (changed_le cache.pool) (omega (arith, changed_le cache.pool))
+    ∙ ap (λ t. cond t (staged_in_push r cache.queue ++ staged_in_flush (length cache.pool) r (push_changed r cache)) []) wants
+    ∙ ap (λ n. staged_in_push r cache.queue ++ staged_in_flush n r (push_changed r cache)) (sym (long r cache))
+
+no_staged : (n : ℕ) (rules : Rules) (cache : Cache) → wants_flush cache ≡ false → staged_in_flush n rules cache ≡ []
+no_staged zero r cache none = refl
+no_staged (suc n) r cache none = ap (λ t. cond t (staged_in_push r cache.queue ++ staged_in_flush n r (push_changed r cache)) []) none
+
+pub staged_ends : (rules : Rules) (cache : Cache) → wants_flush cache ≡ false → staged_in_flush (length cache.pool) rules cache ≡ []
+staged_ends r cache none = no_staged (length cache.pool) r cache none

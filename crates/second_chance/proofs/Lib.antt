@@ -1,0 +1,4 @@
+pub mod Chosen
+pub mod Pushes
+pub mod Flushes
+pub mod Apart

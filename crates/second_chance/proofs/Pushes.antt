@@ -1,0 +1,182 @@
+-- A push, by the places and the page numbers of its plan.
+use Rattle.std.proofs.Common.{◌≡◌, ℕ, zero, suc, ◌+◌, ◌==◌, Bool, true, false, ◌&&◌, ◌||◌, cond, List, [], ◌∷◌, ◌++◌, length, take, map, reverse, filter, filter_map, append_assoc, length-append, slice_get, option_map, Some, arith, refl, sym, ap, subst, ◌∙◌}
+use Rattle.std.specs.List.{enumerate_from, AllByRecursion}
+use Rattle.std.proofs.lemmas.Grind.{reverse_onto}
+use Rattle.std.proofs.lemmas.Bool.{ne_eqb, eqb-false}
+use Rattle.std.proofs.lemmas.List.Elements.{recursion_from_All}
+use Rattle.std.proofs.lemmas.Bool.Decides.{nat_tests}
+use Rattle.byte_fields.specs.declared.frame_head.Mark.{Mark}
+use Rattle.second_chance.specs.declared.frame.Frame.{Frame}
+use Rattle.second_chance.specs.declared.plan.PoolMark.{PoolMark}
+use Rattle.second_chance.specs.Queue.{frame_of, pushed}
+use Rattle.second_chance.specs.Plans.{Placed, chances_of, staged_of, pulled_at_eviction, pulled_at_flush}
+use Rattle.second_chance.specs.Machine.{PoolPage, Cache, is_changed, pool_mark, pool_marks, is_pulled, leaving, is_full, pool_frame, chance_frame, without, saved}
+use Rattle.second_chance.specs.Laws.{names, given_again, staged_from, AreApart, EvictionIsPlanned, FlushIsPlanned}
+
+-- each of these frames stands at its place in the front group
+abbrev pub StandIn : List Mark → List Placed → Type 0
+StandIn front frames = AllByRecursion (λ f. slice_get front f.0 ≡ Some f.1) frames
+
+all_filter : {X : Type 0} (P : X → Type 0) (test : X → Bool) (xs : List X) → AllByRecursion P xs → AllByRecursion P (filter test xs)
+all_filter P test [] all = tt
+all_filter P test (x ∷ xs) all = by (test x) (all_filter P test xs all.1)
+  where
+    by : (b : Bool) → AllByRecursion P (filter test xs) → AllByRecursion P (cond b (x ∷ filter test xs) (filter test xs))
+    by true rest = (all.0, rest)
+    by false rest = rest
+
+all_take : {X : Type 0} (P : X → Type 0) (n : ℕ) (xs : List X) → AllByRecursion P xs → AllByRecursion P (take n xs)
+all_take P zero xs all = tt
+all_take P (suc n) [] all = tt
+all_take P (suc n) (x ∷ xs) all = (all.0, all_take P n xs all.1)
+
+all_map : {X Y : Type 0} (P : Y → Type 0) (f : X → Y) (xs : List X) → AllByRecursion (λ x. P (f x)) xs → AllByRecursion P (map f xs)
+all_map P f [] all = tt
+all_map P f (x ∷ xs) all = (all.0, all_map P f xs all.1)
+
+all_append : {X : Type 0} (P : X → Type 0) (xs ys : List X) → AllByRecursion P xs → AllByRecursion P ys → AllByRecursion P (xs ++ ys)
+all_append P [] ys all others = others
+all_append P (x ∷ xs) ys all others = (all.0, all_append P xs ys all.1 others)
+
+all_reverse : {X : Type 0} (P : X → Type 0) (xs : List X) → AllByRecursion P xs → AllByRecursion P (reverse xs)
+all_reverse P [] all = tt
+all_reverse P (x ∷ xs) all = rw (reverse_onto xs x []) (all_append P (reverse xs) (x ∷ []) (all_reverse P xs all.1) (all.0, tt))
+
+same_map : {X Y : Type 0} (f g : X → Y) (xs : List X) → AllByRecursion (λ x. f x ≡ g x) xs → map f xs ≡ map g xs
+same_map f g [] all = refl
+same_map f g (x ∷ xs) all = ap (λ y. y ∷ map f xs) all.0 ∙ ap (λ l. g x ∷ l) (same_map f g xs all.1)
+
+map_map : {X Y Z : Type 0} (g : Y → Z) (f : X → Y) (xs : List X) → map g (map f xs) ≡ map (λ x. g (f x)) xs
+map_map g f [] = refl
+map_map g f (x ∷ xs) = ap (λ l. g (f x) ∷ l) (map_map g f xs)
+
+-- the numbered marks stand at their places
+behind_is : (before : List Mark) (mark : Mark) (front : List Mark) → slice_get (before ++ mark ∷ front) (length before) ≡ Some mark
+behind_is [] mark front = refl
+behind_is (other ∷ before) mark front = behind_is before mark front
+
+numbered : (before front : List Mark) (n : ℕ) → n ≡ length before → StandIn (before ++ front) (enumerate_from n front)
+numbered before [] n is = tt
+numbered before (mark ∷ front) n is = (
+  ap (slice_get (before ++ mark ∷ front)) is ∙ behind_is before mark front,
+  subst (λ all. StandIn all (enumerate_from (n + 1) front)) (append_assoc before (mark ∷ []) front)
+      (numbered (before ++ mark ∷ []) front (n + 1) (omega (arith, is, length-append before (mark ∷ [])))),
+)
+
+numbered_stand : (front : List Mark) → StandIn front (enumerate_from 0 front)
+numbered_stand front = numbered [] front 0 refl
+
+chances_stand : (given : Bool) (front : List Mark) → StandIn front (chances_of given front)
+chances_stand true front = all_take _ 7 _ (all_filter _ _ _ (numbered_stand front))
+chances_stand false front = tt
+
+pub staged_stand : (given : Bool) (front : List Mark) → StandIn front (staged_of given front)
+staged_stand given front = all_filter _ _ _ (numbered_stand front)
+
+-- to look frames up by their places gives the frames
+looked_up : {Y : Type 0} (h : ℕ → Mark → Y) (front : List Mark) (frames : List Placed) → StandIn front frames
+    → filter_map (λ place. option_map (h place) (slice_get front place)) (map (λ f. f.0) frames) ≡ map (λ f. h f.0 f.1) frames
+looked_up h front [] stand = refl
+looked_up h front (f ∷ frames) stand = rw stand.0 (ap (λ l. h f.0 f.1 ∷ l) (looked_up h front frames stand.1))
+
+names_pulled : (pulled : List PoolMark) (page : ℕ) → is_pulled pulled page ≡ names (map (λ p. p.page) pulled) page
+names_pulled [] page = refl
+names_pulled (p ∷ pulled) page = ap (λ b. p.page == page || b) (names_pulled pulled page)
+
+-- a page of the pool is changed as its own entry says
+other_page : (page : ℕ) (p : PoolPage) (pool : List PoolPage) → (p.page == page) ≡ false → is_changed (p ∷ pool) page ≡ is_changed pool page
+other_page page p pool not_it = ap (λ b. (b && p.changed) || is_changed pool page) not_it
+
+no_other : (page : ℕ) (pool : List PoolPage) → AllByRecursion (λ p. (p.page == page) ≡ false) pool → is_changed pool page ≡ false
+no_other page [] all = refl
+no_other page (p ∷ pool) all = other_page page p pool all.0 ∙ no_other page pool all.1
+
+own_page : (p : PoolPage) (pool : List PoolPage) → is_changed pool p.page ≡ false → is_changed (p ∷ pool) p.page ≡ p.changed
+own_page p pool none = grind (arith, nat_tests)
+
+-- distinct pages, by recursion
+abbrev Apart : List PoolPage → Type 0
+Apart [] = Unit {0}
+Apart (p ∷ pool) = AllByRecursion (λ other. (other.page == p.page) ≡ false) pool × Apart pool
+
+pub all_both : {X : Type 0} (P Q R : X → Type 0) → ((x : X) → P x → Q x → R x) → (xs : List X) → AllByRecursion P xs → AllByRecursion Q xs → AllByRecursion R xs
+all_both P Q R join [] ps qs = tt
+all_both P Q R join (x ∷ xs) ps qs = (join x ps.0 qs.0, all_both P Q R join xs ps.1 qs.1)
+
+apart_from : (pool : List PoolPage) → AreApart pool → Apart pool
+apart_from [] apart = tt
+apart_from (p ∷ pool) apart = (
+  recursion_from_All (λ other. (other.page == p.page) ≡ false) pool (λ i d less. ne_eqb _ _ (λ same. apart 0 (suc i) d (omega arith) (omega (arith, less)) (sym same))),
+  apart_from pool (λ i j d before within. apart (suc i) (suc j) d (omega (arith, before)) (omega (arith, within))),
+)
+
+changed_here : (pool : List PoolPage) → Apart pool → AllByRecursion (λ p. is_changed pool p.page ≡ p.changed) pool
+changed_here [] apart = tt
+changed_here (p ∷ pool) apart = (
+  own_page p pool (no_other p.page pool apart.0),
+  all_both (λ other. (other.page == p.page) ≡ false) (λ other. is_changed pool other.page ≡ other.changed) (λ other. is_changed (p ∷ pool) other.page ≡ other.changed)
+      (λ other not_it is. other_page other.page p pool (ne_eqb _ _ (λ same. eqb-false _ _ not_it (sym same))) ∙ is) pool apart.0 (changed_here pool apart.1),
+)
+
+marked_here : (cache : Cache) → AreApart cache.pool → AllByRecursion (λ m. is_changed cache.pool m.page ≡ m.changed) (pool_marks cache)
+marked_here cache apart = all_map (λ m. is_changed cache.pool m.page ≡ m.changed) (pool_mark cache.queue) (reverse cache.pool)
+    (all_reverse (λ p. is_changed cache.pool p.page ≡ p.changed) cache.pool (changed_here cache.pool (apart_from cache.pool apart)))
+
+pulled_here : (given : Bool) (front : List Mark) (P : PoolMark → Type 0) (pool : List PoolMark) → AllByRecursion P pool → AllByRecursion P (pulled_at_eviction given front pool)
+pulled_here true front P pool all = all_take P _ _ (all_filter P _ pool all)
+pulled_here false front P pool all = tt
+
+pub all_pass : {X : Type 0} (test : X → Bool) (xs : List X) → AllByRecursion (λ x. test x ≡ true) (filter test xs)
+all_pass test [] = tt
+all_pass test (x ∷ xs) = by (test x) refl (all_pass test xs)
+  where
+    by : (b : Bool) → test x ≡ b → AllByRecursion (λ y. test y ≡ true) (filter test xs) → AllByRecursion (λ y. test y ≡ true) (cond b (x ∷ filter test xs) (filter test xs))
+    by true is rest = (is, rest)
+    by false is rest = rest
+
+frames_here : (dirty : ℕ → Bool) (pulled : List PoolMark) → AllByRecursion (λ m. dirty m.page ≡ m.changed) pulled
+    → map pool_frame pulled ≡ map (λ page. frame_of page (dirty page)) (map (λ m. m.page) pulled)
+frames_here dirty [] all = refl
+frames_here dirty (m ∷ pulled) all = ap (λ d. frame_of m.page d ∷ map pool_frame pulled) (sym all.0) ∙ ap (λ l. frame_of m.page (dirty m.page) ∷ l) (frames_here dirty pulled all.1)
+
+chances_again : (given : Bool) (front : List Mark) → map chance_frame (chances_of given front) ≡ given_again front (map (λ f. f.0) (chances_of given front))
+chances_again given front = sym (looked_up (λ place mark. frame_of mark.page mark.dirty) front (chances_of given front) (chances_stand given front))
+
+pub staged_again : (given : Bool) (front : List Mark) (group : ℕ)
+    → map (λ f. record { group = group; index = f.0; page = f.1.page }) (staged_of given front) ≡ staged_from group front (map (λ f. f.0) (staged_of given front))
+staged_again given front group =
+    sym (looked_up (λ place mark. record { group = group; index = place; page = mark.page }) front (staged_of given front) (staged_stand given front))
+
+pub eviction_is_planned : EvictionIsPlanned
+eviction_is_planned r own cache apart =
+    let front : List Mark = leaving r cache.queue in
+    let pulled : List PoolMark = pulled_at_eviction r.chances front (pool_marks cache) in
+    let pages : is_pulled pulled ≡ names (map (λ m. m.page) pulled) = λ i page. names_pulled pulled page i in
+    let frames : map pool_frame pulled ≡ map (λ page. frame_of page (is_changed cache.pool page)) (map (λ m. m.page) pulled) =
+    frames_here (is_changed cache.pool) pulled (pulled_here r.chances front (λ m. is_changed cache.pool m.page ≡ m.changed) (pool_marks cache) (marked_here cache apart)) in
+    done _ _ pages _ _ (ap (λ l. l ++ frame_of own.page own.changed ∷ map pool_frame pulled) (chances_again r.chances front)
+    ∙ ap (λ l. given_again front (map (λ f. f.0) (chances_of r.chances front)) ++ frame_of own.page own.changed ∷ l) frames)
+  where
+    done : (f g : ℕ → Bool) → f ≡ g → (xs ys : List Frame) → xs ≡ ys
+        → ◌≡◌ {A = Cache} (record { pool = without f cache.pool; queue = pushed (is_full r cache.queue) xs cache.queue })
+        (record { pool = without g cache.pool; queue = pushed (is_full r cache.queue) ys cache.queue })
+    done f g pages xs ys frames = λ i. record { pool = without (pages i) cache.pool; queue = pushed (is_full r cache.queue) (frames i) cache.queue }
+
+pub flush_is_planned : FlushIsPlanned
+flush_is_planned r cache =
+    let front : List Mark = leaving r cache.queue in
+    let pulled : List PoolMark = pulled_at_flush r.chances front (pool_marks cache) in
+    let pages : is_pulled pulled ≡ names (map (λ m. m.page) pulled) = λ i page. names_pulled pulled page i in
+    let frames : map pool_frame pulled ≡ map (λ page. frame_of page true) (map (λ m. m.page) pulled) =
+    frames_here (λ page. true) pulled (all_take _ _ _ (turned (filter (λ m. m.changed) (pool_marks cache)) (all_pass (λ m. m.changed) (pool_marks cache)))) in
+    done _ _ pages _ _ (ap (λ l. l ++ map pool_frame pulled) (chances_again r.chances front)
+    ∙ ap (λ l. given_again front (map (λ f. f.0) (chances_of r.chances front)) ++ l) frames)
+  where
+    turned : (marks : List PoolMark) → AllByRecursion (λ m. m.changed ≡ true) marks → AllByRecursion (λ m. true ≡ m.changed) marks
+    turned [] all = tt
+    turned (m ∷ marks) all = (sym all.0, turned marks all.1)
+
+    done : (f g : ℕ → Bool) → f ≡ g → (xs ys : List Frame) → xs ≡ ys
+        → ◌≡◌ {A = Cache} (record { pool = saved f cache.pool; queue = pushed (is_full r cache.queue) xs cache.queue })
+        (record { pool = saved g cache.pool; queue = pushed (is_full r cache.queue) ys cache.queue })
+    done f g pages xs ys frames = λ i. record { pool = saved (pages i) cache.pool; queue = pushed (is_full r cache.queue) (frames i) cache.queue }

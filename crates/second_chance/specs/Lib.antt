@@ -1,0 +1,5 @@
+pub mod Queue
+pub mod Plans
+pub mod Machine
+pub mod Laws
+pub mod Rows

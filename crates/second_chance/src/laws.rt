@@ -1,0 +1,24 @@
+// Facts about the machine. The functions do nothing: each states its laws as clauses.
+ghost use Rattle.second_chance.specs.Laws.{EvictionIsPlanned, FlushIsPlanned, StagedIsPlanned, PushSavesAPage, FlushGoesOn, FlushEnds, FlushSavesAll, StagedStand, StagedApart};
+
+/// To do what a plan says is the push of the machine: its new group, the pages that leave the pool or are saved, and the
+/// frames that are staged.
+pub fn plans_are_pushes()
+    ensures eviction { EvictionIsPlanned }
+    ensures flush { FlushIsPlanned }
+    ensures staged { StagedIsPlanned }
+{}
+
+/// A flush goes push by push: each saves at least one page, and at its end no page of the pool is changed.
+pub fn flushes_save_all()
+    ensures saves_a_page { PushSavesAPage }
+    ensures goes_on { FlushGoesOn }
+    ensures ends { FlushEnds }
+    ensures saves_all { FlushSavesAll }
+{}
+
+/// Each frame that a push stages stands in the front group, valid and dirty, and no page is staged twice.
+pub fn staged_frames_are_apart()
+    ensures stand { StagedStand }
+    ensures apart { StagedApart }
+{}

@@ -1,0 +1,16 @@
+//! The page cache as a machine over lists, and what each of its pushes takes.
+#![tactic(auto)]
+
+mod frame;
+mod laws;
+mod places;
+mod plan;
+mod rows;
+#[cfg(test)]
+mod tests;
+
+pub use frame::Frame;
+pub use laws::{flushes_save_all, plans_are_pushes, staged_frames_are_apart};
+pub use places::Places;
+pub use plan::{Plan, PoolMark, plan_evict, plan_flush};
+pub use rows::{rows_of_second_chances, rows_of_the_plain_machine};

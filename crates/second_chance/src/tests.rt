@@ -1,0 +1,73 @@
+use crate::{PoolMark, plan_evict, plan_flush};
+use byte_fields::Mark;
+
+const fn frame(page: u32, valid: bool, dirty: bool, referenced: bool) -> Mark {
+    Mark {
+        page,
+        valid,
+        dirty,
+        referenced,
+    }
+}
+
+const fn pooled(page: u32, changed: bool, framed: bool) -> PoolMark {
+    PoolMark {
+        page,
+        changed,
+        framed,
+    }
+}
+
+// Of five frames of the front group two are valid and dirty, one of these was referenced. The pool has pages that a group with
+// second chances would pull.
+#[test]
+fn an_eviction_stages_what_is_valid_and_dirty(rt: HostRuntime) {
+    let front = [
+        frame(30, false, true, false),
+        frame(31, true, true, false),
+        frame(32, true, false, true),
+        frame(33, true, true, true),
+        frame(34, false, false, false),
+    ];
+    let pool = [pooled(7, true, true), pooled(8, false, false)];
+    let plan = plan_evict(Some(&front), &pool);
+    assert_eq!(rt; plan.staged.len(), 2);
+    assert_eq!(rt; plan.staged.at(0), 1);
+    assert_eq!(rt; plan.staged.at(1), 3);
+    assert!(rt; plan.chances.is_empty());
+    assert!(rt; plan.pulled.is_empty());
+    let plan = plan_evict(None, &pool);
+    assert!(rt; plan.staged.is_empty());
+}
+
+// Of eleven pages nine are changed: the eight coldest of these are pulled.
+#[test]
+fn a_flush_pulls_eight_changed_pages(rt: HostRuntime) {
+    let pool = [
+        pooled(10, true, true),
+        pooled(11, false, false),
+        pooled(12, true, false),
+        pooled(13, true, true),
+        pooled(14, true, true),
+        pooled(15, false, true),
+        pooled(16, true, false),
+        pooled(17, true, true),
+        pooled(18, true, true),
+        pooled(19, true, true),
+        pooled(20, true, true),
+    ];
+    let front = [frame(3, true, true, false)];
+    let plan = plan_flush(Some(&front), &pool);
+    assert_eq!(rt; plan.pulled.len(), 8);
+    assert_eq!(rt; plan.pulled.at(0), 10);
+    assert_eq!(rt; plan.pulled.at(1), 12);
+    assert_eq!(rt; plan.pulled.at(4), 16);
+    assert_eq!(rt; plan.pulled.at(7), 19);
+    assert_eq!(rt; plan.staged.len(), 1);
+    assert_eq!(rt; plan.staged.at(0), 0);
+    assert!(rt; plan.chances.is_empty());
+    let plan = plan_flush(None, &pool[9..]);
+    assert_eq!(rt; plan.pulled.len(), 2);
+    assert_eq!(rt; plan.pulled.at(1), 20);
+    assert!(rt; plan.staged.is_empty());
+}
