@@ -1,0 +1,94 @@
+-- The frames of one group.
+use Rattle.std.proofs.Common.{◌≡◌, ◌≢◌, ℕ, zero, suc, ◌+◌, ◌<◌, ◌≤◌, ◌==◌, Bool, true, false, cond, List, [], ◌∷◌, ◌++◌, length, get_or, set, take, drop, map, Option, Some, None, append-nil, append_assoc, add-one, zero-add, arith, refl, sym, ap, ◌∙◌}
+use Rattle.std.specs.Prelude.{take_while}
+use Rattle.std.specs.List.{refill}
+use Rattle.std.specs.Option.{option_or}
+use Rattle.std.proofs.Math.Seq.{drop-cons}
+use Rattle.std.proofs.Math.ListN.{length-set}
+use Rattle.std.proofs.lemmas.List.{take_all}
+use Rattle.std.proofs.lemmas.Bool.{cond-true, cond-false, eq-eqb, ne_eqb}
+use Rattle.std.proofs.lemmas.List.Sums.{take_while-cons}
+use Rattle.byte_fields.specs.declared.frame_head.FrameHead.{FrameHead}
+use Rattle.second_chance.specs.declared.frame.Frame.{Frame}
+use Rattle.second_chance.specs.Queue.{frame_of}
+use Rattle.flash_directory.specs.Heads.{frames_in, last_in, read_at}
+
+-- the frames of heads, the first of which is present
+frames_in-cons : (b : Bool) (head : FrameHead) (heads : List FrameHead) → head.present ≡ b
+    → frames_in (head ∷ heads) ≡ cond b (frame_of head.page head.dirty ∷ frames_in heads) []
+frames_in-cons true head heads is = ap (map (λ h. frame_of h.page h.dirty)) (take_while-cons (λ h. h.present) head heads ∙ ap (λ b. cond b (head ∷ take_while (λ h. h.present) heads) []) is)
+frames_in-cons false head heads is = ap (map (λ h. frame_of h.page h.dirty)) (take_while-cons (λ h. h.present) head heads ∙ ap (λ b. cond b (head ∷ take_while (λ h. h.present) heads) []) is)
+
+-- all frames are those so far and those of the heads that are left
+pub frames_more : (heads : List FrameHead) (so_far : List Frame) (i : ℕ) (d : FrameHead) → i < length heads
+    → frames_in heads ≡ so_far ++ frames_in (drop i heads) → (get_or heads i d).present ≡ true
+    → frames_in heads ≡ (so_far ++ frame_of (get_or heads i d).page (get_or heads i d).dirty ∷ []) ++ frames_in (drop (i + 1) heads)
+frames_more heads so_far i d less is present =
+    is ∙ ap (λ l. so_far ++ frames_in l) (drop-cons heads i d less) ∙ ap (λ l. so_far ++ l) (frames_in-cons true (get_or heads i d) (drop (suc i) heads) present)
+    ∙ sym (append_assoc so_far (frame_of (get_or heads i d).page (get_or heads i d).dirty ∷ []) (frames_in (drop (suc i) heads)))
+    ∙ ap (λ k. (so_far ++ frame_of (get_or heads i d).page (get_or heads i d).dirty ∷ []) ++ frames_in (drop k heads)) (sym (add-one i))
+
+-- no frame is left where the next head isn't present
+pub frames_end : (heads : List FrameHead) (so_far : List Frame) (i : ℕ) (d : FrameHead) → i < length heads
+    → frames_in heads ≡ so_far ++ frames_in (drop i heads) → (get_or heads i d).present ≡ false → so_far ≡ frames_in heads
+frames_end heads so_far i d less is absent =
+    sym (is ∙ ap (λ l. so_far ++ frames_in l) (drop-cons heads i d less) ∙ ap (λ l. so_far ++ l) (frames_in-cons false (get_or heads i d) (drop (suc i) heads) absent) ∙ append-nil so_far)
+
+drop_all : {X : Type 0} (i : ℕ) (xs : List X) → length xs ≤ i → drop i xs ≡ []
+drop_all zero [] all = refl
+drop_all (suc i) [] all = refl
+drop_all zero (x ∷ xs) all = absurd (omega (arith, all))
+drop_all (suc i) (x ∷ xs) all = drop_all i xs (omega (arith, all))
+
+pub frames_all : (heads : List FrameHead) (so_far : List Frame) (i : ℕ) → length heads ≤ i
+    → frames_in heads ≡ so_far ++ frames_in (drop i heads) → so_far ≡ frames_in heads
+frames_all heads so_far i all is = sym (is ∙ ap (λ l. so_far ++ frames_in l) (drop_all i heads all) ∙ append-nil so_far)
+
+-- a search for the last frame of a page, one frame further
+by_test : (b c : Bool) (first later : ℕ) (before : Option ℕ)
+    → option_or (cond c (Some later) before) (cond b (Some first) None) ≡ cond c (Some later) (option_or before (cond b (Some first) None))
+by_test b true first later before = refl
+by_test b false first later before = refl
+
+same_place : (b : Bool) (n m : ℕ) (before : Option ℕ) → n ≡ m → cond b (Some n) before ≡ cond b (Some m) before
+same_place b n m before is = ap (λ k. cond b (Some k) before) is
+
+pub last_more : (n : ℕ) (frames : List Frame) (i : ℕ) (d : Frame) (page : ℕ) → i < length frames
+    → last_in n (take (suc i) frames) page ≡ cond ((get_or frames i d).page == page) (Some (n + i)) (last_in n (take i frames) page)
+last_more n [] i d page less = absurd (omega (arith, less))
+last_more n (frame ∷ frames) zero d page less = same_place (frame.page == page) n (n + 0) None (omega arith)
+last_more n (frame ∷ frames) (suc i) d page less =
+    ap (λ o. option_or o (cond (frame.page == page) (Some n) None)) (last_more (n + 1) frames i d page (omega (arith, less)))
+    ∙ by_test (frame.page == page) ((get_or frames i d).page == page) n (n + 1 + i) (last_in (n + 1) (take i frames) page)
+    ∙ same_place ((get_or frames i d).page == page) (n + 1 + i) (n + suc i) _ (omega arith)
+
+-- a frame is read by setting its mark
+pub read_at-set : (frames : List Frame) (i : ℕ) (d : Frame) → i < length frames
+    → set frames i (record { page = (get_or frames i d).page; dirty = (get_or frames i d).dirty; referenced = true }) ≡ read_at i frames
+read_at-set [] i d less = absurd (omega (arith, less))
+read_at-set (frame ∷ frames) zero d less = refl
+read_at-set (frame ∷ frames) (suc i) d less = ap (λ l. frame ∷ l) (read_at-set frames i d (omega (arith, less)))
+
+-- what a write behind a borrow of all frames leaves
+pub refill-read_at : (shown held frames : List Frame) (i : ℕ) (d : Frame) → shown ≡ held → held ≡ frames → i < length frames
+    → refill (length held) held (set shown i (record { page = (get_or shown i d).page; dirty = (get_or shown i d).dirty; referenced = true })) ≡ read_at i frames
+refill-read_at shown held frames i d shown_is held_is less = rw (shown_is, held_is) (filled ∙ read_at-set frames i d less)
+  where
+    long : length (set frames i (record { page = (get_or frames i d).page; dirty = (get_or frames i d).dirty; referenced = true })) ≡ length frames
+    long = length-set frames i _
+
+    filled : refill (length frames) frames (set frames i (record { page = (get_or frames i d).page; dirty = (get_or frames i d).dirty; referenced = true }))
+        ≡ set frames i (record { page = (get_or frames i d).page; dirty = (get_or frames i d).dirty; referenced = true })
+    filled = ap (take (length frames)) (ap (λ l. set frames i (record { page = (get_or frames i d).page; dirty = (get_or frames i d).dirty; referenced = true }) ++ l)
+        (drop_all _ frames (omega (arith, long))) ∙ append-nil _) ∙ take_all (length frames) _ (omega (arith, long))
+
+pub last_then : (frames : List Frame) (i : ℕ) (d : Frame) (page : ℕ) → i < length frames → (get_or frames i d).page ≡ page
+    → last_in 0 (take (i + 1) frames) page ≡ Some i
+last_then frames i d page less is =
+    ap (λ k. last_in 0 (take k frames) page) (add-one i) ∙ last_more 0 frames i d page less
+    ∙ cond-true _ (Some (0 + i)) _ (eq-eqb _ _ is) ∙ ap Some (zero-add i)
+
+pub last_else : (frames : List Frame) (i : ℕ) (d : Frame) (page : ℕ) → i < length frames → (get_or frames i d).page ≢ page
+    → last_in 0 (take (i + 1) frames) page ≡ last_in 0 (take i frames) page
+last_else frames i d page less other =
+    ap (λ k. last_in 0 (take k frames) page) (add-one i) ∙ last_more 0 frames i d page less ∙ cond-false _ (Some (0 + i)) _ (ne_eqb _ _ other)

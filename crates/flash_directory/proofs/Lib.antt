@@ -1,0 +1,6 @@
+pub mod Frames
+pub mod Newest
+pub mod Reading
+pub mod Marked
+pub mod Opened
+pub mod Newests

@@ -1,0 +1,9 @@
+use Rattle.std.proofs.Common.{◌≡◌, ◌++◌, length, drop}
+use Rattle.flash_directory.specs.Heads.{frames_in}
+use Rattle.flash_directory.proofs.group.Group.of_heads.Given as goal
+
+abbrev pub invariant-loop-head : goal.invariant-loop-head
+invariant-loop-head l = record {
+  all : frames_in l.heads ≡ l.frames.items ++ frames_in (drop l.head-index l.heads);
+  len : length l.frames.items ≡ l.head-index;
+}

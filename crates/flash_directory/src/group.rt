@@ -1,0 +1,71 @@
+ghost use Rattle.std.specs.Prelude.{◌≡◌, ◌<◌, ◌≤◌, length};
+ghost use Rattle.flash_directory.specs.Heads.{frames_in, last_in, read_at};
+
+use arrayvec::ArrayVec;
+use byte_fields::FrameHead;
+use second_chance::Frame;
+use std::marker::Model;
+
+/// The frames of a group, in order.
+#[derive(Drop)]
+pub struct Group {
+    frames: ArrayVec<Frame, 8>,
+}
+
+impl Model for Group {
+    ghost use Rattle.std.specs.Prelude.{List};
+    ghost use Rattle.second_chance.specs.declared.frame.Frame.{Frame};
+
+    ghost Value = { List Frame };
+
+    ghost view = { λ g. g.frames.items };
+}
+
+impl Group {
+    /// The frames that the heads of a group show.
+    pub fn of_heads(heads: &[FrameHead; 8]) -> Group
+        ensures { result ≡ frames_in heads.now }
+    {
+        let mut frames = ArrayVec::new();
+        for head in heads {
+            if !head.present {
+                break;
+            }
+            frames.push(Frame {
+                page: head.page,
+                dirty: head.dirty,
+                referenced: false,
+            });
+        }
+        Group { frames }
+    }
+
+    /// The frames.
+    pub fn as_slice(&self) -> &[Frame]
+        ensures frames { result.now ≡ self.now }
+        ensures few { length result.now ≤ 8 }
+    {
+        self.frames.as_slice()
+    }
+
+    /// Where the last frame of a page stands, and none where the page has none in the group.
+    pub fn last_of(&self, page: u32) -> Option<usize>
+        ensures { result ≡ last_in 0 self.now page }
+    {
+        let mut last = None;
+        for (index, frame) in self.frames.iter().enumerate() {
+            if frame.page == page {
+                last = Some(index);
+            }
+        }
+        last
+    }
+
+    /// A frame becomes referenced.
+    pub fn set_referenced(&mut self, index: usize)
+        requires { index < length self.old }
+        ensures { self.new ≡ read_at index self.old }
+    {
+        self.frames[index].referenced = true;
+    }
+}

@@ -1,0 +1,11 @@
+//! The directory of the queue on flash: for each page its last frame.
+#![tactic(auto)]
+
+mod directory;
+mod group;
+mod place;
+#[cfg(test)]
+mod tests;
+
+pub use directory::{Directory, HeadView};
+pub use place::Place;
