@@ -1,0 +1,68 @@
+-- The pool: a list of frames, the one that was touched last in front.
+use Rattle.std.specs.Prelude.{◌≡◌, ◌≢◌, ℕ, ◌≤◌, ◌==◌, not, Bool, true, false, List, [], ◌∷◌, length, map, filter, find, drop, slice_get, slice_index_or, slice_set, Option, Some, None, if◌then◌else◌}
+use Rattle.std.specs.List.{AllByRecursion, position_or_len}
+use Rattle.slotted_page.specs.Layout.{IsSound, lsn_of, slots_of}
+use Rattle.buffer_pool.specs.declared.frame.Frame.{Frame}
+
+-- Each page stands there once.
+abbrev pub AreDistinct : List Frame → Type 0
+AreDistinct [] = Unit {0}
+AreDistinct (frame ∷ frames) = AllByRecursion (λ other. frame.page ≢ other.page) frames × AreDistinct frames
+
+-- a pool, with how many frames it may have
+pub record State : Type 0 where
+  pub size : ℕ
+  pub frames : List Frame
+
+pub record IsPool (pool : State) : Type 0 where
+  pub few : length pool.frames ≤ pool.size
+  pub distinct : AreDistinct pool.frames
+
+-- the frame of a page, where it has one
+abbrev pub frame_of : List Frame → ℕ → Option Frame
+frame_of frames page = find (λ frame. frame.page == page) frames
+
+-- where the frame of a page stands, or the length where it has none
+pub record IsPlace (frames : List Frame) (page place : ℕ) : Type 0 where
+  pub first : place ≡ position_or_len (λ frame. frame.page == page) frames
+  pub found : slice_get frames place ≡ frame_of frames page
+
+-- the frames of all other pages
+abbrev pub without : List Frame → ℕ → List Frame
+without frames page = filter (λ frame. not (frame.page == page)) frames
+
+abbrev pub in_front : Option Frame → List Frame → List Frame
+in_front None frames = frames
+in_front (Some frame) frames = frame ∷ frames
+
+-- The frame of a page comes to the front, where it has one.
+abbrev pub touched : List Frame → ℕ → List Frame
+touched frames page = in_front (frame_of frames page) (without frames page)
+
+abbrev pub clear : Frame → Frame
+clear frame = record frame { changed = false }
+
+-- The frame of a page is no longer marked as changed.
+abbrev pub cleared_at : ℕ → Frame → Frame
+cleared_at page frame = if frame.page == page then clear frame else frame
+
+abbrev pub cleared : List Frame → ℕ → List Frame
+cleared frames page = map (cleared_at page) frames
+
+-- what a listing tells of a frame
+abbrev pub mark_of : Frame → ℕ × Bool
+mark_of frame = (frame.page, frame.changed)
+
+-- the frame in front, of a pool that has one
+abbrev pub front_of : List Frame → Frame
+front_of frames = slice_index_or frames 0 (record { page = 0; changed = false; content = [] })
+
+-- In the page in front a slot has another content, and the page is marked as changed. All else is as before.
+pub record ChangesFront (old new : List Frame) (slot : ℕ) (content : Option (List ℕ)) (lsn : ℕ) : Type 0 where
+  pub page : (front_of new).page ≡ (front_of old).page
+  pub changed : (front_of new).changed ≡ true
+  pub sound : IsSound (front_of new).content
+  pub slots : slots_of (front_of new).content ≡ slice_set (slots_of (front_of old).content) slot content
+  pub set_lsn : lsn_of (front_of new).content ≡ lsn
+  pub count : length new ≡ length old
+  pub others : drop 1 new ≡ drop 1 old

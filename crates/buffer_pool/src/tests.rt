@@ -1,0 +1,112 @@
+use crate::Pool;
+use site::Stop;
+use slotted_page::Page;
+use std::test::Fail;
+
+// A page that is told from others by its first octet.
+fn page_of(octet: u8) -> Page {
+    let mut octets = [0; 4096];
+    octets[0] = octet;
+    Page::from_bytes(&octets)
+}
+
+// Puts a page in front, once it is known that there is room for it.
+fn put(pool: &mut Pool, page: u32, octet: u8) -> Result<bool, Stop> {
+    if pool.is_full() {
+        return Ok(false);
+    }
+    match pool.page(page) {
+        Some(_) => Ok(false),
+        None => {
+            pool.put(page, page_of(octet))?;
+            Ok(true)
+        }
+    }
+}
+
+// The pages from the front on, and whether they were changed.
+fn is_listed(pool: &Pool, marks: &[(u32, bool)]) -> bool {
+    if pool.len() != marks.len() {
+        return false;
+    }
+    for place in 0..marks.len() {
+        if place >= pool.len() {
+            return false;
+        }
+        if pool.mark(place) != marks[place] {
+            return false;
+        }
+    }
+    true
+}
+
+// Clears the mark of a page that is there.
+fn clear_changed(pool: &mut Pool, page: u32) {
+    if let Some(_) = pool.page(page) {
+        pool.clear_changed(page);
+    }
+}
+
+// A touched page comes to the front, and the one that was touched longest ago goes first.
+#[test]
+fn the_coldest_page_goes_first(rt: HostRuntime) -> Result<(), Fail> {
+    let mut pool = Pool::new(rt.alloc(), 3)?;
+    assert!(rt; pool.is_empty());
+    assert!(rt; pool.take_coldest().is_none());
+    assert!(rt; put(&mut pool, 7, 7)?);
+    assert!(rt; put(&mut pool, 4, 4)?);
+    assert!(rt; !pool.is_full());
+    assert!(rt; put(&mut pool, 9, 9)?);
+    assert!(rt; pool.is_full());
+    assert!(rt; is_listed(&pool, &[(9, false), (4, false), (7, false)]));
+    assert!(rt; pool.touch(7));
+    assert!(rt; is_listed(&pool, &[(7, false), (9, false), (4, false)]));
+    assert!(rt; pool.touch(9));
+    assert!(rt; pool.touch(9));
+    assert!(rt; !pool.touch(5));
+    assert!(rt; is_listed(&pool, &[(9, false), (7, false), (4, false)]));
+    assert!(rt; pool.front() == Some(&page_of(9)));
+    assert!(rt; pool.page(4) == Some(&page_of(4)));
+    assert!(rt; pool.take_coldest() == Some((4, false, page_of(4))));
+    assert!(rt; is_listed(&pool, &[(9, false), (7, false)]));
+    Ok(())
+}
+
+// A page that is changed is in front. It stays marked until it is cleared, and keeps its place then.
+#[test]
+fn a_change_is_marked_until_it_is_cleared(rt: HostRuntime) -> Result<(), Fail> {
+    let mut pool = Pool::new(rt.alloc(), 4096)?;
+    assert!(rt; put(&mut pool, 0, 0)?);
+    assert!(rt; put(&mut pool, 1, 1)?);
+    assert!(rt; pool.touch(0));
+    let mut changed = page_of(0);
+    assert!(rt; changed.sound());
+    assert!(rt; changed.fits(5, Some(&[0x0a, 0x0b])));
+    changed.set(5, Some(&[0x0a, 0x0b]), 3);
+    assert!(rt; change(&mut pool));
+    assert!(rt; is_listed(&pool, &[(0, true), (1, false)]));
+    assert!(rt; pool.front() == Some(&changed));
+    assert!(rt; pool.touch(1));
+    assert!(rt; is_listed(&pool, &[(1, false), (0, true)]));
+    clear_changed(&mut pool, 0);
+    assert!(rt; is_listed(&pool, &[(1, false), (0, false)]));
+    assert!(rt; pool.take_page(0) == Some((false, changed)));
+    assert!(rt; pool.take_page(0).is_none());
+    assert!(rt; is_listed(&pool, &[(1, false)]));
+    Ok(())
+}
+
+// Gives slot 5 of the page in front the value 0a0b and the page the LSN 3, once it is known that it may have them.
+fn change(pool: &mut Pool) -> bool {
+    let Some(page) = pool.front() else {
+        return false;
+    };
+    if !page.sound() {
+        return false;
+    }
+    if !page.fits(5, Some(&[0x0a, 0x0b])) {
+        return false;
+    }
+    pool.change_front(5, Some(&[0x0a, 0x0b]), 3);
+    true
+}
