@@ -6,13 +6,13 @@ use Rattle.std.proofs.Math.ListN.{get_or-append}
 use Rattle.std.proofs.lemmas.List.{same_lists, get_or_default, get_or-append-add, get_or-take, get_or-drop, length-append, length-take-le, length-drop, drop_at, append-nil, take_all}
 use Rattle.std.proofs.lemmas.Bool.{cases_lt, or_parts, and_from, and_left, and_right, lt-leb, le-leb, lt-ltb, le-ltb}
 use Rattle.std.specs.List.{AllByRecursion}
-use Rattle.std.specs.Prelude.{Result, Ok, Err, ◌^◌}
+use Rattle.std.specs.Prelude.{Result, Ok, Err, OnOk, ◌^◌}
 use Rattle.site.specs.declared.outside.Dev.{Dev}
 use Rattle.site.specs.declared.outside.Dev.TheVariants.{Log, Flash, Disk}
 use Rattle.site.specs.declared.outside.Failed.{Failed}
 use Rattle.site.specs.State.{State, Image, Loose, Range, Moment, Snapshot, MayStand, MayLeave, content_of, with_content, loose_of, with_loose, is_loose, is_within, faults_of, reads_of, now_of, snapshot_of, IsSettled, IsQuiet, no_loose}
 use Rattle.site.specs.Calls.{IsUnchanged, HasRead, Goes, Rose, put, range, within_write, within_tell, Adds, Lies, Stays, Wrote, Synced, Took, Told}
-use Rattle.site.specs.Moments.{Leaves, since, EachMoment, LeavesOnly, SameBut, OnlyDevice, SameAt, Untouched}
+use Rattle.site.specs.Moments.{Leaves, since, EachMoment, LeavesOnly, SameBut, OnlyDevice, ChangesOnly, SameAt, Untouched}
 use Rattle.site.specs.Telling.{TellsPart, SameDevices}
 
 -- one device's content and loose ranges
@@ -518,3 +518,26 @@ fault_then dev a b c rose goes = rose_then (faults_of dev a) (faults_of dev b) (
 
 pub fault_since : (dev : Dev) (a b c : State) → Goes a b → Rose (faults_of dev b) (faults_of dev c) → Rose (faults_of dev a) (faults_of dev c)
 fault_since dev a b c goes rose = rose_since (faults_of dev a) (faults_of dev b) (faults_of dev c) (goes.faults dev) rose
+
+-- one call changes only its device
+
+pub wrote_changes : {T : Type 0} (dev : Dev) (at : ℕ) (bytes : List ℕ) (old new : State) (result : Result T Failed) → Wrote dev at bytes old new result → ChangesOnly dev old new
+wrote_changes dev at bytes old new result w = record { only = write_only dev at bytes old new result w; left = w.left }
+
+pub synced_changes : {T : Type 0} (dev : Dev) (old new : State) (result : Result T Failed) → Synced dev old new result → ChangesOnly dev old new
+synced_changes dev old new result w = record { only = sync_only dev old new result w; left = w.left }
+
+pub changes_in_sequence : (dev : Dev) (a b c : State) → ChangesOnly dev a b → ChangesOnly dev b c → ChangesOnly dev a c
+changes_in_sequence dev a b c first second = record { only = only_in_sequence dev a b c first.only second.only; left = second.left ∙ first.left }
+
+-- a sync leaves nothing loose
+pub synced_settles : {T : Type 0} (dev : Dev) (old new : State) (result : Result T Failed) → Synced dev old new result → OnOk result (IsSettled dev new)
+synced_settles dev old new (Ok x) w = ap (loose_of dev) w.settled ∙ loose_of-same dev [] old.loose
+synced_settles dev old new (Err e) w = tt
+
+-- a quiet site is quiet again once its changed device is settled
+pub quiet_again : (dev : Dev) (old new : State) → ChangesOnly dev old new → IsQuiet old → IsSettled dev new → IsQuiet new
+quiet_again dev old new changes quiet settled = settled_quiet new (λ d. elim (cases_dev d dev) [
+  | inl same ↦ subst (λ (x : Dev). IsSettled x new) (sym same) settled
+  | inr other ↦ changes.only.now.loose d other ∙ quiet_settled d old quiet
+])

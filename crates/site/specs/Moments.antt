@@ -34,6 +34,11 @@ pub record SameBut (dev : Dev) (old : State) (moment : Moment) : Type 0 where
 abbrev pub OnlyDevice : Dev → State → State → Type 0
 OnlyDevice dev old new = EachMoment old new (SameBut dev old)
 
+-- nothing was told, no other device changed, and nothing was heard
+pub record ChangesOnly (dev : Dev) (old new : State) : Type 0 where
+  pub only : OnlyDevice dev old new
+  pub left : new.left ≡ old.left
+
 -- the device's content and loose ranges are as before
 pub record SameAt (dev : Dev) (old : State) (moment : Moment) : Type 0 where
   pub content : content_of dev moment.image ≡ content_of dev old.image
