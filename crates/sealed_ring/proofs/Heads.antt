@@ -26,6 +26,15 @@ content_front s c head j k long short is =
     ∙ ap (take (k - 8)) (drop-drop 8 (place s j + 1) c ∙ ap (λ (p : ℕ). drop p c) at)
     ∙ sym (take-take (k - 8) s.room (drop (place s j + 9) c) (omega arith))
 
+-- a part of the content, where it was read
+pub part_front : (s : Shape) (c : List ℕ) (j at k : ℕ) → at + k ≤ s.room → take k (drop (place s j + 9 + at) c) ≡ take k (drop at (content_at s c j))
+part_front s c j at k inside =
+    let split : s.room ≡ at + (s.room - at) = omega (arith, inside) in
+    sym (ap (λ (n : ℕ). take k (drop at (take n (drop (place s j + 9) c)))) split
+    ∙ ap (take k) (drop-take at (s.room - at) (drop (place s j + 9) c))
+    ∙ take-take k (s.room - at) (drop at (drop (place s j + 9) c)) (omega (arith, inside))
+    ∙ ap (take k) (drop-drop at (place s j + 9) c))
+
 -- the unit at a place of the live ones
 pub units_from_at : (s : Shape) (c : List ℕ) (first k i : ℕ) → i < k → get_or (units_from s c first k) i [] ≡ content_at s c ((first + i) % s.slots)
 units_from_at s c first zero i lt = absurd (omega arith)

@@ -3,16 +3,16 @@ use Rattle.std.proofs.Common.{◌≡◌, ℕ, ◌+◌, ◌%◌, ◌^◌, ◌≤�
 use Rattle.std.specs.Int.{to_be_bytes, w64}
 use Rattle.std.specs.Prelude.{Result, Ok, Err, OnOk}
 use Rattle.std.proofs.lemmas.Nat.{mod_below}
-use Rattle.site.specs.declared.outside.Dev.{Dev}
 use Rattle.site.specs.declared.outside.Failed.{Failed}
-use Rattle.site.specs.State.{State, content_of, loose_of, IsSettled}
+use Rattle.site.specs.State.{State, content_of, loose_of}
 use Rattle.site.specs.Calls.{put, Lies, Wrote, Synced}
 use Rattle.site.specs.Moments.{LeavesOnly}
-use Rattle.site.specs.Laws.{content_of-same, loose_of-same, write_leaves_only, then_write, length-put, write_only, sync_only, only_in_sequence}
+use Rattle.site.specs.Laws.{content_of-same, write_leaves_only, then_write, length-put}
 use Rattle.sealed_ring.specs.declared.slots.Shape.{Shape}
 use Rattle.sealed_ring.specs.Ring.{FitsIn, place, IsStaged, Stages, Opens}
-use Rattle.sealed_ring.specs.Ready.{region, ChangesOnly, IsAtRest, LeavesKept, LeavesEither}
+use Rattle.sealed_ring.specs.Ready.{region, IsAtRest, LeavesKept, LeavesEither}
 use Rattle.sealed_ring.proofs.Places.{body_fits}
+pub use Rattle.site.specs.Laws.{wrote_changes, synced_changes, changes_in_sequence, synced_settles}
 use Rattle.sealed_ring.proofs.Steps.{first_leaves, second_leaves, staged_by, open_leaves, opened_by}
 
 pub on_ok : {T E : Type 0} (r : Result T E) (P : Type 0) → P → OnOk r P
@@ -61,19 +61,3 @@ module _ (s : Shape) (hi : ℕ) (old : State) (fits : FitsIn s (length (region s
       ap (content_of s.dev) w.image ∙ lies_region s (place s ((hi + 1) % s.slots)) (0 ∷ []) mid late two
       ∙ ap (λ (x : List ℕ). put x (place s ((hi + 1) % s.slots)) (0 ∷ [])) (lies_region s (place s (hi % s.slots) + 1) buffer old mid one ∙ ap (put (region s old) (place s (hi % s.slots) + 1)) spelt) in
       subst (Stages s hi bytes (region s old)) (sym there) (staged_by s hi (region s old) bytes fits small is)
-
--- one call changes only its device
-
-pub wrote_changes : {T : Type 0} (dev : Dev) (at : ℕ) (bytes : List ℕ) (old new : State) (result : Result T Failed) → Wrote dev at bytes old new result → ChangesOnly dev old new
-wrote_changes dev at bytes old new result w = record { only = write_only dev at bytes old new result w; left = w.left }
-
-pub synced_changes : {T : Type 0} (dev : Dev) (old new : State) (result : Result T Failed) → Synced dev old new result → ChangesOnly dev old new
-synced_changes dev old new result w = record { only = sync_only dev old new result w; left = w.left }
-
-pub changes_in_sequence : (dev : Dev) (a b c : State) → ChangesOnly dev a b → ChangesOnly dev b c → ChangesOnly dev a c
-changes_in_sequence dev a b c first second = record { only = only_in_sequence dev a b c first.only second.only; left = second.left ∙ first.left }
-
--- a sync leaves nothing loose
-pub synced_settles : {T : Type 0} (dev : Dev) (old new : State) (result : Result T Failed) → Synced dev old new result → OnOk result (IsSettled dev new)
-synced_settles dev old new (Ok x) w = ap (loose_of dev) w.settled ∙ loose_of-same dev [] old.loose
-synced_settles dev old new (Err e) w = tt

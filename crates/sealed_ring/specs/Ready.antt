@@ -1,13 +1,13 @@
 -- A ring and the site that it stands on.
 use Rattle.std.specs.Prelude.{◌≡◌, ◌⊎◌, ℕ, ◌+◌, ◌^◌, ◌≤◌, List, length, Result, OnOk}
-use Rattle.site.specs.declared.outside.Dev.{Dev}
 use Rattle.site.specs.declared.outside.Failed.{Failed}
-use Rattle.site.specs.State.{State, Snapshot, content_of, faults_of, IsSettled}
-use Rattle.site.specs.Calls.{Rose}
-use Rattle.site.specs.Moments.{LeavesOnly, OnlyDevice}
+use Rattle.site.specs.State.{State, Snapshot, content_of, IsSettled}
+use Rattle.site.specs.Moments.{LeavesOnly}
 use Rattle.sealed_ring.specs.declared.slots.Shape.{Shape}
 use Rattle.sealed_ring.specs.declared.ring.Ring.{Ring}
 use Rattle.sealed_ring.specs.Ring.{FitsIn, HasForm, IsRing, hi_of, Units, units_of, appended, Keeps, Adds, OldOrNew, Stages, Seals}
+pub use Rattle.site.specs.Calls.{FaultRose}
+pub use Rattle.site.specs.Moments.{ChangesOnly}
 
 -- the content of the ring's device
 abbrev pub region : Shape → State → List ℕ
@@ -19,10 +19,6 @@ region_left s snapshot = content_of s.dev snapshot.image
 -- the units that stand there
 abbrev pub units_in : Shape → State → Units
 units_in s site = units_of s (region s site)
-
--- the device's count of faults rose
-abbrev pub FaultRose : Dev → State → State → Type 0
-FaultRose dev old new = Rose (faults_of dev old) (faults_of dev new)
 
 -- over every site: the ring's shape lies inside its device
 pub record IsUsable (ring : Ring) (site : State) : Type 0 where
@@ -38,11 +34,6 @@ pub record IsReady (ring : Ring) (site : State) : Type 0 where
   pub settled : IsSettled ring.shape.dev site
   pub form : IsRing ring.shape (region ring.shape site)
   pub hi : Fits ring site
-
--- nothing was told, no other device changed, and nothing was heard
-pub record ChangesOnly (dev : Dev) (old new : State) : Type 0 where
-  pub only : OnlyDevice dev old new
-  pub left : new.left ≡ old.left
 
 -- each snapshot has the old units, or the new one too
 abbrev pub LeavesOldOrNew : Shape → List ℕ → List ℕ → Snapshot → Type 0

@@ -15,6 +15,9 @@ use site::{Failed, Site, Stop};
 // A ring is worn once it took this many units.
 const HI_MAX: u64 = 1 << 40;
 
+// Where the content of a slot begins, behind its gate and its number.
+const CONTENT_AT: u64 = 9;
+
 /// A ring, by its shape and the number of its next unit. It is ended once an append gave an error.
 #[derive(Debug, PartialEq, Eq, Drop)]
 pub struct Ring {
@@ -135,6 +138,40 @@ impl Ring {
         if get_u64(into, 0) != n {
             return Err(Stop::Foreign);
         }
+        Ok(())
+    }
+
+    /// Reads a part of the content of the live unit `n`, from its octet `at` on, by one read. The one error is that of
+    /// the ring's device.
+    pub fn read_part<S: Site>(
+        &self,
+        site: &mut S,
+        n: u64,
+        at: u64,
+        into: &mut [u8],
+    ) -> Result<(), Stop>
+        requires usable { IsUsable self.now (S.state site.old) }
+        requires live { IsLive self.now.shape self.now.hi n }
+        requires inside { at + length into.old ≤ self.now.shape.room }
+
+        ensures part { IsTrue (S.state site.old).honest → Fits self.now (S.state site.old)
+            → OnOk result (into.new ≡ take (length into.old) (drop at
+            (unit_at self.now.shape (units_in self.now.shape (S.state site.old)) n))) }
+        ensures same { IsTrue (S.state site.old).honest
+            → IsUnchanged (S.state site.old) (S.state site.new) }
+        ensures goes { Goes (S.state site.old) (S.state site.new) }
+        ensures reads { ReadsMore self.now.shape.dev (length into.old) (S.state site.old) (S.state site.new) }
+
+        // When the error comes.
+        ensures device { OnErr result
+            (FaultRose self.now.shape.dev (S.state site.old) (S.state site.new)) }
+        ensures stops { IfErr result (λ e. e ≡ Stop.Device self.now.shape.dev) }
+    {
+        let shape = self.shape;
+        let from = shape.base + n % shape.slots * shape.stride + CONTENT_AT + at;
+        let Ok(()) = site.read_at(shape.dev, from, into) else {
+            return Err(Stop::Device(shape.dev));
+        };
         Ok(())
     }
 

@@ -58,6 +58,21 @@ fn the_last_two_of_five_units_live(rt: HostRuntime) -> Result<(), Fail> {
 }
 
 #[test]
+fn a_part_of_a_unit(rt: HostRuntime) -> Result<(), Fail> {
+    let mut site = MemSite::new(rt.alloc(), &SMALL)?;
+    let mut ring = Ring::scan(&mut site, SHORT)?;
+    let mut content = [7; 503];
+    content[100] = 8;
+    content[102] = 9;
+    ring.append(&mut site, &content)?;
+    assert_eq!(rt; ring.hi(), 1);
+    let mut part = [0; 4];
+    ring.read_part(&mut site, 0, 100, &mut part)?;
+    assert_eq!(rt; part, [8, 7, 9, 7]);
+    Ok(())
+}
+
+#[test]
 fn a_worn_ring_makes_no_call(rt: HostRuntime) -> Result<(), Fail> {
     let mut site = MemSite::new(rt.alloc(), &SMALL)?;
     site.write_at(Dev::Log, 0, &[0xA5, 0, 0, 0, 0xFF, 0xFF, 0xFF, 0xFF, 0xFF])?;
