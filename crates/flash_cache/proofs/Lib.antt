@@ -1,0 +1,4 @@
+pub mod PushLaws
+pub mod Queues
+pub mod Standing
+pub mod Fetching

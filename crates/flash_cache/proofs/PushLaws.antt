@@ -1,0 +1,67 @@
+-- Staging and an append, one after the other.
+use Rattle.std.proofs.Common.{◌≡◌, ◌⊎◌, inl, inr, ℕ, List, [], ◌∷◌, ◌++◌, length, refl, sym, ◌∙◌, ap, subst, append_assoc, append-nil}
+use Rattle.site.specs.declared.geometry.Geometry.{Geometry}
+use Rattle.site.specs.Geometry.{HasLimits, HasLengths}
+use Rattle.site.specs.State.{State, Image, Snapshot, IsQuiet}
+use Rattle.site.specs.Moments.{Leaves, LeavesOnly, OnlyDevice}
+use Rattle.site.specs.Laws.{in_sequence, leaves_weaker}
+use Rattle.sealed_ring.specs.Ready.{LeavesOldOrNew}
+use Rattle.image_changes.specs.Rings.{Groups, shape_of, octets_of}
+use Rattle.image_changes.specs.Changes.{Change, AppendsGroup, ReadsAs, Appends, Reaches}
+use Rattle.image_changes.specs.Reached.{IsReached, LeavesFront, IsFrontOf}
+use Rattle.image_changes.specs.Laws.{KeepsOrAppends}
+use Rattle.image_changes.proofs.Sequence.{changes_add_up, reads_itself}
+use Rattle.image_changes.proofs.AppendLaws.{append_makes}
+use Rattle.stage_out.specs.Staged.{HasStaged, changes_of}
+use Rattle.flash_cache.specs.Pushed.{changes_of_push, LeavesPush}
+
+module _ (g : Geometry) (pages : List ℕ) (contents : List (List ℕ)) (group : List ℕ) (old : State) where
+  -- while pages are staged
+  stage_leaves : (mid : State) → LeavesFront g (changes_of pages) old mid → LeavesOnly old mid (LeavesPush g pages contents group old)
+  stage_leaves mid front = leaves_weaker old mid (IsReached g (IsFrontOf (changes_of pages)) old) (LeavesPush g pages contents group old)
+      (λ s is. record { told = is.told; either = inl (is.changes, is.made, is.reaches) }) front
+
+  -- while the group is appended
+  append_leaves : (mid : State) (s : Snapshot) → Reaches g (changes_of pages) old.image mid.image → HasStaged pages contents old.image.disk mid.image.disk → mid.told ≡ old.told
+      → KeepsOrAppends g Groups group mid s → LeavesPush g pages contents group old s
+  append_leaves mid s made staged told is = record {
+    told = is.told ∙ told;
+    either = elim is.either [
+      | inl same ↦ inl (
+        changes_of pages,
+        ([], sym (append-nil (changes_of pages))),
+        subst (λ (l : List Change). Reaches g l old.image s.image) (append-nil (changes_of pages)) (changes_add_up g (changes_of pages) [] old.image mid.image s.image made same),
+      )
+      | inr more ↦ inr (
+        subst (HasStaged pages contents old.image.disk) (sym more.disk) staged,
+        changes_add_up g (changes_of pages) (AppendsGroup group ∷ []) old.image mid.image s.image made (s.image, more, reads_itself g s.image),
+      )
+    ];
+  }
+
+  pub push_leaves : (mid new : State) → HasLimits g → HasLengths g mid.image → IsQuiet mid → length group ≡ (shape_of g Groups).room
+      → LeavesFront g (changes_of pages) old mid → Reaches g (changes_of pages) old.image mid.image → HasStaged pages contents old.image.disk mid.image.disk → mid.told ≡ old.told
+      → LeavesOnly mid new (LeavesOldOrNew (shape_of g Groups) (octets_of (shape_of g Groups) mid.image) group) → OnlyDevice (shape_of g Groups).dev mid new
+      → LeavesOnly old new (LeavesPush g pages contents group old)
+  push_leaves mid new limits lengths quiet room front made staged told leaves only =
+      in_sequence old mid new (Leaves (LeavesPush g pages contents group old)) (stage_leaves mid front)
+      (leaves_weaker mid new (KeepsOrAppends g Groups group mid) (LeavesPush g pages contents group old) (λ s is. append_leaves mid s made staged told is)
+      (append_makes g Groups group mid new limits lengths quiet room leaves only))
+
+  pub stage_only : (mid : State) → LeavesFront g (changes_of pages) old mid → LeavesOnly old mid (LeavesPush g pages contents group old)
+  stage_only mid front = stage_leaves mid front
+
+  -- at each moment the first of its changes were made
+  pub push_front : (new : State) → LeavesOnly old new (LeavesPush g pages contents group old) → LeavesFront g (changes_of_push pages group) old new
+  push_front new leaves = leaves_weaker old new (LeavesPush g pages contents group old) (IsReached g (IsFrontOf (changes_of_push pages group)) old) (λ s is. one s is.told is.either) leaves
+    where
+      one : (s : Snapshot) → s.told ≡ old.told
+          → (((changes : List Change) × IsFrontOf (changes_of pages) changes × Reaches g changes old.image s.image) ⊎ (HasStaged pages contents old.image.disk s.image.disk × Reaches g (changes_of_push pages group) old.image s.image))
+          → IsReached g (IsFrontOf (changes_of_push pages group)) old s
+      one s told (inl part) = record {
+        told = told;
+        changes = part.0;
+        made = (part.1.0 ++ AppendsGroup group ∷ [], ap (λ (l : List Change). l ++ AppendsGroup group ∷ []) part.1.1 ∙ append_assoc part.0 part.1.0 (AppendsGroup group ∷ []));
+        reaches = part.2;
+      }
+      one s told (inr all) = record { told = told; changes = changes_of_push pages group; made = ([], sym (append-nil (changes_of_push pages group))); reaches = all.1 }

@@ -1,0 +1,311 @@
+// The queue on flash: its groups stand on a ring of the flash device, and a directory in memory knows their frames.
+ghost use Rattle.std.specs.Prelude.{◌≡◌, ◌≢◌, ◌⊎◌, ◌↔◌, ◌+◌, ◌-◌, ◌*◌, ◌^◌, ◌<◌, ◌≤◌, ℕ, List, length, map, take, [], ◌∷◌, ◌++◌, true, false, IsTrue, IfOk, OnOk, OnErr, IfErr, IsErrOf, IfSome, IfNone, Some, if◌then◌else◌, slice_get};
+ghost use Rattle.std.specs.List.{All, AllByRecursion};
+ghost use Rattle.site.specs.declared.outside.Dev.{Dev};
+ghost use Rattle.site.specs.declared.outside.Stop.{Stop};
+ghost use Rattle.site.specs.Geometry.{HasLimits, HasLengths};
+ghost use Rattle.site.specs.State.{reads_of, IsSettled};
+ghost use Rattle.site.specs.Calls.{Goes, FaultRose, IsUnchanged};
+ghost use Rattle.sealed_ring.specs.Ring.{IsRing, IsLive};
+ghost use Rattle.sealed_ring.specs.Ready.{IsUsable, Fits as RingFits};
+ghost use Rattle.byte_fields.specs.declared.frame_head.FrameHead.{FrameHead};
+ghost use Rattle.byte_fields.specs.FrameHeads.{AreGroupHeads};
+ghost use Rattle.image_changes.specs.Rings.{group_shape};
+ghost use Rattle.frame_group.specs.Groups.{Frame, heads_of};
+ghost use Rattle.second_chance.specs.Queue.{has_frame, with_read, marks, front_marks};
+ghost use Rattle.flash_cache.specs.Held.{MayGoOn, Fits, HasGroups, HasFrames, Holds, queue_of, version_on, group_on, PagesExist};
+
+use byte_fields::{FrameHead, Mark};
+use flash_directory::{Directory, HeadView};
+use frame_group::{GROUP_LEN, HEADS_LEN, PAGE_LEN, group_heads};
+use sealed_ring::{Ring, Shape};
+use site::{Dev, Geometry, Site, Stop};
+use slotted_page::Page;
+use std::alloc::Global;
+
+/// The queue of groups on flash. It is ended once a call that changes it gave an error.
+#[derive(Drop)]
+pub struct FlashCache {
+    alloc: Global,
+    geometry: Geometry,
+    ring: Ring,
+    directory: Directory,
+    ended: bool,
+}
+
+// Where the groups lie: at the front of the flash.
+fn shape_of(geometry: &Geometry) -> Shape
+    ensures { result ≡ group_shape geometry.now }
+{
+    Shape {
+        dev: Dev::Flash,
+        base: 0,
+        slots: geometry.groups as u64,
+        stride: 33_280,
+        room: GROUP_LEN as u64,
+    }
+}
+
+// Whether each head that is present names a page below `pages`.
+fn pages_exist(heads: &[FrameHead; 8], pages: u32) -> bool
+    ensures { IsTrue result ↔ PagesExist pages heads.now }
+{
+    for head in heads {
+        if head.present && head.page >= pages {
+            return false;
+        }
+    }
+    true
+}
+
+// The heads of a live group, by one read.
+fn read_group<S: Site>(
+    site: &mut S,
+    geometry: &Geometry,
+    ring: &Ring,
+    group: u64,
+) -> Result<[FrameHead; 8], Stop>
+    requires usable { IsUsable ring.now (S.state site.old) }
+    requires shape { ring.now.shape ≡ group_shape geometry.now }
+    requires live { IsLive ring.now.shape ring.now.hi group }
+
+    ensures heads { IfOk result (λ heads. AreGroupHeads heads) }
+    ensures pages { IfOk result (λ heads. PagesExist geometry.now.pages heads) }
+    ensures frames { IsTrue (S.state site.old).honest → RingFits ring.now (S.state site.old)
+        → (frames : List Frame) → HasFrames geometry.now frames
+        (group_on geometry.now (S.state site.old).image group) → IfOk result (λ heads. heads ≡ heads_of frames) }
+    ensures same { IsTrue (S.state site.old).honest
+        → IsUnchanged (S.state site.old) (S.state site.new) }
+    ensures goes { Goes (S.state site.old) (S.state site.new) }
+    ensures reads { (S.state site.new).flash_reads ≤ (S.state site.old).flash_reads + 1 }
+    ensures others { (d : Dev) → d ≢ Dev.Flash
+        → reads_of d (S.state site.new) ≡ reads_of d (S.state site.old) }
+
+    ensures device { IsErrOf result (Stop.Device Dev.Flash)
+        → FaultRose Dev.Flash (S.state site.old) (S.state site.new) }
+    ensures foreign { IsErrOf result Stop.Foreign → IsTrue (S.state site.old).honest
+        → RingFits ring.now (S.state site.old) → IsRing (group_shape geometry.now) (S.state site.old).image.flash
+        → (frames : List Frame) → HasFrames geometry.now frames
+        (group_on geometry.now (S.state site.old).image group) → ⊥ }
+    ensures stops { IfErr result (λ stop. (stop ≡ Stop.Device Dev.Flash)
+        ⊎ (stop ≡ Stop.Foreign)) }
+{
+    let mut unit = [0u8; 8 + HEADS_LEN];
+    ring.read_unit(site, group, &mut unit)?;
+    let Ok(heads) = group_heads(&unit[8..]) else {
+        return Err(Stop::Foreign);
+    };
+    if pages_exist(&heads, geometry.pages) {
+        Ok(heads)
+    } else {
+        Err(Stop::Foreign)
+    }
+}
+
+// The heads of all live groups, the oldest first.
+fn read_all<S: Site>(
+    alloc: Global,
+    site: &mut S,
+    geometry: &Geometry,
+    ring: &Ring,
+) -> Result<Vec<[FrameHead; 8]>, Stop>
+    requires usable { IsUsable ring.now (S.state site.old) }
+    requires shape { ring.now.shape ≡ group_shape geometry.now }
+
+    ensures count { IfOk result (λ list. (ring.now.hi - (geometry.now.groups - 1)) + length list.items ≡ ring.now.hi) }
+    ensures heads { IfOk result (λ list. All (λ heads. AreGroupHeads heads) list.items) }
+    ensures pages { IfOk result (λ list. All (λ heads. PagesExist geometry.now.pages heads) list.items) }
+    ensures frames { IsTrue (S.state site.old).honest → RingFits ring.now (S.state site.old)
+        → (first : ℕ) (groups : List (List Frame)) → HasGroups geometry.now first groups (S.state site.old).image
+        → IfOk result (λ list. list.items ≡ map heads_of groups) }
+    ensures same { IsTrue (S.state site.old).honest
+        → IsUnchanged (S.state site.old) (S.state site.new) }
+    ensures goes { Goes (S.state site.old) (S.state site.new) }
+    ensures reads { (S.state site.new).flash_reads ≤ (S.state site.old).flash_reads + (geometry.now.groups - 1) }
+    ensures others { (d : Dev) → d ≢ Dev.Flash
+        → reads_of d (S.state site.new) ≡ reads_of d (S.state site.old) }
+
+    ensures device { IsErrOf result (Stop.Device Dev.Flash)
+        → FaultRose Dev.Flash (S.state site.old) (S.state site.new) }
+    ensures foreign { IsErrOf result Stop.Foreign → IsTrue (S.state site.old).honest
+        → RingFits ring.now (S.state site.old)
+        → (first : ℕ) (groups : List (List Frame)) → HasGroups geometry.now first groups (S.state site.old).image → ⊥ }
+    ensures stops { IfErr result (λ stop. (stop ≡ Stop.Device Dev.Flash)
+        ⊎ ((stop ≡ Stop.Memory) ⊎ (stop ≡ Stop.Foreign))) }
+{
+    let mut list = Vec::new(alloc);
+    for group in ring.oldest()..ring.hi() {
+        let heads = match read_group(site, geometry, ring, group) {
+            Ok(heads) => heads,
+            Err(stop) => return Err(stop),
+        };
+        list.push(heads)?;
+    }
+    Ok(list)
+}
+
+impl FlashCache {
+    /// The queue that stands on the flash of a site, by one read for each live group beside those of its ring. No frame is
+    /// referenced.
+    pub fn start<S: Site>(
+        alloc: Global,
+        site: &mut S,
+        geometry: &Geometry,
+    ) -> Result<FlashCache, Stop>
+        requires limits { HasLimits geometry.now }
+        requires lengths { HasLengths geometry.now (S.state site.old).image }
+
+        ensures going { IfOk result (λ cache. MayGoOn cache (S.state site.new)) }
+        ensures geometry { IfOk result (λ cache. cache.geometry ≡ geometry.now) }
+        ensures ended { IfOk result (λ cache. cache.ended ≡ false) }
+        ensures fits { IsTrue (S.state site.old).honest → IsSettled Dev.Flash (S.state site.old)
+            → IsRing (group_shape geometry.now) (S.state site.old).image.flash
+            → IfOk result (λ cache. Fits cache (S.state site.new)) }
+        ensures queue { IsTrue (S.state site.old).honest → (first : ℕ) (groups : List (List Frame))
+            → HasGroups geometry.now first groups (S.state site.old).image
+            → IfOk result (λ cache. cache.directory ≡ queue_of first groups) }
+        ensures holds { IsTrue (S.state site.old).honest → (first : ℕ) (groups : List (List Frame))
+            → HasGroups geometry.now first groups (S.state site.old).image
+            → IfOk result (λ cache. Holds cache (S.state site.new).image groups) }
+        ensures same { IsTrue (S.state site.old).honest
+            → IsUnchanged (S.state site.old) (S.state site.new) }
+        ensures goes { Goes (S.state site.old) (S.state site.new) }
+        ensures reads { (S.state site.new).flash_reads
+            ≤ (S.state site.old).flash_reads + 2 * geometry.now.groups }
+        ensures others { (d : Dev) → d ≢ Dev.Flash
+            → reads_of d (S.state site.new) ≡ reads_of d (S.state site.old) }
+
+        // When each answer comes.
+        ensures device { IsErrOf result (Stop.Device Dev.Flash)
+            → FaultRose Dev.Flash (S.state site.old) (S.state site.new) }
+        ensures foreign { IsErrOf result Stop.Foreign → IsTrue (S.state site.old).honest
+            → (first : ℕ) (groups : List (List Frame))
+            → HasGroups geometry.now first groups (S.state site.old).image → ⊥ }
+        ensures stops { IfErr result (λ stop. (stop ≡ Stop.Device Dev.Flash)
+            ⊎ ((stop ≡ Stop.Memory) ⊎ (stop ≡ Stop.Foreign))) }
+    {
+        let ring = Ring::scan(site, shape_of(geometry))?;
+        let list = match read_all(alloc, site, geometry, &ring) {
+            Ok(list) => list,
+            Err(stop) => return Err(stop),
+        };
+        let heads = HeadView {
+            first: ring.oldest(),
+            list: list.as_slice(),
+        };
+        let directory = Directory::of_groups(alloc, &heads)?;
+        Ok(FlashCache {
+            alloc,
+            geometry: *geometry,
+            ring,
+            directory,
+            ended: false,
+        })
+    }
+
+    /// Whether a page has a frame in the queue.
+    pub fn holds(&self, page: u32) -> bool
+        ensures { result ≡ has_frame self.now.directory page }
+    {
+        self.directory.newest(page).is_some()
+    }
+
+    /// Reads the last frame of a page, by one read of one page, and marks it as referenced. It answers false where the page
+    /// has no frame; then nothing changes.
+    pub fn fetch<S: Site>(&mut self, site: &mut S, page: u32, into: &mut Page) -> Result<bool, Stop>
+        requires { MayGoOn self.old (S.state site.old) }
+
+        ensures fetched { (groups : List (List Frame))
+            → Fits self.old (S.state site.old) → Holds self.old (S.state site.old).image groups
+            → IfOk result (λ found. found ≡ true
+            → into.new ≡ version_on self.old.geometry (S.state site.old).image page) }
+        ensures found { IfOk result (λ found. found ≡ has_frame self.old.directory page) }
+        ensures none { has_frame self.old.directory page ≡ false
+            → (site.new ≡ site.old) × (self.new ≡ self.old) × (into.new ≡ into.old) }
+        ensures marked { has_frame self.old.directory page ≡ true
+            → OnOk result (self.new ≡ record self.old { directory = with_read page self.old.directory }) }
+        ensures going { MayGoOn self.new (S.state site.new) }
+        ensures fits { Fits self.old (S.state site.old) → OnOk result (Fits self.new (S.state site.new)) }
+        ensures holds { (groups : List (List Frame))
+            → Fits self.old (S.state site.old) → Holds self.old (S.state site.old).image groups
+            → OnOk result (Holds self.new (S.state site.new).image groups) }
+        ensures err { OnErr result (self.new ≡ record self.old { ended = true }) }
+        ensures same { IsTrue (S.state site.old).honest
+            → IsUnchanged (S.state site.old) (S.state site.new) }
+        ensures goes { Goes (S.state site.old) (S.state site.new) }
+        ensures reads { (S.state site.new).flash_reads ≤ (S.state site.old).flash_reads + 1 }
+        ensures others { (d : Dev) → d ≢ Dev.Flash
+            → reads_of d (S.state site.new) ≡ reads_of d (S.state site.old) }
+
+        // When the error comes.
+        ensures device { OnErr result (FaultRose Dev.Flash (S.state site.old) (S.state site.new)) }
+        ensures stops { IfErr result (λ stop. stop ≡ Stop.Device Dev.Flash) }
+    {
+        let Some(place) = self.directory.newest(page) else {
+            return Ok(false);
+        };
+        let mut octets = [0u8; PAGE_LEN];
+        let at = HEADS_LEN as u64 + PAGE_LEN as u64 * place.index as u64;
+        let Ok(()) = self.ring.read_part(site, place.group, at, &mut octets) else {
+            self.ended = true;
+            return Err(Stop::Device(Dev::Flash));
+        };
+        *into = Page::from_bytes(&octets);
+        self.directory.set_referenced(page);
+        Ok(true)
+    }
+
+    /// What a plan knows of the front group's frames, in the first places of `into`, with their number; none where the queue
+    /// has room for one group more.
+    pub fn front_marks(&self, into: &mut [Mark; 8]) -> Option<usize>
+        requires { 2 ≤ self.now.geometry.groups }
+        ensures marks { IfSome result (λ count. slice_get (marks self.now.directory) 0 ≡ Some (take count into.new)) }
+        ensures full { IfSome result (λ count. length self.now.directory.groups + 1 ≡ self.now.geometry.groups) }
+        ensures few { IfNone result (length self.now.directory.groups + 1 ≢ self.now.geometry.groups) }
+    {
+        if !self.is_full() {
+            return None;
+        }
+        Some(self.directory.marks(0, into))
+    }
+
+    // Whether the queue has as many groups as can be.
+    fn is_full(&self) -> bool
+        requires { 2 ≤ self.now.geometry.groups }
+        ensures { IsTrue result ↔ (length self.now.directory.groups + 1 ≡ self.now.geometry.groups) }
+    {
+        self.directory.len() == self.geometry.groups as usize - 1
+    }
+
+    /// How many groups are in the queue.
+    pub fn groups(&self) -> usize
+        ensures { result ≡ length self.now.directory.groups }
+    {
+        self.directory.len()
+    }
+
+    /// The number of the front group.
+    pub fn first(&self) -> u64
+        ensures { result ≡ self.now.directory.first }
+    {
+        self.directory.first()
+    }
+
+    /// What a listing knows of a group's frames, in the first places of `into`, with their number. The group is named by its
+    /// place in the queue.
+    pub fn marks(&self, place: usize, into: &mut [Mark; 8]) -> usize
+        requires { place < length self.now.directory.groups }
+        ensures marks { slice_get (marks self.now.directory) place ≡ Some (take result into.new) }
+        ensures some { 1 ≤ result }
+        ensures few { result ≤ 8 }
+    {
+        self.directory.marks(place, into)
+    }
+
+    /// Whether a call gave an error. No further call on the cache is lawful then, though each stays safe.
+    pub fn ended(&self) -> bool
+        ensures { result ≡ self.now.ended }
+    {
+        self.ended
+    }
+}

@@ -1,0 +1,10 @@
+//! The queue of pages on flash: its groups stand on a ring, and a directory in memory knows the last frame of each page.
+#![tactic(auto)]
+
+mod cache;
+mod laws;
+#[cfg(test)]
+mod tests;
+
+pub use cache::FlashCache;
+pub use laws::pushes_make_fronts;
