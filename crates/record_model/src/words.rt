@@ -145,7 +145,7 @@ pub enum Reply {
     Stat(Stat),
     /// The run ends.
     Bye,
-    /// This session holds the record.
+    /// The record is held by the session of this number.
     Busy(u32),
     /// The log has no room. The counts are those of [`Stat`].
     Full { used: u64, owed: u64, cap: u64 },

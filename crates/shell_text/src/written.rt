@@ -26,7 +26,8 @@ impl Model for Line {
 }
 
 impl Line {
-    pub(crate) fn new() -> Line
+    /// An empty line, to be filled.
+    pub fn new() -> Line
         ensures { result ≡ [] }
     {
         Line {
@@ -34,7 +35,8 @@ impl Line {
         }
     }
 
-    pub(crate) fn push(&mut self, text: &[u8])
+    /// Appends octets.
+    pub fn push(&mut self, text: &[u8])
         requires { length self.old + length text.now ≤ TEXT_MAX }
         ensures text { self.new ≡ self.old ++ text.now }
         ensures len { length self.new ≡ length self.old + length text.now }
@@ -45,7 +47,8 @@ impl Line {
         }
     }
 
-    pub(crate) fn push_number(&mut self, number: u64)
+    /// Appends a number in decimal.
+    pub fn push_number(&mut self, number: u64)
         requires { length self.old + 20 ≤ TEXT_MAX }
         ensures text { self.new ≡ self.old ++ decimal number }
         ensures len { length self.new ≤ length self.old + 20 }
