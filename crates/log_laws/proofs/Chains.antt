@@ -1,0 +1,244 @@
+-- What an unfinished transaction has on a record of the table.
+use Rattle.std.proofs.Common.{◌≡◌, ℕ, ◌+◌, ◌*◌, ◌⊎◌, inl, inr, ⊎_elim, Bool, true, false, cond, ◌||◌, List, [], ◌∷◌, ◌++◌, length, drop, Some, None, refl, sym, ap, subst, ◌∙◌, append_assoc, arith}
+use Rattle.std.specs.Prelude.{Option, find, IsTrue, ⊤}
+use Rattle.std.specs.List.{list_any}
+use Rattle.std.specs.Option.{option_or}
+use Rattle.std.proofs.lemmas.List.{append-nil}
+use Rattle.std.proofs.lemmas.List.Elements.{filter-append}
+use Rattle.std.proofs.lemmas.List.Folds.{list_any-append, find-append}
+use Rattle.std.proofs.lemmas.Bool.{or_left, or_right, or_cases}
+use Rattle.log_records.specs.declared.log_record.LogRecord.{LogRecord}
+use Rattle.log_records.specs.declared.log_record.LogRecord.TheVariants.{Begin, Update, Clr, Commit, End}
+use Rattle.log_records.specs.Log.{Entry, is_on, is_number, number_of, is_update, updates_in, last_where, before_of, before_first, after_of}
+use Rattle.log_records.specs.Unfinished.{clrs_in, open_by, open_updates}
+use Rattle.log_records.specs.Sound.{Compensates, Undoes, Continues, IsLoserChain, InTurn}
+use Rattle.log_laws.proofs.Lists.{or_is_none, or_none, some_or_none, one, last_where-append, last_any, any_find}
+
+-- a CLR and its Update are on one record, and the CLR leaves what stood before
+same_number : (c u : LogRecord) → Compensates c u → number_of c ≡ number_of u
+same_number (Clr t prev undo_next page slot after) (Update t' prev' page' slot' before after') h = ap (λ n. Some (32 * n + slot)) h.0 ∙ ap (λ n. Some (32 * page' + n)) h.1
+same_number _ _ h = absurd h
+
+puts_back : (c u : LogRecord) → Compensates c u → after_of c ≡ before_of u
+puts_back (Clr t prev undo_next page slot after) (Update t' prev' page' slot' before after') h = h.2
+puts_back _ _ h = absurd h
+
+abbrev pub with_entry : List Entry → Entry → List Entry
+with_entry entries e = entries ++ e ∷ []
+
+pub open_append : (updates xs ys : List Entry) → open_updates updates (xs ++ ys) ≡ open_updates (open_updates updates xs) ys
+open_append updates [] ys = refl
+open_append updates (x ∷ xs) ys = open_append (open_by updates x x.rec) xs ys
+
+-- what is left to be undone are Updates of the list
+pub any_open : (test : Entry → Bool) (updates entries : List Entry) → list_any test (open_updates updates entries) ≡ true → (list_any test updates ≡ true) ⊎ (list_any test (updates_in entries) ≡ true)
+any_open test updates [] h = inl h
+any_open test updates (e ∷ entries) h = by_rec e.lsn e.rec updates (any_open test (open_by updates e e.rec) entries h)
+  where
+    by_rec : (lsn : ℕ) (rec : LogRecord) (updates : List Entry) → (list_any test (open_by updates (record { lsn = lsn; rec = rec }) rec) ≡ true) ⊎ (list_any test (updates_in entries) ≡ true) →
+        (list_any test updates ≡ true) ⊎ (list_any test (updates_in (record { lsn = lsn; rec = rec } ∷ entries)) ≡ true)
+    by_rec lsn Begin us r = r
+    by_rec lsn (Commit txn number) us r = r
+    by_rec lsn (End txn) us r = r
+    by_rec lsn (Clr txn prev undo_next page slot after) [] r = r
+    by_rec lsn (Clr txn prev undo_next page slot after) (u ∷ us) r = ⊎_elim (λ a. inl (or_right (test u) (list_any test us) a)) (λ b. inr b) r
+    by_rec lsn (Update txn prev page slot before after) us r = ⊎_elim
+        (λ a. ⊎_elim (λ b. inr (or_left (test (record { lsn = lsn; rec = Update txn prev page slot before after })) (list_any test (updates_in entries)) b)) (λ b. inl b)
+        (or_cases (test (record { lsn = lsn; rec = Update txn prev page slot before after })) (list_any test us) a))
+        (λ b. inr (or_right (test (record { lsn = lsn; rec = Update txn prev page slot before after })) (list_any test (updates_in entries)) b)) r
+
+any_updates : (test : Entry → Bool) (xs ys : List Entry) → list_any test (updates_in xs) ≡ true → list_any test (updates_in (xs ++ ys)) ≡ true
+any_updates test xs ys h = ap (list_any test) (filter-append (λ x. is_update x.rec) xs ys) ∙ list_any-append test (updates_in xs) (updates_in ys) ∙ or_left (list_any test (updates_in xs)) (list_any test (updates_in ys)) h
+
+-- a record of a chain on a number has an Update there
+here_updates : (number : ℕ) (earlier : List Entry) (e : Entry) → Continues earlier e → is_on number e ≡ true → list_any (is_on number) (updates_in (with_entry earlier e)) ≡ true
+here_updates number earlier e c on = by_rec e.lsn e.rec (open_updates [] earlier) refl c.undoes on
+  where
+    by_rec : (lsn : ℕ) (rec : LogRecord) (stack : List Entry) → open_updates [] earlier ≡ stack → Undoes stack rec → is_on number (record { lsn = lsn; rec = rec }) ≡ true →
+        list_any (is_on number) (updates_in (with_entry earlier (record { lsn = lsn; rec = rec }))) ≡ true
+    by_rec lsn (Update txn prev page slot before after) stack s u on =
+        ap (list_any (is_on number)) (filter-append (λ x. is_update x.rec) earlier (record { lsn = lsn; rec = Update txn prev page slot before after } ∷ []))
+        ∙ list_any-append (is_on number) (updates_in earlier) (record { lsn = lsn; rec = Update txn prev page slot before after } ∷ [])
+        ∙ or_right (list_any (is_on number) (updates_in earlier)) (is_on number (record { lsn = lsn; rec = Update txn prev page slot before after }) || false) (or_left (is_on number (record { lsn = lsn; rec = Update txn prev page slot before after })) false on)
+    by_rec lsn (Clr txn prev undo_next page slot after) [] s u on = absurd u
+    by_rec lsn (Clr txn prev undo_next page slot after) (v ∷ stack) s u on =
+        any_updates (is_on number) earlier (record { lsn = lsn; rec = Clr txn prev undo_next page slot after } ∷ [])
+        (⊎_elim (λ a. absurd (grind arith)) (λ b. b)
+        (any_open (is_on number) [] earlier (ap (list_any (is_on number)) s ∙ or_left (is_on number v) (list_any (is_on number) stack)
+        (sym (ap (is_number number) (same_number (Clr txn prev undo_next page slot after) v.rec u)) ∙ on))))
+    by_rec lsn Begin stack s u on = absurd (grind arith)
+    by_rec lsn (Commit txn n) stack s u on = absurd (grind arith)
+    by_rec lsn (End txn) stack s u on = absurd (grind arith)
+
+any_of_chain : (number : ℕ) (earlier entries : List Entry) → InTurn Continues earlier entries → list_any (is_on number) entries ≡ true → list_any (is_on number) (updates_in (earlier ++ entries)) ≡ true
+any_of_chain number earlier [] c h = absurd (grind arith)
+any_of_chain number earlier (e ∷ entries) c h =
+    ap (λ (l : List Entry). list_any (is_on number) (updates_in l)) (sym (append_assoc earlier (e ∷ []) entries))
+    ∙ ⊎_elim (λ a. any_updates (is_on number) (with_entry earlier e) entries (here_updates number earlier e c.0 a))
+    (λ b. any_of_chain number (with_entry earlier e) entries c.1 b)
+    (or_cases (is_on number e) (list_any (is_on number) entries) h)
+
+-- an unfinished transaction that has something on a record has an Update there
+pub update_of_chain : (number t : ℕ) (entries : List Entry) (x : Entry) → IsLoserChain t entries → last_where (is_on number) entries ≡ Some x → (u : Entry) × (find (is_on number) (updates_in entries) ≡ Some u)
+update_of_chain number t entries x chain e =
+    any_find (is_on number) (updates_in entries)
+    (ap (λ (l : List Entry). list_any (is_on number) (updates_in l)) chain.begins
+    ∙ any_of_chain number (record { lsn = t; rec = Begin } ∷ []) (drop 1 entries) chain.continues (sym (ap (list_any (is_on number)) chain.begins) ∙ last_any (is_on number) entries x e))
+
+-- The first Update on a number, the last record there, and the first Update there that is left to be undone.
+abbrev Agrees : Option Entry → Option Entry → Option Entry → Type 0
+Agrees None None None = ⊤
+Agrees (Some f) (Some x) None = after_of x.rec ≡ before_of f.rec
+Agrees (Some f) (Some x) (Some o) = before_of o.rec ≡ before_of f.rec
+Agrees _ _ _ = ⊥
+
+abbrev AgreesAt : ℕ → List Entry → Type 0
+AgreesAt number entries = Agrees (find (is_on number) (updates_in entries)) (last_where (is_on number) entries) (last_where (is_on number) (open_updates [] entries))
+
+update_step : (f x o : Option Entry) (e : Entry) (b : Bool) → Agrees f x o → (o ≡ None → f ≡ None) → Agrees (option_or f (cond b (Some e) None)) (option_or (cond b (Some e) None) x) (option_or o (cond b (Some e) None))
+update_step None None None e true h n = refl
+update_step None None None e false h n = tt
+update_step (Some f) (Some x) (Some o) e true h n = h
+update_step (Some f) (Some x) (Some o) e false h n = h
+update_step (Some f) (Some x) None e true h n = absurd (let never = n refl in grind arith)
+update_step (Some f) (Some x) None e false h n = h
+update_step None (Some x) o e b h n = absurd h
+update_step None None (Some o) e b h n = absurd h
+update_step (Some f) None o e b h n = absurd h
+
+clr_step : (f x o : Option Entry) (e u : Entry) (b : Bool) → after_of e.rec ≡ before_of u.rec → Agrees f x (option_or o (cond b (Some u) None)) → Agrees f (option_or (cond b (Some e) None) x) o
+clr_step f x None e u false p h = h
+clr_step f x (Some o) e u false p h = h
+clr_step (Some f) (Some x) None e u true p h = p ∙ h
+clr_step (Some f) (Some x) (Some o) e u true p h = h
+clr_step None None None e u true p h = absurd h
+clr_step None None (Some o) e u true p h = absurd h
+clr_step None (Some x) None e u true p h = absurd h
+clr_step None (Some x) (Some o) e u true p h = absurd h
+clr_step (Some f) None None e u true p h = absurd h
+clr_step (Some f) None (Some o) e u true p h = absurd h
+
+-- without CLRs all Updates are left
+stays_open : (test : Entry → Bool) (updates entries : List Entry) → clrs_in entries ≡ [] → list_any test updates ≡ true → list_any test (open_updates updates entries) ≡ true
+stays_open test updates [] n h = h
+stays_open test updates (e ∷ entries) n h = by_rec e.lsn e.rec n (λ m us k. stays_open test us entries m k)
+  where
+    by_rec : (lsn : ℕ) (rec : LogRecord) → clrs_in (record { lsn = lsn; rec = rec } ∷ entries) ≡ [] → (clrs_in entries ≡ [] → (us : List Entry) → list_any test us ≡ true → list_any test (open_updates us entries) ≡ true) →
+        list_any test (open_updates (open_by updates (record { lsn = lsn; rec = rec }) rec) entries) ≡ true
+    by_rec lsn Begin n f = f n updates h
+    by_rec lsn (Commit txn number) n f = f n updates h
+    by_rec lsn (End txn) n f = f n updates h
+    by_rec lsn (Clr txn prev undo_next page slot after) n f = absurd (let l = ap length n in omega (arith, l))
+    by_rec lsn (Update txn prev page slot before after) n f = f n (record { lsn = lsn; rec = Update txn prev page slot before after } ∷ updates) (or_right (test (record { lsn = lsn; rec = Update txn prev page slot before after })) (list_any test updates) h)
+
+all_open : (test : Entry → Bool) (updates entries : List Entry) → clrs_in entries ≡ [] → list_any test (updates_in entries) ≡ true → list_any test (open_updates updates entries) ≡ true
+all_open test updates [] n h = absurd (grind arith)
+all_open test updates (e ∷ entries) n h = by_rec e.lsn e.rec n h (λ m us k. all_open test us entries m k)
+  where
+    by_rec : (lsn : ℕ) (rec : LogRecord) → clrs_in (record { lsn = lsn; rec = rec } ∷ entries) ≡ [] → list_any test (updates_in (record { lsn = lsn; rec = rec } ∷ entries)) ≡ true →
+        (clrs_in entries ≡ [] → (us : List Entry) → list_any test (updates_in entries) ≡ true → list_any test (open_updates us entries) ≡ true) →
+        list_any test (open_updates (open_by updates (record { lsn = lsn; rec = rec }) rec) entries) ≡ true
+    by_rec lsn Begin n h f = f n updates h
+    by_rec lsn (Commit txn number) n h f = f n updates h
+    by_rec lsn (End txn) n h f = f n updates h
+    by_rec lsn (Clr txn prev undo_next page slot after) n h f = absurd (let l = ap length n in omega (arith, l))
+    by_rec lsn (Update txn prev page slot before after) n h f =
+        let e : Entry = record { lsn = lsn; rec = Update txn prev page slot before after } in
+        ⊎_elim (λ a. stays_open test (e ∷ updates) entries n (or_left (test e) (list_any test updates) a)) (λ b. f n (e ∷ updates) b) (or_cases (test e) (list_any test (updates_in entries)) h)
+
+find_any : (test : Entry → Bool) (xs : List Entry) (x : Entry) → find test xs ≡ Some x → list_any test xs ≡ true
+find_any test [] x h = absurd (grind arith)
+find_any test (y ∷ ys) x h = by_test (test y) (find_any test ys x) h
+  where
+    by_test : (b : Bool) → (find test ys ≡ Some x → list_any test ys ≡ true) → cond b (Some y) (find test ys) ≡ Some x → (b || list_any test ys) ≡ true
+    by_test true f h = refl
+    by_test false f h = f h
+
+pub none_any : (test : Entry → Bool) (xs : List Entry) → last_where test xs ≡ None → list_any test xs ≡ false
+none_any test [] h = refl
+none_any test (x ∷ xs) h =
+    let parts = or_is_none (last_where test xs) (one test x) h in
+    by_test (test x) parts.1 ∙ none_any test xs parts.0
+  where
+    by_test : (b : Bool) → cond b (Some x) None ≡ None → (b || list_any test xs) ≡ list_any test xs
+    by_test true h = absurd (grind arith)
+    by_test false h = refl
+
+none_first : (number : ℕ) (entries : List Entry) → clrs_in entries ≡ [] → last_where (is_on number) (open_updates [] entries) ≡ None → find (is_on number) (updates_in entries) ≡ None
+none_first number entries n h = ⊎_elim (λ a. a)
+    (λ f. absurd (let never = sym (none_any (is_on number) (open_updates [] entries) h) ∙ all_open (is_on number) [] entries n (find_any (is_on number) (updates_in entries) f.0 f.1) in grind arith))
+    (some_or_none (find (is_on number) (updates_in entries)))
+
+agrees_more : (number : ℕ) (earlier : List Entry) (e : Entry) → Continues earlier e → AgreesAt number earlier → AgreesAt number (with_entry earlier e)
+agrees_more number earlier e c h =
+    subst (λ (o : Option Entry). Agrees (find (is_on number) (updates_in (with_entry earlier e))) (last_where (is_on number) (with_entry earlier e)) o) (sym (ap (last_where (is_on number)) (open_append [] earlier (e ∷ []))))
+    (subst (λ (o : Option Entry). Agrees (find (is_on number) (updates_in (with_entry earlier e))) o (last_where (is_on number) (open_by (open_updates [] earlier) e e.rec))) (sym (last_where-append (is_on number) earlier (e ∷ [])))
+    (subst (λ (o : Option Entry). Agrees o (option_or (one (is_on number) e) (last_where (is_on number) earlier)) (last_where (is_on number) (open_by (open_updates [] earlier) e e.rec)))
+    (sym (ap (find (is_on number)) (filter-append (λ x. is_update x.rec) earlier (e ∷ [])) ∙ find-append (is_on number) (updates_in earlier) (updates_in (e ∷ []))))
+    (by_rec e.lsn e.rec (open_updates [] earlier) refl c.undoes c.updates_first h)))
+  where
+    by_rec : (lsn : ℕ) (rec : LogRecord) (stack : List Entry) → open_updates [] earlier ≡ stack → Undoes stack rec → (IsTrue (is_update rec) → clrs_in earlier ≡ []) →
+        Agrees (find (is_on number) (updates_in earlier)) (last_where (is_on number) earlier) (last_where (is_on number) stack) →
+        Agrees (option_or (find (is_on number) (updates_in earlier)) (find (is_on number) (updates_in (record { lsn = lsn; rec = rec } ∷ []))))
+        (option_or (one (is_on number) (record { lsn = lsn; rec = rec })) (last_where (is_on number) earlier))
+        (last_where (is_on number) (open_by stack (record { lsn = lsn; rec = rec }) rec))
+    by_rec lsn (Update txn prev page slot before after) stack s u first h =
+        let e : Entry = record { lsn = lsn; rec = Update txn prev page slot before after } in
+        update_step (find (is_on number) (updates_in earlier)) (last_where (is_on number) earlier) (last_where (is_on number) stack) e (is_on number e) h
+        (λ none. none_first number earlier (first refl) (ap (last_where (is_on number)) s ∙ none))
+    by_rec lsn (Clr txn prev undo_next page slot after) [] s u first h = absurd u
+    by_rec lsn (Clr txn prev undo_next page slot after) (v ∷ stack) s u first h =
+        let e : Entry = record { lsn = lsn; rec = Clr txn prev undo_next page slot after } in
+        subst (λ (o : Option Entry). Agrees o (option_or (one (is_on number) e) (last_where (is_on number) earlier)) (last_where (is_on number) stack)) (sym (or_none (find (is_on number) (updates_in earlier))))
+        (clr_step (find (is_on number) (updates_in earlier)) (last_where (is_on number) earlier) (last_where (is_on number) stack) e v (is_on number e) (puts_back e.rec v.rec u)
+        (subst (λ b. Agrees (find (is_on number) (updates_in earlier)) (last_where (is_on number) earlier) (option_or (last_where (is_on number) stack) (cond b (Some v) None)))
+        (sym (ap (is_number number) (same_number e.rec v.rec u))) h))
+    by_rec lsn Begin [] s u first h = absurd u
+    by_rec lsn Begin (v ∷ stack) s u first h = absurd u
+    by_rec lsn (Commit txn n) [] s u first h = absurd u
+    by_rec lsn (Commit txn n) (v ∷ stack) s u first h = absurd u
+    by_rec lsn (End txn) [] s u first h = absurd u
+    by_rec lsn (End txn) (v ∷ stack) s u first h = absurd u
+
+agrees_all : (number : ℕ) (earlier entries : List Entry) → InTurn Continues earlier entries → AgreesAt number earlier → AgreesAt number (earlier ++ entries)
+agrees_all number earlier [] c h = subst (AgreesAt number) (sym (append-nil earlier)) h
+agrees_all number earlier (e ∷ entries) c h = subst (AgreesAt number) (append_assoc earlier (e ∷ []) entries) (agrees_all number (with_entry earlier e) entries c.1 (agrees_more number earlier e c.0 h))
+
+-- where nothing is left to be undone, what stands last on a record is what stood before
+pub undone_by_chain : (number t : ℕ) (entries : List Entry) (x : Entry) → IsLoserChain t entries → open_updates [] entries ≡ [] → last_where (is_on number) entries ≡ Some x →
+    after_of x.rec ≡ before_first (find (is_on number) (updates_in entries))
+undone_by_chain number t entries x chain none e =
+    by_first (find (is_on number) (updates_in entries))
+    (subst (λ (o : Option Entry). Agrees (find (is_on number) (updates_in entries)) (Some x) o) (ap (last_where (is_on number)) none)
+    (subst (λ (o : Option Entry). Agrees (find (is_on number) (updates_in entries)) o (last_where (is_on number) (open_updates [] entries))) e
+    (subst (AgreesAt number) (sym chain.begins) (agrees_all number (record { lsn = t; rec = Begin } ∷ []) (drop 1 entries) chain.continues tt))))
+  where
+    by_first : (o : Option Entry) → Agrees o (Some x) None → after_of x.rec ≡ before_first o
+    by_first None h = absurd h
+    by_first (Some f) h = h
+
+-- each CLR takes away one Update
+left_count : (earlier entries : List Entry) → InTurn Continues earlier entries → length (open_updates (open_updates [] earlier) entries) + length (clrs_in entries) ≡ length (open_updates [] earlier) + length (updates_in entries)
+left_count earlier [] c = refl
+left_count earlier (e ∷ entries) c =
+    by_rec e.lsn e.rec (open_updates [] earlier) c.0.undoes
+    (subst (λ (us : List Entry). length (open_updates us entries) + length (clrs_in entries) ≡ length us + length (updates_in entries)) (open_append [] earlier (e ∷ [])) (left_count (with_entry earlier e) entries c.1))
+  where
+    by_rec : (lsn : ℕ) (rec : LogRecord) (us : List Entry) → Undoes us rec →
+        length (open_updates (open_by us (record { lsn = lsn; rec = rec }) rec) entries) + length (clrs_in entries) ≡ length (open_by us (record { lsn = lsn; rec = rec }) rec) + length (updates_in entries) →
+        length (open_updates (open_by us (record { lsn = lsn; rec = rec }) rec) entries) + length (clrs_in (record { lsn = lsn; rec = rec } ∷ entries)) ≡ length us + length (updates_in (record { lsn = lsn; rec = rec } ∷ entries))
+    by_rec lsn (Update txn prev page slot before after) us u h = omega (arith, h)
+    by_rec lsn (Clr txn prev undo_next page slot after) [] u h = absurd u
+    by_rec lsn (Clr txn prev undo_next page slot after) (v ∷ us) u h = omega (arith, h)
+    by_rec lsn Begin [] u h = absurd u
+    by_rec lsn Begin (v ∷ us) u h = absurd u
+    by_rec lsn (Commit txn n) [] u h = absurd u
+    by_rec lsn (Commit txn n) (v ∷ us) u h = absurd u
+    by_rec lsn (End txn) [] u h = absurd u
+    by_rec lsn (End txn) (v ∷ us) u h = absurd u
+
+-- so as many are left as the transaction has more Updates than CLRs
+pub left_of_chain : (t : ℕ) (entries : List Entry) → IsLoserChain t entries → length (open_updates [] entries) + length (clrs_in entries) ≡ length (updates_in entries)
+left_of_chain t entries chain =
+    subst (λ (l : List Entry). length (open_updates [] l) + length (clrs_in l) ≡ length (updates_in l)) (sym chain.begins)
+    (let all = left_count (record { lsn = t; rec = Begin } ∷ []) (drop 1 entries) chain.continues in omega (arith, all))

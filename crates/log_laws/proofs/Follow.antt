@@ -1,0 +1,163 @@
+-- The table behind one more record.
+use Rattle.std.proofs.Common.{◌≡◌, ℕ, ◌*◌, ⊎_elim, true, false, cond, not, ◌&&◌, List, [], ◌∷◌, ◌++◌, length, map, Some, None, refl, sym, ap, subst, ◌∙◌, arith}
+use Rattle.std.specs.Prelude.{Option, option_map, unwrap_or, ◌==◌}
+use Rattle.std.specs.List.{AllByRecursion, list_any, range_with_len}
+use Rattle.std.specs.Option.{option_or}
+use Rattle.std.proofs.lemmas.List.Folds.{list_any-append}
+use Rattle.std.proofs.lemmas.List.Elements.{filter-append}
+use Rattle.std.proofs.lemmas.List.{append-nil}
+use Rattle.std.proofs.lemmas.Bool.{and_from, and_parts, and_left, and_right, cases_Bool, eqb-true, eq-eqb, ne_eqb}
+use Rattle.std.proofs.lemmas.Option.{cond_some}
+use Rattle.record_model.specs.State.{Content}
+use Rattle.log_records.specs.declared.log_record.LogRecord.{LogRecord}
+use Rattle.log_records.specs.declared.log_record.LogRecord.TheVariants.{Begin, Update, Clr, Commit, End}
+use Rattle.log_records.specs.Log.{Entry, Version, slot_at, txn_of, is_of, is_on, is_number, number_of, is_update, is_loser, is_closed, is_closing, entries_of, last_where, last_on, first_update, before_of, before_first, after_of, value_after, value_of, table_of}
+use Rattle.log_records.specs.Sound.{Master, IsLoserChain, Pairwise, HoldsOff}
+use Rattle.log_laws.specs.Follow.{Follows, CanBeUndone, IsUndoable, IsUndone, table_after}
+use Rattle.log_laws.proofs.Lists.{all_weaker, all_push, one}
+use Rattle.log_laws.proofs.Tables.{table_written}
+use Rattle.log_laws.proofs.Chains.{undone_by_chain}
+use Rattle.log_laws.proofs.Values.{with, or_two_false, closed_same, closed_by, open_before, first_push, first_same, last_same, last_new, last_of_own, value_same, value_open, value_closed, is_loser_with, update_of, last_is_own, value_held, value_free, updates_there}
+
+module _ (m : Master) (pages : List Version) (log : List Entry) (undoable : IsUndoable log) where
+  -- a record that closes nothing leaves the value where it isn't on it
+  pub value_elsewhere : (e : Entry) (number : ℕ) → is_closing e.rec ≡ false → is_on number e ≡ false → value_of (with log e) pages number ≡ value_of log pages number
+  value_elsewhere e number c off = ap (value_after (with log e) number (slot_at pages number)) (last_same log e number off) ∙ by_last (last_on log number)
+    where
+      by_last : (o : Option Entry) → value_after (with log e) number (slot_at pages number) o ≡ value_after log number (slot_at pages number) o
+      by_last None = refl
+      by_last (Some x) = value_same log (with log e) (slot_at pages number) number x (closed_same log e (txn_of x) (and_right (is_of (txn_of x) e) (is_closing e.rec) c))
+          (first_same log e (txn_of x) number (and_right (is_update e.rec) (is_on number e) off))
+
+  -- and where it is on it too
+  pub value_there : (e : Entry) (number : ℕ) → is_closing e.rec ≡ false → is_on number e ≡ true → is_closed log (txn_of e) ≡ false → number_of e.rec ≡ Some number → Follows m pages log e →
+      value_of (with log e) pages number ≡ value_of log pages number
+  value_there e number c on lives is f = by_first (first_update log t number) refl
+    where
+      t : ℕ
+      t = txn_of e
+
+      still : is_closed (with log e) (txn_of e) ≡ false
+      still = closed_same log e (txn_of e) (and_right (is_of (txn_of e) e) (is_closing e.rec) c) ∙ lives
+
+      new : value_of (with log e) pages number ≡ before_first (first_update (with log e) (txn_of e) number)
+      new = value_open (with log e) pages number e (last_new log e number on) still
+
+      first : (u : Entry) × (first_update (with log e) (txn_of e) number ≡ Some u)
+      first = update_of (with log e) (txn_of e) number e f.can_be_undone still (last_of_own (with log e) (txn_of e) number e (last_new log e number on) refl)
+
+      by_first : (o : Option Entry) → first_update log (txn_of e) number ≡ o → value_of (with log e) pages number ≡ value_of log pages number
+      by_first (Some u) o =
+          new ∙ ap before_first (first_push log e (txn_of e) number ∙ ap (λ (z : Option Entry). option_or z (one (updates_there (txn_of e) number) e)) o)
+          ∙ sym (value_held log pages (txn_of e) number u undoable.held lives o)
+      by_first None o =
+          let found : one (updates_there (txn_of e) number) e ≡ Some first.0 =
+          sym (first_push log e (txn_of e) number ∙ ap (λ (z : Option Entry). option_or z (one (updates_there (txn_of e) number) e)) o) ∙ first.1 in
+          let c = cond_some (updates_there (txn_of e) number e) e first.0 found in
+          let update = and_parts (is_update e.rec) (is_on number e) (and_parts (is_of (txn_of e) e) (is_update e.rec && is_on number e) c.0).1 in
+          new ∙ ap before_first first.1 ∙ ap (λ (z : Entry). before_of z.rec) (sym c.1) ∙ f.from_shown number update.0 is
+          ∙ sym (value_free log pages number e undoable.undone f.held_off on o)
+
+  -- an End leaves it, since its transaction is undone
+  pub value_ended : (lsn t number : ℕ) → is_closed log t ≡ false → IsUndone log t → value_of (with log (record { lsn = lsn; rec = End t })) pages number ≡ value_of log pages number
+  value_ended lsn t number lives undone = ap (value_after (with log e) number (slot_at pages number)) (last_same log e number refl) ∙ by_last (last_on log number) refl
+    where
+      e : Entry
+      e = record { lsn = lsn; rec = End t }
+
+      own : (x : Entry) → last_on log number ≡ Some x → t ≡ txn_of x → value_after (with log e) number (slot_at pages number) (Some x) ≡ value_of log pages number
+      own x last same =
+          let last_own = last_of_own log t number x last (sym same) in
+          ap (λ b. cond b (after_of x.rec) (before_first (first_update (with log e) (txn_of x) number))) (closed_by log e (txn_of x) (and_from (t == txn_of x) true (eq-eqb t (txn_of x) same) refl))
+          ∙ undone_by_chain number t (entries_of t log) x (undoable.undone t (is_loser_with log t number x lives last_own)) undone last_own
+          ∙ ap (λ s. before_first (first_update log s number)) same
+          ∙ sym (value_open log pages number x last (ap (is_closed log) (sym same) ∙ lives))
+
+      by_last : (o : Option Entry) → last_on log number ≡ o → value_after (with log e) number (slot_at pages number) o ≡ value_of log pages number
+      by_last None last = sym (ap (value_after log number (slot_at pages number)) last)
+      by_last (Some x) last = ⊎_elim
+          (λ h. own x last (eqb-true t (txn_of x) h))
+          (λ h. value_same log (with log e) (slot_at pages number) number x (closed_same log e (txn_of x) (and_left (t == txn_of x) true h)) (first_same log e (txn_of x) number refl)
+          ∙ sym (ap (value_after log number (slot_at pages number)) last))
+          (cases_Bool (t == txn_of x))
+
+  -- a Commit makes what its transaction has written last count
+  pub value_committed : (lsn t n number : ℕ) → is_closed log t ≡ false →
+      value_of (with log (record { lsn = lsn; rec = Commit t n })) pages number ≡ unwrap_or (option_map (λ (x : Entry). after_of x.rec) (last_where (is_on number) (entries_of t log))) (value_of log pages number)
+  value_committed lsn t n number lives = by_own (last_where (is_on number) (entries_of t log)) refl
+    where
+      e : Entry
+      e = record { lsn = lsn; rec = Commit t n }
+
+      new : Option Entry → Content
+      new o = unwrap_or (option_map (λ (x : Entry). after_of x.rec) o) (value_of log pages number)
+
+      by_last : last_where (is_on number) (entries_of t log) ≡ None → (o : Option Entry) → last_on log number ≡ o → value_after (with log e) number (slot_at pages number) o ≡ value_after log number (slot_at pages number) o
+      by_last none None last = refl
+      by_last none (Some x) last =
+          let other : t ≡ txn_of x → ⊥ = λ same. (let never : None ≡ Some x = sym none ∙ last_of_own log t number x last (sym same) in grind arith) in
+          value_same log (with log e) (slot_at pages number) number x (closed_same log e (txn_of x) (and_left (t == txn_of x) true (ne_eqb t (txn_of x) other))) (first_same log e (txn_of x) number refl)
+
+      by_own : (o : Option Entry) → last_where (is_on number) (entries_of t log) ≡ o → value_of (with log e) pages number ≡ unwrap_or (option_map (λ (x : Entry). after_of x.rec) (last_where (is_on number) (entries_of t log))) (value_of log pages number)
+      by_own None o =
+          ap (value_after (with log e) number (slot_at pages number)) (last_same log e number refl) ∙ by_last o (last_on log number) refl
+          ∙ sym (ap (λ (z : Option Entry). unwrap_or (option_map (λ (x : Entry). after_of x.rec) z) (value_of log pages number)) o)
+      by_own (Some y) o =
+          let u = update_of log t number y (undoable.undone t) lives o in
+          let x = last_is_own log t number u.0 undoable.held lives u.1 in
+          value_closed (with log e) pages number x.0 (last_same log e number refl ∙ x.1) (closed_by log e (txn_of x.0) (and_from (t == txn_of x.0) true (eq-eqb t (txn_of x.0) (sym x.2)) refl))
+          ∙ sym (ap (λ (z : Option Entry). unwrap_or (option_map (λ (x : Entry). after_of x.rec) z) (value_of log pages number)) (last_of_own log t number x.0 x.1 x.2))
+
+  -- The table.
+
+  on_is : (number : ℕ) (o : Option ℕ) → is_number number o ≡ true → o ≡ Some number
+  on_is number None h = absurd (grind arith)
+  on_is number (Some k) h = ap Some (eqb-true k number h)
+
+  value_stays : (e : Entry) → is_closing e.rec ≡ false → is_closed log (txn_of e) ≡ false → Follows m pages log e → (number : ℕ) → value_of (with log e) pages number ≡ value_of log pages number
+  value_stays e c lives f number = ⊎_elim (λ on. value_there e number c on lives (on_is number (number_of e.rec) on) f) (λ off. value_elsewhere e number c off) (cases_Bool (is_on number e))
+
+  table_stays : (log' : List Entry) → ((number : ℕ) → value_of log' pages number ≡ value_of log pages number) → table_of log' pages ≡ table_of log pages
+  table_stays log' h = ap (λ (v : ℕ → Content). map v (range_with_len 0 (32 * length pages))) (λ i number. h number i)
+
+  pub table_behind : (e : Entry) → Follows m pages log e → table_of (with log e) pages ≡ table_after (table_of log pages) log e.rec
+  table_behind e f = by_rec e.lsn e.rec f
+    where
+      by_rec : (lsn : ℕ) (rec : LogRecord) → Follows m pages log (record { lsn = lsn; rec = rec }) → table_of (with log (record { lsn = lsn; rec = rec })) pages ≡ table_after (table_of log pages) log rec
+      by_rec lsn Begin f = table_stays (with log _) (λ number. value_elsewhere (record { lsn = lsn; rec = Begin }) number refl refl)
+      by_rec lsn (Update t prev page slot before after) f = table_stays (with log _) (value_stays (record { lsn = lsn; rec = Update t prev page slot before after }) refl (f.of_open refl).not_closed f)
+      by_rec lsn (Clr t prev undo_next page slot after) f = table_stays (with log _) (value_stays (record { lsn = lsn; rec = Clr t prev undo_next page slot after }) refl (f.of_open refl).not_closed f)
+      by_rec lsn (Commit t n) f = table_written log (with log _) pages (entries_of t log) (λ number. value_committed lsn t n number (f.of_open refl).not_closed)
+      by_rec lsn (End t) f = table_stays (with log _) (λ number. value_ended lsn t number (f.of_open refl).not_closed (f.ends_undone refl))
+
+  -- The unfinished transactions can still be undone.
+
+  entries_other : (e : Entry) (t : ℕ) → is_of t e ≡ false → entries_of t (with log e) ≡ entries_of t log
+  entries_other e t h = filter-append (is_of t) log (e ∷ []) ∙ ap (λ b. entries_of t log ++ cond b (e ∷ []) []) h ∙ append-nil (entries_of t log)
+
+  loser_other : (e : Entry) (t : ℕ) → is_of t e ≡ false → is_loser (with log e) t ≡ is_loser log t
+  loser_other e t h =
+      ap (λ b. b && not (is_closed (with log e) t)) (list_any-append (is_of t) log (e ∷ []) ∙ or_two_false (list_any (is_of t) log) (is_of t e) h)
+      ∙ ap (λ b. list_any (is_of t) log && not b) (closed_same log e t (and_left (is_of t e) (is_closing e.rec) h))
+
+  pairwise_weaker : (R S : Entry → Entry → Type 0) → ((u x : Entry) → R u x → S u x) → (xs : List Entry) → Pairwise R xs → Pairwise S xs
+  pairwise_weaker R S w [] h = tt
+  pairwise_weaker R S w (x ∷ xs) h = (all_weaker (R x) (S x) (w x) xs h.0, pairwise_weaker R S w xs h.1)
+
+  pairwise_push : (R : Entry → Entry → Type 0) (xs : List Entry) (e : Entry) → Pairwise R xs → AllByRecursion (λ u. R u e) xs → Pairwise R (xs ++ e ∷ [])
+  pairwise_push R [] e h k = (tt, tt)
+  pairwise_push R (x ∷ xs) e h k = (all_push (R x) xs e h.0 k.0, pairwise_push R xs e h.1 k.1)
+
+  pub undoable_behind : (e : Entry) → Follows m pages log e → IsUndoable (with log e)
+  undoable_behind e f = record {
+    undone = λ t. ⊎_elim
+        (λ h. subst (CanBeUndone (with log e)) (eqb-true (txn_of e) t h) f.can_be_undone)
+        (λ h loser. subst (IsLoserChain t) (sym (entries_other e t h)) (undoable.undone t (sym (loser_other e t h) ∙ loser)))
+        (cases_Bool (is_of t e));
+    held = pairwise_push (HoldsOff (with log e)) log e
+        (pairwise_weaker (HoldsOff log) (HoldsOff (with log e)) (λ u x h. weaker u x h) log undoable.held)
+        (all_weaker (λ u. HoldsOff log u e) (λ u. HoldsOff (with log e) u e) (λ u h. weaker u e h) log f.held_off);
+  }
+    where
+      weaker : (u x : Entry) → HoldsOff log u x → HoldsOff (with log e) u x
+      weaker u x h number a b c d = h number a b c (open_before log e (txn_of u) d)

@@ -1,0 +1,167 @@
+-- The list of the unfinished transactions.
+use Rattle.std.proofs.Common.{◌≡◌, ℕ, ◌+◌, ◌*◌, ◌≤◌, ⊎_elim, Bool, true, false, cond, not, ◌&&◌, ◌||◌, List, [], ◌∷◌, ◌++◌, length, map, drop, refl, sym, ap, subst, ◌∙◌, arith}
+use Rattle.std.specs.Prelude.{filter, IsTrue, ◌==◌}
+use Rattle.std.specs.List.{AllByRecursion, list_any}
+use Rattle.std.proofs.lemmas.List.{append-nil, map-append}
+use Rattle.std.proofs.lemmas.List.Elements.{filter-append}
+use Rattle.std.proofs.lemmas.Bool.{and_from, and_parts, and_right, cases_Bool, eqb-true, eq-eqb, ne_eqb, or_cases, or_left, or_right}
+use Rattle.log_records.specs.declared.log_record.LogRecord.{LogRecord}
+use Rattle.log_records.specs.declared.log_record.LogRecord.TheVariants.{Begin, Update, Clr, Commit, End}
+use Rattle.log_records.specs.Log.{Entry, txn_of, is_of, is_closing, is_closed, is_loser, entries_of}
+use Rattle.log_records.specs.Unfinished.{is_begin, losers}
+use Rattle.log_records.specs.Sound.{Active, Picture, IsSound, IsInOrder, InTurn, IsOfOpenTransaction, AreOrderly, IsInTable, is_known, from_block}
+use Rattle.log_laws.specs.Follow.{IsUndoable, IsFresh}
+use Rattle.log_laws.specs.LoserLaws.{IsRead}
+use Rattle.log_laws.proofs.Lists.{all_weaker, any_find, all_find, find_passes}
+use Rattle.log_laws.proofs.Values.{with, closed_push, closed_same}
+use Rattle.log_laws.proofs.Orders.{in_order_from, filter_all}
+use Rattle.log_laws.proofs.Parts.{all_right, are_losers, begin_is, InTurn-right}
+use Rattle.log_laws.proofs.Appends.{fresh_open}
+use Rattle.log_laws.proofs.Orderly.{orderly_of, none_active, all_from_first}
+use Rattle.log_laws.proofs.Losers.{any_of_those, loser_is_not_closed}
+use Rattle.log_laws.proofs.Tails.{in_order_left, orderly_at}
+
+abbrev pub is_listed : List Entry → Entry → Bool
+is_listed log x = is_begin x.rec && not (is_closed log x.lsn)
+
+losers_push : (log : List Entry) (e : Entry) → losers (with log e) ≡ map (λ (x : Entry). x.lsn) (filter (is_listed (with log e)) log) ++ map (λ (x : Entry). x.lsn) (cond (is_listed (with log e) e) (e ∷ []) [])
+losers_push log e = ap (map (λ (x : Entry). x.lsn)) (filter-append (is_listed (with log e)) log (e ∷ [])) ∙ map-append (λ (x : Entry). x.lsn) (filter (is_listed (with log e)) log) (cond (is_listed (with log e) e) (e ∷ []) [])
+
+listed_same : (log : List Entry) (e : Entry) → is_closing e.rec ≡ false → filter (is_listed (with log e)) log ≡ filter (is_listed log) log
+listed_same log e c = ap (λ (f : Entry → Bool). filter f log) (λ i x. ap (λ b. is_begin x.rec && not b) (closed_same log e x.lsn (and_right (is_of x.lsn e) (is_closing e.rec) c)) i)
+
+pub losers_begin : (log : List Entry) (lsn : ℕ) → IsFresh lsn log → losers (with log (record { lsn = lsn; rec = Begin })) ≡ losers log ++ lsn ∷ []
+losers_begin log lsn fresh =
+    let e : Entry = record { lsn = lsn; rec = Begin } in
+    losers_push log e
+    ∙ ap (λ (l : List Entry). map (λ (x : Entry). x.lsn) l ++ map (λ (x : Entry). x.lsn) (cond (is_listed (with log e) e) (e ∷ []) [])) (listed_same log e refl)
+    ∙ ap (λ b. losers log ++ map (λ (x : Entry). x.lsn) (cond (not b) (e ∷ []) [])) (closed_same log e lsn (and_right (is_of lsn e) false refl) ∙ fresh_open lsn log fresh)
+
+pub losers_stay : (log : List Entry) (e : Entry) → is_begin e.rec ≡ false → is_closing e.rec ≡ false → losers (with log e) ≡ losers log
+losers_stay log e b c =
+    losers_push log e
+    ∙ ap (λ (l : List Entry). map (λ (x : Entry). x.lsn) l ++ map (λ (x : Entry). x.lsn) (cond (is_listed (with log e) e) (e ∷ []) [])) (listed_same log e c)
+    ∙ ap (λ g. losers log ++ map (λ (x : Entry). x.lsn) (cond (g && not (is_closed (with log e) e.lsn)) (e ∷ []) [])) b
+    ∙ append-nil (losers log)
+
+-- A transaction is taken out.
+
+no_begin : (rec : LogRecord) → is_closing rec ≡ true → is_begin rec ≡ false
+no_begin Begin h = absurd (grind arith)
+no_begin (Update txn prev page slot before after) h = refl
+no_begin (Clr txn prev undo_next page slot after) h = refl
+no_begin (Commit txn number) h = refl
+no_begin (End txn) h = refl
+
+two_tests : (g a b : Bool) → (g && not (a || ((b && true) || false))) ≡ ((g && not a) && not b)
+two_tests true true b = refl
+two_tests true false true = refl
+two_tests true false false = refl
+two_tests false a b = refl
+
+listed_twice : (log : List Entry) (t : ℕ) (test : Entry → Bool) → ((x : Entry) → test x ≡ (is_listed log x && not (t == x.lsn))) → (xs : List Entry) →
+    map (λ (x : Entry). x.lsn) (filter test xs) ≡ filter (λ s. not (t == s)) (map (λ (x : Entry). x.lsn) (filter (is_listed log) xs))
+listed_twice log t test h [] = refl
+listed_twice log t test h (x ∷ xs) = ap (λ b. map (λ (y : Entry). y.lsn) (cond b (x ∷ filter test xs) (filter test xs))) (h x) ∙ by_tests (is_listed log x) (not (t == x.lsn)) refl (listed_twice log t test h xs)
+  where
+    by_tests : (a b : Bool) → not (t == x.lsn) ≡ b → map (λ (y : Entry). y.lsn) (filter test xs) ≡ filter (λ s. not (t == s)) (map (λ (y : Entry). y.lsn) (filter (is_listed log) xs)) →
+        map (λ (y : Entry). y.lsn) (cond (a && b) (x ∷ filter test xs) (filter test xs)) ≡ filter (λ s. not (t == s)) (map (λ (y : Entry). y.lsn) (cond a (x ∷ filter (is_listed log) xs) (filter (is_listed log) xs)))
+    by_tests true true same e = ap (λ (l : List ℕ). x.lsn ∷ l) e ∙ sym (ap (λ b. cond b (x.lsn ∷ filter (λ s. not (t == s)) (map (λ (y : Entry). y.lsn) (filter (is_listed log) xs))) (filter (λ s. not (t == s)) (map (λ (y : Entry). y.lsn) (filter (is_listed log) xs)))) same)
+    by_tests true false same e = e ∙ sym (ap (λ b. cond b (x.lsn ∷ filter (λ s. not (t == s)) (map (λ (y : Entry). y.lsn) (filter (is_listed log) xs))) (filter (λ s. not (t == s)) (map (λ (y : Entry). y.lsn) (filter (is_listed log) xs)))) same)
+    by_tests false b same e = e
+
+-- the list ascends
+abbrev pub Ascends : ℕ → List ℕ → Type 0
+Ascends from [] = Unit {0}
+Ascends from (n ∷ ns) = (from ≤ n) × Ascends (n + 1) ns
+
+ascends_from : (from from' : ℕ) (ns : List ℕ) → from' ≤ from → Ascends from ns → Ascends from' ns
+ascends_from from from' [] l h = tt
+ascends_from from from' (n ∷ ns) l h = (let b = h.0 in omega (arith, b, l), h.1)
+
+pub losers_ascend : (test : Entry → Bool) (from : ℕ) (xs : List Entry) (to : ℕ) → IsInOrder from xs to → Ascends from (map (λ (x : Entry). x.lsn) (filter test xs))
+losers_ascend test from [] to h = tt
+losers_ascend test from (x ∷ xs) to h = by_test (test x) (losers_ascend test (x.lsn + 1) xs to h.1)
+  where
+    by_test : (b : Bool) → Ascends (x.lsn + 1) (map (λ (y : Entry). y.lsn) (filter test xs)) → Ascends from (map (λ (y : Entry). y.lsn) (cond b (x ∷ filter test xs) (filter test xs)))
+    by_test true k = (h.0, k)
+    by_test false k = ascends_from (x.lsn + 1) from (map (λ (y : Entry). y.lsn) (filter test xs)) (let b = h.0 in omega (arith, b)) k
+
+pub above : (from : ℕ) (ns : List ℕ) → Ascends from ns → AllByRecursion (λ n. from ≤ n) ns
+above from [] h = tt
+above from (n ∷ ns) h = (h.0, above from ns (let b = h.0 in ascends_from (n + 1) from ns (omega (arith, b)) h.1))
+
+-- without one of them
+without : (t from : ℕ) (front back : List ℕ) → Ascends from (front ++ t ∷ back) → filter (λ s. not (t == s)) (front ++ t ∷ back) ≡ front ++ back
+without t from [] back h =
+    ap (λ b. cond (not b) (t ∷ filter (λ s. not (t == s)) back) (filter (λ s. not (t == s)) back)) (eq-eqb t t refl)
+    ∙ filter_all (λ s. not (t == s)) back (all_weaker (λ n. t + 1 ≤ n) (λ s. not (t == s) ≡ true) (λ s b. ap not (ne_eqb t s (λ same. omega (arith, b, same)))) back (above (t + 1) back h.1))
+without t from (n ∷ front) back h =
+    let later = (all_right (λ s. n + 1 ≤ s) front (t ∷ back) (above (n + 1) (front ++ t ∷ back) h.1)).0 in
+    ap (λ b. cond (not b) (n ∷ filter (λ s. not (t == s)) (front ++ t ∷ back)) (filter (λ s. not (t == s)) (front ++ t ∷ back))) (ne_eqb t n (λ same. omega (arith, later, same)))
+    ∙ ap (λ (l : List ℕ). n ∷ l) (without t (n + 1) front back h.1)
+
+pub losers_closed : (from to : ℕ) (log : List Entry) (e : Entry) (front back : List ℕ) → IsInOrder from log to → is_closing e.rec ≡ true → losers log ≡ front ++ txn_of e ∷ back → losers (with log e) ≡ front ++ back
+losers_closed from to log e front back order c split =
+    losers_push log e
+    ∙ ap (λ g. map (λ (x : Entry). x.lsn) (filter (is_listed (with log e)) log) ++ map (λ (x : Entry). x.lsn) (cond (g && not (is_closed (with log e) e.lsn)) (e ∷ []) [])) (no_begin e.rec c)
+    ∙ append-nil (map (λ (x : Entry). x.lsn) (filter (is_listed (with log e)) log))
+    ∙ listed_twice log (txn_of e) (is_listed (with log e))
+    (λ x. ap (λ b. is_begin x.rec && not b) (closed_push log e x.lsn ∙ ap (λ k. is_closed log x.lsn || ((is_of x.lsn e && k) || false)) c) ∙ two_tests (is_begin x.rec) (is_closed log x.lsn) (txn_of e == x.lsn)) log
+    ∙ ap (filter (λ s. not (txn_of e == s))) split
+    ∙ without (txn_of e) from front back (subst (Ascends from) split (losers_ascend (is_listed log) from log to order))
+
+-- Who is on the list.
+
+pub listed_is_loser : (log : List Entry) (t : ℕ) → list_any (λ s. s == t) (losers log) ≡ true → is_loser log t ≡ true
+listed_is_loser log t h =
+    let found = any_find (λ s. s == t) (losers log) h in
+    subst (λ s. is_loser log s ≡ true) (eqb-true found.0 t (find_passes (λ s. s == t) (losers log) found.0 found.1)) (all_find (λ s. IsTrue (is_loser log s)) (λ s. s == t) (losers log) found.0 (are_losers log) found.1)
+
+pub begun_is_listed : (log : List Entry) (t : ℕ) → is_closed log t ≡ false → (xs : List Entry) → list_any (λ x. is_begin x.rec && (x.lsn == t)) xs ≡ true → list_any (λ s. s == t) (map (λ (x : Entry). x.lsn) (filter (is_listed log) xs)) ≡ true
+begun_is_listed log t lives [] h = absurd (grind arith)
+begun_is_listed log t lives (x ∷ xs) h = ⊎_elim
+    (λ here.
+    let both = and_parts (is_begin x.rec) (x.lsn == t) here in
+    let listed = and_from (is_begin x.rec) (not (is_closed log x.lsn)) both.0 (ap (λ s. not (is_closed log s)) (eqb-true x.lsn t both.1) ∙ ap not lives) in
+    ap (λ b. list_any (λ s. s == t) (map (λ (y : Entry). y.lsn) (cond b (x ∷ filter (is_listed log) xs) (filter (is_listed log) xs)))) listed
+    ∙ or_left (x.lsn == t) (list_any (λ s. s == t) (map (λ (y : Entry). y.lsn) (filter (is_listed log) xs))) both.1)
+    (λ there. by_test (is_listed log x) (begun_is_listed log t lives xs there))
+    (or_cases (is_begin x.rec && (x.lsn == t)) (list_any (λ y. is_begin y.rec && (y.lsn == t)) xs) h)
+  where
+    by_test : (b : Bool) → list_any (λ s. s == t) (map (λ (y : Entry). y.lsn) (filter (is_listed log) xs)) ≡ true → list_any (λ s. s == t) (map (λ (y : Entry). y.lsn) (cond b (x ∷ filter (is_listed log) xs) (filter (is_listed log) xs))) ≡ true
+    by_test true k = or_right (x.lsn == t) (list_any (λ s. s == t) (map (λ (y : Entry). y.lsn) (filter (is_listed log) xs))) k
+    by_test false k = k
+
+pub loser_is_listed : (log : List Entry) (t : ℕ) → IsUndoable log → is_loser log t ≡ true → list_any (λ s. s == t) (losers log) ≡ true
+loser_is_listed log t undoable loser =
+    let chain = undoable.undone t loser in
+    begun_is_listed log t (loser_is_not_closed log t loser) log
+    (any_of_those (λ x. is_begin x.rec && (x.lsn == t)) (is_of t) log
+    (ap (list_any (λ x. is_begin x.rec && (x.lsn == t))) chain.begins ∙ or_left (t == t) (list_any (λ x. is_begin x.rec && (x.lsn == t)) (drop 1 (entries_of t log))) (eq-eqb t t refl)))
+
+pub none_listed : (log : List Entry) (t : ℕ) → IsUndoable log → losers log ≡ [] → is_loser log t ≡ false
+none_listed log t undoable none = ⊎_elim
+    (λ loser. absurd (let never = sym (ap (list_any (λ s. s == t)) none) ∙ loser_is_listed log t undoable loser in grind arith))
+    (λ no. no)
+    (cases_Bool (is_loser log t))
+
+-- Reading a log.
+
+pub reads_on : (p : Picture) (earlier : List Entry) (e : Entry) (rest : List Entry) → IsSound p → p.master.redo ≡ 0 → p.log ≡ earlier ++ e ∷ rest → IsRead (length p.pages) earlier e
+reads_on p earlier e rest sound first split =
+    let order = subst (λ (l : List Entry). IsInOrder (512 * p.master.kept) l (512 * p.hi)) split sound.in_order in
+    let orderly = subst AreOrderly split (orderly_of p.master (512 * p.master.kept) p.log (512 * p.hi) first (none_active p sound first) sound.in_order sound.open_transactions) in
+    let at = orderly_at (512 * p.master.kept) (512 * p.hi) earlier e rest order orderly in
+    let open' = (InTurn-right (IsOfOpenTransaction p.master) [] earlier (e ∷ rest) (subst (InTurn (IsOfOpenTransaction p.master) []) split sound.open_transactions)).0 in
+    record {
+      fresh = λ begin. (at.2, begin_is e begin);
+      listed = λ other.
+          let lives = open' (omega (arith, first)) other in
+          let known = subst (λ (l : List Active). IsTrue (is_known l (from_block p.master.redo earlier) (txn_of e))) (none_active p sound first) lives.known in
+          begun_is_listed earlier (txn_of e) lives.not_closed earlier
+          (subst (λ (l : List Entry). list_any (λ x. is_begin x.rec && (x.lsn == txn_of e)) l ≡ true) (ap (λ n. from_block n earlier) first ∙ all_from_first earlier) known);
+      not_closed = at.1.not_closed;
+      within = (all_right (IsInTable p.pages) earlier (e ∷ rest) (subst (AllByRecursion (IsInTable p.pages)) split sound.in_table)).0;
+      order = in_order_from (512 * p.master.kept) 0 earlier e.lsn (omega arith) (in_order_left (512 * p.master.kept) earlier e rest (512 * p.hi) order);
+    }

@@ -1,0 +1,114 @@
+-- A sound log whose redo block is the first is orderly.
+use Rattle.std.proofs.Common.{◌≡◌, ℕ, ◌+◌, ◌*◌, ◌<◌, ◌≤◌, ⊎_elim, true, false, ◌&&◌, List, [], ◌∷◌, ◌++◌, not, sym, ap, subst, ◌∙◌, arith}
+use Rattle.std.specs.Prelude.{filter, IsTrue, nat_lt, nat_le, ◌==◌}
+use Rattle.std.specs.List.{AllByRecursion, list_any}
+use Rattle.std.proofs.lemmas.Bool.{and_parts, or_cases, cases_Bool, eqb-true, ne_eqb, le-ltb, le-leb}
+use Rattle.log_records.specs.Log.{Entry, txn_of, is_of, is_closed, entries_of}
+use Rattle.log_records.specs.Unfinished.{is_begin, losers}
+use Rattle.log_records.specs.Sound.{Active, Master, IsOpen, IsSound, Picture, InTurn, IsInOrder, IsOfOpenTransaction, IsOrderly, AreOrderly, before_block, from_block, is_known, last_lsn, active_in}
+use Rattle.log_laws.specs.Follow.{Follows, IsFresh}
+use Rattle.log_laws.proofs.Lists.{all_weaker, all_push, all_find, any_find, find_passes}
+use Rattle.log_laws.proofs.Orders.{filter_none, filter_all, InTurn-all, InTurn-weaker, InTurn-append_all}
+use Rattle.log_laws.proofs.Parts.{all_filter, all_map, begin_is, all_both, all_below}
+use Rattle.log_laws.proofs.Appends.{fresh_open}
+
+-- a Begin among records that all come before an LSN does so too
+begun_before : (t to : ℕ) (entries : List Entry) → AllByRecursion (λ e. e.lsn < to) entries → list_any (λ e. is_begin e.rec && (e.lsn == t)) entries ≡ true → t < to
+begun_before t to entries below h =
+    let found = any_find (λ e. is_begin e.rec && (e.lsn == t)) entries h in
+    let same = eqb-true found.0.lsn t (and_parts (is_begin found.0.rec) (found.0.lsn == t) (find_passes (λ e. is_begin e.rec && (e.lsn == t)) entries found.0 found.1)).1 in
+    let less = all_find (λ e. e.lsn < to) (λ e. is_begin e.rec && (e.lsn == t)) entries found.0 below found.1 in
+    omega (arith, same, less)
+
+-- what is behind all these records, and is of no transaction that one of them is of
+pub fresh_of : (lsn : ℕ) (entries : List Entry) → AllByRecursion (λ e. e.lsn < lsn) entries → AllByRecursion (λ e. txn_of e ≤ e.lsn) entries → IsFresh lsn entries
+fresh_of lsn entries below begun =
+    all_both (λ e. e.lsn < lsn) (λ e. txn_of e ≤ e.lsn) (λ e. is_of lsn e ≡ false) (λ e b h. ne_eqb (txn_of e) lsn (λ same. omega (arith, b, h, same))) entries below begun
+
+-- a transaction that is known begins before
+known_before : (m : Master) (earlier : List Entry) (t to : ℕ) → AllByRecursion (λ a. a.begin < to) m.active → AllByRecursion (λ e. e.lsn < to) earlier → IsTrue (is_known m.active (from_block m.redo earlier) t) → t < to
+known_before m earlier t to named below known = ⊎_elim
+    (λ h.
+    let found = any_find (λ (a : Active). a.begin == t) m.active h in
+    let same = eqb-true found.0.begin t (find_passes (λ (a : Active). a.begin == t) m.active found.0 found.1) in
+    let less = all_find (λ a. a.begin < to) (λ (a : Active). a.begin == t) m.active found.0 named found.1 in
+    omega (arith, same, less))
+    (λ h. begun_before t to (from_block m.redo earlier) (all_filter (λ e. e.lsn < to) (λ e. nat_le (512 * m.redo) e.lsn) earlier below) h)
+    (or_cases (list_any (λ a. a.begin == t) m.active) (list_any (λ e. is_begin e.rec && (e.lsn == t)) (from_block m.redo earlier)) known)
+
+-- records that are of open transactions, behind records that are orderly
+orderly_from : (m : Master) (from : ℕ) (earlier log : List Entry) (to : ℕ) → AllByRecursion (λ a. a.begin < from) m.active → IsInOrder from log to →
+    AllByRecursion (λ e. e.lsn < from) earlier → AllByRecursion (λ e. txn_of e ≤ e.lsn) earlier →
+    InTurn (λ earlier e. is_begin e.rec ≡ false → IsOpen m earlier (txn_of e)) earlier log → InTurn IsOrderly earlier log
+orderly_from m from earlier [] to named order below begun h = tt
+orderly_from m from earlier (e ∷ log) to named order below begun h =
+    let is : IsOrderly earlier e = ⊎_elim by_begin by_other (cases_Bool (is_begin e.rec)) in (
+      is,
+      orderly_from m (e.lsn + 1) (earlier ++ e ∷ []) log to
+          (all_weaker (λ a. a.begin < from) (λ a. a.begin < e.lsn + 1) (λ a b. let f = order.0 in omega (arith, f, b)) m.active named) order.1
+          (all_push (λ x. x.lsn < e.lsn + 1) earlier e (all_weaker (λ x. x.lsn < from) (λ x. x.lsn < e.lsn + 1) (λ x b. let f = order.0 in omega (arith, f, b)) earlier below) (omega arith))
+          (all_push (λ x. txn_of x ≤ x.lsn) earlier e begun is.begun) h.1,
+    )
+  where
+    before : AllByRecursion (λ x. x.lsn < e.lsn) earlier
+    before = all_weaker (λ x. x.lsn < from) (λ x. x.lsn < e.lsn) (λ x b. let f = order.0 in omega (arith, f, b)) earlier below
+
+    by_begin : is_begin e.rec ≡ true → IsOrderly earlier e
+    by_begin b =
+        let own = begin_is e b in
+        record {
+          begun = omega (arith, own);
+          not_closed = ap (is_closed earlier) own ∙ fresh_open e.lsn earlier (fresh_of e.lsn earlier before begun);
+        }
+
+    by_other : is_begin e.rec ≡ false → IsOrderly earlier e
+    by_other b =
+        let o = h.0 b in
+        let less = known_before m earlier (txn_of e) e.lsn (all_weaker (λ a. a.begin < from) (λ a. a.begin < e.lsn) (λ a c. let f = order.0 in omega (arith, f, c)) m.active named) before o.known in
+        record { begun = omega (arith, less); not_closed = o.not_closed }
+
+pub none_before : (log : List Entry) → before_block 0 log ≡ []
+none_before log = filter_none (λ e. nat_lt e.lsn (512 * 0)) log (never log)
+  where
+    never : (log : List Entry) → AllByRecursion (λ e. nat_lt e.lsn (512 * 0) ≡ false) log
+    never [] = tt
+    never (e ∷ log) = (le-ltb e.lsn (512 * 0) (omega arith), never log)
+
+pub all_from_first : (log : List Entry) → from_block 0 log ≡ log
+all_from_first log = filter_all (λ e. nat_le (512 * 0) e.lsn) log (always log)
+  where
+    always : (log : List Entry) → AllByRecursion (λ e. nat_le (512 * 0) e.lsn ≡ true) log
+    always [] = tt
+    always (e ∷ log) = (le-leb (512 * 0) e.lsn (omega arith), always log)
+
+pub orderly_of : (m : Master) (from : ℕ) (log : List Entry) (to : ℕ) → m.redo ≡ 0 → m.active ≡ [] → IsInOrder from log to → InTurn (IsOfOpenTransaction m) [] log → AreOrderly log
+orderly_of m from log to first none order h =
+    orderly_from m from [] log to (subst (AllByRecursion (λ a. a.begin < from)) (sym none) tt) order tt tt
+    (InTurn-weaker (IsOfOpenTransaction m) (λ earlier e. is_begin e.rec ≡ false → IsOpen m earlier (txn_of e)) (λ earlier e o. o (omega (arith, first))) [] log h)
+
+-- the master names transactions that have begun
+named_below : (p : Picture) → IsSound p → AllByRecursion (λ a. a.begin < 512 * p.hi) p.master.active
+named_below p sound =
+    let old = before_block p.master.redo p.log in
+    subst (AllByRecursion (λ a. a.begin < 512 * p.hi)) (sym sound.master_names_the_active)
+    (all_map (λ a. a.begin < 512 * p.hi) (λ t. record { begin = t; last = last_lsn (entries_of t old) }) (losers old)
+    (all_map (λ t. t < 512 * p.hi) (λ (e : Entry). e.lsn) (filter (λ e. is_begin e.rec && not (is_closed old e.lsn)) old)
+    (all_filter (λ e. e.lsn < 512 * p.hi) (λ e. is_begin e.rec && not (is_closed old e.lsn)) old
+    (all_filter (λ e. e.lsn < 512 * p.hi) (λ e. nat_lt e.lsn (512 * p.master.redo)) p.log (all_below (512 * p.master.kept) p.log (512 * p.hi) sound.in_order)))))
+
+-- records that follow keep a log orderly
+pub orderly_behind : (p : Picture) (entries : List Entry) (to : ℕ) → IsSound p → AreOrderly p.log → IsInOrder (512 * p.hi) entries to → InTurn (Follows p.master p.pages) p.log entries → AreOrderly (p.log ++ entries)
+orderly_behind p entries to sound orderly order follow =
+    InTurn-append_all IsOrderly [] p.log entries orderly
+    (orderly_from p.master (512 * p.hi) p.log entries to (named_below p sound) order (all_below (512 * p.master.kept) p.log (512 * p.hi) sound.in_order)
+    (InTurn-all IsOrderly (λ e. txn_of e ≤ e.lsn) (λ earlier e o. o.begun) [] p.log orderly)
+    (InTurn-weaker (Follows p.master p.pages) (λ earlier e. is_begin e.rec ≡ false → IsOpen p.master earlier (txn_of e)) (λ earlier e f. f.of_open) p.log entries follow))
+
+-- no transaction was active
+pub none_active : (p : Picture) → IsSound p → p.master.redo ≡ 0 → p.master.active ≡ []
+none_active p sound first = sound.master_names_the_active ∙ ap (λ n. active_in (before_block n p.log)) first ∙ ap active_in (none_before p.log)
+
+pub fresh_behind : (from : ℕ) (log : List Entry) (to lsn : ℕ) → IsInOrder from log to → AreOrderly log → to ≤ lsn → IsFresh lsn log
+fresh_behind from log to lsn order orderly late =
+    fresh_of lsn log (all_weaker (λ e. e.lsn < to) (λ e. e.lsn < lsn) (λ e b. omega (arith, b, late)) log (all_below from log to order))
+    (InTurn-all IsOrderly (λ e. txn_of e ≤ e.lsn) (λ earlier e o. o.begun) [] log orderly)

@@ -1,0 +1,336 @@
+-- What undo may take, record by record.
+use Rattle.std.proofs.Common.{◌≡◌, ◌≢◌, ℕ, suc, ◌+◌, ◌*◌, ◌<◌, ◌≤◌, Bool, true, false, cond, not, ◌&&◌, List, [], ◌∷◌, ◌++◌, length, map, refl, sym, ap, subst, ◌∙◌, arith}
+use Rattle.std.specs.Prelude.{drop, filter, filter_map, fold, sum_by, IsTrue, ◌==◌}
+use Rattle.std.specs.List.{AllByRecursion}
+use Rattle.std.proofs.lemmas.List.Elements.{filter-append}
+use Rattle.std.proofs.lemmas.List.{length-append}
+use Rattle.std.proofs.lemmas.Bool.{and_from, and_left, and_right, eqb-true, eq-eqb, ne_eqb}
+use Rattle.log_records.specs.declared.log_record.LogRecord.{LogRecord}
+use Rattle.log_records.specs.declared.log_record.LogRecord.TheVariants.{Begin, Update, Clr, Commit, End}
+use Rattle.log_records.specs.Log.{Entry, txn_of, txn_by, is_of, is_update, is_closing, is_closed, entries_of}
+use Rattle.log_records.specs.Unfinished.{left_open, open_by, open_updates, is_begin, is_clr, owed, owed_by}
+use Rattle.log_records.specs.Sound.{IsLoserChain, Undoes, Continues}
+use Rattle.log_laws.proofs.Chains.{open_append}
+use Rattle.log_laws.proofs.Values.{with, closed_same, closed_by}
+use Rattle.log_laws.proofs.Orders.{InTurn-all}
+use Rattle.log_laws.specs.Follow.{IsFresh, write_of, writes_in}
+use Rattle.log_laws.proofs.Appends.{fresh_entries, fresh_open}
+use Rattle.log_laws.proofs.Chains.{left_of_chain}
+use Rattle.log_laws.proofs.Parts.{are_losers}
+use Rattle.log_records.specs.Log.{is_loser, updates_in, log_from, entries_from}
+use Rattle.log_records.specs.Unfinished.{losers, clrs_in}
+
+-- Sums.
+
+sums_from : {X : Type 0} (f : X → ℕ) (xs : List X) (a : ℕ) → fold (λ n x. n + f x) a xs ≡ a + fold (λ n x. n + f x) 0 xs
+sums_from f [] a = omega arith
+sums_from f (x ∷ xs) a = sums_from f xs (a + f x) ∙ omega (arith, sums_from f xs (0 + f x))
+
+pub sum_cons : {X : Type 0} (f : X → ℕ) (x : X) (xs : List X) → sum_by f (x ∷ xs) ≡ f x + sum_by f xs
+sum_cons f x xs = sums_from f xs (0 + f x) ∙ omega arith
+
+pub sum_append : {X : Type 0} (f : X → ℕ) (xs ys : List X) → sum_by f (xs ++ ys) ≡ sum_by f xs + sum_by f ys
+sum_append f [] ys = omega arith
+sum_append f (x ∷ xs) ys = omega (arith, sum_cons f x (xs ++ ys), sum_cons f x xs, sum_append f xs ys)
+
+pub sum_both : {X : Type 0} (f g : X → ℕ) (xs : List X) → sum_by (λ x. f x + g x) xs ≡ sum_by f xs + sum_by g xs
+sum_both f g [] = refl
+sum_both f g (x ∷ xs) = omega (arith, sum_cons (λ y. f y + g y) x xs, sum_cons f x xs, sum_cons g x xs, sum_both f g xs)
+
+pub sum_zero : {X : Type 0} (f : X → ℕ) (xs : List X) → AllByRecursion (λ x. f x ≡ 0) xs → sum_by f xs ≡ 0
+sum_zero f [] h = refl
+sum_zero f (x ∷ xs) h = let a = h.0 in omega (arith, sum_cons f x xs, sum_zero f xs h.1, a)
+
+pub sum_made : {X Y : Type 0} (g : Y → ℕ) (f : X → Y) (test : X → Bool) (xs : List X) → sum_by g (map f (filter test xs)) ≡ sum_by (λ x. cond (test x) (g (f x)) 0) xs
+sum_made g f test [] = refl
+sum_made {X} {Y} g f test (x ∷ xs) = by_test (test x) (sum_made g f test xs) ∙ sym (sum_cons (λ x. cond (test x) (g (f x)) 0) x xs)
+  where
+    by_test : (b : Bool) → sum_by g (map f (filter test xs)) ≡ sum_by (λ x. cond (test x) (g (f x)) 0) xs → sum_by g (map f (cond b (x ∷ filter test xs) (filter test xs))) ≡ cond b (g (f x)) 0 + sum_by (λ x. cond (test x) (g (f x)) 0) xs
+    by_test true e = sum_cons g (f x) (map f (filter test xs)) ∙ ap (λ n. g (f x) + n) e
+    by_test false e = e ∙ omega arith
+
+pub sum_within : {X : Type 0} (g : X → ℕ) (test : X → Bool) (xs : List X) → ((x : X) → test x ≡ false → g x ≡ 0) → sum_by g (filter test xs) ≡ sum_by g xs
+sum_within g test [] h = refl
+sum_within g test (x ∷ xs) h = by_test (test x) refl (sum_within g test xs h) ∙ sym (sum_cons g x xs)
+  where
+    by_test : (b : Bool) → test x ≡ b → sum_by g (filter test xs) ≡ sum_by g xs → sum_by g (cond b (x ∷ filter test xs) (filter test xs)) ≡ g x + sum_by g xs
+    by_test true t e = sum_cons g x (filter test xs) ∙ ap (λ n. g x + n) e
+    by_test false t e = e ∙ omega (arith, h x t)
+
+-- An unfinished transaction has one Begin.
+
+abbrev pub begun_by : ℕ → Entry → Bool
+begun_by t e = is_begin e.rec && (t == e.lsn)
+
+begun_is_of : (t : ℕ) (e : Entry) → is_of t e ≡ false → begun_by t e ≡ false
+begun_is_of t e h = by_rec e.lsn e.rec h
+  where
+    by_rec : (lsn : ℕ) (rec : LogRecord) → (txn_by lsn rec == t) ≡ false → (is_begin rec && (t == lsn)) ≡ false
+    by_rec lsn Begin h = ne_eqb t lsn (λ same. (let never = sym h ∙ eq-eqb lsn t (sym same) in grind arith))
+    by_rec lsn (Update txn prev page slot before after) h = refl
+    by_rec lsn (Clr txn prev undo_next page slot after) h = refl
+    by_rec lsn (Commit txn number) h = refl
+    by_rec lsn (End txn) h = refl
+
+pub once : (log : List Entry) (t c : ℕ) → IsLoserChain t (entries_of t log) → sum_by (λ e. cond (begun_by t e) c 0) log ≡ c
+once log t c chain =
+    sym (sum_within (λ e. cond (begun_by t e) c 0) (is_of t) log (λ e h. ap (λ b. cond b c 0) (begun_is_of t e h)))
+    ∙ ap (sum_by (λ e. cond (begun_by t e) c 0)) chain.begins
+    ∙ sum_cons (λ e. cond (begun_by t e) c 0) (record { lsn = t; rec = Begin }) (drop 1 (entries_of t log))
+    ∙ omega (
+      arith,
+      ap (λ b. cond b c 0) (eq-eqb t t refl),
+      sum_zero (λ e. cond (begun_by t e) c 0) (drop 1 (entries_of t log)) (InTurn-all Continues (λ e. cond (begun_by t e) c 0 ≡ 0) (λ earlier e k. begins_none earlier e k) (record { lsn = t; rec = Begin } ∷ []) (drop 1 (entries_of t log)) chain.continues),
+    )
+  where
+    by_rec : (stack : List Entry) (lsn : ℕ) (rec : LogRecord) → Undoes stack rec → cond (is_begin rec && (t == lsn)) c 0 ≡ 0
+    by_rec [] lsn Begin u = absurd u
+    by_rec (v ∷ stack) lsn Begin u = absurd u
+    by_rec stack lsn (Update txn prev page slot before after) u = refl
+    by_rec stack lsn (Clr txn prev undo_next page slot after) u = refl
+    by_rec stack lsn (Commit txn number) u = refl
+    by_rec stack lsn (End txn) u = refl
+
+    begins_none : (earlier : List Entry) (e : Entry) → Continues earlier e → cond (begun_by t e) c 0 ≡ 0
+    begins_none earlier e k = by_rec (open_updates [] earlier) e.lsn e.rec k.undoes
+
+-- What is owed, as a sum over the log.
+
+abbrev owes : List Entry → Entry → ℕ
+owes log e = cond (is_begin e.rec && not (is_closed log e.lsn)) (owed_by log e.lsn) 0
+
+owed_is : (log : List Entry) → owed log ≡ sum_by (owes log) log
+owed_is log = sum_made (owed_by log) (λ (e : Entry). e.lsn) (λ e. is_begin e.rec && not (is_closed log e.lsn)) log
+
+owed_push : (log : List Entry) (e : Entry) → owed (with log e) ≡ sum_by (owes (with log e)) log + owes (with log e) e
+owed_push log e = owed_is (with log e) ∙ sum_append (owes (with log e)) log (e ∷ []) ∙ ap (λ n. sum_by (owes (with log e)) log + n) (sum_cons (owes (with log e)) e [] ∙ plus_none (owes (with log e) e))
+  where
+    plus_none : (n : ℕ) → n + 0 ≡ n
+    plus_none n = omega arith
+
+pub left_push : (log : List Entry) (e : Entry) (t : ℕ) → left_open (with log e) t ≡ cond (is_of t e) (open_by (left_open log t) e e.rec) (left_open log t)
+left_push log e t = ap (open_updates []) (filter-append (is_of t) log (e ∷ [])) ∙ open_append [] (entries_of t log) (cond (is_of t e) (e ∷ []) []) ∙ by_test (is_of t e)
+  where
+    by_test : (b : Bool) → open_updates (left_open log t) (cond b (e ∷ []) []) ≡ cond b (open_by (left_open log t) e e.rec) (left_open log t)
+    by_test true = refl
+    by_test false = refl
+
+-- where one transaction owes more
+more_at : (g c c' h : Bool) (o o' k : ℕ) → c' ≡ c → (h ≡ true → (c ≡ false) × (o' ≡ o + k)) → (h ≡ false → o' ≡ o) → cond (g && not c') o' 0 ≡ cond (g && not c) o 0 + cond (g && h) k 0
+more_at false c c' h o o' k same at other = refl
+more_at true c c' true o o' k same at other = let a = at refl in ap (λ b. cond (not b) o' 0) (same ∙ a.0) ∙ a.1 ∙ sym (ap (λ b. cond (not b) o 0 + k) a.0)
+more_at true c c' false o o' k same at other = ap (λ b. cond (not b) o' 0) same ∙ ap (λ n. cond (not c) n 0) (other refl) ∙ omega arith
+
+-- where one transaction owes nothing any more
+less_at : (g c c' h : Bool) (o o' k : ℕ) → (h ≡ true → (c ≡ false) × (c' ≡ true) × (o ≡ k)) → (h ≡ false → (c' ≡ c) × (o' ≡ o)) → cond (g && not c) o 0 ≡ cond (g && not c') o' 0 + cond (g && h) k 0
+less_at false c c' h o o' k at other = refl
+less_at true c c' true o o' k at other = let a = at refl in ap (λ b. cond (not b) o 0) a.0 ∙ a.2 ∙ none_plus k ∙ sym (ap (λ b. cond (not b) o' 0 + k) a.1)
+  where
+    none_plus : (n : ℕ) → n ≡ 0 + n
+    none_plus n = omega arith
+less_at true c c' false o o' k at other = let a = other refl in sym (ap (λ b. cond (not b) o' 0) a.0 ∙ ap (λ n. cond (not c) n 0) a.1) ∙ omega arith
+
+pub sum_pointwise : {X : Type 0} (f g : X → ℕ) → ((x : X) → f x ≡ g x) → (xs : List X) → sum_by f xs ≡ sum_by g xs
+sum_pointwise {X} f g h xs = ap (λ (k : X → ℕ). sum_by k xs) (λ i x. h x i)
+
+owed_by_same : (log : List Entry) (e : Entry) (t : ℕ) → (is_of t e && is_update e.rec) ≡ false → (is_of t e && is_clr e.rec) ≡ false → owed_by (with log e) t ≡ owed_by log t
+owed_by_same log e t u c = ap (λ (l : List Entry). length l + 1) (left_push log e t ∙ by_tests (is_of t e) e.rec u c)
+  where
+    by_tests : (b : Bool) (rec : LogRecord) → (b && is_update rec) ≡ false → (b && is_clr rec) ≡ false → cond b (open_by (left_open log t) e rec) (left_open log t) ≡ left_open log t
+    by_tests false rec u c = refl
+    by_tests true Begin u c = refl
+    by_tests true (Commit txn number) u c = refl
+    by_tests true (End txn) u c = refl
+    by_tests true (Update txn prev page slot before after) u c = absurd (grind arith)
+    by_tests true (Clr txn prev undo_next page slot after) u c = absurd (grind arith)
+
+-- A Begin.
+pub owed_begin : (log : List Entry) (lsn : ℕ) → IsFresh lsn log → owed (with log (record { lsn = lsn; rec = Begin })) ≡ owed log + 1
+owed_begin log lsn fresh =
+    owed_push log e
+    ∙ ap (λ n. n + owes (with log e) e) (sum_pointwise (owes (with log e)) (owes log) same log ∙ sym (owed_is log))
+    ∙ ap (λ n. owed log + n) new
+  where
+    e : Entry
+    e = record { lsn = lsn; rec = Begin }
+
+    still : (t : ℕ) → is_closed (with log e) t ≡ is_closed log t
+    still t = closed_same log e t (and_right (is_of t e) false refl)
+
+    same : (x : Entry) → owes (with log e) x ≡ owes log x
+    same x = ap (λ b. cond (is_begin x.rec && not b) (owed_by (with log e) x.lsn) 0) (still x.lsn)
+        ∙ ap (λ n. cond (is_begin x.rec && not (is_closed log x.lsn)) n 0) (owed_by_same log e x.lsn (and_right (is_of x.lsn e) false refl) (and_right (is_of x.lsn e) false refl))
+
+    new : owes (with log e) e ≡ 1
+    new = ap (λ b. cond (not b) (owed_by (with log e) lsn) 0) (still lsn ∙ fresh_open lsn log fresh)
+        ∙ owed_by_same log e lsn (and_right (is_of lsn e) false refl) (and_right (is_of lsn e) false refl)
+        ∙ ap (λ (l : List Entry). length (open_updates [] l) + 1) (fresh_entries lsn log fresh)
+
+-- An Update owes one more.
+pub owed_update : (log : List Entry) (e : Entry) → is_update e.rec ≡ true → is_closed log (txn_of e) ≡ false → IsLoserChain (txn_of e) (entries_of (txn_of e) log) →
+    owed (with log e) ≡ owed log + 1
+owed_update log e update lives chain =
+    owed_push log e
+    ∙ ap (λ n. n + owes (with log e) e)
+    (sum_pointwise (owes (with log e)) (λ x. owes log x + cond (begun_by (txn_of e) x) 1 0) more log ∙ sum_both (owes log) (λ x. cond (begun_by (txn_of e) x) 1 0) log)
+    ∙ omega (arith, owed_is log, once log (txn_of e) 1 chain, not_begin e.rec (owed_by (with log e) e.lsn) (not (is_closed (with log e) e.lsn)) update)
+  where
+    not_begin : (rec : LogRecord) (n : ℕ) (b : Bool) → is_update rec ≡ true → cond (is_begin rec && b) n 0 ≡ 0
+    not_begin Begin n b h = absurd (grind arith)
+    not_begin (Update txn prev page slot before after) n b h = refl
+    not_begin (Clr txn prev undo_next page slot after) n b h = refl
+    not_begin (Commit txn number) n b h = refl
+    not_begin (End txn) n b h = refl
+
+    not_clr : (rec : LogRecord) → is_update rec ≡ true → is_clr rec ≡ false
+    not_clr Begin h = refl
+    not_clr (Update txn prev page slot before after) h = refl
+    not_clr (Clr txn prev undo_next page slot after) h = absurd (grind arith)
+    not_clr (Commit txn number) h = refl
+    not_clr (End txn) h = refl
+
+    not_closing : (rec : LogRecord) → is_update rec ≡ true → is_closing rec ≡ false
+    not_closing Begin h = refl
+    not_closing (Update txn prev page slot before after) h = refl
+    not_closing (Clr txn prev undo_next page slot after) h = refl
+    not_closing (Commit txn number) h = absurd (grind arith)
+    not_closing (End txn) h = absurd (grind arith)
+
+    one_more : (us : List Entry) (rec : LogRecord) → is_update rec ≡ true → length (open_by us e rec) ≡ length us + 1
+    one_more us Begin h = absurd (grind arith)
+    one_more us (Update txn prev page slot before after) h = omega arith
+    one_more us (Clr txn prev undo_next page slot after) h = absurd (grind arith)
+    one_more us (Commit txn number) h = absurd (grind arith)
+    one_more us (End txn) h = absurd (grind arith)
+
+    own : (t : ℕ) → (txn_of e == t) ≡ true → (is_closed log t ≡ false) × (owed_by (with log e) t ≡ owed_by log t + 1)
+    own t h =
+        let same = eqb-true (txn_of e) t h in
+        let a = ap length (left_push log e t) ∙ ap (λ b. length (cond b (open_by (left_open log t) e e.rec) (left_open log t))) h in
+        (ap (is_closed log) (sym same) ∙ lives, omega (arith, a, one_more (left_open log t) e.rec update))
+
+    more : (x : Entry) → owes (with log e) x ≡ owes log x + cond (begun_by (txn_of e) x) 1 0
+    more x = more_at (is_begin x.rec) (is_closed log x.lsn) (is_closed (with log e) x.lsn) (txn_of e == x.lsn) (owed_by log x.lsn) (owed_by (with log e) x.lsn) 1
+        (closed_same log e x.lsn (and_right (is_of x.lsn e) (is_closing e.rec) (not_closing e.rec update)))
+        (own x.lsn)
+        (λ h. owed_by_same log e x.lsn (and_left (is_of x.lsn e) (is_update e.rec) h) (and_left (is_of x.lsn e) (is_clr e.rec) h))
+
+-- A CLR owes one less.
+pub owed_clr : (log : List Entry) (e : Entry) → is_clr e.rec ≡ true → is_closed log (txn_of e) ≡ false → IsLoserChain (txn_of e) (entries_of (txn_of e) log) →
+    0 < length (left_open log (txn_of e)) → owed log ≡ owed (with log e) + 1
+owed_clr log e clr lives chain some =
+    owed_is log
+    ∙ sum_pointwise (owes log) (λ x. owes (with log e) x + cond (begun_by (txn_of e) x) 1 0) less log
+    ∙ sum_both (owes (with log e)) (λ x. cond (begun_by (txn_of e) x) 1 0) log
+    ∙ omega (arith, owed_push log e, once log (txn_of e) 1 chain, not_begin e.rec (owed_by (with log e) e.lsn) (not (is_closed (with log e) e.lsn)) clr)
+  where
+    not_begin : (rec : LogRecord) (n : ℕ) (b : Bool) → is_clr rec ≡ true → cond (is_begin rec && b) n 0 ≡ 0
+    not_begin Begin n b h = absurd (grind arith)
+    not_begin (Update txn prev page slot before after) n b h = refl
+    not_begin (Clr txn prev undo_next page slot after) n b h = refl
+    not_begin (Commit txn number) n b h = absurd (grind arith)
+    not_begin (End txn) n b h = absurd (grind arith)
+
+    only_clr : (rec : LogRecord) → is_clr rec ≡ true → (is_update rec ≡ false) × (is_closing rec ≡ false)
+    only_clr Begin h = absurd (grind arith)
+    only_clr (Update txn prev page slot before after) h = absurd (grind arith)
+    only_clr (Clr txn prev undo_next page slot after) h = (refl, refl)
+    only_clr (Commit txn number) h = absurd (grind arith)
+    only_clr (End txn) h = absurd (grind arith)
+
+    still : (t : ℕ) → is_closed (with log e) t ≡ is_closed log t
+    still t = closed_same log e t (and_right (is_of t e) (is_closing e.rec) (only_clr e.rec clr).1)
+
+    one_less : (us : List Entry) (rec : LogRecord) → is_clr rec ≡ true → 0 < length us → length us ≡ length (open_by us e rec) + 1
+    one_less us Begin h l = absurd (grind arith)
+    one_less us (Update txn prev page slot before after) h l = absurd (grind arith)
+    one_less [] (Clr txn prev undo_next page slot after) h l = absurd (omega (arith, l))
+    one_less (u ∷ us) (Clr txn prev undo_next page slot after) h l = omega arith
+    one_less us (Commit txn number) h l = absurd (grind arith)
+    one_less us (End txn) h l = absurd (grind arith)
+
+    own : (t : ℕ) → (txn_of e == t) ≡ true → (is_closed (with log e) t ≡ false) × (owed_by log t ≡ owed_by (with log e) t + 1)
+    own t h =
+        let same = eqb-true (txn_of e) t h in
+        let a = ap length (left_push log e t) ∙ ap (λ b. length (cond b (open_by (left_open log t) e e.rec) (left_open log t))) h in
+        let c = subst (λ s. 0 < length (left_open log s)) same some in
+        (still t ∙ ap (is_closed log) (sym same) ∙ lives, omega (arith, a, c, one_less (left_open log t) e.rec clr c))
+
+    less : (x : Entry) → owes log x ≡ owes (with log e) x + cond (begun_by (txn_of e) x) 1 0
+    less x = more_at (is_begin x.rec) (is_closed (with log e) x.lsn) (is_closed log x.lsn) (txn_of e == x.lsn) (owed_by (with log e) x.lsn) (owed_by log x.lsn) 1
+        (sym (still x.lsn))
+        (own x.lsn)
+        (λ h. sym (owed_by_same log e x.lsn (and_left (is_of x.lsn e) (is_update e.rec) h) (and_left (is_of x.lsn e) (is_clr e.rec) h)))
+
+-- A Commit or an End takes away all that its transaction owed.
+pub owed_closing : (log : List Entry) (e : Entry) → is_closing e.rec ≡ true → is_closed log (txn_of e) ≡ false → IsLoserChain (txn_of e) (entries_of (txn_of e) log) →
+    owed log ≡ owed (with log e) + owed_by log (txn_of e)
+owed_closing log e closing lives chain =
+    owed_is log
+    ∙ sum_pointwise (owes log) (λ x. owes (with log e) x + cond (begun_by (txn_of e) x) (owed_by log (txn_of e)) 0) less log
+    ∙ sum_both (owes (with log e)) (λ x. cond (begun_by (txn_of e) x) (owed_by log (txn_of e)) 0) log
+    ∙ omega (arith, owed_push log e, once log (txn_of e) (owed_by log (txn_of e)) chain, not_begin e.rec (owed_by (with log e) e.lsn) (not (is_closed (with log e) e.lsn)) closing)
+  where
+    not_begin : (rec : LogRecord) (n : ℕ) (b : Bool) → is_closing rec ≡ true → cond (is_begin rec && b) n 0 ≡ 0
+    not_begin Begin n b h = absurd (grind arith)
+    not_begin (Update txn prev page slot before after) n b h = absurd (grind arith)
+    not_begin (Clr txn prev undo_next page slot after) n b h = absurd (grind arith)
+    not_begin (Commit txn number) n b h = refl
+    not_begin (End txn) n b h = refl
+
+    not_update : (rec : LogRecord) → is_closing rec ≡ true → (is_update rec ≡ false) × (is_clr rec ≡ false)
+    not_update Begin h = absurd (grind arith)
+    not_update (Update txn prev page slot before after) h = absurd (grind arith)
+    not_update (Clr txn prev undo_next page slot after) h = absurd (grind arith)
+    not_update (Commit txn number) h = (refl, refl)
+    not_update (End txn) h = (refl, refl)
+
+    less : (x : Entry) → owes log x ≡ owes (with log e) x + cond (begun_by (txn_of e) x) (owed_by log (txn_of e)) 0
+    less x = less_at (is_begin x.rec) (is_closed log x.lsn) (is_closed (with log e) x.lsn) (txn_of e == x.lsn) (owed_by log x.lsn) (owed_by (with log e) x.lsn) (owed_by log (txn_of e))
+        (λ h. let same = eqb-true (txn_of e) x.lsn h in
+        (ap (is_closed log) (sym same) ∙ lives, closed_by log e x.lsn (and_from (is_of x.lsn e) (is_closing e.rec) h closing), ap (owed_by log) (sym same)))
+        (λ h. (
+          closed_same log e x.lsn (and_left (is_of x.lsn e) (is_closing e.rec) h),
+          owed_by_same log e x.lsn (and_right (is_of x.lsn e) (is_update e.rec) (not_update e.rec closing).0) (and_right (is_of x.lsn e) (is_clr e.rec) (not_update e.rec closing).1),
+        ))
+
+-- Without unfinished transactions nothing is owed.
+
+no_losers : (log : List Entry) (ts : List ℕ) → ((t : ℕ) → is_loser log t ≡ false) → AllByRecursion (λ t. IsTrue (is_loser log t)) ts → ts ≡ []
+no_losers log [] h a = refl
+no_losers log (t ∷ ts) h a = absurd (let never = sym (h t) ∙ a.0 in grind arith)
+
+pub owed_none : (log : List Entry) → ((t : ℕ) → is_loser log t ≡ false) → owed log ≡ 0
+owed_none log h = ap (sum_by (owed_by log)) (no_losers log (losers log) h (are_losers log))
+
+-- What a transaction has written that was never undone is left to be undone.
+
+writes_count : (entries : List Entry) → clrs_in entries ≡ [] → length (filter_map (λ e. write_of e.rec) entries) ≡ length (updates_in entries)
+writes_count [] h = refl
+writes_count (e ∷ entries) h = by_rec e.lsn e.rec h (writes_count entries)
+  where
+    by_rec : (lsn : ℕ) (rec : LogRecord) → clrs_in (record { lsn = lsn; rec = rec } ∷ entries) ≡ [] → (clrs_in entries ≡ [] → length (filter_map (λ e. write_of e.rec) entries) ≡ length (updates_in entries)) →
+        length (filter_map (λ e. write_of e.rec) (record { lsn = lsn; rec = rec } ∷ entries)) ≡ length (updates_in (record { lsn = lsn; rec = rec } ∷ entries))
+    by_rec lsn Begin h f = f h
+    by_rec lsn (Commit txn number) h f = f h
+    by_rec lsn (End txn) h f = f h
+    by_rec lsn (Clr txn prev undo_next page slot after) h f = absurd (let l = ap length h in omega (arith, l))
+    by_rec lsn (Update txn prev page slot before after) h f = ap suc (f h)
+
+pub left_is_written : (log : List Entry) (t : ℕ) → IsLoserChain t (entries_of t log) → clrs_in (entries_of t log) ≡ [] → length (left_open log t) ≡ length (writes_in t log)
+left_is_written log t chain none =
+    let a = left_of_chain t (entries_of t log) chain in
+    let b = ap length none in
+    omega (arith, a, b, writes_count (entries_of t log) none)
+
+-- No block is empty.
+
+some_entries : (lsn : ℕ) (records : List LogRecord) → records ≢ [] → 1 ≤ length (entries_from lsn records)
+some_entries lsn [] h = absurd (h refl)
+some_entries lsn (rec ∷ records) h = omega arith
+
+pub blocks_have_records : (first : ℕ) (blocks : List (List LogRecord)) → AllByRecursion (λ records. records ≢ []) blocks → length blocks ≤ length (log_from first blocks)
+blocks_have_records first [] h = omega arith
+blocks_have_records first (records ∷ blocks) h =
+    let a = some_entries (512 * first + 2) records h.0 in
+    omega (arith, a, blocks_have_records (first + 1) blocks h.1, length-append (entries_from (512 * first + 2) records) (log_from (first + 1) blocks))

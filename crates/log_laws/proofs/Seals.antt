@@ -1,0 +1,164 @@
+-- Sealing a block that goes on keeps a picture sound, and changes what it means by the block's commits alone.
+use Rattle.std.proofs.Common.{◌≡◌, ℕ, ◌+◌, ◌-◌, ◌*◌, ◌/◌, ◌<◌, ◌≤◌, ◌⊎◌, inl, inr, true, false, ◌&&◌, List, [], ◌∷◌, ◌++◌, length, Some, sym, ap, subst, ◌∙◌, append_assoc, arith}
+use Rattle.std.specs.Prelude.{Option, flat_map, IsTrue, ◌==◌, ◌||◌, nat_lt, nat_le}
+use Rattle.std.specs.List.{AllByRecursion, range_with_len}
+use Rattle.std.specs.Option.{option_or}
+use Rattle.std.proofs.lemmas.Bool.{le-ltb, le-leb, lt-leb, and_right}
+use Rattle.std.proofs.lemmas.Bool.Decides.{nat_tests}
+use Rattle.std.proofs.lemmas.List.{append-nil, length-append}
+use Rattle.std.proofs.lemmas.List.Elements.{filter-append, filter_map-append}
+use Rattle.record_model.specs.State.{Content, content_at}
+use Rattle.log_records.specs.declared.log_record.LogRecord.{LogRecord}
+use Rattle.log_records.specs.Spelling.{spelling, AreBlock}
+use Rattle.log_records.specs.Log.{Entry, Version, version_at, number_of, is_on, table_of}
+use Rattle.log_records.specs.Sound.{Master, AreNumbered, Picture, InTurn, IsInOrder, IsSound, Means, IsOfOpenTransaction, before_block, from_block, last_known, FitsLog, IsInTable, ShowsLast, active_in, commit_number, commit_numbers, commit_count}
+use Rattle.log_laws.specs.Follow.{Follows, IsUndoable, GoesOn, sealed, next_entries, table_after_all}
+use Rattle.log_laws.proofs.Lists.{all_append, all_weaker, last_where-append}
+use Rattle.log_laws.proofs.Values.{with}
+use Rattle.log_laws.proofs.Follow.{table_behind, undoable_behind}
+use Rattle.log_laws.proofs.Parts.{commits_parts, range_push}
+use Rattle.log_laws.proofs.Orders.{InTurn-all, entries_in_order, in_order_from, in_order_to, in_order-append, all_from, none_passes, filter_none, filter_all, InTurn-append_all, InTurn-weaker}
+
+-- Records one by one.
+
+split : (log : List Entry) (e : Entry) (entries : List Entry) → log ++ (e ∷ entries) ≡ with log e ++ entries
+split log e entries = sym (append_assoc log (e ∷ []) entries)
+
+pub undoable_behind_all : (m : Master) (pages : List Version) (log entries : List Entry) → IsUndoable log → InTurn (Follows m pages) log entries → IsUndoable (log ++ entries)
+undoable_behind_all m pages log [] u f = subst IsUndoable (sym (append-nil log)) u
+undoable_behind_all m pages log (e ∷ entries) u f = subst IsUndoable (sym (split log e entries)) (undoable_behind_all m pages (with log e) entries (undoable_behind m pages log u e f.0) f.1)
+
+pub table_behind_all : (m : Master) (pages : List Version) (log entries : List Entry) → IsUndoable log → InTurn (Follows m pages) log entries →
+    table_of (log ++ entries) pages ≡ table_after_all (table_of log pages) log entries
+table_behind_all m pages log [] u f = ap (λ (l : List Entry). table_of l pages) (append-nil log)
+table_behind_all m pages log (e ∷ entries) u f =
+    ap (λ (l : List Entry). table_of l pages) (split log e entries)
+    ∙ table_behind_all m pages (with log e) entries (undoable_behind m pages log u e f.0) f.1
+    ∙ ap (λ (t : List Content). table_after_all t (with log e) entries) (table_behind m pages log u e f.0)
+
+module _ (p : Picture) (records : List LogRecord) (sound : IsSound p) (block : AreBlock records) where
+  pub undoable : IsUndoable p.log
+  undoable = record { undone = sound.losers_can_be_undone; held = sound.losers_hold_others_off }
+
+  new_in_order : IsInOrder (512 * p.hi + 2) (next_entries p records) (512 * (p.hi + 1))
+  new_in_order = in_order_to (512 * p.hi + 2) (next_entries p records) (512 * p.hi + 2 + length (flat_map spelling records)) (512 * (p.hi + 1)) (let room = block.room in omega (arith, room)) (entries_in_order (512 * p.hi + 2) records)
+
+  behind : AllByRecursion (λ e. 512 * p.hi + 2 ≤ e.lsn) (next_entries p records)
+  behind = all_from (512 * p.hi + 2) (next_entries p records) (512 * (p.hi + 1)) new_in_order
+
+  late : AllByRecursion (λ e. 512 * p.master.redo ≤ e.lsn) (next_entries p records)
+  late = all_weaker (λ e. 512 * p.hi + 2 ≤ e.lsn) (λ e. 512 * p.master.redo ≤ e.lsn) (λ e h. let r = sound.redo_before_end in omega (arith, r, h)) (next_entries p records) behind
+
+  pub before_same : before_block p.master.redo (p.log ++ next_entries p records) ≡ before_block p.master.redo p.log
+  before_same =
+      filter-append (λ e. nat_lt e.lsn (512 * p.master.redo)) p.log (next_entries p records)
+      ∙ ap (λ (l : List Entry). before_block p.master.redo p.log ++ l)
+      (filter_none (λ e. nat_lt e.lsn (512 * p.master.redo)) (next_entries p records) (all_weaker (λ e. 512 * p.master.redo ≤ e.lsn) (λ e. nat_lt e.lsn (512 * p.master.redo) ≡ false) (λ e h. le-ltb e.lsn (512 * p.master.redo) h) (next_entries p records) late))
+      ∙ append-nil (before_block p.master.redo p.log)
+
+  pub from_more : from_block p.master.redo (p.log ++ next_entries p records) ≡ from_block p.master.redo p.log ++ next_entries p records
+  from_more =
+      filter-append (λ e. nat_le (512 * p.master.redo) e.lsn) p.log (next_entries p records)
+      ∙ ap (λ (l : List Entry). from_block p.master.redo p.log ++ l)
+      (filter_all (λ e. nat_le (512 * p.master.redo) e.lsn) (next_entries p records) (all_weaker (λ e. 512 * p.master.redo ≤ e.lsn) (λ e. nat_le (512 * p.master.redo) e.lsn ≡ true) (λ e h. le-leb (512 * p.master.redo) e.lsn h) (next_entries p records) late))
+
+  low : (lsn : ℕ) → IsTrue ((lsn == 0) || nat_lt lsn (512 * p.hi)) → lsn < 512 * p.hi + 2
+  low lsn h = grind (arith, nat_tests)
+
+  -- a version knows of none of the new records
+  known_same : (lsn number : ℕ) → lsn < 512 * p.hi + 2 → last_known (p.log ++ next_entries p records) lsn number ≡ last_known p.log lsn number
+  known_same lsn number l =
+      last_where-append (λ e. is_on number e && nat_le e.lsn lsn) p.log (next_entries p records)
+      ∙ ap (λ (o : Option Entry). option_or o (last_known p.log lsn number))
+      (none_passes (λ e. is_on number e && nat_le e.lsn lsn) (next_entries p records)
+      (all_weaker (λ e. 512 * p.hi + 2 ≤ e.lsn) (λ e. (is_on number e && nat_le e.lsn lsn) ≡ false)
+      (λ e h. and_right (is_on number e) (nat_le e.lsn lsn) (lt-leb e.lsn lsn (omega (arith, l, h)))) (next_entries p records) behind))
+
+  logged_more : (lsn : ℕ) → IsTrue ((lsn == 0) || nat_lt lsn (512 * p.hi)) → IsTrue ((lsn == 0) || nat_lt lsn (512 * (p.hi + 1)))
+  logged_more lsn h = grind (arith, nat_tests)
+
+  fits_sealed : (page : ℕ) (v : Version) → FitsLog p page v → FitsLog (sealed p records) page v
+  fits_sealed page v f = record {
+    logged = logged_more v.lsn f.logged;
+    shows = λ slot h. subst (ShowsLast (content_at v.slots slot)) (sym (known_same v.lsn (32 * page + slot) (low v.lsn f.logged))) (f.shows slot h);
+    knows = subst (AllByRecursion (λ e. (number : ℕ) → number_of e.rec ≡ Some number → number / 32 ≡ page → e.lsn ≤ v.lsn)) (sym before_same) f.knows;
+  }
+
+  undoable_sealed : GoesOn p records → IsUndoable (p.log ++ next_entries p records)
+  undoable_sealed goes = undoable_behind_all p.master p.pages p.log (next_entries p records) undoable goes.follow
+
+  sealed_with : GoesOn p records → IsSound (sealed p records)
+  sealed_with goes = record {
+    kept_before_redo = sound.kept_before_redo;
+    redo_before_end = let r = sound.redo_before_end in omega (arith, r);
+    kept_is_live = let r = goes.room in omega (arith, r);
+    in_order = in_order-append (512 * p.master.kept) (512 * p.hi) (512 * (p.hi + 1)) p.log (next_entries p records) sound.in_order
+        (in_order_from (512 * p.hi + 2) (512 * p.hi) (next_entries p records) (512 * (p.hi + 1)) (omega arith) new_in_order);
+    open_transactions = InTurn-append_all (IsOfOpenTransaction p.master) [] p.log (next_entries p records) sound.open_transactions
+        (InTurn-weaker (Follows p.master p.pages) (IsOfOpenTransaction p.master) (λ earlier e f late other. f.of_open other) p.log (next_entries p records) goes.follow);
+    in_table = all_append (IsInTable p.pages) p.log (next_entries p records) sound.in_table
+        (InTurn-all (Follows p.master p.pages) (IsInTable p.pages) (λ earlier e f. f.in_table) p.log (next_entries p records) goes.follow);
+    losers_can_be_undone = (undoable_sealed goes).undone;
+    losers_hold_others_off = (undoable_sealed goes).held;
+    versions_fit = λ page h. fits_sealed page (version_at p.pages page) (sound.versions_fit page h);
+    room_for_undo = goes.room;
+    master_names_the_active = sound.master_names_the_active ∙ ap active_in (sym before_same);
+    commits = goes.numbered;
+  }
+
+  -- the count rises by the block's commits
+  pub sealed_count : commit_count (sealed p records) ≡ commit_count p + length (commit_numbers (next_entries p records))
+  sealed_count =
+      ap (λ (l : List Entry). p.master.commits + length (commit_numbers l)) from_more
+      ∙ ap (λ (l : List ℕ). p.master.commits + length l) (filter_map-append commit_number (from_block p.master.redo p.log) (next_entries p records))
+      ∙ omega (arith, length-append (commit_numbers (from_block p.master.redo p.log)) (commit_numbers (next_entries p records)))
+
+  means_with : GoesOn p records → (table : List Content) (count : ℕ) → Means p table count →
+      Means (sealed p records) (table_after_all table p.log (next_entries p records)) (count + length (commit_numbers (next_entries p records)))
+  means_with goes table count means = record {
+    table_is = ap (λ (t : List Content). table_after_all t p.log (next_entries p records)) means.table_is ∙ sym (table_behind_all p.master p.pages p.log (next_entries p records) undoable goes.follow);
+    count_is = ap (λ n. n + length (commit_numbers (next_entries p records))) means.count_is ∙ sym sealed_count;
+  }
+
+  -- the commits run on where the block has none, or one with the next number
+  pub numbered_with : (commit_numbers (next_entries p records) ≡ []) ⊎ (commit_numbers (next_entries p records) ≡ (commit_count p + 1) ∷ []) → AreNumbered (sealed p records)
+  numbered_with new = record {
+    before_redo = let b = sound.commits.before_redo in omega (arith, b, ap (λ (l : List Entry). length (commit_numbers l)) before_same);
+    run_on = all_run_on new;
+    fit = let f = sound.commits.fit in omega (arith, f, sealed_count, at_most new);
+  }
+    where
+      at_most : (commit_numbers (next_entries p records) ≡ []) ⊎ (commit_numbers (next_entries p records) ≡ (commit_count p + 1) ∷ []) → length (commit_numbers (next_entries p records)) ≤ 1
+      at_most (inl e) = omega (arith, ap length e)
+      at_most (inr e) = omega (arith, ap length e)
+
+      numbers : commit_numbers (p.log ++ next_entries p records) ≡ commit_numbers p.log ++ commit_numbers (next_entries p records)
+      numbers = filter_map-append commit_number p.log (next_entries p records)
+
+      first : ℕ
+      first = p.master.commits + 1 - length (commit_numbers (before_block p.master.redo p.log))
+
+      all_run_on : (commit_numbers (next_entries p records) ≡ []) ⊎ (commit_numbers (next_entries p records) ≡ (commit_count p + 1) ∷ []) →
+          commit_numbers (p.log ++ next_entries p records) ≡ range_with_len (p.master.commits + 1 - length (commit_numbers (before_block p.master.redo (p.log ++ next_entries p records)))) (length (commit_numbers (p.log ++ next_entries p records)))
+      all_run_on (inl e) =
+          let same = numbers ∙ ap (λ (l : List ℕ). commit_numbers p.log ++ l) e ∙ append-nil (commit_numbers p.log) in
+          same ∙ sound.commits.run_on
+          ∙ sym (ap (λ (l : List ℕ). range_with_len (p.master.commits + 1 - length (commit_numbers (before_block p.master.redo (p.log ++ next_entries p records)))) (length l)) same
+          ∙ ap (λ (l : List Entry). range_with_len (p.master.commits + 1 - length (commit_numbers l)) (length (commit_numbers p.log))) before_same)
+      all_run_on (inr e) =
+          let old = length (commit_numbers p.log) in
+          let before = length (commit_numbers (before_block p.master.redo p.log)) in
+          let more = numbers ∙ ap (λ (l : List ℕ). commit_numbers p.log ++ l) e in
+          let b = sound.commits.before_redo in
+          more ∙ ap (λ (l : List ℕ). l ++ (commit_count p + 1) ∷ []) sound.commits.run_on
+          ∙ ap (λ n. range_with_len (p.master.commits + 1 - before) old ++ n ∷ []) (omega (arith, b, commits_parts p.master.redo (512 * p.master.kept) p.log (512 * p.hi) sound.in_order))
+          ∙ range_push (p.master.commits + 1 - before) old
+          ∙ ap (range_with_len (p.master.commits + 1 - before)) (omega (arith, ap length more, length-append (commit_numbers p.log) ((commit_count p + 1) ∷ [])))
+          ∙ sym (ap (λ (l : List Entry). range_with_len (p.master.commits + 1 - length (commit_numbers l)) (length (commit_numbers (p.log ++ next_entries p records)))) before_same)
+
+pub sealed_is_sound : (p : Picture) (records : List LogRecord) → IsSound p → GoesOn p records → IsSound (sealed p records)
+sealed_is_sound p records sound goes = sealed_with p records sound goes.are_block goes
+
+pub sealed_means : (p : Picture) (records : List LogRecord) → IsSound p → GoesOn p records → (table : List Content) (count : ℕ) → Means p table count →
+    Means (sealed p records) (table_after_all table p.log (next_entries p records)) (count + length (commit_numbers (next_entries p records)))
+sealed_means p records sound goes = means_with p records sound goes.are_block goes

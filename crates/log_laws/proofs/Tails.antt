@@ -1,0 +1,190 @@
+-- A log that goes on record by record.
+use Rattle.std.proofs.Common.{◌≡◌, ◌≢◌, ◌-◌, suc, ℕ, ◌+◌, ◌*◌, ◌≤◌, List, [], ◌∷◌, ◌++◌, length, Some, None, refl, sym, ap, subst, ◌∙◌, append_assoc, arith}
+use Rattle.std.specs.Prelude.{Option, flat_map}
+use Rattle.std.specs.List.{AllByRecursion, cons_option}
+use Rattle.std.proofs.lemmas.List.{append-nil, length-append, length-replicate, get_or-replicate}
+use Rattle.std.proofs.lemmas.List.Elements.{filter_map-append}
+use Rattle.record_model.specs.State.{Content, table_with}
+use Rattle.log_records.specs.declared.log_record.LogRecord.{LogRecord}
+use Rattle.log_records.specs.declared.log_record.LogRecord.TheVariants.{Commit}
+use Rattle.log_records.specs.Spelling.{spelling, AreBlock}
+use Rattle.log_records.specs.Log.{Entry, blank_version, entries_from, log_from, table_of}
+use Rattle.log_records.specs.Sound.{Picture, IsSound, IsInOrder, InTurn, IsOfOpenTransaction, IsInTable, FitsLog, HasRoom, IsOrderly, AreOrderly, commit_count, commit_number, commit_numbers}
+use Rattle.log_laws.specs.Follow.{GoesOn, Follows, IsUndoable, IsFresh, sealed, next_entries, table_after, writes_in}
+use Rattle.log_laws.specs.Tail.{Carries, CommitsOnceAtMost, whole, next_lsn, plain}
+use Rattle.log_laws.proofs.Lists.{all_append}
+use Rattle.log_laws.proofs.Parts.{InTurn-right}
+use Rattle.log_laws.proofs.Owing.{blocks_have_records}
+use Rattle.log_records.specs.Unfinished.{owed}
+use Rattle.log_laws.proofs.Follow.{table_behind}
+use Rattle.log_laws.proofs.Orders.{InTurn-all, InTurn-append, InTurn-append_all, InTurn-weaker, entries_in_order, in_order_from, in_order_to, in_order-append}
+use Rattle.log_laws.proofs.Seals.{undoable_behind_all, table_behind_all, sealed_is_sound, numbered_with}
+use Rattle.log_laws.proofs.Commits.{table_none}
+use Rattle.log_laws.proofs.Orderly.{orderly_of, orderly_behind, none_active, fresh_behind, all_from_first}
+
+pub entries_append : (lsn : ℕ) (xs ys : List LogRecord) → entries_from lsn (xs ++ ys) ≡ entries_from lsn xs ++ entries_from (lsn + length (flat_map spelling xs)) ys
+entries_append lsn [] ys = ap (λ n. entries_from n ys) (omega arith)
+entries_append lsn (x ∷ xs) ys =
+    ap (λ (l : List Entry). record { lsn = lsn; rec = x } ∷ l)
+    (entries_append (lsn + length (spelling x)) xs ys
+    ∙ ap (λ n. entries_from (lsn + length (spelling x)) xs ++ entries_from n ys) (omega (arith, length-append (spelling x) (flat_map spelling xs))))
+
+last_entry : (p : Picture) (tail : List LogRecord) (rec : LogRecord) → next_entries p (tail ++ rec ∷ []) ≡ next_entries p tail ++ record { lsn = next_lsn p tail; rec = rec } ∷ []
+last_entry p tail rec =
+    entries_append (512 * p.hi + 2) tail (rec ∷ [])
+    ∙ ap (λ n. next_entries p tail ++ record { lsn = n; rec = rec } ∷ []) (omega arith)
+
+pub whole_more : (p : Picture) (tail : List LogRecord) (rec : LogRecord) → whole p (tail ++ rec ∷ []) ≡ whole p tail ++ record { lsn = next_lsn p tail; rec = rec } ∷ []
+whole_more p tail rec =
+    ap (λ (l : List Entry). p.log ++ l) (last_entry p tail rec) ∙ sym (append_assoc p.log (next_entries p tail) (record { lsn = next_lsn p tail; rec = rec } ∷ []))
+
+pub carries_nothing : (p : Picture) → IsSound p → Carries p []
+carries_nothing p sound = record { sound = sound; follow = tt }
+
+pub carries_more : (p : Picture) (tail : List LogRecord) (rec : LogRecord) → Carries p tail → Follows p.master p.pages (whole p tail) (record { lsn = next_lsn p tail; rec = rec }) → Carries p (tail ++ rec ∷ [])
+carries_more p tail rec c f = record {
+  sound = c.sound;
+  follow = subst (InTurn (Follows p.master p.pages) p.log) (sym (last_entry p tail rec))
+      (InTurn-append (Follows p.master p.pages) p.log (next_entries p tail) (record { lsn = next_lsn p tail; rec = rec }) c.follow f);
+}
+
+pub whole_in_order : (p : Picture) (tail : List LogRecord) → Carries p tail → IsInOrder (512 * p.master.kept) (whole p tail) (next_lsn p tail)
+whole_in_order p tail c =
+    in_order-append (512 * p.master.kept) (512 * p.hi) (next_lsn p tail) p.log (next_entries p tail) c.sound.in_order
+    (in_order_from (512 * p.hi + 2) (512 * p.hi) (next_entries p tail) (next_lsn p tail) (omega arith)
+    (in_order_to (512 * p.hi + 2) (next_entries p tail) (512 * p.hi + 2 + length (flat_map spelling tail)) (next_lsn p tail) (omega arith) (entries_in_order (512 * p.hi + 2) tail)))
+
+undoable_of : (p : Picture) → IsSound p → IsUndoable p.log
+undoable_of p sound = record { undone = sound.losers_can_be_undone; held = sound.losers_hold_others_off }
+
+pub whole_is_undoable : (p : Picture) (tail : List LogRecord) → Carries p tail → IsUndoable (whole p tail)
+whole_is_undoable p tail c = undoable_behind_all p.master p.pages p.log (next_entries p tail) (undoable_of p c.sound) c.follow
+
+pub whole_of_open : (p : Picture) (tail : List LogRecord) → Carries p tail → InTurn (IsOfOpenTransaction p.master) [] (whole p tail)
+whole_of_open p tail c =
+    InTurn-append_all (IsOfOpenTransaction p.master) [] p.log (next_entries p tail) c.sound.open_transactions
+    (InTurn-weaker (Follows p.master p.pages) (IsOfOpenTransaction p.master) (λ earlier e f late other. f.of_open other) p.log (next_entries p tail) c.follow)
+
+pub whole_is_orderly : (p : Picture) (tail : List LogRecord) → Carries p tail → p.master.redo ≡ 0 → AreOrderly (whole p tail)
+whole_is_orderly p tail c first = orderly_of p.master (512 * p.master.kept) (whole p tail) (next_lsn p tail) first (none_active p c.sound first) (whole_in_order p tail c) (whole_of_open p tail c)
+
+pub fresh_at_end : (p : Picture) (tail : List LogRecord) (lsn : ℕ) → Carries p tail → p.master.redo ≡ 0 → next_lsn p tail ≤ lsn → IsFresh lsn (whole p tail)
+fresh_at_end p tail lsn c first late = fresh_behind (512 * p.master.kept) (whole p tail) (next_lsn p tail) lsn (whole_in_order p tail c) (whole_is_orderly p tail c first) late
+
+pub table_more : (p : Picture) (tail : List LogRecord) (e : Entry) → Carries p tail → Follows p.master p.pages (whole p tail) e →
+    table_of (whole p tail ++ e ∷ []) p.pages ≡ table_after (table_of (whole p tail) p.pages) (whole p tail) e.rec
+table_more p tail e c f = table_behind p.master p.pages (whole p tail) (whole_is_undoable p tail c) e f
+
+pub commits_more : (log : List Entry) (e : Entry) (number : ℕ) → commit_number e ≡ Some number → commit_numbers (log ++ e ∷ []) ≡ commit_numbers log ++ number ∷ []
+commits_more log e number h = filter_map-append commit_number log (e ∷ []) ∙ ap (λ (o : Option ℕ). commit_numbers log ++ cons_option o []) h
+
+pub commits_stay : (log : List Entry) (e : Entry) → commit_number e ≡ None → commit_numbers (log ++ e ∷ []) ≡ commit_numbers log
+commits_stay log e h = filter_map-append commit_number log (e ∷ []) ∙ ap (λ (o : Option ℕ). commit_numbers log ++ cons_option o []) h ∙ append-nil (commit_numbers log)
+
+pub tail_without_commit : (p : Picture) (tail : List LogRecord) → Carries p tail → commit_numbers (next_entries p tail) ≡ [] → table_of (whole p tail) p.pages ≡ table_of p.log p.pages
+tail_without_commit p tail c none =
+    table_behind_all p.master p.pages p.log (next_entries p tail) (undoable_of p c.sound) c.follow ∙ table_none (table_of p.log p.pages) p.log (next_entries p tail) none
+
+pub sealed_tail : (p : Picture) (tail : List LogRecord) → Carries p tail → AreBlock tail → HasRoom (sealed p tail) → CommitsOnceAtMost p tail → IsSound (sealed p tail)
+sealed_tail p tail c block room commits =
+    sealed_is_sound p tail c.sound (record { are_block = block; follow = c.follow; numbered = numbered_with p tail c.sound block commits; room = room })
+
+-- Logs without checkpoints.
+
+pub log_from-append : (blocks : List (List LogRecord)) (records : List LogRecord) (number : ℕ) →
+    log_from number (blocks ++ records ∷ []) ≡ log_from number blocks ++ entries_from (512 * (number + length blocks) + 2) records
+log_from-append [] records number =
+    append-nil (entries_from (512 * number + 2) records) ∙ ap (λ n. entries_from (512 * n + 2) records) (omega arith)
+log_from-append (b ∷ blocks) records number =
+    ap (λ (log : List Entry). entries_from (512 * number + 2) b ++ log) (log_from-append blocks records (number + 1))
+    ∙ sym (append_assoc (entries_from (512 * number + 2) b) (log_from (number + 1) blocks) _)
+    ∙ ap (λ n. entries_from (512 * number + 2) b ++ log_from (number + 1) blocks ++ entries_from (512 * n + 2) records) (omega arith)
+
+pub plain_sealed : (pages room : ℕ) (blocks : List (List LogRecord)) (records : List LogRecord) → sealed (plain pages room blocks) records ≡ plain pages room (blocks ++ records ∷ [])
+plain_sealed pages room blocks records =
+    let log = sym (log_from-append blocks records 0 ∙ ap (λ n. log_from 0 blocks ++ entries_from (512 * n + 2) records) (omega arith)) in
+    let hi = sym (length-append blocks (records ∷ [])) in
+    λ k. record { master = (plain pages room blocks).master; log = log k; hi = hi k; blocks = room; pages = (plain pages room blocks).pages }
+
+pub plain_count : (pages room : ℕ) (blocks : List (List LogRecord)) → commit_count (plain pages room blocks) ≡ length (commit_numbers (plain pages room blocks).log)
+plain_count pages room blocks = omega (arith, ap (λ (l : List Entry). length (commit_numbers l)) (all_from_first (log_from 0 blocks)))
+
+pub blank_is_sound : (pages room : ℕ) → IsSound (plain pages room [])
+blank_is_sound pages room = record {
+  kept_before_redo = omega arith;
+  redo_before_end = omega arith;
+  kept_is_live = omega arith;
+  in_order = omega arith;
+  open_transactions = tt;
+  in_table = tt;
+  losers_can_be_undone = λ t h. cc;
+  losers_hold_others_off = tt;
+  versions_fit = λ page h. subst (FitsLog (plain pages room []) page) (sym (get_or-replicate pages page blank_version blank_version (omega (arith, h, length-replicate pages blank_version)))) (record { logged = refl; shows = λ slot low. tt; knows = tt });
+  room_for_undo = omega arith;
+  master_names_the_active = refl;
+  commits = record { before_redo = omega arith; run_on = refl; fit = omega arith };
+}
+
+pub whole_in_table : (p : Picture) (tail : List LogRecord) → Carries p tail → AllByRecursion (IsInTable p.pages) (whole p tail)
+whole_in_table p tail c =
+    all_append (IsInTable p.pages) p.log (next_entries p tail) c.sound.in_table
+    (InTurn-all (Follows p.master p.pages) (IsInTable p.pages) (λ earlier e f. f.in_table) p.log (next_entries p tail) c.follow)
+
+InTurn-left : {X : Type 0} (P : List X → X → Type 0) (earlier xs ys : List X) → InTurn P earlier (xs ++ ys) → InTurn P earlier xs
+InTurn-left P earlier [] ys h = tt
+InTurn-left P earlier (x ∷ xs) ys h = (h.0, InTurn-left P (earlier ++ x ∷ []) xs ys h.1)
+
+pub in_order_left : (from : ℕ) (xs : List Entry) (e : Entry) (rest : List Entry) (to : ℕ) → IsInOrder from (xs ++ e ∷ rest) to → IsInOrder from xs e.lsn
+in_order_left from [] e rest to h = h.0
+in_order_left from (x ∷ xs) e rest to h = (h.0, in_order_left (x.lsn + 1) xs e rest to h.1)
+
+pub orderly_at : (from to : ℕ) (earlier : List Entry) (e : Entry) (rest : List Entry) → IsInOrder from (earlier ++ e ∷ rest) to → AreOrderly (earlier ++ e ∷ rest) →
+    AreOrderly earlier × IsOrderly earlier e × IsFresh e.lsn earlier
+orderly_at from to earlier e rest order orderly =
+    let left = InTurn-left IsOrderly [] earlier (e ∷ rest) orderly in
+    (left, (InTurn-right IsOrderly [] earlier (e ∷ rest) orderly).0, fresh_behind from earlier e.lsn e.lsn (in_order_left from earlier e rest to order) left (omega arith))
+
+pub whole_sealed : (p : Picture) (tail : List LogRecord) → whole (sealed p tail) [] ≡ whole p tail
+whole_sealed p tail = append-nil (whole p tail)
+
+length_entries : (lsn : ℕ) (records : List LogRecord) → length (entries_from lsn records) ≡ length records
+length_entries lsn [] = refl
+length_entries lsn (rec ∷ records) = ap suc (length_entries (lsn + length (spelling rec)) records)
+
+some_records : (records : List LogRecord) → records ≢ [] → 1 ≤ length records
+some_records [] h = absurd (h refl)
+some_records (rec ∷ records) h = omega arith
+
+pub plain_room : (pages room : ℕ) (blocks : List (List LogRecord)) (tail : List LogRecord) → AllByRecursion (λ records. records ≢ []) blocks → tail ≢ [] →
+    length (whole (plain pages room blocks) tail) + owed (whole (plain pages room blocks) tail) ≤ room - 1 → HasRoom (sealed (plain pages room blocks) tail)
+plain_room pages room blocks tail full some fits =
+    omega (
+      arith,
+      fits,
+      blocks_have_records 0 blocks full,
+      some_records tail some,
+      length_entries (512 * length blocks + 2) tail,
+      length-append (log_from 0 blocks) (entries_from (512 * length blocks + 2) tail),
+    )
+
+pub sealed_is_orderly : (p : Picture) (records : List LogRecord) → IsSound p → AreOrderly p.log → GoesOn p records → AreOrderly (sealed p records).log
+sealed_is_orderly p records sound orderly goes =
+    orderly_behind p (next_entries p records) (512 * p.hi + 2 + length (flat_map spelling records)) sound orderly
+    (in_order_from (512 * p.hi + 2) (512 * p.hi) (next_entries p records) (512 * p.hi + 2 + length (flat_map spelling records)) (omega arith) (entries_in_order (512 * p.hi + 2) records))
+    goes.follow
+
+pub carries_front : (p : Picture) (front : List LogRecord) (rec : LogRecord) → Carries p (front ++ rec ∷ []) → Carries p front × Follows p.master p.pages (whole p front) (record { lsn = next_lsn p front; rec = rec })
+carries_front p front rec c =
+    let e : Entry = record { lsn = next_lsn p front; rec = rec } in
+    let all = subst (InTurn (Follows p.master p.pages) p.log) (last_entry p front rec) c.follow in (
+      record { sound = c.sound; follow = InTurn-left (Follows p.master p.pages) p.log (next_entries p front) (e ∷ []) all },
+      (InTurn-right (Follows p.master p.pages) p.log (next_entries p front) (e ∷ []) all).0,
+    )
+
+pub tail_with_commit : (p : Picture) (front : List LogRecord) (t number : ℕ) → Carries p (front ++ Commit t number ∷ []) → commit_numbers (next_entries p front) ≡ [] →
+    table_of (whole p (front ++ Commit t number ∷ [])) p.pages ≡ table_with (table_of p.log p.pages) (writes_in t (whole p front))
+tail_with_commit p front t number c none =
+    let before = carries_front p front (Commit t number) c in
+    ap (λ (l : List Entry). table_of l p.pages) (whole_more p front (Commit t number))
+    ∙ table_more p front (record { lsn = next_lsn p front; rec = Commit t number }) before.0 before.1
+    ∙ ap (λ (table : List Content). table_with table (writes_in t (whole p front))) (tail_without_commit p front before.0 none)

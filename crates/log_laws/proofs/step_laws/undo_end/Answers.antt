@@ -1,0 +1,5 @@
+use Rattle.log_laws.proofs.UndoingSteps.{undo_end}
+use Rattle.log_laws.proofs.step_laws.undo_end.Goals as goal
+
+pub returns : goal.returns
+returns c = undo_end

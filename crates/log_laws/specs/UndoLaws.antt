@@ -1,0 +1,60 @@
+-- Where undoing a transaction goes on.
+use Rattle.std.specs.Prelude.{◌≡◌, ℕ, ◌<◌, ◌≤◌, ◌==◌, true, if◌then◌else◌, List, [], ◌∷◌, ◌++◌, find, Some}
+use Rattle.record_model.specs.State.{Write}
+use Rattle.log_records.specs.declared.log_record.LogRecord.{LogRecord}
+use Rattle.log_records.specs.declared.log_record.LogRecord.TheVariants.{Update, Clr}
+use Rattle.log_records.specs.Log.{Entry, txn_of, is_of, is_update, entries_of}
+use Rattle.log_records.specs.Unfinished.{left_open, prev_of}
+use Rattle.log_records.specs.Sound.{Master, IsInOrder, IsLoserChain, last_lsn}
+use Rattle.log_laws.specs.Follow.{IsActive}
+
+-- the LSN of the first of these, and of the Begin where there is none
+abbrev pub top_lsn : ℕ → List Entry → ℕ
+top_lsn begin [] = begin
+top_lsn begin (u ∷ updates) = u.lsn
+
+-- where undoing goes on after one more record: with an Update itself, and after a CLR where that one says
+abbrev pub next_by : ℕ → ℕ → LogRecord → ℕ
+next_by next lsn (Update txn prev page slot before after) = lsn
+next_by next lsn (Clr txn prev undo_next page slot after) = undo_next
+next_by next lsn _ = next
+
+abbrev pub next_in : ℕ → List Entry → ℕ
+next_in next [] = next
+next_in next (e ∷ entries) = next_in (next_by next e.lsn e.rec) entries
+
+-- and for a transaction, which begins with its Begin
+abbrev pub next_of : List Entry → ℕ → ℕ
+next_of log t = next_in t (entries_of t log)
+
+-- one more record
+abbrev pub NextMore : Type 0
+NextMore = (log : List Entry) (e : Entry) (t : ℕ) → next_of (log ++ e ∷ []) t ≡ (if is_of t e then next_by (next_of log t) e.lsn e.rec else next_of log t)
+
+-- undoing goes on with the last Update that is left, which stands in the log and names the one before it that is left
+pub record IsNext (log : List Entry) (t : ℕ) (u : Entry) (rest : List Entry) : Type 0 where
+  pub next : next_of log t ≡ u.lsn
+  pub prev : prev_of u.rec ≡ top_lsn t rest
+  pub falls : prev_of u.rec < u.lsn
+  pub late : t ≤ prev_of u.rec
+  pub early : u.lsn ≤ last_lsn (entries_of t log)
+  pub found : find (λ e. e.lsn == u.lsn) log ≡ Some u
+  pub update : is_update u.rec ≡ true
+  pub own : txn_of u ≡ t
+
+abbrev pub NextToUndo : Type 0
+NextToUndo =
+    (from to : ℕ) (log : List Entry) (t : ℕ) (u : Entry) (rest : List Entry) → IsInOrder from log to → IsLoserChain t (entries_of t log) →
+    left_open log t ≡ u ∷ rest → IsNext log t u rest
+
+-- where nothing is left it has come to the Begin
+abbrev pub NextOfUndone : Type 0
+NextOfUndone = (from to : ℕ) (log : List Entry) (t : ℕ) → IsInOrder from log to → IsLoserChain t (entries_of t log) → left_open log t ≡ [] → next_of log t ≡ t
+
+-- and for a transaction that was never undone it is the last record
+abbrev pub NextOfActive : Type 0
+NextOfActive = (m : Master) (from to : ℕ) (log : List Entry) (t last : ℕ) (writes : List Write) → IsInOrder from log to → IsActive m log t last writes → next_of log t ≡ last
+
+-- a record in the log is found by its LSN
+abbrev pub FoundByLsn : Type 0
+FoundByLsn = (from to : ℕ) (earlier : List Entry) (e : Entry) (rest : List Entry) → IsInOrder from (earlier ++ e ∷ rest) to → find (λ x. x.lsn == e.lsn) (earlier ++ e ∷ rest) ≡ Some e

@@ -1,0 +1,27 @@
+// The laws on a new version of a page, on a new master, and on orderly logs.
+ghost use Rattle.log_laws.specs.NewImageLaws.{VersionIsSound, VersionMeans, MasterIsSound, MasterMeans, MasterIsOrderly, EmptyMasterIsSound, EmptyMasterMeans, EmptyMasterIsOrderly, SealedIsOrderly};
+
+/// A new version of a page keeps a picture sound, and what it stands for.
+pub fn new_version()
+    ensures sound { VersionIsSound }
+    ensures means { VersionMeans }
+{}
+
+/// So does a new master over an orderly log, and it leaves one.
+pub fn new_master()
+    ensures sound { MasterIsSound }
+    ensures means { MasterMeans }
+    ensures orderly { MasterIsOrderly }
+{}
+
+/// A new master that keeps no block does so over every sound log.
+pub fn empty_master()
+    ensures sound { EmptyMasterIsSound }
+    ensures means { EmptyMasterMeans }
+    ensures orderly { EmptyMasterIsOrderly }
+{}
+
+/// A block that goes on keeps a log orderly.
+pub fn sealed_is_orderly()
+    ensures { SealedIsOrderly }
+{}

@@ -1,0 +1,23 @@
+// One step of undo.
+ghost use Rattle.log_laws.specs.UndoSteps.{UndoStep, UndoEnd, UnfinishedStep, ActiveIsUnfinished};
+
+/// As long as an Update of an unfinished transaction remains, the record at the LSN where undoing goes on is one, and the
+/// CLR that compensates it may follow.
+pub fn undo_step()
+    ensures { UndoStep }
+{}
+
+/// Where none remains the End may follow.
+pub fn undo_end()
+    ensures { UndoEnd }
+{}
+
+/// What one more record of its own makes of an unfinished transaction.
+pub fn unfinished_step()
+    ensures { UnfinishedStep }
+{}
+
+/// An active transaction is unfinished, and undoing it goes on with its last record.
+pub fn active_is_unfinished()
+    ensures { ActiveIsUnfinished }
+{}
