@@ -1,5 +1,6 @@
 -- What sealing the tail leaves.
 use Rattle.std.proofs.Common.{◌≡◌, ◌⊎◌, inl, inr, ⊎_elim, IsTrue, ℕ, ◌+◌, ◌-◌, ◌≤◌, ◌<◌, Bool, true, List, [], ◌∷◌, ◌++◌, length, replicate, refl, sym, ap, ◌∙◌, subst, arith}
+use Rattle.std.specs.Prelude.{slice_index}
 use Rattle.site.specs.declared.outside.Dev.TheVariants.{Log}
 use Rattle.site.specs.declared.geometry.Geometry.{Geometry}
 use Rattle.site.specs.State.{State, Image, Snapshot, loose_of, IsSettled, IsQuiet}
@@ -20,7 +21,7 @@ use Rattle.image_changes.proofs.Adding.{none_made}
 use Rattle.image_changes.proofs.AppendLaws.{append_makes, append_done}
 use Rattle.log_store.specs.declared.store.LogStore.{LogStore}
 use Rattle.log_store.specs.LogList.{LogList, sealed_if, changes_if}
-use Rattle.log_store.specs.Held.{MayGoOn, HasRoom, Fits, HasBlocks, Holds, LeavesLog}
+use Rattle.log_store.specs.Held.{MayGoOn, HasRoom, Fits, HasBlocks, Holds, LeavesLog, KeepsBeside}
 use Rattle.log_store.proofs.TailLaws.{tail_has_block}
 use Rattle.log_store.proofs.BlockLaws.{blocks_stay, blocks_more}
 
@@ -32,6 +33,18 @@ none_left g sealing log site settled has =
       told = told_is site snapshot left;
       blocks = inl (blocks_stay g log.first log.blocks site.image snapshot.image has (record { units = ap (units_of (log_shape g)) is; form = λ form. subst (IsRing (log_shape g)) (sym is) form }));
     })
+
+-- nothing of a site that stays as it is has another place
+pub none_beside : (g : Geometry) (site : State) → IsSettled Log site → LeavesOnly site site (KeepsBeside g site.image)
+none_beside g site settled =
+    no_call site (Leaves (KeepsBeside g site.image)) (λ snapshot left.
+    let is = settled_leaves Log site snapshot settled left in record { size = ap length is; outside = λ p out. ap (λ (l : List ℕ). slice_index l p) is })
+
+-- and an append leaves all beside its ring
+pub seal_beside : (store : LogStore) (old new : State) (bytes : List ℕ) → MayGoOn store old → LeavesOnly old new (LeavesOldOrNew store.ring.shape (region store.ring.shape old) bytes) → LeavesOnly old new (KeepsBeside store.geometry old.image)
+seal_beside store old new bytes going so_far =
+    leaves_weaker old new (LeavesOldOrNew (log_shape store.geometry) old.image.log bytes) (KeepsBeside store.geometry old.image) (λ snapshot p. record { size = p.size; outside = p.outside })
+    (subst (λ (s : Shape). LeavesOnly old new (LeavesOldOrNew s (region s old) bytes)) going.shape so_far)
 
 pub none_front : (g : Geometry) (all : List Change) (site : State) → IsQuiet site → LeavesFront g all site site
 none_front g all site quiet = none_made g (IsFrontOf all) site site quiet (all, refl) (unchanged site)

@@ -5,7 +5,7 @@ use Rattle.site.specs.declared.outside.Dev.TheVariants.{Log}
 use Rattle.site.specs.declared.geometry.Geometry.{Geometry}
 use Rattle.site.specs.Geometry.{HasLimits, HasLengths}
 use Rattle.site.specs.State.{State, Image, Snapshot, IsSettled}
-use Rattle.sealed_ring.specs.Ring.{IsRing, hi_of, last_of, unit_at}
+use Rattle.sealed_ring.specs.Ring.{IsRing, SameOutside, hi_of, last_of, unit_at}
 use Rattle.sealed_ring.specs.Ready.{IsUsable}
 use Rattle.log_records.specs.declared.log_record.LogRecord.{LogRecord}
 use Rattle.log_records.specs.Spelling.{spelling, used_by, block, block_len, HasForm, FitsFields, AreBlock}
@@ -53,6 +53,13 @@ pub record Fits (store : LogStore) (site : State) : Type 0 where
   pub form : IsRing (log_shape store.geometry) site.image.log
   pub hi : store.ring.hi ≡ hi_of (log_shape store.geometry) site.image.log
 
+-- of an honest site, whatever of the log device is loose: the ring of the log's blocks is of the form and the one that the
+-- store found
+pub record Finds (store : LogStore) (site : State) : Type 0 where
+  pub honest : IsTrue site.honest
+  pub form : IsRing (log_shape store.geometry) site.image.log
+  pub hi : store.ring.hi ≡ hi_of (log_shape store.geometry) site.image.log
+
 -- the newest blocks of an image, from a number on, have these records
 pub record HasBlocks (g : Geometry) (first : ℕ) (blocks : List (List LogRecord)) (image : Image) : Type 0 where
   pub form : IsRing (log_shape g) image.log
@@ -82,6 +89,11 @@ pub record Holds (store : LogStore) (image : Image) (log : LogList) : Type 0 whe
 pub record LeavesLog (g : Geometry) (sealing : Bool) (log : LogList) (so_far : List ℕ) (snapshot : Snapshot) : Type 0 where
   pub told : snapshot.told ≡ so_far
   pub blocks : HasBlocks g log.first log.blocks snapshot.image ⊎ ((sealing ≡ true) × HasBlocks g log.first (log.blocks ++ log.tail ∷ []) snapshot.image)
+
+-- the log device has its length, and each of its octets that lies in no slot of the blocks' ring is as it was
+pub record KeepsBeside (g : Geometry) (old : Image) (snapshot : Snapshot) : Type 0 where
+  pub size : length snapshot.image.log ≡ length old.log
+  pub outside : SameOutside (log_shape g) old.log snapshot.image.log
 
 -- from the third octet on to a place these records are spelled, one after the other
 pub record HasRecords (octets : List ℕ) (used : ℕ) (records : List LogRecord) : Type 0 where

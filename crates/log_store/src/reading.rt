@@ -1,7 +1,8 @@
 // Finding a record by the offset at which it begins.
-ghost use Rattle.std.specs.Prelude.{◌≡◌, ◌≤◌, length, List, Some, None};
+ghost use Rattle.std.specs.Prelude.{◌≡◌, ◌≤◌, length, List, Some, None, IfSome};
 ghost use Rattle.log_records.specs.declared.log_record.LogRecord.{LogRecord};
 ghost use Rattle.log_records.specs.Log.{entries_from};
+ghost use Rattle.log_records.specs.Spelling.{HasForm, FitsFields};
 ghost use Rattle.log_store.specs.LogList.{at_lsn};
 ghost use Rattle.log_store.specs.Held.{HasRecords};
 
@@ -13,8 +14,9 @@ use log_records::{LogRecord, read_record};
 pub fn record_at(octets: &[u8], offset: usize, used: usize) -> Option<LogRecord>
     requires low { 2 ≤ used }
     requires inside { used ≤ length octets.now }
-    ensures { (records : List LogRecord) → HasRecords octets.now used records
+    ensures found { (records : List LogRecord) → HasRecords octets.now used records
         → result ≡ at_lsn offset (entries_from 2 records) }
+    ensures form { IfSome result (λ rec. HasForm rec × FitsFields rec) }
 {
     let mut at = RECORDS_AT;
     while at < used {

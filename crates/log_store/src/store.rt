@@ -1,5 +1,5 @@
 // The log: sealed blocks on a ring, and the records that aren't sealed yet.
-ghost use Rattle.std.specs.Prelude.{◌≡◌, ◌⊎◌, ◌↔◌, ◌+◌, ◌-◌, ◌*◌, ◌^◌, ◌<◌, ◌≤◌, length, [], ◌∷◌, ◌++◌, ℕ, List, Bool, true, false, nat_lt, if◌then◌else◌, IsTrue, IfOk, OnOk, OnErr, IfErr, IsErrOf, Some, None};
+ghost use Rattle.std.specs.Prelude.{◌≡◌, ◌≢◌, ◌⊎◌, ◌↔◌, ◌+◌, ◌-◌, ◌*◌, ◌^◌, ◌<◌, ◌≤◌, length, [], ◌∷◌, ◌++◌, ℕ, List, Bool, true, false, nat_lt, if◌then◌else◌, IsTrue, IfOk, OnOk, OnErr, IfErr, IsErrOf, Some, None};
 ghost use Rattle.site.specs.declared.outside.Dev.{Dev};
 ghost use Rattle.site.specs.declared.outside.Stop.{Stop};
 ghost use Rattle.site.specs.Geometry.{HasLimits, HasLengths};
@@ -14,7 +14,7 @@ ghost use Rattle.image_changes.specs.Rings.{log_shape};
 ghost use Rattle.image_changes.specs.Changes.{Reaches};
 ghost use Rattle.image_changes.specs.Reached.{LeavesFront};
 ghost use Rattle.log_store.specs.LogList.{LogList, entries, at_lsn, sealed_block, sealed_if, changes_if, with_record, from_block};
-ghost use Rattle.log_store.specs.Held.{MayGoOn, HasRoom, has_tail, overflows, end_of, next_lsn, block_on, Fits, HasBlocks, HasTail, Holds, LeavesLog};
+ghost use Rattle.log_store.specs.Held.{MayGoOn, HasRoom, has_tail, overflows, end_of, next_lsn, block_on, Fits, Finds, HasBlocks, HasTail, Holds, LeavesLog, KeepsBeside};
 
 use crate::RECORDS_AT;
 use crate::reading::record_at;
@@ -95,6 +95,9 @@ impl LogStore {
         ensures fits { IsTrue (S.state site.old).honest → IsSettled Dev.Log (S.state site.old)
             → IsRing (log_shape geometry.now) (S.state site.old).image.log
             → IfOk result (λ store. Fits store (S.state site.new)) }
+        ensures found { IsTrue (S.state site.old).honest
+            → IsRing (log_shape geometry.now) (S.state site.old).image.log
+            → IfOk result (λ store. Finds store (S.state site.new)) }
         ensures holds { IsTrue (S.state site.old).honest → (first : ℕ) (blocks : List (List LogRecord))
             → HasBlocks geometry.now first blocks (S.state site.old).image
             → IfOk result (λ store. Holds store (S.state site.new).image
@@ -155,6 +158,9 @@ impl LogStore {
             → OnOk result (Reaches self.old.geometry (changes_if (overflows self.old rec.now) log)
             (S.state site.old).image (S.state site.new).image) }
         ensures fits { Fits self.old (S.state site.old) → OnOk result (Fits self.new (S.state site.new)) }
+        ensures beside { Fits self.old (S.state site.old)
+            → LeavesOnly (S.state site.old) (S.state site.new)
+            (KeepsBeside self.old.geometry (S.state site.old).image) }
         ensures changes { IsTrue (S.state site.old).honest
             → ChangesOnly Dev.Log (S.state site.old) (S.state site.new) }
         ensures quiet { IsTrue (S.state site.old).honest → IsQuiet (S.state site.old)
@@ -213,6 +219,9 @@ impl LogStore {
             → OnOk result (Reaches self.old.geometry (changes_if (has_tail self.old) log)
             (S.state site.old).image (S.state site.new).image) }
         ensures fits { Fits self.old (S.state site.old) → OnOk result (Fits self.new (S.state site.new)) }
+        ensures beside { Fits self.old (S.state site.old)
+            → LeavesOnly (S.state site.old) (S.state site.new)
+            (KeepsBeside self.old.geometry (S.state site.old).image) }
         ensures changes { IsTrue (S.state site.old).honest
             → ChangesOnly Dev.Log (S.state site.old) (S.state site.new) }
         ensures quiet { IsTrue (S.state site.old).honest → IsQuiet (S.state site.old)
@@ -267,6 +276,9 @@ impl LogStore {
             → OnOk result (Reaches self.old.geometry (changes_if wanted log)
             (S.state site.old).image (S.state site.new).image) }
         ensures fits { Fits self.old (S.state site.old) → OnOk result (Fits self.new (S.state site.new)) }
+        ensures beside { Fits self.old (S.state site.old)
+            → LeavesOnly (S.state site.old) (S.state site.new)
+            (KeepsBeside self.old.geometry (S.state site.old).image) }
         ensures changes { IsTrue (S.state site.old).honest
             → ChangesOnly Dev.Log (S.state site.old) (S.state site.new) }
         ensures quiet { IsTrue (S.state site.old).honest → IsQuiet (S.state site.old)
@@ -377,6 +389,7 @@ impl LogStore {
         ensures found { (log : LogList)
             → Fits self.now (S.state site.old) → Holds self.now (S.state site.old).image log
             → 512 * log.first ≤ lsn → IfOk result (λ rec. at_lsn lsn (entries log) ≡ Some rec) }
+        ensures form { IfOk result (λ rec. HasForm rec × FitsFields rec) }
         ensures same { IsTrue (S.state site.old).honest
             → IsUnchanged (S.state site.old) (S.state site.new) }
         ensures goes { Goes (S.state site.old) (S.state site.new) }
@@ -424,6 +437,14 @@ impl LogStore {
             → Fits self.now (S.state site.old) → Holds self.now (S.state site.old).image log
             → log.first ≤ block → IfOk result (λ used. IsBlock into.new (sealed_block log block)
             × (used ≡ used_by (sealed_block log block))) }
+        // Also while ranges of the log device are loose.
+        ensures found { (log : LogList)
+            → Finds self.now (S.state site.old) → Holds self.now (S.state site.old).image log
+            → log.first ≤ block → IfOk result (λ used. IsBlock into.new (sealed_block log block)
+            × (used ≡ used_by (sealed_block log block))) }
+        ensures readable { (log : LogList)
+            → Finds self.now (S.state site.old) → Holds self.now (S.state site.old).image log
+            → log.first ≤ block → IfErr result (λ stop. stop ≢ Stop.Foreign) }
         ensures used { IfOk result (λ used. (records : List LogRecord)
             × IsBlock into.new records × (used ≡ used_by records)) }
         ensures within { IfOk result (λ used. (3 ≤ used) × (used ≤ 503)) }

@@ -3,11 +3,11 @@ use Rattle.log_records.proofs.Blocks.{some_octet}
 use Rattle.log_store.proofs.Finding.{read_on, read_here, read_none, read_all}
 use Rattle.log_store.proofs.reading.record_at.Goals as goal
 
-pub returns-in_default : goal.returns-in_default
-returns-in_default c = read_none c.args.octets.now c.args.used c.args.offset c.loop-at.at c.loop-at.invariant c.loop-at-test.true c.in_default.ensures.bad
+pub returns-in_default-clause-found : goal.returns-in_default-clause-found
+returns-in_default-clause-found c = read_none c.args.octets.now c.args.used c.args.offset c.loop-at.at c.loop-at.invariant c.loop-at-test.true c.in_default.ensures.bad
 
-pub returns-then-at-offset : goal.returns-then-at-offset
-returns-then-at-offset c = read_here c.args.octets.now c.args.used c.args.offset c.loop-at.at c.loop-at.invariant c.in-Ok.end c.in-Ok.rec c.loop-at-test.true c.in-Ok.ensures.found c.if-at-offset.true
+pub returns-then-at-offset-clause-found : goal.returns-then-at-offset-clause-found
+returns-then-at-offset-clause-found c = read_here c.args.octets.now c.args.used c.args.offset c.loop-at.at c.loop-at.invariant c.in-Ok.end c.in-Ok.rec c.loop-at-test.true c.in-Ok.ensures.found c.if-at-offset.true
 
 pub loop-at-smaller : goal.loop-at-smaller
 loop-at-smaller c =
@@ -17,5 +17,5 @@ loop-at-smaller c =
 pub loop-at-preserved : goal.loop-at-preserved
 loop-at-preserved c = read_on c.args.octets.now c.args.used c.args.offset c.loop-at.at c.loop-at.invariant c.in-Ok.end c.in-Ok.rec c.loop-at-test.true c.in-Ok.ensures.found c.if-at-offset.false
 
-pub returns : goal.returns
-returns c = read_all c.args.octets.now c.args.used c.args.offset c.loop-at.at c.loop-at.invariant c.loop-at-test.false
+pub returns-clause-found : goal.returns-clause-found
+returns-clause-found c = read_all c.args.octets.now c.args.used c.args.offset c.loop-at.at c.loop-at.invariant c.loop-at-test.false

@@ -1,7 +1,7 @@
 use Rattle.std.proofs.Common.{◌≡◌, ap, arith, refl, true, rules}
 use Rattle.sealed_ring.specs.declared.ring.Ring.{Ring}
 use Rattle.log_store.proofs.GoingOn.{goes_on}
-use Rattle.log_store.proofs.SealLaws.{none_left, none_front, ring_ready, seal_left, seal_front, seal_reaches, seal_holds}
+use Rattle.log_store.proofs.SealLaws.{none_left, none_front, none_beside, seal_beside, ring_ready, seal_left, seal_front, seal_reaches, seal_holds}
 use Rattle.log_store.proofs.store.LogStore.seal_if.Goals as goal
 
 pub returns-then-not-wanted-clause-any_moment : goal.returns-then-not-wanted-clause-any_moment
@@ -9,6 +9,21 @@ returns-then-not-wanted-clause-any_moment g c log fits holds = none_left _ c.arg
 
 pub returns-then-not-wanted-clause-front : goal.returns-then-not-wanted-clause-front
 returns-then-not-wanted-clause-front g c log fits holds quiet = none_front _ _ (g.S.Site.state c.args.site.now) quiet
+
+pub returns-then-not-wanted-clause-beside : goal.returns-then-not-wanted-clause-beside
+returns-then-not-wanted-clause-beside g c fits = none_beside _ (g.S.Site.state c.args.site.now) fits.settled
+
+pub returns-in_err-append-clause-beside : goal.returns-in_err-append-clause-beside
+returns-in_err-append-clause-beside g c fits =
+    let old = g.S.Site.state c.args.site.now in
+    seal_beside c.args.self.now old (g.S.Site.state c.append.new.site) c.tail_block-content.result c.requires.going
+    (c.append.ensures.any_moment fits.honest (ring_ready c.args.self.now old c.requires.going fits))
+
+pub returns-clause-beside : goal.returns-clause-beside
+returns-clause-beside g c fits =
+    let old = g.S.Site.state c.args.site.now in
+    seal_beside c.args.self.now old (g.S.Site.state c.append.new.site) c.tail_block-content.result c.requires.going
+    (c.append.ensures.any_moment fits.honest (ring_ready c.args.self.now old c.requires.going fits))
 
 pub returns-in_err-append-clause-any_moment : goal.returns-in_err-append-clause-any_moment
 returns-in_err-append-clause-any_moment g c log fits holds =
