@@ -1,0 +1,109 @@
+-- A session's abort.
+use Rattle.std.proofs.Common.{◌≡◌, ◌≢◌, ◌⊎◌, ℕ, ◌+◌, ◌<◌, true≢false, false, List, length, Option, None, Some, ⊎_elim, refl, sym, ap, subst, ◌∙◌, arith, get_or-set_same, get_or-set_other, length-set, IsTrue}
+use Rattle.std.specs.Prelude.{slice_set, slice_index_or}
+use Rattle.std.proofs.lemmas.Option.{none-some, same_Some}
+use Rattle.std.proofs.lemmas.Bool.{cases_eq}
+use Rattle.site.specs.declared.geometry.Geometry.{Geometry}
+use Rattle.site.specs.State.{State as Site}
+use Rattle.record_model.specs.State.{Session, State, session_at, writes_of}
+use Rattle.record_model.specs.Step.{effect, with_session}
+use Rattle.record_model.specs.declared.words.Command.TheVariants as command
+use Rattle.log_records.specs.Log.{Entry, is_loser}
+use Rattle.log_records.specs.Unfinished.{owed}
+use Rattle.log_records.specs.Sets.{blank_versions}
+use Rattle.log_laws.specs.Follow.{shown_table}
+use Rattle.lock_table.specs.declared.lock.Lock.{Lock}
+use Rattle.lock_table.specs.Locks.{ReleasesAll}
+use Rattle.txn_table.specs.declared.active.Active.{Active}
+use Rattle.txn_table.specs.Entries.{IsTable, entry_of, ChangesOnly}
+use Rattle.txn_table.specs.Entries as entries
+use Rattle.engine.specs.declared.journal.Journal.{Journal}
+use Rattle.engine.specs.declared.engine.Engine.{Engine}
+use Rattle.engine.specs.Holding.{HoldsLog}
+use Rattle.engine.specs.Rollback.{ConcernsOnly, RollsBack}
+use Rattle.engine.specs.Fits.{Fits, IsUnderWay, SessionIs, SessionsAre}
+use Rattle.engine.proofs.Owing.{entry_is}
+use Rattle.engine.proofs.Locks.{released}
+use Rattle.engine.proofs.Actives.{some_active}
+
+-- another session's transaction
+pub others_go_on : (txn : ℕ) (before now : List Entry) → ConcernsOnly txn before now → (a : Option Active) (o : Option Session) → ((entry : Active) → a ≡ Some entry → entry.begin ≢ txn) → SessionIs before a o → SessionIs now a o
+others_go_on txn before now concerns None None other is = tt
+others_go_on txn before now concerns None (Some session) other is = absurd is
+others_go_on txn before now concerns (Some entry) None other is = absurd is
+others_go_on txn before now concerns (Some entry) (Some session) other is = record {
+  is_active = concerns.under_way entry.begin entry.last session.writes (other entry refl) is.is_active;
+  born = is.born;
+  count = is.count;
+}
+
+-- A session's transaction was undone, and the session ends.
+pub dropped : (records log : List Entry) (old new : List Active) (s : State) (n : ℕ) (entry : Active) → SessionsAre records old s → n < 8 → entry_of old n ≡ Some entry → ChangesOnly old new n None → entries.owed new + (entry.writes + 1) ≡ entries.owed old →
+    ConcernsOnly entry.begin records log → is_loser log entry.begin ≡ false → owed log + (entry.writes + 1) ≡ owed records → SessionsAre log new (with_session s n None)
+dropped records log old new s n entry are small at changes owes concerns closed less =
+    let before = are.owes in
+    let count = are.count in
+    record {
+      count = length-set s.sessions n None ∙ are.count;
+      each = λ m. ⊎_elim
+          (λ (same : m ≡ n). subst (λ (k : ℕ). SessionIs log (entry_of new k) (slice_index_or (slice_set s.sessions n None) k None)) (sym same)
+          (subst (λ (a : Option Active). SessionIs log a (slice_index_or (slice_set s.sessions n None) n None)) (sym changes.own)
+          (subst (λ (o : Option Session). SessionIs log None o) (sym (get_or-set_same s.sessions n None None (omega (arith, small, count)))) tt)))
+          (λ differ. subst (λ (a : Option Active). SessionIs log a (slice_index_or (slice_set s.sessions n None) m None)) (sym (changes.others m differ))
+          (subst (λ (o : Option Session). SessionIs log (entry_of old m) o) (sym (get_or-set_other s.sessions n m None None differ))
+          (others_go_on entry.begin records log concerns (entry_of old m) (session_at s m) (λ other is same. differ (are.differ m n other entry is at same)) (are.each m))))
+          (cases_eq m n);
+      all = λ t is. ⊎_elim
+          (λ (same : t ≡ entry.begin). absurd (true≢false (sym is ∙ ap (is_loser log) same ∙ closed)))
+          (λ differ. older t differ (are.all t (sym (concerns.losers t differ) ∙ is)))
+          (cases_eq t entry.begin);
+      owes = omega (arith, less, before, owes);
+      differ = λ i j a b at_i at_j same. are.differ i j a b (was i a at_i) (was j b at_j) same;
+    }
+  where
+    was : (i : ℕ) (a : Active) → entry_of new i ≡ Some a → entry_of old i ≡ Some a
+    was i a is = ⊎_elim
+        (λ (same : i ≡ n). absurd (none-some a (sym changes.own ∙ ap (entry_of new) (sym same) ∙ is)))
+        (λ differ. sym (changes.others i differ) ∙ is)
+        (cases_eq i n)
+
+    older : (t : ℕ) → t ≢ entry.begin → (m : ℕ) × (other : Active) × (entry_of old m ≡ Some other) × (other.begin ≡ t) → (m : ℕ) × (other : Active) × (entry_of new m ≡ Some other) × (other.begin ≡ t)
+    older t ne found = (found.0, found.1, changes.others found.0 (λ same. ne (sym found.3 ∙ ap (λ (x : Active). x.begin) (same_Some found.1 entry (sym found.2 ∙ ap (entry_of old) same ∙ at)))) ∙ found.2, found.3)
+
+-- so many writes the session has
+pub count_is : (engine : Engine) (site : Site) (s : State) (entry : Active) (fits : Fits engine site s) → entry_of engine.active entry.session ≡ Some entry → length (writes_of (session_at s entry.session)) ≡ entry.writes
+count_is engine site s entry fits at =
+    let found = some_active fits.records engine.active s fits.sessions entry.session entry at in
+    ap (λ (o : Option Session). length (writes_of o)) found.is ∙ sym found.under_way.count
+
+pub aborted_fits : (engine mid last : Engine) (old new : Site) (s : State) (entry : Active) (fits : Fits engine old s) → IsTable engine.active → entry_of engine.active entry.session ≡ Some entry → IsTrue new.honest →
+    RollsBack mid.journal new fits.records s.table s.commits entry.begin entry.writes mid.table.items →
+    mid ≡ record engine { journal = mid.journal; table = mid.table } → mid.journal.made ≡ engine.journal.made + (entry.writes + 1) →
+    ReleasesAll mid.locks last.locks entry.session → ChangesOnly mid.active last.active entry.session None → entries.owed last.active + (entry.writes + 1) ≡ entries.owed mid.active →
+    last.journal ≡ mid.journal → last.commits ≡ mid.commits → last.cap ≡ mid.cap → last.table ≡ mid.table →
+    Fits last new (effect s (command.Abort entry.session))
+aborted_fits engine mid last old new s entry fits table at honest back rest made releases changes owed_is journal_is commits_is cap_is table_is =
+    let n = entry.session in
+    let small = (entry_is engine.active n entry table at).small in
+    let count = fits.sessions.count in
+    let writes = count_is engine old s entry fits at in
+    let begun = fits.counts.made in
+    let made_last : last.journal.made ≡ engine.journal.made + (entry.writes + 1) = ap (λ (j : Journal). j.made) journal_is ∙ made in
+    let done : SessionsAre back.log last.active (with_session s n None) =
+    dropped fits.records back.log engine.active last.active s n entry fits.sessions small at
+    (subst (λ (a : List Active). ChangesOnly a last.active n None) (ap (λ (x : Engine). x.active) rest) changes) (owed_is ∙ ap (λ (x : Engine). entries.owed x.active) rest)
+    back.concerns back.closed back.owes in
+    record {
+      honest = honest;
+      records = back.log;
+      holds = subst (λ (j : Journal). HoldsLog j new back.log s.table s.commits) (sym journal_is) back.holds;
+      shown_is = ap (λ (x : Engine). x.table.items) (λ i. record last { table = table_is i }) ∙ back.shown_is ∙ ap (λ (j : Journal). shown_table back.log (blank_versions j.log.geometry.pages)) (sym journal_is);
+      counts = record {
+        commits = commits_is ∙ ap (λ (x : Engine). x.commits) rest ∙ fits.counts.commits;
+        made = omega (arith, made_last, begun, writes);
+        kept = fits.counts.kept;
+        cap = cap_is ∙ ap (λ (x : Engine). x.cap) rest ∙ fits.counts.cap;
+      };
+      sessions = record { count = done.count; each = done.each; all = done.all; owes = done.owes; differ = done.differ };
+      locks_are = released engine.locks last.locks s (effect s (command.Abort n)) n (omega (arith, small, count)) refl (subst (λ (l : List Lock). ReleasesAll l last.locks n) (ap (λ (x : Engine). x.locks) rest) releases) fits.locks_are;
+    }

@@ -1,0 +1,115 @@
+-- The sessions of the model and the unfinished transactions of the log, one record further.
+use Rattle.std.proofs.Common.{◌≡◌, ◌≢◌, ◌⊎◌, ℕ, suc, ◌+◌, ◌*◌, ◌<◌, ◌≤◌, ◌==◌, Bool, true, false, List, [], ◌∷◌, ◌++◌, length, Option, None, Some, inl, inr, ⊎_elim, true≢false, refl, sym, ap, subst, ◌∙◌, arith, get_or-set_same, get_or-set_other, length-set}
+use Rattle.std.specs.Prelude.{slice_set, slice_index_or, drop}
+use Rattle.std.proofs.lemmas.Option.{none-some, same_Some}
+use Rattle.std.proofs.lemmas.Bool.{ne_eqb, cases_eq}
+use Rattle.record_model.specs.State.{Content, Session, State, session_at}
+use Rattle.record_model.specs.State as model
+use Rattle.record_model.specs.Step.{making, with_session}
+use Rattle.log_records.specs.declared.log_record.LogRecord.TheVariants.{Begin}
+use Rattle.log_records.specs.Log.{Entry, is_of, txn_of, entries_of, is_loser, is_closed, is_closing}
+use Rattle.log_records.specs.Unfinished.{owed}
+use Rattle.log_laws.specs.Follow.{IsActive, IsFresh}
+use Rattle.log_laws.proofs.Losers.{active_begun, active_stays, loser_stays, loser_is_closed}
+use Rattle.log_laws.proofs.Appends.{fresh_entries}
+use Rattle.log_laws.proofs.Owing.{owed_begin}
+use Rattle.txn_table.specs.declared.active.Active.{Active}
+use Rattle.txn_table.specs.Entries.{entry_of, ChangesOnly}
+use Rattle.txn_table.specs.Entries as entries
+use Rattle.engine.specs.Image.{blank_master}
+use Rattle.engine.specs.Fits.{IsUnderWay, SessionIs, SessionsAre}
+
+-- what is active in one is in the other
+pub none_active : (records : List Entry) (active : List Active) (s : State) → SessionsAre records active s → (n : ℕ) → entry_of active n ≡ None → session_at s n ≡ None
+none_active records active s are n none = by (entry_of active n) (session_at s n) none (are.each n)
+  where
+    by : (a : Option Active) (o : Option Session) → a ≡ None → SessionIs records a o → o ≡ None
+    by None None is both = refl
+    by None (Some session) is both = absurd both
+    by (Some entry) None is both = refl
+    by (Some entry) (Some session) is both = absurd (none-some entry (sym is))
+
+pub record Finds (records : List Entry) (entry : Active) (o : Option Session) : Type 0 where
+  pub session : Session
+  pub is : o ≡ Some session
+  pub under_way : IsUnderWay records entry session
+
+pub some_active : (records : List Entry) (active : List Active) (s : State) → SessionsAre records active s → (n : ℕ) (own : Active) → entry_of active n ≡ Some own → Finds records own (session_at s n)
+some_active records active s are n own some = by (entry_of active n) (session_at s n) some (are.each n)
+  where
+    by : (a : Option Active) (o : Option Session) → a ≡ Some own → SessionIs records a o → Finds records own o
+    by None o is both = absurd (none-some own is)
+    by (Some entry) None is both = absurd both
+    by (Some entry) (Some session) is both = record { session = session; is = refl; under_way = subst (λ (e : Active). IsUnderWay records e session) (same_Some entry own is) both }
+
+-- the record of another transaction
+pub others_stay : (records : List Entry) (e : Entry) (a : Option Active) (o : Option Session) → ((entry : Active) → a ≡ Some entry → is_of entry.begin e ≡ false) → SessionIs records a o → SessionIs (records ++ e ∷ []) a o
+others_stay records e None None other is = tt
+others_stay records e None (Some session) other is = absurd is
+others_stay records e (Some entry) None other is = absurd is
+others_stay records e (Some entry) (Some session) other is = record {
+  is_active = active_stays blank_master records e entry.begin entry.last session.writes is.is_active (other entry refl);
+  born = is.born;
+  count = is.count;
+}
+
+-- a transaction that is under way isn't fresh
+pub not_fresh : (records : List Entry) (entry : Active) (session : Session) (lsn : ℕ) → IsUnderWay records entry session → IsFresh lsn records → entry.begin ≢ lsn
+not_fresh records entry session lsn under fresh same =
+    let none : entries_of entry.begin records ≡ [] = ap (λ (t : ℕ). entries_of t records) same ∙ fresh_entries lsn records fresh in
+    let some = under.is_active.chain.begins in
+    let long : length (entries_of entry.begin records) ≡ suc (length (drop 1 (entries_of entry.begin records))) = ap length some in
+    let short : length (entries_of entry.begin records) ≡ 0 = ap length none in
+    omega (arith, long, short)
+
+-- a session begins
+pub begun : (records : List Entry) (old new : List Active) (s : State) (n lsn made : ℕ) (entry : Active) → SessionsAre records old s → n < 8 → entry_of old n ≡ None → ChangesOnly old new n (Some entry) → entries.owed new ≡ entries.owed old + 1 →
+    IsFresh lsn records → entry.begin ≡ lsn → entry.last ≡ lsn → entry.born ≡ s.made → entry.writes ≡ 0 →
+    SessionsAre (records ++ record { lsn = lsn; rec = Begin } ∷ []) new (making 1 (with_session s n (Some (record { born = s.made; writes = []; reads = [] }))))
+begun records old new s n lsn made entry are small none changes owes fresh begin last born writes =
+    let e : Entry = record { lsn = lsn; rec = Begin } in
+    let session : Session = record { born = s.made; writes = []; reads = [] } in
+    let count = are.count in
+    record {
+      count = length-set s.sessions n (Some session) ∙ are.count;
+      each = λ m. ⊎_elim
+          (λ (same : m ≡ n). subst (λ (k : ℕ). SessionIs (records ++ e ∷ []) (entry_of new k) (slice_index_or (slice_set s.sessions n (Some session)) k None)) (sym same)
+          (subst (λ (a : Option Active). SessionIs (records ++ e ∷ []) a (slice_index_or (slice_set s.sessions n (Some session)) n None)) (sym changes.own)
+          (subst (λ (o : Option Session). SessionIs (records ++ e ∷ []) (Some entry) o) (sym (get_or-set_same s.sessions n (Some session) None (omega (arith, small, count))))
+          (record {
+            is_active = subst (λ (t : ℕ). IsActive blank_master (records ++ e ∷ []) t entry.last []) (sym begin) (subst (λ (l : ℕ). IsActive blank_master (records ++ e ∷ []) lsn l []) (sym last) (active_begun blank_master records lsn fresh (omega arith)));
+            born = born;
+            count = writes;
+          }))))
+          (λ differ. subst (λ (a : Option Active). SessionIs (records ++ e ∷ []) a (slice_index_or (slice_set s.sessions n (Some session)) m None)) (sym (changes.others m differ))
+          (subst (λ (o : Option Session). SessionIs (records ++ e ∷ []) (entry_of old m) o) (sym (get_or-set_other s.sessions n m (Some session) None differ))
+          (others_stay records e (entry_of old m) (session_at s m) (λ other is. ne_eqb lsn other.begin (λ same. other_begin m other is (sym same))) (are.each m))))
+          (either m n);
+      all = λ t is. ⊎_elim
+          (λ (same : t ≡ lsn). (n, entry, changes.own, begin ∙ sym same))
+          (λ differ. older t differ (are.all t (sym (loser_stays records e t (ne_eqb lsn t (λ same. differ (sym same)))) ∙ is)))
+          (either t lsn);
+      owes = owed_begin records lsn fresh ∙ ap (λ (k : ℕ). k + 1) are.owes ∙ sym owes;
+      differ = λ i j a b at_i at_j same. ⊎_elim
+          (λ (i_is : i ≡ n). ⊎_elim
+          (λ (j_is : j ≡ n). i_is ∙ sym j_is)
+          (λ j_not. absurd (other_begin j b (sym (changes.others j j_not) ∙ at_j) (sym same ∙ own_begin i a i_is at_i)))
+          (either j n))
+          (λ i_not. ⊎_elim
+          (λ (j_is : j ≡ n). absurd (other_begin i a (sym (changes.others i i_not) ∙ at_i) (same ∙ own_begin j b j_is at_j)))
+          (λ j_not. are.differ i j a b (sym (changes.others i i_not) ∙ at_i) (sym (changes.others j j_not) ∙ at_j) same)
+          (either j n))
+          (either i n);
+    }
+  where
+    either : (a b : ℕ) → (a ≡ b) ⊎ (a ≢ b)
+    either a b = cases_eq a b
+
+    other_begin : (m : ℕ) (other : Active) → entry_of old m ≡ Some other → other.begin ≢ lsn
+    other_begin m other is = let found = some_active records old s are m other is in not_fresh records other found.session lsn found.under_way fresh
+
+    own_begin : (i : ℕ) (a : Active) → i ≡ n → entry_of new i ≡ Some a → a.begin ≡ lsn
+    own_begin i a i_is at = ap (λ (x : Active). x.begin) (sym (same_Some entry a (sym changes.own ∙ ap (entry_of new) (sym i_is) ∙ at))) ∙ begin
+
+    older : (t : ℕ) → t ≢ lsn → (m : ℕ) × (other : Active) × (entry_of old m ≡ Some other) × (other.begin ≡ t) → (m : ℕ) × (other : Active) × (entry_of new m ≡ Some other) × (other.begin ≡ t)
+    older t ne found = (found.0, found.1, changes.others found.0 (λ same. none-some found.1 (sym none ∙ ap (entry_of old) (sym same) ∙ found.2)) ∙ found.2, found.3)

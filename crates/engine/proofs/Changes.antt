@@ -1,0 +1,111 @@
+-- The sessions after an Update of one of them, and after the record that ends one.
+use Rattle.std.proofs.Common.{◌≡◌, ◌≢◌, ◌⊎◌, ℕ, ◌+◌, ◌*◌, ◌/◌, ◌%◌, ◌<◌, ◌≤◌, ◌==◌, Bool, true, false, List, [], ◌∷◌, ◌++◌, length, Option, None, Some, inl, inr, ⊎_elim, true≢false, refl, sym, ap, subst, ◌∙◌, arith, get_or-set_same, get_or-set_other, length-set}
+use Rattle.std.specs.Prelude.{slice_set, slice_index_or, option_map}
+use Rattle.std.proofs.lemmas.List.{length-append}
+use Rattle.std.proofs.lemmas.Option.{none-some, same_Some}
+use Rattle.std.proofs.lemmas.Bool.{ne_eqb, cases_eq}
+use Rattle.record_model.specs.State.{Content, Session, State, Write, session_at}
+use Rattle.record_model.specs.Step.{making, with_session, having_written}
+use Rattle.log_records.specs.declared.log_record.LogRecord.TheVariants.{Update}
+use Rattle.log_records.specs.Log.{Entry, is_of, txn_of, entries_of, is_loser, is_closed, is_closing}
+use Rattle.log_records.specs.Unfinished.{owed, owed_by}
+use Rattle.log_records.specs.Sound.{IsLoserChain}
+use Rattle.log_laws.specs.Follow.{IsActive}
+use Rattle.log_laws.proofs.Losers.{active_writes, active_stays, active_owes, loser_stays, loser_is_closed}
+use Rattle.log_laws.proofs.Owing.{owed_update, owed_closing}
+use Rattle.txn_table.specs.declared.active.Active.{Active}
+use Rattle.txn_table.specs.Entries.{entry_of, ChangesOnly, after_write}
+use Rattle.txn_table.specs.Entries as entries
+use Rattle.engine.specs.Image.{blank_master}
+use Rattle.engine.specs.Fits.{IsUnderWay, SessionIs, SessionsAre}
+use Rattle.engine.proofs.Actives.{Finds, some_active, others_stay}
+
+-- another session's transaction is another one
+other_txn : (records : List Entry) (active : List Active) (s : State) → SessionsAre records active s → (n m : ℕ) (own other : Active) → entry_of active n ≡ Some own → entry_of active m ≡ Some other → m ≢ n → own.begin ≢ other.begin
+other_txn records active s are n m own other at_n at_m ne same = ne (are.differ m n other own at_m at_n (sym same))
+
+-- A session writes.
+pub wrote_more : (records : List Entry) (old new : List Active) (s : State) (n lsn page slot : ℕ) (entry : Active) (before after : Content) → SessionsAre records old s → n < 8 → entry_of old n ≡ Some entry → ChangesOnly old new n (Some (after_write entry lsn)) → entries.owed new ≡ entries.owed old + 1 →
+    SessionsAre (records ++ record { lsn = lsn; rec = Update entry.begin entry.last page slot before after } ∷ []) new (making 1 (with_session s n (option_map (having_written (32 * page + slot, after)) (session_at s n))))
+wrote_more records old new s n lsn page slot entry before after are small at changes owes =
+    let e : Entry = record { lsn = lsn; rec = Update entry.begin entry.last page slot before after } in
+    let found = some_active records old s are n entry at in
+    let session = found.session in
+    let write : Write = (32 * page + slot, after) in
+    let count = are.count in
+    let now : Option Session = option_map (having_written write) (session_at s n) in
+    let is_now : now ≡ Some (having_written write session) = ap (option_map (having_written write)) found.is in
+    let under = found.under_way in
+    let many = under.count in
+    record {
+      count = length-set s.sessions n now ∙ are.count;
+      each = λ m. ⊎_elim
+          (λ (same : m ≡ n). subst (λ (k : ℕ). SessionIs (records ++ e ∷ []) (entry_of new k) (slice_index_or (slice_set s.sessions n now) k None)) (sym same)
+          (subst (λ (a : Option Active). SessionIs (records ++ e ∷ []) a (slice_index_or (slice_set s.sessions n now) n None)) (sym changes.own)
+          (subst (λ (o : Option Session). SessionIs (records ++ e ∷ []) (Some (after_write entry lsn)) o) (sym (get_or-set_same s.sessions n now None (omega (arith, small, count)) ∙ is_now))
+          (record {
+            is_active = active_writes blank_master records lsn entry.begin entry.last page slot session.writes before after under.is_active;
+            born = under.born;
+            count = omega (arith, many, length-append session.writes (write ∷ []));
+          }))))
+          (λ differ. subst (λ (a : Option Active). SessionIs (records ++ e ∷ []) a (slice_index_or (slice_set s.sessions n now) m None)) (sym (changes.others m differ))
+          (subst (λ (o : Option Session). SessionIs (records ++ e ∷ []) (entry_of old m) o) (sym (get_or-set_other s.sessions n m now None differ))
+          (others_stay records e (entry_of old m) (session_at s m) (λ other is. ne_eqb entry.begin other.begin (other_txn records old s are n m entry other at is differ)) (are.each m))))
+          (cases_eq m n);
+      all = λ t is. ⊎_elim
+          (λ (same : t ≡ entry.begin). (n, after_write entry lsn, changes.own, sym same))
+          (λ differ. older t differ (are.all t (sym (loser_stays records e t (ne_eqb entry.begin t (λ same. differ (sym same)))) ∙ is)))
+          (cases_eq t entry.begin);
+      owes = owed_update records e refl under.is_active.lives.not_closed under.is_active.chain ∙ ap (λ (k : ℕ). k + 1) are.owes ∙ sym owes;
+      differ = λ i j a b at_i at_j same. let before_i = was i a at_i in let before_j = was j b at_j in are.differ i j before_i.0 before_j.0 before_i.1 before_j.1 (before_i.2 ∙ same ∙ sym before_j.2);
+    }
+  where
+    -- the entry that it was
+    was : (i : ℕ) (a : Active) → entry_of new i ≡ Some a → (b : Active) × (entry_of old i ≡ Some b) × (b.begin ≡ a.begin)
+    was i a is = ⊎_elim
+        (λ (same : i ≡ n). (entry, ap (entry_of old) same ∙ at, ap (λ (x : Active). x.begin) (same_Some (after_write entry lsn) a (sym changes.own ∙ ap (entry_of new) (sym same) ∙ is))))
+        (λ differ. (a, sym (changes.others i differ) ∙ is, refl))
+        (cases_eq i n)
+
+    older : (t : ℕ) → t ≢ entry.begin → (m : ℕ) × (other : Active) × (entry_of old m ≡ Some other) × (other.begin ≡ t) → (m : ℕ) × (other : Active) × (entry_of new m ≡ Some other) × (other.begin ≡ t)
+    older t ne found = (found.0, found.1, changes.others found.0 (λ same. ne (sym found.3 ∙ ap (λ (x : Active). x.begin) (same_Some found.1 entry (sym found.2 ∙ ap (entry_of old) same ∙ at)))) ∙ found.2, found.3)
+
+-- A session that has never been undone ends.
+pub closed : (records : List Entry) (old new : List Active) (s : State) (n : ℕ) (entry : Active) (e : Entry) → SessionsAre records old s → n < 8 → entry_of old n ≡ Some entry → ChangesOnly old new n None → entries.owed new + (entry.writes + 1) ≡ entries.owed old →
+    is_closing e.rec ≡ true → txn_of e ≡ entry.begin → SessionsAre (records ++ e ∷ []) new (with_session s n None)
+closed records old new s n entry e are small at changes owes closing own =
+    let found = some_active records old s are n entry at in
+    let session = found.session in
+    let under = found.under_way in
+    let active : IsActive blank_master records (txn_of e) entry.last session.writes = subst (λ (t : ℕ). IsActive blank_master records t entry.last session.writes) (sym own) under.is_active in
+    let less = owed_closing records e closing active.lives.not_closed active.chain in
+    let part = active_owes blank_master records (txn_of e) entry.last session.writes active in
+    let many = under.count in
+    let count = are.count in
+    let before = are.owes in
+    record {
+      count = length-set s.sessions n None ∙ are.count;
+      each = λ m. ⊎_elim
+          (λ (same : m ≡ n). subst (λ (k : ℕ). SessionIs (records ++ e ∷ []) (entry_of new k) (slice_index_or (slice_set s.sessions n None) k None)) (sym same)
+          (subst (λ (a : Option Active). SessionIs (records ++ e ∷ []) a (slice_index_or (slice_set s.sessions n None) n None)) (sym changes.own)
+          (subst (λ (o : Option Session). SessionIs (records ++ e ∷ []) None o) (sym (get_or-set_same s.sessions n None None (omega (arith, small, count)))) tt)))
+          (λ differ. subst (λ (a : Option Active). SessionIs (records ++ e ∷ []) a (slice_index_or (slice_set s.sessions n None) m None)) (sym (changes.others m differ))
+          (subst (λ (o : Option Session). SessionIs (records ++ e ∷ []) (entry_of old m) o) (sym (get_or-set_other s.sessions n m None None differ))
+          (others_stay records e (entry_of old m) (session_at s m) (λ other is. ne_eqb (txn_of e) other.begin (λ same. other_txn records old s are n m entry other at is differ (sym own ∙ same))) (are.each m))))
+          (cases_eq m n);
+      all = λ t is. ⊎_elim
+          (λ (same : t ≡ txn_of e). absurd (true≢false (sym is ∙ ap (is_loser (records ++ e ∷ [])) same ∙ loser_is_closed records e closing)))
+          (λ differ. older t differ (are.all t (sym (loser_stays records e t (ne_eqb (txn_of e) t (λ same. differ (sym same)))) ∙ is)))
+          (cases_eq t (txn_of e));
+      owes = omega (arith, less, part, many, before, owes);
+      differ = λ i j a b at_i at_j same. are.differ i j a b (was i a at_i) (was j b at_j) same;
+    }
+  where
+    was : (i : ℕ) (a : Active) → entry_of new i ≡ Some a → entry_of old i ≡ Some a
+    was i a is = ⊎_elim
+        (λ (same : i ≡ n). absurd (none-some a (sym changes.own ∙ ap (entry_of new) (sym same) ∙ is)))
+        (λ differ. sym (changes.others i differ) ∙ is)
+        (cases_eq i n)
+
+    older : (t : ℕ) → t ≢ txn_of e → (m : ℕ) × (other : Active) × (entry_of old m ≡ Some other) × (other.begin ≡ t) → (m : ℕ) × (other : Active) × (entry_of new m ≡ Some other) × (other.begin ≡ t)
+    older t ne found = (found.0, found.1, changes.others found.0 (λ same. ne (sym found.3 ∙ ap (λ (x : Active). x.begin) (same_Some found.1 entry (sym found.2 ∙ ap (entry_of old) same ∙ at)) ∙ sym own)) ∙ found.2, found.3)

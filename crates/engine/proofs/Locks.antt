@@ -1,0 +1,43 @@
+-- Locks and what sessions have read and written.
+use Rattle.std.proofs.Common.{◌≡◌, ◌≢◌, ◌⊎◌, ℕ, ◌==◌, ◌<◌, ◌&&◌, Bool, not, List, Option, None, Some, ⊎_elim, sym, ap, subst, ◌∙◌, get_or-set_same, get_or-set_other}
+use Rattle.std.specs.Prelude.{slice_set, slice_index_or, length}
+use Rattle.std.specs.List.{list_any}
+use Rattle.std.proofs.lemmas.Bool.{cases_eq, eq-eqb, ne_eqb}
+use Rattle.record_model.specs.State.{Session, State, Write, session_at, writes_of, reads_of}
+use Rattle.lock_table.specs.declared.lock.Lock.{Lock}
+use Rattle.lock_table.specs.Locks.{ReleasesAll}
+use Rattle.lock_table.specs.Locks as locks
+use Rattle.engine.specs.Fits.{LocksAre}
+
+pub locks_stay : (held : List Lock) (s s' : State) → ((n : ℕ) → writes_of (session_at s' n) ≡ writes_of (session_at s n)) → ((n : ℕ) → reads_of (session_at s' n) ≡ reads_of (session_at s n)) → LocksAre held s → LocksAre held s'
+locks_stay held s s' writes reads are = record {
+  written = λ n r. are.written n r ∙ sym (ap (λ (ws : List Write). list_any (λ write. write.0 == r) ws) (writes n));
+  reads = λ n r. are.reads n r ∙ sym (ap (λ (rs : List ℕ). list_any (λ read. read == r) rs) (reads n));
+}
+
+-- what is seen of a session where one of them was set
+pub at_set : {X : Type 0} (of : Option Session → X) (xs : List (Option Session)) (n : ℕ) (o was : Option Session) → n < length xs → slice_index_or xs n None ≡ was → of o ≡ of was →
+    (m : ℕ) → of (slice_index_or (slice_set xs n o) m None) ≡ of (slice_index_or xs m None)
+at_set of xs n o was small was_is same m = ⊎_elim
+    (λ (is : m ≡ n). ap (λ (k : ℕ). of (slice_index_or (slice_set xs n o) k None)) is ∙ ap of (get_or-set_same xs n o None small) ∙ same ∙ ap of (sym was_is) ∙ ap (λ (k : ℕ). of (slice_index_or xs k None)) (sym is))
+    (λ differ. ap of (get_or-set_other xs n m o None differ))
+    (cases_eq m n)
+
+-- a session that ends holds no lock
+pub released : (old new : List Lock) (s s' : State) (n : ℕ) → n < length s.sessions → s'.sessions ≡ slice_set s.sessions n None → ReleasesAll old new n → LocksAre old s → LocksAre new s'
+released old new s s' n small sessions all are = record {
+  written = λ m r. ⊎_elim
+      (λ (same : m ≡ n). all.written m r ∙ ap (λ (b : Bool). not b && locks.has_written old m r) (eq-eqb m n same) ∙ sym (ap (λ (o : Option Session). list_any (λ write. write.0 == r) (writes_of o)) (gone m same)))
+      (λ differ. all.written m r ∙ ap (λ (b : Bool). not b && locks.has_written old m r) (ne_eqb m n differ) ∙ are.written m r ∙ sym (ap (λ (o : Option Session). list_any (λ write. write.0 == r) (writes_of o)) (other m differ)))
+      (cases_eq m n);
+  reads = λ m r. ⊎_elim
+      (λ (same : m ≡ n). all.reads m r ∙ ap (λ (b : Bool). not b && locks.has_read old m r) (eq-eqb m n same) ∙ sym (ap (λ (o : Option Session). list_any (λ read. read == r) (reads_of o)) (gone m same)))
+      (λ differ. all.reads m r ∙ ap (λ (b : Bool). not b && locks.has_read old m r) (ne_eqb m n differ) ∙ are.reads m r ∙ sym (ap (λ (o : Option Session). list_any (λ read. read == r) (reads_of o)) (other m differ)))
+      (cases_eq m n);
+}
+  where
+    gone : (m : ℕ) → m ≡ n → session_at s' m ≡ None
+    gone m same = ap (λ (xs : List (Option Session)). slice_index_or xs m None) sessions ∙ ap (λ (k : ℕ). slice_index_or (slice_set s.sessions n None) k None) same ∙ get_or-set_same s.sessions n None None small
+
+    other : (m : ℕ) → m ≢ n → session_at s' m ≡ session_at s m
+    other m differ = ap (λ (xs : List (Option Session)). slice_index_or xs m None) sessions ∙ get_or-set_other s.sessions n m None None differ

@@ -1,0 +1,161 @@
+-- What the database has in memory, in the model's words.
+use Rattle.std.proofs.Common.{◌≡◌, ◌≢◌, ◌⊎◌, ℕ, zero, suc, ◌+◌, ◌*◌, ◌<◌, ◌≤◌, ◌==◌, Bool, true, false, not, ◌&&◌, ◌||◌, cond, List, [], ◌∷◌, ◌++◌, length, map, find, filter_map, sum_by, Option, None, Some, inl, inr, ⊎_elim, true≢false, refl, sym, ap, subst, ◌∙◌, arith}
+use Rattle.std.specs.Prelude.{slice_index_or, unwrap_or, nat_le, nat_lt, option_map}
+use Rattle.std.specs.Option.{option_map_or}
+use Rattle.std.specs.List.{list_any, range_with_len, AllByRecursion}
+use Rattle.std.proofs.lemmas.List.FromFn.{length-map-range_with_len}
+use Rattle.std.proofs.lemmas.Option.{none-some, same_Some}
+use Rattle.std.proofs.lemmas.Bool.{cases_Bool, cases_eq, and_from, eq-eqb, ne_eqb}
+use Rattle.site.specs.State.{State as Site}
+use Rattle.record_model.specs.State.{Content, Session, State, Write, session_at, writes_of, content_at, seen, last_write, active_sessions}
+use Rattle.record_model.specs.State as model
+use Rattle.log_records.specs.Log.{Entry, Version, is_closed, table_of, value_of}
+use Rattle.log_records.specs.Sets.{blank_versions}
+use Rattle.log_laws.specs.Follow.{IsActive, IsFree, IsFreeFor, IsUndoable, shown, shown_table}
+use Rattle.log_laws.specs.Follow as follow
+use Rattle.log_laws.proofs.Tails.{tail_without_commit, whole_is_undoable}
+use Rattle.log_laws.proofs.Tables.{content_of_table}
+use Rattle.log_laws.proofs.Shown.{shown_at, shown_is_seen, shown_is_value, writer_is_loser}
+use Rattle.lock_table.specs.declared.lock.Lock.{Lock}
+use Rattle.lock_table.specs.Locks as locks
+use Rattle.txn_table.specs.declared.active.Active.{Active}
+use Rattle.txn_table.specs.Entries.{IsTable, entry_of}
+use Rattle.txn_table.specs.Entries as entries
+use Rattle.engine.specs.declared.journal.Journal.{Journal}
+use Rattle.engine.specs.declared.engine.Engine.{Engine}
+use Rattle.engine.specs.Image.{picture}
+use Rattle.engine.specs.Holding.{HoldsLog}
+use Rattle.engine.specs.Fits.{Fits, SessionsAre, LocksAre, SessionIs, IsUnderWay}
+use Rattle.engine.proofs.Actives.{some_active, Finds}
+use Rattle.engine.proofs.Owing.{owed_at, owed_one, owed_is, entry_is}
+
+-- Locks.
+
+pub busy_read_is : (held : List Lock) (s : State) → LocksAre held s → (own : Option ℕ) (number : ℕ) → locks.busy_read held own number ≡ model.busy_read s own number
+busy_read_is held s are None number = λ i. find (λ n. true && are.written n number i) (range_with_len 0 8)
+busy_read_is held s are (Some own) number = λ i. find (λ n. not (own == n) && are.written n number i) (range_with_len 0 8)
+
+pub busy_write_is : (held : List Lock) (s : State) → LocksAre held s → (own : Option ℕ) (number : ℕ) → locks.busy_write held own number ≡ model.busy_write s own number
+busy_write_is held s are None number = λ i. find (λ n. true && (are.written n number i || are.reads n number i)) (range_with_len 0 8)
+busy_write_is held s are (Some own) number = λ i. find (λ n. not (own == n) && (are.written n number i || are.reads n number i)) (range_with_len 0 8)
+
+-- The table.
+
+-- what is sealed and what isn't stand for the same table
+pub table_is : (j : Journal) (site : Site) (records : List Entry) (table : List Content) (commits : ℕ) (h : HoldsLog j site records table commits) → table ≡ table_of records (blank_versions j.log.geometry.pages)
+table_is j site records table commits h =
+    h.runs_on.means.table_is ∙ sym (tail_without_commit (picture j.log.geometry h.blocks) h.tail h.runs_on.carries h.runs_on.no_commit)
+    ∙ ap (λ (l : List Entry). table_of l (blank_versions j.log.geometry.pages)) h.runs_on.records_are
+
+pub undoable : (j : Journal) (site : Site) (records : List Entry) (table : List Content) (commits : ℕ) (h : HoldsLog j site records table commits) → IsUndoable records
+undoable j site records table commits h = subst IsUndoable h.runs_on.records_are (whole_is_undoable (picture j.log.geometry h.blocks) h.tail h.runs_on.carries)
+
+pub same_size : (engine : Engine) (site : Site) (s : State) → Fits engine site s → length s.table ≡ length engine.table.items
+same_size engine site s fits =
+    let pages = blank_versions engine.journal.log.geometry.pages in
+    ap length (table_is engine.journal site fits.records s.table s.commits fits.holds)
+    ∙ length-map-range_with_len (value_of fits.records pages) 0 (32 * length pages)
+    ∙ sym (length-map-range_with_len (shown fits.records pages) 0 (32 * length pages))
+    ∙ ap length (sym fits.shown_is)
+
+-- Who has written.
+
+pub none_of : (f : ℕ → Bool) (xs : List ℕ) → find f xs ≡ None → AllByRecursion (λ x. f x ≡ false) xs
+none_of f [] none = tt
+none_of f (x ∷ xs) none = by (f x) refl none (none_of f xs)
+  where
+    by : (b : Bool) → f x ≡ b → cond b (Some x) (find f xs) ≡ None → (find f xs ≡ None → AllByRecursion (λ x. f x ≡ false) xs) → (f x ≡ false) × AllByRecursion (λ x. f x ≡ false) xs
+    by true is some rest = absurd (none-some x (sym some))
+    by false is later rest = (is, rest later)
+
+at_each : (P : ℕ → Type 0) → AllByRecursion P (range_with_len 0 8) → (n : ℕ) → n < 8 → P n
+at_each P all zero less = all.0
+at_each P all (suc zero) less = all.1.0
+at_each P all (suc (suc zero)) less = all.1.1.0
+at_each P all (suc (suc (suc zero))) less = all.1.1.1.0
+at_each P all (suc (suc (suc (suc zero)))) less = all.1.1.1.1.0
+at_each P all (suc (suc (suc (suc (suc zero))))) less = all.1.1.1.1.1.0
+at_each P all (suc (suc (suc (suc (suc (suc zero)))))) less = all.1.1.1.1.1.1.0
+at_each P all (suc (suc (suc (suc (suc (suc (suc zero))))))) less = all.1.1.1.1.1.1.1.0
+at_each P all (suc (suc (suc (suc (suc (suc (suc (suc more)))))))) less = absurd (omega (arith, less))
+
+-- an unfinished transaction that has written a number is a session's, which the model says has written it
+pub record IsWriter (records : List Entry) (active : List Active) (s : State) (t number : ℕ) : Type 0 where
+  pub session : ℕ
+  pub entry : Active
+  pub at : entry_of active session ≡ Some entry
+  pub begin : entry.begin ≡ t
+  pub has_written : model.has_written s session number ≡ true
+
+pub writer : (records : List Entry) (active : List Active) (s : State) → SessionsAre records active s → (t number : ℕ) → is_closed records t ≡ false → follow.has_written records t number ≡ true → IsWriter records active s t number
+writer records active s are t number lives written =
+    let found = are.all t (writer_is_loser records t number lives written) in
+    let session = some_active records active s are found.0 found.1 found.2 in
+    record {
+      session = found.0;
+      entry = found.1;
+      at = found.2;
+      begin = found.3;
+      has_written =
+          ap (λ (o : Option Session). list_any (λ write. write.0 == number) (writes_of o)) session.is
+          ∙ ap (λ (ws : List Write). list_any (λ write. write.0 == number) ws) session.under_way.is_active.writes_are
+          ∙ ap (λ (k : ℕ). follow.has_written records k number) found.3
+          ∙ written;
+    }
+
+small_session : (records : List Entry) (active : List Active) (s : State) → SessionsAre records active s → IsTable active → (n : ℕ) (own : Active) → entry_of active n ≡ Some own → n < 8
+small_session records active s are table n own is = (entry_is active n own table is).small
+
+-- where no other session has written a number, no other unfinished transaction has
+pub free_for : (records : List Entry) (active : List Active) (s : State) → SessionsAre records active s → IsTable active → (n number : ℕ) (own : Active) → entry_of active n ≡ Some own → model.busy_read s (Some n) number ≡ None → IsFreeFor records own.begin number
+free_for records active s are table n number own at none t lives written =
+    let found = writer records active s are t number lives written in
+    let each = at_each (λ m. (not (n == m) && model.has_written s m number) ≡ false) (none_of (λ m. not (n == m) && model.has_written s m number) (range_with_len 0 8) none) found.session (small_session records active s are table found.session found.entry found.at) in
+    ⊎_elim
+    (λ (same : n ≡ found.session). sym found.begin ∙ ap (λ (e : Active). e.begin) (same_Some found.entry own (sym found.at ∙ ap (entry_of active) (sym same) ∙ at)))
+    (λ differ. absurd (true≢false (sym (and_from _ _ (ap not (ne_eqb n found.session differ)) found.has_written) ∙ each)))
+    (cases_eq n found.session)
+
+pub free : (records : List Entry) (active : List Active) (s : State) → SessionsAre records active s → IsTable active → (number : ℕ) → model.busy_read s None number ≡ None → IsFree records number
+free records active s are table number none t lives = by (follow.has_written records t number) refl
+  where
+    by : (b : Bool) → follow.has_written records t number ≡ b → b ≡ false
+    by false is = refl
+    by true is =
+        let found = writer records active s are t number lives is in
+        let each = at_each (λ m. model.has_written s m number ≡ false) (none_of (λ m. model.has_written s m number) (range_with_len 0 8) none) found.session (small_session records active s are table found.session found.entry found.at) in
+        absurd (true≢false (sym found.has_written ∙ each))
+
+-- What a record has.
+
+pub content_is : (engine : Engine) (site : Site) (s : State) (fits : Fits engine site s) (number : ℕ) → number < length engine.table.items →
+    (slice_index_or engine.table.items number None ≡ shown fits.records (blank_versions engine.journal.log.geometry.pages) number)
+    × (content_at s.table number ≡ value_of fits.records (blank_versions engine.journal.log.geometry.pages) number)
+content_is engine site s fits number less =
+    let pages = blank_versions engine.journal.log.geometry.pages in
+    let size : length engine.table.items ≡ 32 * length pages = ap length fits.shown_is ∙ length-map-range_with_len (shown fits.records pages) 0 (32 * length pages) in
+    let within : number < 32 * length pages = omega (arith, less, size) in (
+      ap (λ (t : List Content). content_at t number) fits.shown_is ∙ shown_at fits.records pages number within,
+      ap (λ (t : List Content). content_at t number) (table_is engine.journal site fits.records s.table s.commits fits.holds) ∙ content_of_table fits.records pages number within,
+    )
+
+-- a session sees what is shown, where it may read it
+pub seen_is : (engine : Engine) (site : Site) (s : State) (fits : Fits engine site s) (n number : ℕ) (own : Active) → IsTable engine.active → number < length engine.table.items → entry_of engine.active n ≡ Some own → model.busy_read s (Some n) number ≡ None →
+    seen s n number ≡ slice_index_or engine.table.items number None
+seen_is engine site s fits n number own table less at none =
+    let pages = blank_versions engine.journal.log.geometry.pages in
+    let both = content_is engine site s fits number less in
+    let session = some_active fits.records engine.active s fits.sessions n own at in
+    let under = session.under_way.is_active in
+    ap (λ (o : Option Session). unwrap_or (last_write (writes_of o) number) (content_at s.table number)) session.is
+    ∙ ap (λ (ws : List Write). unwrap_or (last_write ws number) (content_at s.table number)) under.writes_are
+    ∙ ap (λ (x : Content). unwrap_or (last_write (follow.writes_in own.begin fits.records) number) x) both.1
+    ∙ sym (shown_is_seen fits.records pages own.begin number (undoable engine.journal site fits.records s.table s.commits fits.holds) under.lives.not_closed (free_for fits.records engine.active s fits.sessions table n number own at none))
+    ∙ sym both.0
+
+-- so does one outside sessions
+pub got_is : (engine : Engine) (site : Site) (s : State) (fits : Fits engine site s) (number : ℕ) → IsTable engine.active → number < length engine.table.items → model.busy_read s None number ≡ None →
+    content_at s.table number ≡ slice_index_or engine.table.items number None
+got_is engine site s fits number table less none =
+    let both = content_is engine site s fits number less in
+    both.1 ∙ sym (shown_is_value fits.records (blank_versions engine.journal.log.geometry.pages) number (free fits.records engine.active s fits.sessions table number none)) ∙ sym both.0

@@ -1,0 +1,128 @@
+-- What the model answers, test by test.
+use Rattle.std.proofs.Common.{◌≡◌, ◌⊎◌, ℕ, zero, suc, ◌+◌, ◌-◌, ◌<◌, ◌≤◌, Bool, true, false, true≢false, ◌||◌, cond, List, [], ◌∷◌, length, sum_by, filter_map, Option, None, Some, refl, sym, ap, subst, ◌∙◌, arith}
+use Rattle.std.specs.Prelude.{slice_index_or, nat_le, nat_lt, option_map, is_none, is_some, IsSome, if◌then◌else◌}
+use Rattle.std.specs.Option.{option_map_or}
+use Rattle.std.specs.List.{range_with_len}
+use Rattle.std.proofs.lemmas.Bool.{le-leb, lt-leb, lt-ltb, le-ltb}
+use Rattle.std.proofs.Math.Nat.{zero-add}
+use Rattle.std.proofs.lemmas.List.Sums.{sum_by-cons}
+use Rattle.byte_fields.specs.declared.TheConstants.{VALUE_MAX}
+use Rattle.site.specs.State.{State as Site}
+use Rattle.record_model.specs.declared.words.Command.{Command}
+use Rattle.record_model.specs.declared.words.Why.TheVariants.{BadSession, NoRecord, TooLong}
+use Rattle.record_model.specs.declared.words.Reply.{Reply}
+use Rattle.record_model.specs.declared.words.Reply.TheVariants as reply
+use Rattle.record_model.specs.State.{Session, State, session_at, active_sessions, used}
+use Rattle.record_model.specs.State as model
+use Rattle.record_model.specs.Step.{Outcome, refusal, outcome, effect, answer, full, lacks_room, wants_active, wants_free, wants_record, wants_short, refuse_if, first_refusal}
+use Rattle.log_records.specs.Log.{Entry}
+use Rattle.txn_table.specs.declared.active.Active.{Active}
+use Rattle.txn_table.specs.Entries.{IsTable, entry_of}
+use Rattle.txn_table.specs.Entries as entries
+use Rattle.engine.specs.declared.engine.Engine.{Engine}
+use Rattle.engine.specs.Fits.{Fits, SessionsAre, SessionIs, IsFull, run}
+use Rattle.engine.proofs.Actives.{some_active}
+use Rattle.engine.proofs.Meanings.{same_size}
+use Rattle.engine.proofs.Owing.{owed_at, owed_one, owed_is}
+
+abbrev way : State → Command → Bool → Outcome
+way s command b = if b then record { after = s; reply = full s } else record { after = effect s command; reply = answer s command [] }
+
+pub refused : (s : State) (command : Command) (r : Reply) → refusal s command ≡ Some r → run s command ≡ record { after = s; reply = r }
+refused s command r is = ap (outcome false s command []) is
+
+pub no_room : (s : State) (command : Command) → refusal s command ≡ None → lacks_room s command ≡ true → run s command ≡ record { after = s; reply = full s }
+no_room s command none lacks = ap (outcome false s command []) none ∙ ap (way s command) lacks
+
+pub carried_out : (s : State) (command : Command) → refusal s command ≡ None → lacks_room s command ≡ false → run s command ≡ record { after = effect s command; reply = answer s command [] }
+carried_out s command none has = ap (outcome false s command []) none ∙ ap (way s command) has
+
+-- What is owed.
+
+abbrev owed_by : Option Session → ℕ
+owed_by o = option_map_or (λ (session : Session). length session.writes + 1) o 0
+
+total : List (Option Session) → ℕ
+total [] = 0
+total (o ∷ rest) = owed_by o + total rest
+
+total_is : (xs : List (Option Session)) → sum_by (λ (session : Session). length session.writes + 1) (filter_map (λ session. session) xs) ≡ total xs
+unfolding total
+total_is [] = refl
+total_is (None ∷ rest) = total_is rest ∙ sym (zero-add (total rest))
+total_is (Some session ∷ rest) = sum_by-cons (λ (x : Session). length x.writes + 1) session (filter_map (λ x. x) rest) ∙ ap (λ (n : ℕ). length session.writes + 1 + n) (total_is rest)
+
+each_owes : (records : List Entry) (a : Option Active) (o : Option Session) → SessionIs records a o → option_map_or owed_one a 0 ≡ owed_by o
+each_owes records None None is = refl
+each_owes records None (Some session) is = absurd is
+each_owes records (Some entry) None is = absurd is
+each_owes records (Some entry) (Some session) is = ap (λ (n : ℕ). n + 1) is.count
+
+-- the sums of eight
+of_eight : (xs : List (Option Session)) (f : ℕ → ℕ) → length xs ≡ 8 → ((n : ℕ) → f n ≡ owed_by (slice_index_or xs n None)) → sum_by f (range_with_len 0 8) ≡ total xs
+unfolding total
+of_eight (a ∷ b ∷ c ∷ d ∷ e ∷ x ∷ y ∷ z ∷ []) f is says = omega (arith, says 0, says 1, says 2, says 3, says 4, says 5, says 6, says 7)
+of_eight _ f is says = absurd (omega (arith, is))
+
+pub owed_same : (engine : Engine) (site : Site) (s : State) → Fits engine site s → IsTable engine.active → entries.owed engine.active ≡ model.owed s
+owed_same engine site s fits table =
+    owed_is engine.active table
+    ∙ of_eight s.sessions (owed_at engine.active) fits.sessions.count (λ n. each_owes fits.records (entry_of engine.active n) (session_at s n) (fits.sessions.each n))
+    ∙ sym (total_is s.sessions)
+
+-- the reply where there is no room
+pub full_is : (engine : Engine) (site : Site) (s : State) (more : ℕ) (r : Reply) → Fits engine site s → IsTable engine.active → IsFull engine more r → (r ≡ full s) × (nat_lt s.cap (used s + model.owed s + more) ≡ true)
+full_is engine site s more r fits table is =
+    let owed = owed_same engine site s fits table in
+    let made = fits.counts.made in
+    let kept = fits.counts.kept in
+    let cap = fits.counts.cap in
+    let used_is : engine.journal.made ≡ used s = omega (arith, made, kept) in
+    let less = is.no_room in
+    (is.full_is ∙ (λ i. reply.Full (used_is i) (owed i) (cap i)), lt-ltb s.cap (used s + model.owed s + more) (omega (arith, less, owed, used_is, cap)))
+
+pub has_room : (engine : Engine) (site : Site) (s : State) (more : ℕ) → Fits engine site s → IsTable engine.active → engine.journal.made + entries.owed engine.active + more ≤ engine.cap → nat_lt s.cap (used s + model.owed s + more) ≡ false
+has_room engine site s more fits table room =
+    let owed = owed_same engine site s fits table in
+    let made = fits.counts.made in
+    let kept = fits.counts.kept in
+    let cap = fits.counts.cap in
+    le-ltb s.cap (used s + model.owed s + more) (omega (arith, room, owed, made, kept, cap))
+
+-- Tests that are passed, and that aren't.
+
+pub wants_active_is : (s : State) (n : ℕ) (session : Session) → session_at s n ≡ Some session → wants_active s n ≡ None
+wants_active_is s n session is = λ i. refuse_if (is_none (is i)) (reply.Refused BadSession)
+
+pub has_record : (engine : Engine) (site : Site) (s : State) (number : ℕ) → Fits engine site s → number < length engine.table.items → wants_record s number ≡ None
+has_record engine site s number fits less =
+    let size = same_size engine site s fits in
+    let below : nat_le (length s.table) number ≡ false = lt-leb (length s.table) number (omega (arith, less, size)) in
+    λ i. refuse_if (below i) (reply.Refused NoRecord)
+
+pub lacks_record : (engine : Engine) (site : Site) (s : State) (number : ℕ) → Fits engine site s → length engine.table.items ≤ number → wants_record s number ≡ Some (reply.Refused NoRecord)
+lacks_record engine site s number fits more =
+    let size = same_size engine site s fits in
+    let from : nat_le (length s.table) number ≡ true = le-leb (length s.table) number (omega (arith, more, size)) in
+    λ i. refuse_if (from i) (reply.Refused NoRecord)
+
+pub is_short : (value : List ℕ) → length value ≤ VALUE_MAX → wants_short value ≡ None
+is_short value short = let same : nat_lt VALUE_MAX (length value) ≡ false = le-ltb VALUE_MAX (length value) short in λ i. refuse_if (same i) (reply.Refused TooLong)
+
+pub is_long : (value : List ℕ) → VALUE_MAX < length value → wants_short value ≡ Some (reply.Refused TooLong)
+is_long value long = let same : nat_lt VALUE_MAX (length value) ≡ true = lt-ltb VALUE_MAX (length value) long in λ i. refuse_if (same i) (reply.Refused TooLong)
+
+-- the entry that is there
+pub record Has (o : Option Active) : Type 0 where
+  pub own : Active
+  pub is : o ≡ Some own
+
+pub has : (o : Option Active) → IsSome o → Has o
+has (Some own) some = record { own = own; is = refl }
+has None some = absurd (true≢false (sym some))
+
+pub is_active : (engine : Engine) (site : Site) (s : State) (n : ℕ) → Fits engine site s → IsSome (entry_of engine.active n) → wants_active s n ≡ None
+is_active engine site s n fits some =
+    let own = has (entry_of engine.active n) some in
+    let session = some_active fits.records engine.active s fits.sessions n own.own own.is in
+    wants_active_is s n session.session session.is

@@ -1,0 +1,49 @@
+-- How many sessions are active.
+use Rattle.std.proofs.Common.{◌≡◌, ℕ, ◌+◌, List, [], ◌∷◌, length, sum_by, filter_map, Option, None, Some, refl, sym, ◌∙◌, arith}
+use Rattle.std.specs.Prelude.{slice_index_or}
+use Rattle.std.specs.Option.{option_map_or}
+use Rattle.std.specs.List.{range_with_len}
+use Rattle.std.proofs.lemmas.List.Sums.{sum_by-cons}
+use Rattle.site.specs.State.{State as Site}
+use Rattle.record_model.specs.State.{Session, State, session_at, active_sessions}
+use Rattle.log_records.specs.Log.{Entry}
+use Rattle.txn_table.specs.declared.active.Active.{Active}
+use Rattle.txn_table.specs.Entries.{IsTable, entry_of}
+use Rattle.txn_table.proofs.BySession.{sum-by_session}
+use Rattle.engine.specs.declared.engine.Engine.{Engine}
+use Rattle.engine.specs.Fits.{Fits, SessionIs}
+
+abbrev one_of : Option Session → ℕ
+one_of o = option_map_or (λ (session : Session). 1) o 0
+
+ones : List (Option Session) → ℕ
+ones [] = 0
+ones (o ∷ rest) = one_of o + ones rest
+
+ones_is : (xs : List (Option Session)) → length (filter_map (λ session. session) xs) ≡ ones xs
+unfolding ones
+ones_is [] = refl
+ones_is (None ∷ rest) = let same = ones_is rest in omega (arith, same)
+ones_is (Some session ∷ rest) = let same = ones_is rest in omega (arith, same)
+
+length_is : (xs : List Active) → sum_by (λ entry. 1) xs ≡ length xs
+length_is [] = refl
+length_is (x ∷ xs) = let same = length_is xs in let first = sum_by-cons (λ (entry : Active). 1) x xs in omega (arith, same, first)
+
+each_one : (records : List Entry) (a : Option Active) (o : Option Session) → SessionIs records a o → option_map_or (λ (entry : Active). 1) a 0 ≡ one_of o
+each_one records None None is = refl
+each_one records None (Some session) is = absurd is
+each_one records (Some entry) None is = absurd is
+each_one records (Some entry) (Some session) is = refl
+
+of_eight : (xs : List (Option Session)) (f : ℕ → ℕ) → length xs ≡ 8 → ((n : ℕ) → f n ≡ one_of (slice_index_or xs n None)) → sum_by f (range_with_len 0 8) ≡ ones xs
+unfolding ones
+of_eight (a ∷ b ∷ c ∷ d ∷ e ∷ x ∷ y ∷ z ∷ []) f is says = omega (arith, says 0, says 1, says 2, says 3, says 4, says 5, says 6, says 7)
+of_eight _ f is says = absurd (omega (arith, is))
+
+pub active_same : (engine : Engine) (site : Site) (s : State) → Fits engine site s → IsTable engine.active → length engine.active ≡ length (active_sessions s)
+active_same engine site s fits table =
+    sym (length_is engine.active)
+    ∙ sum-by_session (λ entry. 1) engine.active table
+    ∙ of_eight s.sessions (λ n. option_map_or (λ (entry : Active). 1) (entry_of engine.active n) 0) fits.sessions.count (λ n. each_one fits.records (entry_of engine.active n) (session_at s n) (fits.sessions.each n))
+    ∙ sym (ones_is s.sessions)

@@ -1,0 +1,247 @@
+-- A session's read, and its write.
+use Rattle.std.proofs.Common.{◌≡◌, ℕ, ◌+◌, ◌*◌, ◌/◌, ◌%◌, ◌<◌, ◌≤◌, ◌&&◌, ◌||◌, ◌==◌, Bool, true, false, not, cond, ◌++◌, ◌∷◌, [], List, length, find, Option, None, Some, ⊎_elim, refl, sym, ap, subst, ◌∙◌, arith, IsTrue, get_or-set_same, get_or-set_other, length-set}
+use Rattle.std.specs.Prelude.{slice_set, slice_index_or, option_map}
+use Rattle.std.specs.List.{list_any, range_with_len}
+use Rattle.std.proofs.lemmas.Bool.{cases_eq, eq-eqb, ne_eqb}
+use Rattle.std.proofs.lemmas.Option.{none-some}
+use Rattle.std.proofs.lemmas.List.FromFn.{length-map-range_with_len}
+use Rattle.site.specs.State.{State as Site}
+use Rattle.site.specs.declared.geometry.Geometry.{Geometry}
+use Rattle.record_model.specs.State.{Content, Session, State, Write, session_at, writes_of, reads_of}
+use Rattle.record_model.specs.State as model
+use Rattle.record_model.specs.Step.{having_written, having_read, with_session}
+use Rattle.log_records.specs.declared.log_record.LogRecord.{LogRecord}
+use Rattle.log_records.specs.declared.log_record.LogRecord.TheVariants.{Update}
+use Rattle.log_records.specs.Log.{Entry}
+use Rattle.log_records.specs.Sets.{blank_versions}
+use Rattle.log_laws.specs.Follow.{IsFreeFor, shown, shown_table}
+use Rattle.log_laws.proofs.Losers.{active_may_write}
+use Rattle.log_laws.proofs.Owing.{owed_update}
+use Rattle.log_laws.proofs.Shown.{shown_set}
+use Rattle.log_laws.proofs.Versions.{page_and_slot}
+use Rattle.lock_table.specs.declared.lock.Lock.{Lock}
+use Rattle.lock_table.specs.Locks.{AddsLock}
+use Rattle.lock_table.specs.Locks as locks
+use Rattle.txn_table.specs.declared.active.Active.{Active}
+use Rattle.txn_table.specs.Entries.{IsTable, entry_of, ChangesOnly, after_write}
+use Rattle.txn_table.specs.Entries as entries
+use Rattle.engine.specs.declared.engine.Engine.{Engine}
+use Rattle.engine.specs.Going.{MayGoOn}
+use Rattle.engine.specs.Image.{blank_master}
+use Rattle.engine.specs.Holding.{HoldsLog, MayGrow}
+use Rattle.engine.specs.Fits.{Fits, LocksAre, SessionIs, SessionsAre, with_write}
+use Rattle.engine.proofs.Actives.{some_active}
+use Rattle.engine.proofs.Changes.{wrote_more}
+use Rattle.engine.proofs.Locks.{at_set}
+use Rattle.engine.proofs.Meanings.{busy_write_is, content_is, free_for}
+use Rattle.engine.proofs.Owing.{entry_is}
+
+-- Locks.
+
+-- some item of a list, or the one behind it
+any_more : {X : Type 0} (test : X → Bool) (xs : List X) (x : X) → list_any test (xs ++ x ∷ []) ≡ (list_any test xs || test x)
+any_more test [] x = by (test x)
+  where
+    by : (b : Bool) → (b || false) ≡ (false || b)
+    by true = refl
+    by false = refl
+any_more test (y ∷ xs) x = by (test y) (any_more test xs x)
+  where
+    by : (b : Bool) → list_any test (xs ++ x ∷ []) ≡ (list_any test xs || test x) → (b || list_any test (xs ++ x ∷ [])) ≡ ((b || list_any test xs) || test x)
+    by true rest = refl
+    by false rest = rest
+
+and_true : (b : Bool) → (b && true) ≡ b
+and_true true = refl
+and_true false = refl
+
+or_false : (b : Bool) → (b || false) ≡ b
+or_false true = refl
+or_false false = refl
+
+-- nothing is added
+or_none : (x a b : Bool) → (x || (a && (b && false))) ≡ x
+or_none true a b = refl
+or_none false true true = refl
+or_none false true false = refl
+or_none false false b = refl
+
+-- the session has written the record now
+pub added_write : (old new : List Lock) (s : State) (n number : ℕ) (after : Content) (session : Session) → n < length s.sessions → session_at s n ≡ Some session → AddsLock old new n number true → LocksAre old s → LocksAre new (with_write s n (number, after))
+added_write old new s n number after session small is adds are = record {
+  written = λ m r. ⊎_elim
+      (λ (same : m ≡ n).
+      adds.written m r
+      ∙ (λ i. are.written m r i || (eq-eqb n m (sym same) i && and_true (number == r) i))
+      ∙ ap (λ (o : Option Session). list_any (λ write. write.0 == r) (writes_of o) || (number == r)) (ap (session_at s) same ∙ is)
+      ∙ sym (any_more (λ (write : Write). write.0 == r) session.writes (number, after))
+      ∙ sym (ap (λ (o : Option Session). list_any (λ write. write.0 == r) (writes_of o)) (own m same)))
+      (λ differ.
+      adds.written m r
+      ∙ (λ i. are.written m r i || (ne_eqb n m (λ e. differ (sym e)) i && (number == r && true)))
+      ∙ or_false (model.has_written s m r)
+      ∙ sym (ap (λ (o : Option Session). list_any (λ write. write.0 == r) (writes_of o)) (get_or-set_other s.sessions n m now None differ)))
+      (cases_eq m n);
+  reads = λ m r.
+      adds.reads m r ∙ or_none (locks.has_read old m r) (n == m) (number == r) ∙ are.reads m r
+      ∙ sym (ap (λ (rs : List ℕ). list_any (λ read. read == r) rs) (at_set reads_of s.sessions n now (Some session) small is (ap (λ (o : Option Session). reads_of (option_map (having_written (number, after)) o)) is) m));
+}
+  where
+    now : Option Session
+    now = option_map (having_written (number, after)) (session_at s n)
+
+    own : (m : ℕ) → m ≡ n → slice_index_or (slice_set s.sessions n now) m None ≡ Some (having_written (number, after) session)
+    own m same = ap (λ (k : ℕ). slice_index_or (slice_set s.sessions n now) k None) same ∙ get_or-set_same s.sessions n now None small ∙ ap (option_map (having_written (number, after))) is
+
+-- the session has read the record now
+abbrev pub with_read : State → ℕ → ℕ → State
+with_read s n number = with_session s n (option_map (having_read (number ∷ [])) (session_at s n))
+
+pub added_read : (old new : List Lock) (s : State) (n number : ℕ) (session : Session) → n < length s.sessions → session_at s n ≡ Some session → AddsLock old new n number false → LocksAre old s → LocksAre new (with_read s n number)
+added_read old new s n number session small is adds are = record {
+  reads = λ m r. ⊎_elim
+      (λ (same : m ≡ n).
+      adds.reads m r
+      ∙ (λ i. are.reads m r i || (eq-eqb n m (sym same) i && and_true (number == r) i))
+      ∙ ap (λ (o : Option Session). list_any (λ read. read == r) (reads_of o) || (number == r)) (ap (session_at s) same ∙ is)
+      ∙ sym (any_more (λ (read : ℕ). read == r) session.reads number)
+      ∙ sym (ap (λ (o : Option Session). list_any (λ read. read == r) (reads_of o)) (own m same)))
+      (λ differ.
+      adds.reads m r
+      ∙ (λ i. are.reads m r i || (ne_eqb n m (λ e. differ (sym e)) i && (number == r && true)))
+      ∙ or_false (model.has_read s m r)
+      ∙ sym (ap (λ (o : Option Session). list_any (λ read. read == r) (reads_of o)) (get_or-set_other s.sessions n m now None differ)))
+      (cases_eq m n);
+  written = λ m r.
+      adds.written m r ∙ or_none (locks.has_written old m r) (n == m) (number == r) ∙ are.written m r
+      ∙ sym (ap (λ (ws : List Write). list_any (λ write. write.0 == r) ws) (at_set writes_of s.sessions n now (Some session) small is (ap (λ (o : Option Session). writes_of (option_map (having_read (number ∷ [])) o)) is) m));
+}
+  where
+    now : Option Session
+    now = option_map (having_read (number ∷ [])) (session_at s n)
+
+    own : (m : ℕ) → m ≡ n → slice_index_or (slice_set s.sessions n now) m None ≡ Some (having_read (number ∷ []) session)
+    own m same = ap (λ (k : ℕ). slice_index_or (slice_set s.sessions n now) k None) same ∙ get_or-set_same s.sessions n now None small ∙ ap (option_map (having_read (number ∷ []))) is
+
+-- A number that passes the smaller test passes the larger one.
+
+find_less : (less more : ℕ → Bool) (xs : List ℕ) → ((x : ℕ) → less x ≡ true → more x ≡ true) → find more xs ≡ None → find less xs ≡ None
+find_less less more [] weaker none = refl
+find_less less more (x ∷ xs) weaker none = by (less x) (more x) (weaker x) none (find_less less more xs weaker)
+  where
+    by : (a b : Bool) → (a ≡ true → b ≡ true) → cond b (Some x) (find more xs) ≡ None → (find more xs ≡ None → find less xs ≡ None) → cond a (Some x) (find less xs) ≡ None
+    by a true weaker some rest = absurd (none-some x (sym some))
+    by false false weaker later rest = rest later
+    by true false weaker later rest = absurd (true_false (weaker refl))
+      where
+        true_false : false ≡ true → ⊥
+        true_false e = cc
+
+-- who may write a record may read it
+pub may_read_too : (s : State) (n number : ℕ) → model.busy_write s (Some n) number ≡ None → model.busy_read s (Some n) number ≡ None
+may_read_too s n number = find_less (λ m. not (n == m) && model.has_written s m number) (λ m. not (n == m) && (model.has_written s m number || model.has_read s m number)) (range_with_len 0 8)
+    (λ m. by (not (n == m)) (model.has_written s m number) (model.has_read s m number))
+  where
+    by : (a b c : Bool) → (a && b) ≡ true → (a && (b || c)) ≡ true
+    by true true c is = refl
+    by true false c is = absurd cc
+    by false b c is = is
+
+-- A write.
+
+abbrev pub update_by : Active → ℕ → Content → Content → LogRecord
+update_by entry number before after = Update entry.begin entry.last (number / 32) (number % 32) before after
+
+pub may_write : (engine : Engine) (site : Site) (s : State) (fits : Fits engine site s) (entry : Active) (number lsn : ℕ) (after : Content) → MayGoOn engine site → entry_of engine.active entry.session ≡ Some entry → number < length engine.table.items →
+    locks.busy_write engine.locks (Some entry.session) number ≡ None → engine.journal.made + entries.owed engine.active + 2 ≤ engine.cap →
+    MayGrow engine.journal fits.records (record { lsn = lsn; rec = update_by entry number (slice_index_or engine.table.items number None) after })
+may_write engine site s fits entry number lsn after going at less free room =
+    let n = entry.session in
+    let pages = blank_versions engine.journal.log.geometry.pages in
+    let before : Content = slice_index_or engine.table.items number None in
+    let e : Entry = record { lsn = lsn; rec = update_by entry number before after } in
+    let found = some_active fits.records engine.active s fits.sessions n entry at in
+    let active = found.under_way.is_active in
+    let none = may_read_too s n number (sym (busy_write_is engine.locks s fits.locks_are (Some n) number) ∙ free) in
+    let only : IsFreeFor fits.records entry.begin number = free_for fits.records engine.active s fits.sessions going.table n number entry at none in
+    let size : length engine.table.items ≡ 32 * length pages = ap length fits.shown_is ∙ length-map-range_with_len (shown fits.records pages) 0 (32 * length pages) in
+    let place = page_and_slot number in
+    let shows : before ≡ shown fits.records pages number = (content_is engine site s fits number less).0 in
+    let owes = owed_update fits.records e refl active.lives.not_closed active.chain in
+    let are = fits.sessions.owes in
+    let blocks = going.journal.blocks in
+    let cap = going.cap in
+    record {
+      follows = active_may_write blank_master pages fits.records lsn entry.begin entry.last (number / 32) (number % 32) found.session.writes before after active
+          (omega (arith, place, less, size)) (subst (IsFreeFor fits.records entry.begin) (sym place) only) (shows ∙ ap (shown fits.records pages) (sym place));
+      no_commit = refl;
+      room = omega (arith, owes, are, room, blocks, cap);
+    }
+
+pub write_fits : (engine last : Engine) (old new : Site) (s : State) (entry : Active) (number lsn : ℕ) (after : Content) (fits : Fits engine old s) → IsTable engine.active → entry_of engine.active entry.session ≡ Some entry → IsTrue new.honest →
+    HoldsLog last.journal new (fits.records ++ record { lsn = lsn; rec = update_by entry number (slice_index_or engine.table.items number None) after } ∷ []) s.table s.commits →
+    last.journal.log.geometry ≡ engine.journal.log.geometry → last.journal.made ≡ engine.journal.made + 1 → last.commits ≡ engine.commits → last.cap ≡ engine.cap → last.table.items ≡ slice_set engine.table.items number after →
+    AddsLock engine.locks last.locks entry.session number true → ChangesOnly engine.active last.active entry.session (Some (after_write entry lsn)) → entries.owed last.active ≡ entries.owed engine.active + 1 →
+    Fits last new (with_write s entry.session (number, after))
+write_fits engine last old new s entry number lsn after fits table at honest holds geometry made commits cap shows adds changes owes =
+    let n = entry.session in
+    let pages = blank_versions engine.journal.log.geometry.pages in
+    let before : Content = slice_index_or engine.table.items number None in
+    let e : Entry = record { lsn = lsn; rec = update_by entry number before after } in
+    let found = some_active fits.records engine.active s fits.sessions n entry at in
+    let small = (entry_is engine.active n entry table at).small in
+    let count = fits.sessions.count in
+    let place = page_and_slot number in
+    let more : SessionsAre (fits.records ++ e ∷ []) last.active (with_write s n (number, after)) =
+    subst (λ (k : ℕ). SessionsAre (fits.records ++ e ∷ []) last.active (with_write s n (k, after))) place
+    (wrote_more fits.records engine.active last.active s n lsn (number / 32) (number % 32) entry before after fits.sessions small at changes owes) in
+    record {
+      honest = honest;
+      records = fits.records ++ e ∷ [];
+      holds = holds;
+      shown_is = shows ∙ ap (λ (t : List Content). slice_set t number after) fits.shown_is
+          ∙ sym (shown_set fits.records e pages number (ap Some place))
+          ∙ ap (λ (x : Geometry). shown_table (fits.records ++ e ∷ []) (blank_versions x.pages)) (sym geometry);
+      counts = record { commits = commits ∙ fits.counts.commits; made = made ∙ ap (λ (k : ℕ). k + 1) fits.counts.made; kept = fits.counts.kept; cap = cap ∙ fits.counts.cap };
+      sessions = more;
+      locks_are = added_write engine.locks last.locks s n number after found.session (omega (arith, small, count)) found.is adds fits.locks_are;
+    }
+
+-- A read.
+
+-- what a session has read changes nothing of its transaction
+pub read_more : (records : List Entry) (active : List Active) (s : State) (n number : ℕ) (entry : Active) → SessionsAre records active s → n < 8 → entry_of active n ≡ Some entry → SessionsAre records active (with_read s n number)
+read_more records active s n number entry are small at =
+    let found = some_active records active s are n entry at in
+    let under = found.under_way in
+    let count = are.count in
+    let now : Option Session = option_map (having_read (number ∷ [])) (session_at s n) in
+    record {
+      count = length-set s.sessions n now ∙ are.count;
+      each = λ m. ⊎_elim
+          (λ (same : m ≡ n). subst (λ (k : ℕ). SessionIs records (entry_of active k) (slice_index_or (slice_set s.sessions n now) k None)) (sym same)
+          (subst (λ (a : Option Active). SessionIs records a (slice_index_or (slice_set s.sessions n now) n None)) (sym at)
+          (subst (λ (o : Option Session). SessionIs records (Some entry) o) (sym (get_or-set_same s.sessions n now None (omega (arith, small, count)) ∙ ap (option_map (having_read (number ∷ []))) found.is))
+          (record { is_active = under.is_active; born = under.born; count = under.count }))))
+          (λ differ. subst (λ (o : Option Session). SessionIs records (entry_of active m) o) (sym (get_or-set_other s.sessions n m now None differ)) (are.each m))
+          (cases_eq m n);
+      all = are.all;
+      owes = are.owes;
+      differ = are.differ;
+    }
+
+pub read_fits : (engine : Engine) (held : _) (site : Site) (s : State) (n number : ℕ) (entry : Active) (fits : Fits engine site s) → IsTable engine.active → entry_of engine.active n ≡ Some entry → AddsLock engine.locks held n number false →
+    Fits (record engine { locks = held }) site (with_read s n number)
+read_fits engine held site s n number entry fits table at adds =
+    let found = some_active fits.records engine.active s fits.sessions n entry at in
+    let small = (entry_is engine.active n entry table at).small in
+    let count = fits.sessions.count in
+    record {
+      honest = fits.honest;
+      records = fits.records;
+      holds = fits.holds;
+      shown_is = fits.shown_is;
+      counts = record { commits = fits.counts.commits; made = fits.counts.made; kept = fits.counts.kept; cap = fits.counts.cap };
+      sessions = read_more fits.records engine.active s n number entry fits.sessions small at;
+      locks_are = added_read engine.locks held s n number found.session (omega (arith, small, count)) found.is adds fits.locks_are;
+    }

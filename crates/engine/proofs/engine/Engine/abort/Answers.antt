@@ -1,0 +1,48 @@
+use Rattle.std.proofs.Common.{◌≡◌, ℕ, [], Some, inl, refl, sym, ap, subst, ◌∙◌}
+use Rattle.site.specs.Moments.{LeavesOnly}
+use Rattle.site.specs.Laws.{leaves_weaker}
+use Rattle.site.specs.State.{State as Site}
+use Rattle.record_model.specs.State.{State}
+use Rattle.record_model.specs.Step.{Outcome, effect, answer}
+use Rattle.record_model.specs.declared.words.Command.TheVariants.{Abort}
+use Rattle.txn_table.specs.declared.active.Active.{Active}
+use Rattle.txn_table.specs.Entries.{entry_of}
+use Rattle.engine.specs.declared.engine.Engine.{Engine}
+use Rattle.engine.specs.Fits.{Fits, run}
+use Rattle.engine.specs.Leaves.{LeavesTable, LeavesEither}
+use Rattle.engine.proofs.Actives.{some_active}
+use Rattle.engine.proofs.Owing.{entry_is}
+use Rattle.engine.proofs.Replies.{carried_out, wants_active_is}
+use Rattle.engine.proofs.Sealings.{nothing_happens}
+use Rattle.engine.proofs.engine.Engine.abort.Goals as goal
+
+runs : (engine : Engine) (site : Site) (s : State) (n : ℕ) (entry : Active) → Fits engine site s → entry_of engine.active n ≡ Some entry → run s (Abort n) ≡ record { after = effect s (Abort n); reply = answer s (Abort n) [] }
+runs engine site s n entry fits at =
+    let found = some_active fits.records engine.active s fits.sessions n entry at in
+    carried_out s (Abort n) (wants_active_is s n found.session found.is) refl
+
+pub returns-in_default-clause-any_moment : goal.returns-in_default-clause-any_moment
+returns-in_default-clause-any_moment g c s fits = nothing_happens c.args.self.now.journal (g.S.Site.state c.args.site.now) fits.records s.table s.commits c.requires.going.journal.log.limits fits.holds
+
+pub carry_out_abort-requires-clause-active : goal.carry_out_abort-requires-clause-active
+carry_out_abort-requires-clause-active g c =
+    let at = sym c.find.ensures.entry ∙ c.in-Some.is in
+    ap (entry_of c.args.self.now.active) (entry_is c.args.self.now.active c.args.session c.in-Some.entry c.requires.going.table at).session ∙ at
+
+pub returns-in-Ok-clause-reply : goal.returns-in-Ok-clause-reply
+returns-in-Ok-clause-reply g c s fits =
+    c.in-Ok.ensures.done ∙ sym (ap (λ (o : Outcome). o.reply) (runs c.args.self.now (g.S.Site.state c.args.site.now) s c.args.session c.in-Some.entry fits (sym c.find.ensures.entry ∙ c.in-Some.is)))
+
+pub returns-in-Ok-clause-after : goal.returns-in-Ok-clause-after
+returns-in-Ok-clause-after g c s fits =
+    let at = sym c.find.ensures.entry ∙ c.in-Some.is in
+    let new = g.S.Site.state c.carry_out_abort.new.site in
+    let same = (entry_is c.args.self.now.active c.args.session c.in-Some.entry c.requires.going.table at).session in
+    subst (λ (o : Outcome). Fits c.carry_out_abort.new.self new o.after) (sym (runs c.args.self.now (g.S.Site.state c.args.site.now) s c.args.session c.in-Some.entry fits at))
+    (subst (λ (k : ℕ). Fits c.carry_out_abort.new.self new (effect s (Abort k))) same (c.in-Ok.ensures.after s fits))
+
+pub returns-in-Ok-clause-any_moment : goal.returns-in-Ok-clause-any_moment
+returns-in-Ok-clause-any_moment g c s fits = c.carry_out_abort.ensures.any_moment s fits
+
+pub returns-in-Err-clause-any_moment : goal.returns-in-Err-clause-any_moment
+returns-in-Err-clause-any_moment g c s fits = c.carry_out_abort.ensures.any_moment s fits

@@ -1,0 +1,37 @@
+use Rattle.std.proofs.Common.{ℕ, None, Some, sym, ap, subst, ◌∙◌}
+use Rattle.record_model.specs.Step.{Outcome}
+use Rattle.lock_table.specs.Locks.{busy_write}
+use Rattle.txn_table.specs.Entries.{entry_of}
+use Rattle.engine.specs.Fits.{Fits, with_write}
+use Rattle.engine.proofs.Owing.{entry_is}
+use Rattle.engine.proofs.Sealings.{nothing_happens}
+use Rattle.engine.proofs.engine.Engine.erase.Goals as goal
+
+pub returns-in-Some-clause-reply : goal.returns-in-Some-clause-reply
+returns-in-Some-clause-reply g c s fits = sym (ap (λ (o : Outcome). o.reply) (c.in-Some.ensures.refused s (g.S.Site.state c.args.site.now) fits))
+
+pub returns-in-Some-clause-any_moment : goal.returns-in-Some-clause-any_moment
+returns-in-Some-clause-any_moment g c s fits = nothing_happens c.args.self.now.journal (g.S.Site.state c.args.site.now) fits.records s.table s.commits c.requires.going.journal.log.limits fits.holds
+
+pub carry_out_write-requires-clause-active : goal.carry_out_write-requires-clause-active
+carry_out_write-requires-clause-active g c =
+    let engine = c.args.self.now in
+    ap (entry_of engine.active) (entry_is engine.active c.args.session c.entry-entry.result c.requires.going.table c.entry-entry.ensures).session ∙ c.entry-entry.ensures
+
+pub carry_out_write-requires-clause-free : goal.carry_out_write-requires-clause-free
+carry_out_write-requires-clause-free g c =
+    let engine = c.args.self.now in
+    ap (λ (n : ℕ). busy_write engine.locks (Some n) c.args.number) (entry_is engine.active c.args.session c.entry-entry.result c.requires.going.table c.entry-entry.ensures).session ∙ c.in_default.ensures.free
+
+pub returns-in-Ok-clause-reply : goal.returns-in-Ok-clause-reply
+returns-in-Ok-clause-reply g c s fits = c.in-Ok.ensures.done ∙ sym (ap (λ (o : Outcome). o.reply) (c.in_default.ensures.accepted s (g.S.Site.state c.args.site.now) fits))
+
+pub returns-in-Ok-clause-after : goal.returns-in-Ok-clause-after
+returns-in-Ok-clause-after g c s fits =
+    let engine = c.args.self.now in
+    let last = c.carry_out_write.new.self in
+    let new = g.S.Site.state c.carry_out_write.new.site in
+    let same = (entry_is engine.active c.args.session c.entry-entry.result c.requires.going.table c.entry-entry.ensures).session in
+    subst (λ (o : Outcome). Fits last new o.after) (sym (c.in_default.ensures.accepted s (g.S.Site.state c.args.site.now) fits))
+    (subst (λ (n : ℕ). Fits last new (with_write s n (c.args.number, None))) same
+    (c.in-Ok.ensures.after s fits))

@@ -1,0 +1,66 @@
+use Rattle.std.proofs.Common.{◌≡◌, ◌∙◌, [], ◌∷◌, None, Some, sym, ap, rules}
+use Rattle.std.specs.Prelude.{option_map}
+use Rattle.record_model.specs.State.{State}
+use Rattle.record_model.specs.Step.{Outcome, first_refusal, wants_short, may_write}
+use Rattle.record_model.specs.declared.words.Command.TheVariants.{Write}
+use Rattle.record_model.specs.declared.words.Reply.{Reply}
+use Rattle.record_model.specs.declared.words.Reply.TheVariants as reply
+use Rattle.engine.proofs.Replies.{refused, no_room, carried_out, full_is, has_room, has_record, lacks_record, is_short, is_long, is_active}
+use Rattle.engine.proofs.Meanings.{busy_write_is}
+use Rattle.engine.proofs.engine.Engine.write_refusal.Goals as goal
+
+abbrev left : State → Reply → Outcome
+left s r = record { after = s; reply = r }
+
+pub returns-then-lacks-clause-refused : goal.returns-then-lacks-clause-refused
+returns-then-lacks-clause-refused c s site fits =
+    let engine = c.args.self.now in
+    let number = c.args.number in
+    let n = c.args.session in
+    let active = is_active engine site s n fits (search rules) in
+    let lacks = lacks_record engine site s number fits (search rules) in
+    refused s (Write n number c.args.value.now) _ (λ i. first_refusal (active i ∷ lacks i ∷ wants_short c.args.value.now ∷ may_write s (Some n) number ∷ []))
+
+pub returns-then-is_long-clause-refused : goal.returns-then-is_long-clause-refused
+returns-then-is_long-clause-refused c s site fits =
+    let engine = c.args.self.now in
+    let number = c.args.number in
+    let n = c.args.session in
+    let active = is_active engine site s n fits (search rules) in
+    let there = has_record engine site s number fits (search rules) in
+    let long = is_long c.args.value.now (search rules) in
+    refused s (Write n number c.args.value.now) _ (λ i. first_refusal (active i ∷ there i ∷ long i ∷ may_write s (Some n) number ∷ []))
+
+pub returns-in-Some-clause-refused : goal.returns-in-Some-clause-refused
+returns-in-Some-clause-refused c s site fits =
+    let engine = c.args.self.now in
+    let number = c.args.number in
+    let n = c.args.session in
+    let active = is_active engine site s n fits (search rules) in
+    let there = has_record engine site s number fits (search rules) in
+    let short = is_short c.args.value.now (search rules) in
+    let busy : may_write s (Some n) number ≡ Some c.in-Some.busy = ap (option_map reply.Busy) (sym (busy_write_is engine.locks s fits.locks_are (Some n) number)) ∙ sym c.write_busy.ensures ∙ c.in-Some.is in
+    refused s (Write n number c.args.value.now) _ (λ i. first_refusal (active i ∷ there i ∷ short i ∷ busy i ∷ []))
+
+pub returns-in-Some-full-clause-refused : goal.returns-in-Some-full-clause-refused
+returns-in-Some-full-clause-refused c s site fits =
+    let engine = c.args.self.now in
+    let number = c.args.number in
+    let n = c.args.session in
+    let active = is_active engine site s n fits (search rules) in
+    let there = has_record engine site s number fits (search rules) in
+    let short = is_short c.args.value.now (search rules) in
+    let free : may_write s (Some n) number ≡ None = ap (option_map reply.Busy) (sym (busy_write_is engine.locks s fits.locks_are (Some n) number)) ∙ sym c.write_busy.ensures ∙ c.in_default.is in
+    let is = full_is engine site s 2 c.in-Some-full.full fits c.find.ensures.table c.in-Some-full.ensures.full in
+    no_room s (Write n number c.args.value.now) (λ i. first_refusal (active i ∷ there i ∷ short i ∷ free i ∷ [])) is.1 ∙ ap (left s) (sym is.0)
+
+pub returns-clause-accepted : goal.returns-clause-accepted
+returns-clause-accepted c s site fits =
+    let engine = c.args.self.now in
+    let number = c.args.number in
+    let n = c.args.session in
+    let active = is_active engine site s n fits (search rules) in
+    let there = has_record engine site s number fits (search rules) in
+    let short = is_short c.args.value.now (search rules) in
+    let free : may_write s (Some n) number ≡ None = ap (option_map reply.Busy) (sym (busy_write_is engine.locks s fits.locks_are (Some n) number)) ∙ sym c.write_busy.ensures ∙ c.in_default.is in
+    carried_out s (Write n number c.args.value.now) (λ i. first_refusal (active i ∷ there i ∷ short i ∷ free i ∷ [])) (has_room engine site s 2 fits c.find.ensures.table c.in_default-full.ensures.room)

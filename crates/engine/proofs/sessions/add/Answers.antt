@@ -1,0 +1,11 @@
+use Rattle.std.proofs.Common.{◌≡◌, ℕ, Option, None, ap, arith}
+use Rattle.std.specs.Option.{option_map_or}
+use Rattle.txn_table.specs.declared.active.Active.{Active}
+use Rattle.engine.proofs.Owing.{owed_changes, owed_one, owed_at}
+use Rattle.engine.proofs.sessions.add.Goals as goal
+
+pub returns-clause-owed : goal.returns-clause-owed
+returns-clause-owed c =
+    let all = owed_changes c.args.active.now c.add.new.self c.args.entry.session _ c.len-before.ensures.table c.len-after.ensures.table c.requires.session c.add.ensures.entry in
+    let none : owed_at c.args.active.now c.args.entry.session ≡ 0 = ap (λ (o : Option Active). option_map_or owed_one o 0) c.requires.absent in
+    omega (arith, all, none)

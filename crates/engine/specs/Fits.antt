@@ -1,0 +1,87 @@
+-- The database of an honest site, and the model's state.
+use Rattle.std.specs.Prelude.{◌≡◌, ℕ, ◌+◌, ◌*◌, ◌<◌, List, [], length, slice_index_or, Option, Some, None, option_map, IsTrue, ⊤, false}
+use Rattle.site.specs.State.{State as Site}
+use Rattle.site.specs.declared.geometry.Geometry.{Geometry}
+use Rattle.record_model.specs.State.{Content, Session, State, Write, session_at}
+use Rattle.record_model.specs.State as model
+use Rattle.record_model.specs.declared.words.Command.{Command}
+use Rattle.record_model.specs.Step.{Outcome, step, effect, answer, making, with_session, having_written}
+use Rattle.record_model.specs.declared.words.Reply.{Reply}
+use Rattle.record_model.specs.declared.words.Reply.TheVariants as reply
+use Rattle.log_records.specs.Log.{Entry, is_loser}
+use Rattle.log_records.specs.Sets.{blank_versions}
+use Rattle.log_laws.specs.Follow.{shown_table, IsActive}
+use Rattle.lock_table.specs.declared.lock.Lock.{Lock}
+use Rattle.lock_table.specs.Locks as locks
+use Rattle.txn_table.specs.declared.active.Active.{Active}
+use Rattle.txn_table.specs.Entries.{entry_of}
+use Rattle.txn_table.specs.Entries as entries
+use Rattle.log_records.specs.Unfinished as unfinished
+use Rattle.engine.specs.declared.engine.Engine.{Engine}
+use Rattle.engine.specs.Image.{blank_master}
+use Rattle.engine.specs.Holding.{HoldsLog}
+
+-- a session's transaction: it is open, was never undone, and has made the session's writes
+pub record IsUnderWay (records : List Entry) (entry : Active) (session : Session) : Type 0 where
+  pub is_active : IsActive blank_master records entry.begin entry.last session.writes
+  pub born : entry.born ≡ session.born
+  pub count : entry.writes ≡ length session.writes
+
+-- a session is active in both or in neither
+abbrev pub SessionIs : List Entry → Option Active → Option Session → Type 0
+SessionIs records None None = ⊤
+SessionIs records (Some entry) (Some session) = IsUnderWay records entry session
+SessionIs records _ _ = ⊥
+
+-- the active sessions are the unfinished transactions
+pub record SessionsAre (records : List Entry) (active : List Active) (s : State) : Type 0 where
+  pub count : length s.sessions ≡ 8
+  pub each : (n : ℕ) → SessionIs records (entry_of active n) (session_at s n)
+  pub all : (t : ℕ) → IsTrue (is_loser records t) → (n : ℕ) × (entry : Active) × (entry_of active n ≡ Some entry) × (entry.begin ≡ t)
+  -- what undo may take
+  pub owes : unfinished.owed records ≡ entries.owed active
+  pub differ : (n m : ℕ) (a b : Active) → entry_of active n ≡ Some a → entry_of active m ≡ Some b → a.begin ≡ b.begin → n ≡ m
+
+-- the locks are the model's writes and reads
+pub record LocksAre (held : List Lock) (s : State) : Type 0 where
+  pub written : (n r : ℕ) → locks.has_written held n r ≡ model.has_written s n r
+  pub reads : (n r : ℕ) → locks.has_read held n r ≡ model.has_read s n r
+
+-- the counts
+pub record CountsAre (engine : Engine) (s : State) : Type 0 where
+  pub commits : engine.commits ≡ s.commits
+  pub made : engine.journal.made ≡ s.made
+  pub kept : s.kept ≡ 0
+  pub cap : engine.cap ≡ s.cap
+
+-- Of an honest site: the database stands for this state.
+pub record Fits (engine : Engine) (site : Site) (s : State) : Type 0 where
+  pub honest : IsTrue site.honest
+  pub records : List Entry
+  pub holds : HoldsLog engine.journal site records s.table s.commits
+  -- what was written last, by whomever
+  pub shown_is : engine.table.items ≡ shown_table records (blank_versions engine.journal.log.geometry.pages)
+  pub counts : CountsAre engine s
+  pub sessions : SessionsAre records engine.active s
+  pub locks_are : LocksAre engine.locks s
+
+-- what a command answers, and the state that it leaves
+abbrev pub run : State → Command → Outcome
+run s command = step false s command []
+
+-- a session has made one write more
+abbrev pub with_write : State → ℕ → Write → State
+with_write s n write = making 1 (with_session s n (option_map (having_written write) (session_at s n)))
+
+-- a command is refused, in whatever state the database stands for, and changes nothing
+abbrev pub Refuses : Engine → Command → Reply → Type 0
+Refuses engine command reply = (s : State) (site : Site) → Fits engine site s → run s command ≡ record { after = s; reply = reply }
+
+-- it is carried out
+abbrev pub Accepts : Engine → Command → Type 0
+Accepts engine command = (s : State) (site : Site) → Fits engine site s → run s command ≡ record { after = effect s command; reply = answer s command [] }
+
+-- so many more log records can't be made
+pub record IsFull (engine : Engine) (more : ℕ) (answered : Reply) : Type 0 where
+  pub full_is : answered ≡ reply.Full engine.journal.made (entries.owed engine.active) engine.cap
+  pub no_room : engine.cap < engine.journal.made + entries.owed engine.active + more
