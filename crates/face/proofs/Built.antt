@@ -14,9 +14,9 @@ use Rattle.face.specs.Run.{step, after_lines, reply_texts}
 
 is_built : (line : Line) → IsBuilt (built line)
 is_built None = tt
-is_built (Some (command.Get n)) = tt
-is_built (Some (command.Set n v)) = tt
-is_built (Some command.Quit) = tt
+is_built (Some (command.Scan session number count)) = tt
+is_built (Some command.Checkpoint) = tt
+is_built (Some command.Cache) = tt
 is_built (Some other) = tt
 
 abbrev pub AreBuilt : List Line → Type 0
@@ -33,27 +33,21 @@ all_built ended octets = map_built (lines_of ended octets)
 pub texts_are : (s : State) (lines : List Line) → AreBuilt lines → map reply_text (replies (turns false s lines [])) ≡ reply_texts s (up_to_quit lines)
 texts_are s [] b = refl
 texts_are s (None ∷ lines) b = ap (λ (l : List (List ℕ)). reply_text (step s None).reply ∷ l) (texts_are s lines b.1)
-texts_are s (Some (command.Get n) ∷ lines) b = ap (λ (l : List (List ℕ)). reply_text (step s (Some (command.Get n))).reply ∷ l) (texts_are (step s (Some (command.Get n))).after lines b.1)
-texts_are s (Some (command.Set n v) ∷ lines) b = ap (λ (l : List (List ℕ)). reply_text (step s (Some (command.Set n v))).reply ∷ l) (texts_are (step s (Some (command.Set n v))).after lines b.1)
 texts_are s (Some command.Quit ∷ lines) b = refl
-texts_are s (Some other ∷ lines) b = absurd b.0
+texts_are s (Some other ∷ lines) b = ap (λ (l : List (List ℕ)). reply_text (step s (Some other)).reply ∷ l) (texts_are (step s (Some other)).after lines b.1)
 
 -- the states between them
 pub states_are : (s : State) (lines : List Line) (i : ℕ) → AreBuilt lines → model_state (turns false s lines []) s i ≡ after_lines s (take i (up_to_quit lines))
 states_are s lines zero b = refl
 states_are s [] (suc i) b = refl
 states_are s (None ∷ lines) (suc i) b = states_are s lines i b.1
-states_are s (Some (command.Get n) ∷ lines) (suc i) b = states_are (step s (Some (command.Get n))).after lines i b.1
-states_are s (Some (command.Set n v) ∷ lines) (suc i) b = states_are (step s (Some (command.Set n v))).after lines i b.1
 states_are s (Some command.Quit ∷ lines) (suc zero) b = refl
 states_are s (Some command.Quit ∷ lines) (suc (suc i)) b = refl
-states_are s (Some other ∷ lines) (suc i) b = absurd b.0
+states_are s (Some other ∷ lines) (suc i) b = states_are (step s (Some other)).after lines i b.1
 
 -- and one turn for each line
 pub turns_count : (s : State) (lines : List Line) → AreBuilt lines → length (turns false s lines []) ≡ length (up_to_quit lines)
 turns_count s [] b = refl
 turns_count s (None ∷ lines) b = ap suc (turns_count s lines b.1)
-turns_count s (Some (command.Get n) ∷ lines) b = ap suc (turns_count (step s (Some (command.Get n))).after lines b.1)
-turns_count s (Some (command.Set n v) ∷ lines) b = ap suc (turns_count (step s (Some (command.Set n v))).after lines b.1)
 turns_count s (Some command.Quit ∷ lines) b = refl
-turns_count s (Some other ∷ lines) b = absurd b.0
+turns_count s (Some other ∷ lines) b = ap suc (turns_count (step s (Some other)).after lines b.1)

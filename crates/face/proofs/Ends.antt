@@ -1,23 +1,27 @@
 -- How a run comes to its end.
 use Rattle.std.proofs.Common.{◌≡◌, ◌≢◌, ◌⊎◌, inl, inr, ⊎_elim, IsTrue, ℕ, ◌≤◌, List, [], ◌∷◌, ◌++◌, length, suc, refl, sym, subst, arith}
 use Rattle.std.specs.Prelude.{Ok, Err, true, false, Bool}
-use Rattle.site.specs.State.{State as Site}
+use Rattle.site.specs.State.{State as Site, IsQuiet, faults_of}
+use Rattle.site.specs.declared.geometry.Geometry.{Geometry}
 use Rattle.site.specs.Calls.{Goes, Rose}
 use Rattle.site.specs.Laws.{rose_since}
-use Rattle.site.specs.declared.outside.Dev.TheVariants.{Log}
-use Rattle.site.specs.declared.outside.Stop.TheVariants.{Device}
+use Rattle.site.specs.declared.outside.Stop.TheVariants.{Device, Memory, Worn, Foreign}
+use Rattle.record_model.specs.State.{Content, State}
+use Rattle.engine.specs.Image.{Stands}
+use Rattle.engine.specs.Fits.{Fits}
 use Rattle.record_model.specs.Run.{Line, is_quit}
 use Rattle.face.specs.declared.halt.Halt.{Halt}
 use Rattle.face.specs.declared.halt.Halt.TheVariants as halt
 use Rattle.face.specs.declared.source.Source.{Source}
 use Rattle.face.specs.declared.source.Heard.{Heard}
 use Rattle.face.specs.declared.source.Heard.TheVariants as heard
-use Rattle.face.specs.declared.store.Store.{Store}
-use Rattle.face.specs.Causes.{HasCause}
-use Rattle.face.specs.Lines.{HasEnded, to_hear, total, IsSource, HearsLine, Hears, IsCutOff}
-use Rattle.face.specs.Run.{Run, HasHeard, StopsTaking, Stops, Works}
+use Rattle.engine.specs.declared.engine.Engine.{Engine}
+use Rattle.face.specs.Causes.{HasCause, AnswerFailsBy}
+use Rattle.face.specs.Lines.{commands_of, HasEnded, to_hear, total, IsSource, HearsLine, Hears, IsCutOff}
+use Rattle.face.specs.Run.{Run, Begins, HasHeard, StopsTaking, Stops, Works}
 use Rattle.face.specs.Going.{Going}
 use Rattle.face.proofs.Cuts.{Cut, has_heard_all, input_failed, over_limit, taken_by, heard_line, quit_is_last}
+use Rattle.face.proofs.Meanings.{opens_where_it_stands}
 use Rattle.face.proofs.Works.{stopped, ended}
 
 -- taking wasn't what failed
@@ -38,7 +42,7 @@ never_opened run old new h stops ne left = record {
   done = tt;
 }
 
-module _ (run : Run) (old mid new : Site) (store : Store) (source : Source) (i : ℕ) (cut : Cut old.left source mid i) (is_source : IsSource source) (going : Going run old new store i) where
+module _ (run : Run) (old mid new : Site) (engine : Engine) (source : Source) (i : ℕ) (cut : Cut old.left source mid i) (is_source : IsSource source) (going : Going run old new engine i) where
   -- taking failed within a line
   pub taking_failed : {T : Type 0} (h : Halt) → (h ≡ halt.Input) ⊎ (h ≡ halt.Limit) → IsCutOff h source.ended (total source mid) (to_hear source mid) new.left → Works {T = T} run old new (Err h)
   taking_failed (halt.Stop stop) which off = ⊎_elim (λ e. absurd cc) (λ e. absurd cc) which
@@ -50,7 +54,7 @@ module _ (run : Run) (old mid new : Site) (store : Store) (source : Source) (i :
         octets = cut.octets ++ off.octets;
         ended = false;
         has_heard = f.0;
-        stops = (stopped run old new store i going halt.Input, record { count = f.1.0; no_quit = f.1.1; told = going.told });
+        stops = (stopped run old new engine i going halt.Input, record { count = f.1.0; no_quit = f.1.1; told = going.told });
         done = tt;
       }
   taking_failed halt.Limit which off =
@@ -60,7 +64,7 @@ module _ (run : Run) (old mid new : Site) (store : Store) (source : Source) (i :
         octets = (cut.octets ++ off.octets) ++ off.ends.0 ∷ [];
         ended = false;
         has_heard = f.0;
-        stops = (stopped run old new store i going halt.Limit, (record { count = f.1.0; no_quit = f.1.1; told = going.told }, f.2));
+        stops = (stopped run old new engine i going halt.Limit, (record { count = f.1.0; no_quit = f.1.1; told = going.told }, f.2));
         done = tt;
       }
 
@@ -74,7 +78,7 @@ module _ (run : Run) (old mid new : Site) (store : Store) (source : Source) (i :
         ended = true;
         has_heard = f.0;
         stops = tt;
-        done = (inl refl, f.1, going.moments, ended run old new store i going);
+        done = (inl refl, f.1, going.moments, ended run old new engine i going);
       }
 
 module _ (run : Run) (old mid next new : Site) (source source' : Source) (i : ℕ) (cut : Cut old.left source mid i) (is_source : IsSource source) (line : Line) (h : HearsLine line source.ended source'.ended (to_hear source mid) (to_hear source' next))
@@ -94,8 +98,8 @@ module _ (run : Run) (old mid next new : Site) (source source' : Source) (i : �
   }
 
   -- a quit was answered
-  pub quitted : {T : Type 0} (x : T) (store : Store) → is_quit line ≡ true → Going run old new store (suc i) → Works run old new (Ok x)
-  quitted x store quits going =
+  pub quitted : {T : Type 0} (x : T) (engine : Engine) → is_quit line ≡ true → Going run old new engine (suc i) → Works run old new (Ok x)
+  quitted x engine quits going =
       let all = quit_is_last old.left source mid i cut is_source source' next line h last is' quits in
       record {
         heard = suc i;
@@ -103,7 +107,7 @@ module _ (run : Run) (old mid next new : Site) (source source' : Source) (i : �
         ended = source'.ended;
         has_heard = has_heard_it;
         stops = tt;
-        done = (inr all.1, all.0, going.moments, ended run old new store (suc i) going);
+        done = (inr all.1, all.0, going.moments, ended run old new engine (suc i) going);
       }
 
 -- what was heard
@@ -121,19 +125,26 @@ taking_cause halt.Output source old mid new which input low off = ⊎_elim (λ e
 taking_cause halt.Input source old mid new which input low off = let rose = input refl in omega (arith, low, rose)
 taking_cause halt.Limit source old mid new which input low off = λ honest. let o = off honest in let same = o.0 in let many = o.1.ends.2 in omega (arith, same, many)
 
--- an answer fails in two ways
-abbrev pub AnswerFails : Halt → Type 0
-AnswerFails h = (h ≡ halt.Stop (Device Log)) ⊎ (h ≡ halt.Output)
+-- where the answer failed, taking wasn't what failed
+pub answer_takes_nothing : (h : Halt) (engine : Engine) (old new : Site) → AnswerFailsBy h engine old new → (h ≢ halt.Input) × (h ≢ halt.Limit)
+answer_takes_nothing (halt.Stop stop) engine old new fails = (λ e. cc, λ e. cc)
+answer_takes_nothing halt.Input engine old new fails = absurd fails
+answer_takes_nothing halt.Output engine old new fails = (λ e. cc, λ e. cc)
+answer_takes_nothing halt.Limit engine old new fails = absurd fails
 
-pub answer_takes_nothing : (h : Halt) → AnswerFails h → (h ≢ halt.Input) × (h ≢ halt.Limit)
-answer_takes_nothing h (inl is) = (λ e. cc, λ e. cc)
-answer_takes_nothing h (inr is) = (λ e. cc, λ e. cc)
+-- nothing is foreign where the run began over a sound image
+pub answer_cause : (h : Halt) (engine : Engine) (old mid new : Site) → AnswerFailsBy h engine mid new → Goes old mid
+    → (IsTrue old.honest → IsQuiet old → (g : Geometry) (table : List Content) (commits : ℕ) → Stands g old.image table commits → (s : State) × Fits engine mid s) → HasCause h old new
+answer_cause (halt.Stop (Device dev)) engine old mid new fails goes fits = rose_since (faults_of dev old) (faults_of dev mid) (faults_of dev new) (goes.faults dev) fails
+answer_cause (halt.Stop Memory) engine old mid new fails goes fits = fails
+answer_cause (halt.Stop (Worn dev)) engine old mid new fails goes fits = fails
+answer_cause (halt.Stop Foreign) engine old mid new fails goes fits = λ honest quiet g table commits stands. let f = fits honest quiet g table commits stands in fails f.0 f.1
+answer_cause halt.Input engine old mid new fails goes fits = absurd fails
+answer_cause halt.Output engine old mid new fails goes fits = rose_since old.output_faults mid.output_faults new.output_faults goes.output_faults fails
+answer_cause halt.Limit engine old mid new fails goes fits = absurd fails
 
-pub answer_cause : (h : Halt) (old mid new : Site) → AnswerFails h → HasCause h mid new → Goes old mid → HasCause h old new
-answer_cause h old mid new (inl is) cause goes =
-    let rose : Rose mid.log_faults new.log_faults = subst (λ (x : Halt). HasCause x mid new) is cause in
-    let low = goes.faults Log in
-    subst (λ (x : Halt). HasCause x old new) (sym is) (rose_since old.log_faults mid.log_faults new.log_faults low rose)
-answer_cause h old mid new (inr is) cause goes =
-    let rose : Rose mid.output_faults new.output_faults = subst (λ (x : Halt). HasCause x mid new) is cause in
-    subst (λ (x : Halt). HasCause x old new) (sym is) (rose_since old.output_faults mid.output_faults new.output_faults goes.output_faults rose)
+-- the run over a sound image
+pub run_begins : (g : Geometry) (table : List Content) (commits : ℕ) (old : Site) → IsTrue old.honest → IsQuiet old → Stands g old.image table commits → (run : Run) × Begins run old
+run_begins g table commits old honest quiet stands =
+    let opens = opens_where_it_stands g old.image table commits stands in
+    (record { geometry = g; opening = opens.0; lines = commands_of true old.left }, record { honest = honest; quiet = quiet; opens = opens.1; lines = refl })

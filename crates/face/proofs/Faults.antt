@@ -8,7 +8,7 @@ use Rattle.site.specs.Laws.{in_sequence, leaves_weaker, told_is, tell_leaves}
 use Rattle.site.specs.Telling.{TellsPart}
 use Rattle.site.specs.declared.geometry.Geometry.{Geometry}
 use Rattle.site.specs.declared.outside.Stop.TheVariants.{Device, Memory, Worn, Foreign}
-use Rattle.record_model.specs.State.{Content, State}
+use Rattle.record_model.specs.State.{State}
 use Rattle.record_model.specs.Run.{Line, is_quit}
 use Rattle.std.specs.List.{AllByRecursion, list_any}
 use Rattle.face.specs.declared.halt.Halt.{Halt}
@@ -21,6 +21,7 @@ use Rattle.face.specs.Range.{run_of, run_text, StandsAfter, IsLeft}
 use Rattle.face.specs.Headline.{IsGood, IsToldWhole, Headline}
 use Rattle.face.proofs.Built.{all_built}
 use Rattle.face.proofs.Fronts.{accounted, told_same, state_same, take_within, up_append, no_quits, first_commands}
+use Rattle.face.proofs.Meanings.{stands_by}
 use Rattle.face.proofs.Ranges.{IsFault, is_left, stands_after, all_among, all_text}
 
 output_or_not : (h : Halt) → (h ≡ halt.Output) ⊎ (h ≢ halt.Output)
@@ -76,12 +77,12 @@ module _ (run : Run) (heard : ℕ) (old mid new : Site) where
 all_of : (ls : List Line) → AllByRecursion (λ l. is_quit l ≡ false) ls → up_to_quit ls ≡ ls
 all_of ls none = ap up_to_quit (sym (append-nil ls)) ∙ up_append ls [] none ∙ append-nil ls
 
-module _ (g : Geometry) (table : List Content) (commits : ℕ) (old mid : Site) (heard : ℕ) (octets : List ℕ) (ended : Bool) (h : HasHeard heard octets ended old mid) where
+module _ (g : Geometry) (opening : State) (old mid : Site) (heard : ℕ) (octets : List ℕ) (ended : Bool) (h : HasHeard heard octets ended old mid) where
   abbrev all : Run
-  all = run_of g table commits true old.left
+  all = run_of g opening true old.left
 
   abbrev taken : Run
-  taken = run_of g table commits ended octets
+  taken = run_of g opening ended octets
 
   pub left_by : (new : Site) (fault : List ℕ) → IsFault fault → LeavesOnly old new (IsAccounted all heard old.told fault) → LeavesOnly old new (IsLeft taken old.told fault)
   left_by new fault is_fault moments =
@@ -98,10 +99,10 @@ module _ (g : Geometry) (table : List Content) (commits : ℕ) (old mid : Site) 
       let all : answered_of ended octets ≡ answered_of false (take limit octets) ++ up_to_quit first.0 = ap up_to_quit is ∙ up_append (commands_of false (take limit octets)) first.0 quiet ∙ ap (λ (l : List Line). l ++ up_to_quit first.0) (sym own) in
       sym (ap (take heard) all ∙ take_at (answered_of false (take limit octets)) (up_to_quit first.0) heard count) ∙ h.same
 
-  pub told_whole_lines : (new : Site) (fault : List ℕ) → HasTakenAll all heard octets old mid → ((k : ℕ) × (new.told ≡ mid.told ++ take k fault)) → IsToldWhole (run_of g table commits false (take limit octets)) fault old new
+  pub told_whole_lines : (new : Site) (fault : List ℕ) → HasTakenAll all heard octets old mid → ((k : ℕ) × (new.told ≡ mid.told ++ take k fault)) → IsToldWhole (run_of g opening false (take limit octets)) fault old new
   told_whole_lines new fault t more =
       let lines = commands_of false (take limit octets) in
-      let own = run_of g table commits false (take limit octets) in
+      let own = run_of g opening false (take limit octets) in
       let same : take heard (up_to_quit lines) ≡ take heard (answered_of true old.left) = take_all heard (up_to_quit lines) (let count = t.count in omega (arith, count)) ∙ whole_lines t.count t.no_quit in
       let text : told_after all (heard + 1) ≡ run_text own =
       sym (told_same all lines heard same (heard + 1) (omega arith))
@@ -114,8 +115,8 @@ module _ (g : Geometry) (table : List Content) (commits : ℕ) (old mid : Site) 
       }
 
 -- what a run begins with
-pub begins : (g : Geometry) (table : List Content) (commits : ℕ) (old : Site) → IsGood g table commits old → Begins (run_of g table commits true old.left) old
-begins g table commits old good = record { honest = good.honest; quiet = good.quiet; stands = good.stands; opens = refl; lines = refl }
+pub begins : (g : Geometry) (opening : State) (old : Site) → IsGood g opening old → Begins (run_of g opening true old.left) old
+begins g opening old good = record { honest = good.honest; quiet = good.quiet; opens = good.opens; lines = refl }
 
 not_zero : (h : Halt) → status_of h ≢ 0
 not_zero (halt.Stop (Device dev)) e = omega (arith, e)
@@ -126,9 +127,9 @@ not_zero halt.Input e = omega (arith, e)
 not_zero halt.Output e = omega (arith, e)
 not_zero halt.Limit e = omega (arith, e)
 
-module _ (g : Geometry) (table : List Content) (commits : ℕ) (old : Site) where
+module _ (g : Geometry) (opening : State) (old : Site) where
   abbrev run : Run
-  run = run_of g table commits true old.left
+  run = run_of g opening true old.left
 
   -- where taking failed all whole lines are answered
   taken_by : (h : Halt) (heard : ℕ) (octets : List ℕ) (mid : Site) → StopsTaking h run heard octets old mid → (status_of h ≡ 5) ⊎ (status_of h ≡ 7) → HasTakenAll run heard octets old mid
@@ -149,7 +150,7 @@ module _ (g : Geometry) (table : List Content) (commits : ℕ) (old : Site) wher
   over_by halt.Input heard octets mid s e = absurd (omega (arith, e))
   over_by halt.Limit heard octets mid s e = (s.1, s.0.no_quit)
 
-  pub halted : {T : Type 0} (mid new : Site) (h : Halt) → Works {T = T} run old mid (Err h) → EachMoment mid new (TellsPart (fault_line h) mid) → new.left ≡ mid.left → new.loose ≡ mid.loose → HasCause h old new → (status : ℕ) → status ≡ status_of h → Headline g table commits old new status
+  pub halted : {T : Type 0} (mid new : Site) (h : Halt) → Works {T = T} run old mid (Err h) → EachMoment mid new (TellsPart (fault_line h) mid) → new.left ≡ mid.left → new.loose ≡ mid.loose → HasCause h old new → (status : ℕ) → status ≡ status_of h → Headline g opening old new status
   halted mid new h works tells left loose cause status is =
       let heard = works.has_heard in
       let now = tells.now.told 0 in
@@ -160,23 +161,23 @@ module _ (g : Geometry) (table : List Content) (commits : ℕ) (old : Site) wher
         end = λ e. left ∙ heard.end e;
         fault = fault_line h;
         of_status = inr (h, is, refl, cause);
-        any_moment = left_by g table commits old mid works.heard works.octets works.ended heard new (fault_line h) (inr (h, refl)) (with_fault run works.heard old mid new h works.stops.0 tells);
+        any_moment = left_by g opening old mid works.heard works.octets works.ended heard new (fault_line h) (inr (h, refl)) (with_fault run works.heard old mid new h works.stops.0 tells);
         quiet = λ ne. loose ∙ works.stops.0.quiet (λ e. ne (is ∙ e));
         heard = λ zero. absurd (not_zero h (sym is ∙ zero));
         done = λ zero. absurd (not_zero h (sym is ∙ zero));
-        taking = λ which. told_whole_lines g table commits old mid works.heard works.octets works.ended heard new (fault_line h)
+        taking = λ which. told_whole_lines g opening old mid works.heard works.octets works.ended heard new (fault_line h)
             (taken_by h works.heard works.octets mid works.stops.1 (⊎_elim (λ e. inl (sym is ∙ e)) (λ e. inr (sym is ∙ e)) which))
             (now.0, sym (append-nil new.told) ∙ now.1);
         over = λ seven. over_by h works.heard works.octets mid works.stops.1 (sym is ∙ seven);
       }
 
-  pub finished : {T : Type 0} (new : Site) (x : T) → Works run old new (Ok x) → Headline g table commits old new 0
+  pub finished : {T : Type 0} (new : Site) (x : T) → Works run old new (Ok x) → Headline g opening old new 0
   finished new x works =
       let heard = works.has_heard in
       let lines = commands_of works.ended works.octets in
       let count = works.done.1 in
       let same = heard.same in
-      let own = run_of g table commits works.ended works.octets in
+      let own = run_of g opening works.ended works.octets in
       let built = all_built works.ended works.octets in
       record {
         octets = works.octets;
@@ -185,7 +186,7 @@ module _ (g : Geometry) (table : List Content) (commits : ℕ) (old : Site) wher
         end = heard.end;
         fault = [];
         of_status = inl (refl, refl);
-        any_moment = left_by g table commits old new works.heard works.octets works.ended heard new [] (inl refl) works.done.2;
+        any_moment = left_by g opening old new works.heard works.octets works.ended heard new [] (inl refl) works.done.2;
         quiet = λ ne. works.done.3.quiet;
         heard = λ zero. works.done.0;
         done = λ zero. record {
@@ -213,10 +214,10 @@ not_over n left octets rest is (inr quit) many none = true_not_false (sym quit �
     same = ap (take n) is ∙ front
 
 -- where nothing fails and the input ends in time
-pub complete : (g : Geometry) (table : List Content) (commits : ℕ) (old new : Site) (status : ℕ) → IsGood g table commits old → NoFaultRose old new → EndsInTime old → HasCauses status old new → Headline g table commits old new status → (status ≡ 0) ⊎ (status ≡ 4)
-complete g table commits old new status good none ends causes h =
+pub complete : (g : Geometry) (opening : State) (old new : Site) (status : ℕ) → IsGood g opening old → NoFaultRose old new → EndsInTime old → HasCauses status old new → Headline g opening old new status → (status ≡ 0) ⊎ (status ≡ 4)
+complete g opening old new status good none ends causes h =
     ⊎_elim (λ e. inl e) (⊎_elim (λ e. let c = causes.device e in absurd (none.devices c.0 c.1)) (⊎_elim (λ e. inr e) (⊎_elim (λ e. absurd (none.input (causes.input e)))
-    (⊎_elim (λ e. absurd (none.output (causes.output e))) (⊎_elim (λ e. absurd (in_time (h.over e))) (λ e. absurd (causes.foreign e good.honest g table commits good.stands))))))) causes.others
+    (⊎_elim (λ e. absurd (none.output (causes.output e))) (⊎_elim (λ e. absurd (in_time (h.over e))) (λ e. absurd (causes.foreign e good.honest good.quiet g opening.table opening.commits (stands_by g old.image opening good.opens)))))))) causes.others
   where
     in_time : (length h.octets ≡ limit + 1) × (list_any is_quit (commands_of false (take limit h.octets)) ≡ false) → ⊥
     in_time over = not_over limit old.left h.octets new.left h.taken ends over.0 over.1

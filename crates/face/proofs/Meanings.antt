@@ -1,72 +1,84 @@
 -- What an image stands for.
-use Rattle.std.proofs.Common.{◌≡◌, ℕ, zero, suc, ◌+◌, ◌^◌, ◌≤◌, List, [], ◌∷◌, length, replicate, get_or, refl, sym, ap, ◌∙◌, arith}
-use Rattle.std.specs.Prelude.{map}
-use Rattle.std.specs.List.{AllByRecursion}
+use Rattle.std.proofs.Common.{◌≡◌, ℕ, zero, suc, ◌-◌, ◌*◌, List, [], ◌∷◌, length, replicate, refl, sym, ap, ◌∙◌, arith}
+use Rattle.std.specs.Prelude.{slice_index, false}
 use Rattle.std.proofs.lemmas.List.{length-replicate}
+use Rattle.site.specs.declared.geometry.Geometry.{Geometry}
 use Rattle.site.specs.Geometry.{log_length, flash_length, disk_length}
-use Rattle.sealed_ring.specs.Ring.{FitsIn, Units}
-use Rattle.sealed_ring.proofs.Examples.{blank_is_ring}
-use Rattle.log_records.specs.Spelling.{block}
-use Rattle.log_records.specs.Sets.{Change, IsChange, set_blocks}
-use Rattle.log_records.proofs.SetBlocks.{one_change}
+use Rattle.site.specs.State.{Image}
+use Rattle.record_model.specs.State.{Content, State}
+use Rattle.log_records.specs.declared.log_record.LogRecord.{LogRecord}
 use Rattle.log_records.proofs.Values.{none}
-use Rattle.face.specs.Image.{log_shape, table_with, OneMeaning, BlankLaw}
+use Rattle.image_changes.specs.Rings.{log_shape}
+use Rattle.log_records.specs.Log.{table_of}
+use Rattle.log_records.specs.Sound.{Means, commit_count}
+use Rattle.log_laws.specs.TailLaws.{BlankIsSound}
+use Rattle.log_store.specs.declared.store.LogStore.{LogStore}
+use Rattle.log_store.specs.LogList.{LogList}
+use Rattle.log_store.specs.Held.{HasBlocks, Holds}
+use Rattle.log_store.specs.Laws.{OneLog, BlankHasNoBlocks}
+use Rattle.engine.specs.Image.{picture, IsSound, Stands, Opens, opening_of}
+use Rattle.face.specs.Image.{OneMeaning, OneOpening, OpensWhereItStands, BlankLaw, blank_table}
 
-head_is : (x y : List ℕ) (xs ys : List (List ℕ)) → x ∷ xs ≡ y ∷ ys → x ≡ y
-head_is x y xs ys e = cc
+-- where a run opens the image stands for its table
+pub stands_by : (g : Geometry) (image : Image) (s : State) → Opens g image s → Stands g image s.table s.commits
+stands_by g image s opens = record { blocks = opens.blocks; sound = opens.sound; means = opens.means }
 
-rest_is : (x y : List ℕ) (xs ys : List (List ℕ)) → x ∷ xs ≡ y ∷ ys → xs ≡ ys
-rest_is x y xs ys e = cc
+-- a store that has found no block
+abbrev empty_store : Geometry → LogStore
+empty_store g = record { geometry = g; ring = record { shape = log_shape g; hi = 0; ended = false }; kept = 0; tail = replicate 503 0; used = 2 }
 
--- the blocks tell the changes
-same_changes : (pages i : ℕ) (a b : List Change) → pages ≤ 65536 → i + length a ≤ 2 ^ 40 → AllByRecursion (IsChange pages) a → AllByRecursion (IsChange pages) b → map block (set_blocks i a) ≡ map block (set_blocks i b) → a ≡ b
-same_changes pages i [] [] few small all_a all_b e = refl
-same_changes pages i [] (d ∷ b) few small all_a all_b e = absurd cc
-same_changes pages i (c ∷ a) [] few small all_a all_b e = absurd cc
-same_changes pages i (c ∷ a) (d ∷ b) few small all_a all_b e =
-    let first = one_change pages i c d few (omega (arith, small)) all_a.0 all_b.0 (head_is _ _ _ _ e) in
-    let rest = same_changes pages (i + 1) a b few (omega (arith, small)) all_a.1 all_b.1 (rest_is _ _ _ _ e) in
-    λ k. first k ∷ rest k
+abbrev list_of : List (List LogRecord) → LogList
+list_of blocks = record { first = 0; blocks = blocks; tail = [] }
 
-pub one_meaning : OneMeaning
-one_meaning g image table other commits many stands too =
-    let units = sym stands.sound.units ∙ too.sound.units in
-    let limits = stands.sound.limits in
-    let few = limits.few_blocks in
-    let room = stands.sound.room in
-    let same : stands.changes ≡ too.changes =
-    same_changes g.pages 0 stands.changes too.changes limits.few_pages (omega (arith, few, room)) stands.sound.each too.sound.each (ap (λ (u : Units). u.live) units) in
-    (stands.table_is ∙ ap (table_with g) same ∙ sym too.table_is, stands.commits_is ∙ ap length same ∙ sym too.commits_is)
+holds : (g : Geometry) (image : Image) (blocks : List (List LogRecord)) → HasBlocks g 0 blocks image → Holds (empty_store g) image (list_of blocks)
+holds g image blocks has = record { kept = omega arith; blocks = has; tail = record { end = refl; have_form = tt; fit_fields = tt; text = refl } }
 
-abbrev zeros : ℕ → List ℕ
-zeros n = replicate n 0
+-- an image has one list of blocks
+same_blocks : OneLog → (g : Geometry) (image : Image) (a b : List (List LogRecord)) → IsSound g image a → IsSound g image b → a ≡ b
+same_blocks one g image a b first second = ap (λ (l : LogList). l.blocks) (one (empty_store g) image (list_of a) (list_of b) (holds g image a first.held) (holds g image b second.held) refl)
 
-zero_at : (n p : ℕ) → get_or (zeros n) p 0 ≡ 0
+pub one_meaning : OneLog → OneMeaning
+one_meaning one g image table other commits many stands too =
+    let same = same_blocks one g image stands.blocks too.blocks stands.sound too.sound in
+    (stands.means.table_is ∙ (λ i. table_by (same i)) ∙ sym too.means.table_is, stands.means.count_is ∙ (λ i. count_by (same i)) ∙ sym too.means.count_is)
+  where
+    table_by : List (List LogRecord) → List Content
+    table_by blocks = table_of (picture g blocks).log (picture g blocks).pages
+
+    count_by : List (List LogRecord) → ℕ
+    count_by blocks = commit_count (picture g blocks)
+
+pub one_opening : OneLog → OneOpening
+one_opening one g image s t opens too =
+    let same = same_blocks one g image opens.blocks too.blocks opens.sound too.sound in
+    let meaning = one_meaning one g image s.table t.table s.commits t.commits (stands_by g image s opens) (stands_by g image t too) in
+    opens.state ∙ (λ i. opening_of g (same i) (meaning.0 i) (meaning.1 i)) ∙ sym too.state
+
+pub opens_where_it_stands : OpensWhereItStands
+opens_where_it_stands g image table commits stands = (
+  opening_of g stands.blocks table commits,
+  record { blocks = stands.blocks; sound = stands.sound; means = stands.means; state = refl },
+  refl,
+  refl,
+)
+
+zero_at : (n p : ℕ) → slice_index (replicate n 0) p ≡ 0
 zero_at zero p = refl
 zero_at (suc n) zero = refl
 zero_at (suc n) (suc p) = zero_at n p
 
-pub blank_stands : BlankLaw
-blank_stands g limits =
-    let c : List ℕ = zeros (log_length g) in
-    let few = limits.few_blocks in
-    let many = limits.blocks in
-    let size : length c ≡ log_length g = length-replicate (log_length g) 0 in
-    let fits : FitsIn (log_shape g) (length c) = record { slots = omega (arith, many); room = omega arith; stride = omega arith; inside = omega (arith, size); addresses = omega (arith, few) } in
-    let ring = blank_is_ring (log_shape g) c fits (zero_at (log_length g)) in
-    record {
-      changes = [];
-      sound = record {
-        limits = limits;
-        lengths = record { log = size; flash = length-replicate (flash_length g) 0; disk = length-replicate (disk_length g) 0 };
+pub blank_stands : BlankHasNoBlocks → BlankIsSound → BlankLaw
+blank_stands no_blocks is_sound g limits =
+    let sound : IsSound g _ [] = record {
+      limits = limits;
+      beside = record {
+        lengths = record { log = length-replicate (log_length g) 0; flash = length-replicate (flash_length g) 0; disk = length-replicate (disk_length g) 0 };
         master = λ p lt. zero_at (log_length g) p;
         flash = refl;
         disk = refl;
-        form = ring.0;
-        each = tt;
-        units = ring.1;
-        room = omega arith;
       };
-      table_is = sym (none g.pages);
-      commits_is = refl;
-    }
+      held = no_blocks g limits;
+      records = is_sound g.pages g.blocks;
+    } in
+    let means : Means (picture g []) (blank_table g) 0 = record { table_is = sym (none g.pages); count_is = refl } in
+    (record { blocks = []; sound = sound; means = means }, record { blocks = []; sound = sound; means = means; state = refl })

@@ -7,10 +7,8 @@ use Rattle.site.specs.Moments.{Leaves, LeavesOnly, EachMoment}
 use Rattle.site.specs.Laws.{no_call, image_is, told_is, in_sequence, leaves_weaker, holds_now, stays_honest, tell_leaves}
 use Rattle.site.specs.Telling.{TellsPart, SameDevices}
 use Rattle.site.specs.declared.geometry.Geometry.{Geometry}
-use Rattle.sealed_ring.specs.Ring.{FitsIn}
 use Rattle.record_model.specs.State.{State}
-use Rattle.face.specs.declared.store.Store.{Store}
-use Rattle.face.specs.Leaves.{kept_by, MayGoOn, Fits, LeavesEither}
+use Rattle.engine.specs.Leaves.{LeavesTable, LeavesEither}
 use Rattle.face.specs.Run.{StandsFor, LeavesAnswer}
 
 -- a command that makes no call leaves what was there
@@ -19,6 +17,10 @@ no_change g s before after quiet stands = no_call s (Leaves (LeavesEither g befo
   told = told_is s snapshot left;
   stands = inl (subst (λ (x : Image). StandsFor g x before) (sym (image_is (now_of s) snapshot quiet left)) stands);
 })
+
+-- so does one that commits nothing
+pub table_stays : (g : Geometry) (old new : Site) (before after : State) → LeavesOnly old new (LeavesTable g before.table before.commits old.told) → LeavesOnly old new (LeavesEither g before after old.told)
+table_stays g old new before after leaves = leaves_weaker old new (LeavesTable g before.table before.commits old.told) (LeavesEither g before after old.told) (λ s t. record { told = t.told; stands = inl t.stands }) leaves
 
 -- before the reply
 pub not_told : (g : Geometry) (old mid : Site) (before after : State) (text : List ℕ) → LeavesOnly old mid (LeavesEither g before after old.told) → LeavesOnly old mid (LeavesAnswer g before after text old.told)
@@ -39,20 +41,3 @@ is_told g old mid new before after text so_far quiet stands tells =
       stands = inr p.1;
     })
     (tell_leaves (λ image. StandsFor g image after) text mid new (λ s left. subst (λ (x : Image). StandsFor g x after) (sym (image_is (now_of mid) s quiet left)) stands) tells))
-
--- a store may go on where only counts and octets change
-pub goes_on : (store : Store) (a b : Site) → MayGoOn store a → Goes a b → MayGoOn store b
-goes_on store a b go goes = record {
-  usable = record { fits = subst (λ (n : ℕ). FitsIn store.ring.shape n) (sym (goes.sizes store.ring.shape.dev)) go.usable.fits; bounded = go.usable.bounded };
-  shape = go.shape;
-  pages = go.pages;
-  size = go.size;
-  short = go.short;
-}
-
-pub still_fits : (store : Store) (a b : Site) → Fits store a → Goes a b → SameDevices a b → Fits store b
-still_fits store a b fits goes same = record {
-  honest = stays_honest a b goes fits.honest;
-  quiet = same.loose ∙ fits.quiet;
-  stands = subst (λ (x : Image). StandsFor store.geometry x (kept_by store)) (sym same.image) fits.stands;
-}

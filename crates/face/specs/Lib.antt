@@ -3,10 +3,11 @@ pub mod Going
 pub mod Grammar
 pub mod Headline
 pub mod Image
-pub mod Leaves
 pub mod Lines
+pub mod New
+pub mod Program
 pub mod Range
-pub mod Restart
 pub mod Run
+pub mod Tells
 pub mod Texts
 pub mod Words

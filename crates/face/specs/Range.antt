@@ -2,16 +2,16 @@
 use Rattle.std.specs.Prelude.{◌≡◌, ◌⊎◌, ℕ, ◌+◌, ◌≤◌, Bool, false, List, [], ◌++◌, length, take, flat_map, count_by}
 use Rattle.site.specs.State.{Snapshot, Image}
 use Rattle.site.specs.declared.geometry.Geometry.{Geometry}
-use Rattle.record_model.specs.State.{Content}
+use Rattle.record_model.specs.State.{State}
 use Rattle.record_model.specs.Run.{Turn, turns, commit_marks, after_commits, IsInRange}
-use Rattle.face.specs.Image.{Stands, opening_of}
+use Rattle.engine.specs.Image.{Stands}
 use Rattle.shell_text.specs.Runs.{texts as run_texts}
 use Rattle.face.specs.Lines.{commands_of}
 use Rattle.face.specs.Run.{Run, IsFront}
 
--- the run that opens with this table and this many commits, over the lines of these octets
-abbrev pub run_of : Geometry → List Content → ℕ → Bool → List ℕ → Run
-run_of g table commits ended octets = record { geometry = g; opening = opening_of g table commits; lines = commands_of ended octets }
+-- the run that opens with this state, over the lines of these octets
+abbrev pub run_of : Geometry → State → Bool → List ℕ → Run
+run_of g opening ended octets = record { geometry = g; opening = opening; lines = commands_of ended octets }
 
 -- its turns, by the record model
 abbrev pub turns_of : Run → List Turn

@@ -11,7 +11,7 @@ use Rattle.face.specs.declared.halt.Halt.{Halt}
 use Rattle.face.specs.declared.halt.Halt.TheVariants.{Output, Input, Limit}
 use Rattle.shell_text.specs.Texts.{open_text, reply_text}
 use Rattle.face.specs.Texts.{status_of}
-use Rattle.face.specs.Image.{Stands, opening_of}
+use Rattle.engine.specs.Image.{Stands, Opens}
 use Rattle.face.specs.Lines.{commands_of, up_to_quit, answered_of, HeardAll, limit}
 
 -- what a line is answered, and the state that it leaves; no checkpoint steps are built yet, and no listing
@@ -82,12 +82,11 @@ pub record IsAccounted (run : Run) (heard : ℕ) (so_far fault : List ℕ) (snap
   pub part : ((whole ≤ heard) × IsPart rest (text_at run whole)) ⊎ IsFront rest fault
   pub stands : StandsNear run heard whole snapshot.image
 
--- the run of an honest and quiet site whose image is sound, where all octets that are left are heard
+-- the run of an honest and quiet site whose image is sound: it opens with the state of the image, and all octets that are left are heard
 pub record Begins (run : Run) (site : Site) : Type 0 where
   pub honest : IsTrue site.honest
   pub quiet : site.loose ≡ no_loose
-  pub stands : StandsFor run.geometry site.image run.opening
-  pub opens : run.opening ≡ opening_of run.geometry run.opening.table run.opening.commits
+  pub opens : Opens run.geometry site.image run.opening
   pub lines : run.lines ≡ commands_of true site.left
 
 -- What a crash may leave of the answer to one line: some front of the text is told, and none of it while the line isn't done

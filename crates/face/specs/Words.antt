@@ -1,8 +1,14 @@
 -- The words that the program is called with.
-use Rattle.std.specs.Prelude.{◌≡◌, ℕ, ◌≤◌, List, [], ◌∷◌, map, codes, decimal, IsTrue, string_bytes}
+use Rattle.std.specs.Prelude.{◌≡◌, ◌⊎◌, ℕ, ◌≤◌, List, [], ◌∷◌, map, codes, decimal, IsTrue, string_bytes, Bool, true, false, ◌==◌}
+use Rattle.std.specs.List.{list_any}
 use Rattle.std.specs.declared.string.String.{String}
 use Rattle.std.specs.declared.alloc.Global.{Global}
+use Rattle.site.specs.declared.geometry.Geometry.{Geometry}
+use Rattle.site.specs.Geometry.{HasLimits}
+use Rattle.face.specs.declared.request.Request.{Request}
+use Rattle.face.specs.declared.request.Request.TheVariants.{Run, New}
 use Rattle.site.specs.State.{State}
+use Rattle.site.specs.Calls.{SameReads}
 use Rattle.site.specs.Moments.{EachMoment}
 use Rattle.site.specs.Telling.{TellsPart, SameDevices}
 
@@ -16,13 +22,23 @@ pub record IsRun (words : List (List ℕ)) (pool : ℕ) : Type 0 where
   pub from : 1 ≤ pool
   pub to : pool ≤ 4096
 
+-- `new PAGES GROUPS BLOCKS` in decimal, within the limits
+pub record IsNew (words : List (List ℕ)) (g : Geometry) : Type 0 where
+  pub words_are : words ≡ codes "new" ∷ decimal g.pages ∷ decimal g.groups ∷ decimal g.blocks ∷ []
+  pub limits : HasLimits g
+
+-- the words are in the table
+abbrev pub IsRight : List (List ℕ) → Type 0
+IsRight words = ((pool : ℕ) × IsRun words pool) ⊎ ((g : Geometry) × IsNew words g)
+
 abbrev pub words_fault : List ℕ
 words_fault = codes "fault words\n"
 
--- of an honest site: nothing is touched but the output, and a crash at any moment leaves some front of this line told
+-- nothing is read, and of an honest site nothing is touched but the output: a crash at any moment leaves some front of this line told
 pub record OnlyTells (line : List ℕ) (old new : State) : Type 0 where
   pub any_moment : IsTrue old.honest → EachMoment old new (TellsPart line old)
   pub devices : IsTrue old.honest → SameDevices old new
+  pub reads : SameReads old new
 
 abbrev pub RefusesWords : State → State → Type 0
 RefusesWords old new = OnlyTells words_fault old new
@@ -33,3 +49,23 @@ foreign_fault = codes "fault foreign\n"
 -- devices without sizes have status 9, and nothing but its line is told
 abbrev pub RefusesDevices : ℕ → State → State → Type 0
 RefusesDevices status old new = (status ≡ 9) × OnlyTells foreign_fault old new
+
+-- the words ask for this
+abbrev pub IsRequest : Request → List (List ℕ) → Type 0
+IsRequest (Run pool) words = IsRun words pool
+IsRequest (New g) words = IsNew words g
+
+-- the word begins with a dash
+abbrev pub is_dashed : List ℕ → Bool
+is_dashed [] = false
+is_dashed (octet ∷ rest) = octet == 45
+
+abbrev pub HasDash : List (List ℕ) → Type 0
+HasDash words = list_any is_dashed words ≡ true
+
+abbrev pub memory_fault : List ℕ
+memory_fault = codes "fault memory\n"
+
+-- memory was wanted before anything was done
+abbrev pub LacksMemory : ℕ → State → State → Type 0
+LacksMemory status old new = (status ≡ 4) × OnlyTells memory_fault old new

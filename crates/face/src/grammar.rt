@@ -11,10 +11,10 @@ fn keep_built(line: Option<Command>) -> Option<Command>
     ensures built { IsBuilt result }
 {
     match line {
-        Some(Command::Get { number }) => Some(Command::Get { number }),
-        Some(Command::Set { number, value }) => Some(Command::Set { number, value }),
-        Some(Command::Quit) => Some(Command::Quit),
-        _ => None,
+        Some(Command::Scan { .. }) => None,
+        Some(Command::Checkpoint) => None,
+        Some(Command::Cache) => None,
+        line => line,
     }
 }
 

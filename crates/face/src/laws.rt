@@ -1,12 +1,32 @@
 // Laws on what an image stands for; their lemmas stand in proofs/.
-ghost use Rattle.face.specs.Image.{OneMeaning, BlankLaw};
+ghost use Rattle.face.specs.Image.{OneMeaning, OneOpening, OpensWhereItStands, BlankLaw};
+
+use log_laws::blank_is_sound;
+use log_store::{blank_log, one_log};
 
 /// Law: an image stands for one table and one number of commits only.
 pub fn one_meaning()
     ensures { OneMeaning }
+{
+    one_log();
+}
+
+/// Law: a run over an image opens with one state only.
+pub fn one_opening()
+    ensures { OneOpening }
+{
+    one_log();
+}
+
+/// Law: where an image stands for a table, a run over it opens with this table.
+pub fn opens_where_it_stands()
+    ensures { OpensWhereItStands }
 {}
 
-/// Law: blank devices stand for the table without values, and for no commit.
+/// Law: a run over blank devices opens with the table without values, and no commit.
 pub fn blank_stands()
     ensures { BlankLaw }
-{}
+{
+    blank_log();
+    blank_is_sound();
+}

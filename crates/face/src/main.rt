@@ -3,16 +3,17 @@
 #![tactic(auto)]
 
 mod answer;
-mod block;
+mod commands;
+mod fault_lines;
 mod grammar;
 mod halt;
 mod host;
 mod laws;
+mod new_database;
+mod request;
 #[cfg(test)]
-mod log_tests;
-mod restart;
+mod session_tests;
 mod source;
-mod store;
 #[cfg(test)]
 mod tests;
 mod text;

@@ -54,7 +54,7 @@ fn lines_are_answered(rt: HostRuntime) -> Result<(), Fail> {
 
 #[test]
 fn other_lines_are_refused(rt: HostRuntime) -> Result<(), Fail> {
-    let lines: [&[u8]; 18] = [
+    let lines: [&[u8]; 19] = [
         b"\n",
         b"get 05\n",
         b"get  5\n",
@@ -70,8 +70,9 @@ fn other_lines_are_refused(rt: HostRuntime) -> Result<(), Fail> {
         b"get\n",
         b"get -1\n",
         b"get 1234567890\n",
-        b"begin 0\n",
-        b"stat\n",
+        b"scan 0 0 1\n",
+        b"checkpoint\n",
+        b"cache\n",
         b"get 5\r\n",
     ];
     for line in lines {
@@ -106,8 +107,14 @@ const FIRST_SLOT: [u8; 64] = [
 fn a_set_fills_the_first_slot(rt: HostRuntime) -> Result<(), Fail> {
     let mut site = MemSite::new(rt.alloc(), &STANDARD)?;
     assert_eq!(rt; run(rt.alloc(), &mut site, b"set 5 0a0b\nget 5\n")?, 0);
-    let slot = site.content(Dev::Log).get(1_536..1_600);
+    assert!(rt; site.told() == b"open 0\ncommitted 1\nvalue 0a0b\n".as_slice());
+    let log = site.content(Dev::Log);
+    let slot = log.get(1_536..1_600);
     assert!(rt; slot.is_some_and(|slot| slot == FIRST_SLOT.as_slice()));
+    assert!(rt; log.iter().take(1_536).all(|octet| *octet == 0));
+    assert!(rt; log.iter().skip(1_600).all(|octet| *octet == 0));
+    assert!(rt; site.content(Dev::Flash).iter().all(|octet| *octet == 0));
+    assert!(rt; site.content(Dev::Disk).iter().all(|octet| *octet == 0));
     Ok(())
 }
 
@@ -138,13 +145,45 @@ fn a_long_value_is_refused(rt: HostRuntime) -> Result<(), Fail> {
     let mut site = MemSite::new(rt.alloc(), &STANDARD)?;
     feed_long_set(&mut site, 120)?;
     feed_long_set(&mut site, 121)?;
-    assert_eq!(rt; run(rt.alloc(), &mut site, b"")?, 0);
-    assert!(rt; site.told() == b"open 0\ncommitted 1\nrefused long\n".as_slice());
+    assert_eq!(rt; run(rt.alloc(), &mut site, b"set 3 -\nget 3\nget 4\n")?, 0);
+    assert!(rt;
+        site.told() == b"open 0\ncommitted 1\nrefused long\ncommitted 2\nvalue -\nnone\n".as_slice()
+    );
+    Ok(())
+}
+
+// 135 lines of 400, 402, .. up to 500 octets, again and again: 60,291 octets with their newlines.
+fn feed_long_lines(site: &mut MemSite) -> Result<(), Fail> {
+    for line in 0..135 {
+        feed_long_set(site, 197 + line % 51)?;
+    }
+    Ok(())
+}
+
+#[test]
+fn a_long_input_is_heard_to_its_end(rt: HostRuntime) -> Result<(), Fail> {
+    let mut site = MemSite::new(rt.alloc(), &STANDARD)?;
+    feed_long_lines(&mut site)?;
+    assert_eq!(rt; run(rt.alloc(), &mut site, b"get 3\n")?, 0);
+    let told = site.told();
+    assert_eq!(rt; told.len(), 1_767);
+    assert!(rt; told.starts_with(b"open 0\n"));
+    assert!(rt; told.ends_with(b"none\n"));
+    let refusals = told.get(7..1_762);
+    assert!(rt;
+        refusals.is_some_and(|lines| lines
+            .chunks(13)
+            .all(|line| line == b"refused long\n".as_slice()))
+    );
+    assert_eq!(rt; site.changes(), 137);
     Ok(())
 }
 
 #[test]
 fn quit_ends_the_run(rt: HostRuntime) -> Result<(), Fail> {
+    let mut site = MemSite::new(rt.alloc(), &STANDARD)?;
+    assert_eq!(rt; run(rt.alloc(), &mut site, b"get 5")?, 0);
+    assert!(rt; site.told() == b"open 0\nnone\n".as_slice());
     let mut site = MemSite::new(rt.alloc(), &STANDARD)?;
     assert_eq!(rt; run(rt.alloc(), &mut site, b"quit\nget 5\n")?, 0);
     assert!(rt; site.told() == b"open 0\nbye\n".as_slice());
@@ -182,9 +221,68 @@ fn a_log_fills_up(rt: HostRuntime) -> Result<(), Fail> {
 }
 
 #[test]
+fn a_new_database_is_tested(rt: HostRuntime) -> Result<(), Fail> {
+    let words = ["new", "16", "8", "64"].as_slice();
+    let mut site = MemSite::new(rt.alloc(), &STANDARD)?;
+    assert_eq!(rt; call(rt.alloc(), words, &mut site)?, 0);
+    assert!(rt; site.told() == b"ready 16 8 64\n".as_slice());
+    assert_eq!(rt; site.changes(), 1);
+
+    let mut site = MemSite::new(rt.alloc(), &STANDARD)?;
+    site.poke(Dev::Disk, 7, 1);
+    site.poke(Dev::Disk, 9, 1);
+    assert_eq!(rt; call(rt.alloc(), words, &mut site)?, 10);
+    assert!(rt; site.told() == b"fault notblank disk 7\n".as_slice());
+
+    let mut site = MemSite::new(rt.alloc(), &STANDARD)?;
+    site.poke(Dev::Flash, 271_359, 1);
+    assert_eq!(rt; call(rt.alloc(), words, &mut site)?, 10);
+    assert!(rt; site.told() == b"fault notblank flash 271359\n".as_slice());
+
+    let mut site = MemSite::new(rt.alloc(), &STANDARD)?;
+    assert_eq!(rt; call(rt.alloc(), &["new", "16", "8", "65"], &mut site)?, 9);
+    assert!(rt; site.told() == b"fault foreign\n".as_slice());
+
+    let mut site = MemSite::new(rt.alloc(), &STANDARD)?;
+    site.fail(Call::Read(Dev::Log), 2)?;
+    assert_eq!(rt; call(rt.alloc(), words, &mut site)?, 3);
+    assert!(rt; site.told() == b"fault log\n".as_slice());
+
+    let mut site = MemSite::new(rt.alloc(), &STANDARD)?;
+    site.fail(Call::Tell, 1)?;
+    assert_eq!(rt; call(rt.alloc(), words, &mut site)?, 6);
+    assert_eq!(rt; site.told().len(), 0);
+    Ok(())
+}
+
+#[test]
+fn large_devices_are_tested(rt: HostRuntime) -> Result<(), Fail> {
+    let sizes = Geometry {
+        pages: 1_024,
+        groups: 64,
+        blocks: 400,
+    };
+    let mut site = MemSite::new(rt.alloc(), &sizes)?;
+    assert_eq!(rt;
+        call(rt.alloc(), &["new", "1024", "64", "400"], &mut site)?,
+        0
+    );
+    assert!(rt; site.told() == b"ready 1024 64 400\n".as_slice());
+    Ok(())
+}
+
+#[test]
 fn other_words_are_refused(rt: HostRuntime) -> Result<(), Fail> {
-    let lists: [&[&str]; 10] = [
+    let lists: [&[&str]; 29] = [
         &[],
+        &["help", "run"],
+        &["run", "help"],
+        &["run", "1", "2"],
+        &["1", "run", "1"],
+        &["serve", "1"],
+        &["runs", "1"],
+        &["run", "new", "16", "8", "64"],
+        &["-h"],
         &["run"],
         &["run", "0"],
         &["run", "4097"],
@@ -192,8 +290,19 @@ fn other_words_are_refused(rt: HostRuntime) -> Result<(), Fail> {
         &["run", "1", "1"],
         &["help"],
         &["run", "-1"],
-        &["new", "16", "8", "64"],
         &["run", ""],
+        &["--help"],
+        &["--version"],
+        &["run", "--", "1"],
+        &["new", "16", "8"],
+        &["new", "16", "8", "64", "1"],
+        &["new", "16", "10", "64"],
+        &["new", "0", "8", "64"],
+        &["new", "65537", "8", "64"],
+        &["new", "16", "8", "15"],
+        &["new", "16", "16388", "64"],
+        &["load", "1", "1", "4"],
+        &["trial", "16", "8", "64", "1"],
     ];
     for words in lists {
         let mut site = MemSite::new(rt.alloc(), &STANDARD)?;
@@ -291,5 +400,7 @@ fn damaged_devices_are_foreign(rt: HostRuntime) -> Result<(), Fail> {
     };
     let mut site = MemSite::new(rt.alloc(), &odd)?;
     assert_eq!(rt; run(rt.alloc(), &mut site, b"get 5\n")?, 9);
+    assert_eq!(rt; site.reads(Dev::Log), 0);
+    assert_eq!(rt; site.changes(), 1);
     Ok(())
 }

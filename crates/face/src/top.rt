@@ -3,20 +3,24 @@ ghost use Rattle.std.specs.Prelude.{◌≡◌, ◌≢◌, ◌⊎◌, ◌≤◌, 
 ghost use Rattle.site.specs.Calls.{Goes};
 ghost use Rattle.face.specs.declared.halt.Halt.{Halt};
 ghost use Rattle.site.specs.declared.geometry.Geometry.{Geometry};
-ghost use Rattle.record_model.specs.State.{Content};
+ghost use Rattle.record_model.specs.State.{State};
 ghost use Rattle.record_model.specs.Run.{is_quit};
-ghost use Rattle.face.specs.Causes.{HasCause, HasCauses, NoFaultRose, EndsInTime, HasNoSizes, Halts};
-ghost use Rattle.face.specs.Leaves.{MayGoOn};
+ghost use Rattle.engine.specs.Going.{MayGoOn};
+ghost use Rattle.engine.specs.Leaves.{HasNoSizes};
+ghost use Rattle.face.specs.Causes.{HasCause, HasCauses, NoFaultRose, EndsInTime, Halts};
 ghost use Rattle.face.specs.Run.{Run, Begins, Stops, Works};
 ghost use Rattle.face.specs.Going.{Going};
 ghost use Rattle.face.specs.Headline.{IsGood, Headline};
-ghost use Rattle.face.specs.Words.{IsRun, RefusesWords, RefusesDevices, words_of};
+ghost use Rattle.face.specs.New.{New, NewCauses};
+ghost use Rattle.face.specs.Words.{IsRun, IsNew, IsRight, HasDash, RefusesWords, RefusesDevices, LacksMemory, words_of};
 
 use crate::answer::answer;
+use crate::fault_lines::{tell_halt, tell_memory, tell_words};
 use crate::halt::Halt;
+use crate::new_database::make_new;
+use crate::request::{Request, Unread, read_words};
 use crate::source::{Heard, Source};
-use crate::store::Store;
-use crate::words::pool_of;
+use engine::Engine;
 use record_model::Command;
 use shell_text::open_line;
 use site::{Site, tell_all};
@@ -26,22 +30,23 @@ use std::alloc::Global;
 const LINES: u64 = (1 << 40) + 1;
 
 // Restart, and the line that opens the run. No input is taken.
-fn open<S: Site>(alloc: Global, site: &mut S) -> Result<Store, Halt>
-    ensures going { (run : Run) → Begins run (S.state site.old) → IfOk result (λ store. Going run (S.state site.old) (S.state site.new) store 0) }
+fn open<S: Site>(alloc: Global, pool: u32, site: &mut S) -> Result<Engine, Halt>
+    requires pool { (1 ≤ pool) × (pool ≤ 4096) }
+    ensures going { (run : Run) → Begins run (S.state site.old) → IfOk result (λ engine. Going run (S.state site.old) (S.state site.new) engine 0) }
     ensures stops { (run : Run) → Begins run (S.state site.old) → IfErr result (λ halt. Stops run 0 (S.state site.old) (S.state site.new) halt) }
     ensures left { IsTrue (S.state site.old).honest → (S.state site.new).left ≡ (S.state site.old).left }
-    ensures goes_on { IfOk result (λ store. MayGoOn store (S.state site.new)) }
+    ensures goes_on { IfOk result (λ engine. MayGoOn engine (S.state site.new)) }
     ensures halts { IfErr result (λ halt. (halt ≢ Halt.Input) × (halt ≢ Halt.Limit)) }
     ensures cause { IfErr result (λ halt. HasCause halt (S.state site.old) (S.state site.new)) }
     ensures refuses { HasNoSizes (S.state site.old) → Halts result (S.state site.old) (S.state site.new) }
     ensures goes { Goes (S.state site.old) (S.state site.new) }
 {
-    let store = match Store::start(alloc, site) {
-        Ok(store) => store,
+    let engine = match Engine::start(alloc, site, pool) {
+        Ok(engine) => engine,
         Err(stop) => return Err(Halt::Stop(stop)),
     };
-    match tell_all(site, open_line(store.commits()).as_slice()) {
-        Ok(()) => Ok(store),
+    match tell_all(site, open_line(engine.commits()).as_slice()) {
+        Ok(()) => Ok(engine),
         Err(_) => Err(Halt::Output),
     }
 }
@@ -54,14 +59,15 @@ fn quits(line: &Option<Command>) -> bool
 }
 
 // All of a run but its fault line.
-fn work<S: Site>(alloc: Global, site: &mut S) -> Result<(), Halt>
+fn work<S: Site>(alloc: Global, pool: u32, site: &mut S) -> Result<(), Halt>
+    requires pool { (1 ≤ pool) × (pool ≤ 4096) }
     ensures works { (run : Run) → Begins run (S.state site.old) → Works run (S.state site.old) (S.state site.new) result }
     ensures cause { IfErr result (λ halt. HasCause halt (S.state site.old) (S.state site.new)) }
     ensures refuses { HasNoSizes (S.state site.old) → Halts result (S.state site.old) (S.state site.new) }
     ensures goes { Goes (S.state site.old) (S.state site.new) }
 {
-    let mut store = match open(alloc, site) {
-        Ok(store) => store,
+    let mut engine = match open(alloc, pool, site) {
+        Ok(engine) => engine,
         Err(halt) => return Err(halt),
     };
     let mut source = Source::new();
@@ -74,7 +80,7 @@ fn work<S: Site>(alloc: Global, site: &mut S) -> Result<(), Halt>
             Heard::End => return Ok(()),
             Heard::Line(line) => {
                 let last = quits(&line);
-                if let Err(halt) = answer(&mut store, site, line) {
+                if let Err(halt) = answer(&mut engine, site, line) {
                     return Err(halt);
                 }
                 if last {
@@ -95,43 +101,62 @@ pub fn serve<S: Site>(alloc: Global, pool: u32, site: &mut S) -> u8
     requires to { pool ≤ 4096 }
 
     // What is told, and what a crash at any moment leaves.
-    ensures headline { (g : Geometry) (table : List Content) (commits : ℕ) → IsGood g table commits (S.state site.old) → Headline g table commits (S.state site.old) (S.state site.new) result }
+    ensures headline { (g : Geometry) (opening : State) → IsGood g opening (S.state site.old) → Headline g opening (S.state site.old) (S.state site.new) result }
     // Where nothing fails and the input ends in time, the status is 0, or memory was wanted.
-    ensures complete { (g : Geometry) (table : List Content) (commits : ℕ) → IsGood g table commits (S.state site.old) → NoFaultRose (S.state site.old) (S.state site.new) → EndsInTime (S.state site.old) → (result ≡ 0) ⊎ (result ≡ 4) }
+    ensures complete { (g : Geometry) (opening : State) → IsGood g opening (S.state site.old) → NoFaultRose (S.state site.old) (S.state site.new) → EndsInTime (S.state site.old) → (result ≡ 0) ⊎ (result ≡ 4) }
     // Devices without sizes have status 9.
     ensures sizes { HasNoSizes (S.state site.old) → RefusesDevices result (S.state site.old) (S.state site.new) }
     // When each status comes.
     ensures causes { HasCauses result (S.state site.old) (S.state site.new) }
     ensures goes { Goes (S.state site.old) (S.state site.new) }
 {
-    match work(alloc, site) {
+    match work(alloc, pool, site) {
         Ok(()) => 0,
         Err(halt) => {
-            let _ = tell_all(site, halt.line());
+            let _ = tell_halt(site, halt);
             halt.status()
         }
     }
 }
 
-/// The top call: the program's words, without its own name, and the site that it works on. The answer is the status with
-/// which the program ends. Words other than `run POOL`, with POOL from 1 to 4096, have status 2.
-pub fn face<S: Site>(alloc: Global, words: &[String], site: &mut S) -> u8
-    // `run POOL` is the work of `serve`.
-    ensures headline { (pool : ℕ) → IsRun (words_of words.now) pool → (g : Geometry) (table : List Content) (commits : ℕ) → IsGood g table commits (S.state site.old) → Headline g table commits (S.state site.old) (S.state site.new) result }
-    ensures complete { ((pool : ℕ) × IsRun (words_of words.now) pool) → (g : Geometry) (table : List Content) (commits : ℕ) → IsGood g table commits (S.state site.old) → NoFaultRose (S.state site.old) (S.state site.new) → EndsInTime (S.state site.old) → (result ≡ 0) ⊎ (result ≡ 4) }
-    ensures sizes { ((pool : ℕ) × IsRun (words_of words.now) pool) → HasNoSizes (S.state site.old) → RefusesDevices result (S.state site.old) (S.state site.new) }
-    ensures causes { ((pool : ℕ) × IsRun (words_of words.now) pool) → HasCauses result (S.state site.old) (S.state site.new) }
-    // All other words are refused.
-    ensures words { (result ≡ 2) ⊎ ((pool : ℕ) × IsRun (words_of words.now) pool) }
-    ensures wrong { result ≡ 2 → (pool : ℕ) → IsRun (words_of words.now) pool → ⊥ }
-    ensures refused { result ≡ 2 → RefusesWords (S.state site.old) (S.state site.new) }
+// Memory was wanted before anything was done: the line is told, and the status is 4.
+fn lack_memory<S: Site>(site: &mut S) -> u8
+    ensures headline { (g : Geometry) (opening : State) → IsGood g opening (S.state site.old) → Headline g opening (S.state site.old) (S.state site.new) result }
+    ensures lacks { LacksMemory result (S.state site.old) (S.state site.new) }
     ensures goes { Goes (S.state site.old) (S.state site.new) }
 {
-    match pool_of(words) {
-        Some(pool) => serve(alloc, pool, site),
-        None => {
-            let _ = tell_all(site, b"fault words\n");
+    let _ = tell_memory(site);
+    4
+}
+
+/// The top call: the program's words, without its own name, and the site that it works on. The answer is the status with
+/// which the program ends. The words `run POOL`, with POOL from 1 to 4,096, are the work of `serve`. The words `new PAGES
+/// GROUPS BLOCKS` test that the devices have these sizes and are blank. All other words have status 2. Reading the words
+/// may want memory, which has status 4; then nothing is read or changed.
+pub fn face<S: Site>(alloc: Global, words: &[String], site: &mut S) -> u8
+    // `run POOL` is the work of `serve`.
+    ensures headline { (pool : ℕ) → IsRun (words_of words.now) pool → (g : Geometry) (opening : State) → IsGood g opening (S.state site.old) → Headline g opening (S.state site.old) (S.state site.new) result }
+    ensures complete { ((pool : ℕ) × IsRun (words_of words.now) pool) → (g : Geometry) (opening : State) → IsGood g opening (S.state site.old) → NoFaultRose (S.state site.old) (S.state site.new) → EndsInTime (S.state site.old) → (result ≡ 0) ⊎ (result ≡ 4) }
+    ensures sizes { ((pool : ℕ) × IsRun (words_of words.now) pool) → HasNoSizes (S.state site.old) → RefusesDevices result (S.state site.old) (S.state site.new) ⊎ LacksMemory result (S.state site.old) (S.state site.new) }
+    ensures causes { ((pool : ℕ) × IsRun (words_of words.now) pool) → HasCauses result (S.state site.old) (S.state site.new) }
+    // What `new` of these sizes does, and when each of its statuses comes.
+    ensures new { (g : Geometry) → IsNew (words_of words.now) g → New g (S.state site.old) (S.state site.new) result }
+    ensures new_causes { (g : Geometry) → IsNew (words_of words.now) g → NewCauses g (S.state site.old) (S.state site.new) result }
+    // All other words are refused, or memory was wanted before anything was done.
+    ensures words { (result ≡ 2) ⊎ (IsRight (words_of words.now) ⊎ LacksMemory result (S.state site.old) (S.state site.new)) }
+    ensures wrong { result ≡ 2 → IsRight (words_of words.now) → ⊥ }
+    ensures refused { result ≡ 2 → RefusesWords (S.state site.old) (S.state site.new) }
+    // Words of which one begins with a dash want no memory.
+    ensures dashed { HasDash (words_of words.now) → result ≡ 2 }
+    ensures goes { Goes (S.state site.old) (S.state site.new) }
+{
+    match read_words(alloc, words) {
+        Ok(Request::Run(pool)) => serve(alloc, pool, site),
+        Ok(Request::New(geometry)) => make_new(&geometry, site),
+        Err(Unread::Words) => {
+            let _ = tell_words(site);
             2
         }
+        Err(Unread::Memory) => lack_memory(site),
     }
 }

@@ -1,36 +1,79 @@
 // The words that the program is called with.
-ghost use Rattle.std.specs.Prelude.{◌≡◌, ◌↔◌, ℕ, IsTrue, IfSome, IfNone, codes};
-ghost use Rattle.face.specs.Words.{IsRun, words_of};
+ghost use Rattle.std.specs.Prelude.{◌≡◌, ◌↔◌, ◌≤◌, ◌<◌, ◌^◌, ℕ, IsTrue, IfSome, IfNone, codes, decimal};
+ghost use Rattle.site.specs.Geometry.{HasLimits};
+ghost use Rattle.site.specs.declared.geometry.Geometry.{Geometry};
+ghost use Rattle.face.specs.Words.{IsNew, words_of};
 
 use shell_text::read_decimal;
+use site::Geometry;
 
-const POOL_MAX: u32 = 4096;
+/// The most pages of memory that a run may ask for.
+pub const POOL_MAX: u32 = 4_096;
 
-fn is_run(word: &[u8]) -> bool
-    ensures { IsTrue result ↔ (word.now ≡ codes "run") }
+const PAGES_MAX: u32 = 65_536;
+
+const GROUPS_MAX: u32 = 16_384;
+
+const BLOCKS_MAX: u32 = 1_048_576;
+
+fn is_new(word: &[u8]) -> bool
+    ensures { IsTrue result ↔ (word.now ≡ codes "new") }
 {
-    word == b"run".as_slice()
+    word == b"new".as_slice()
 }
 
-/// The pool of `run POOL`; None for all other words.
-pub fn pool_of(words: &[String]) -> Option<u32>
-    ensures pool { IfSome result (λ pool. IsRun (words_of words.now) pool) }
-    ensures none { IfNone result ((pool : ℕ) → IsRun (words_of words.now) pool → ⊥) }
+/// The number that a word writes in decimal, within these bounds.
+pub fn number_within(word: &[u8], least: u32, most: u32) -> Option<u32>
+    requires { most < 10 ^ 9 }
+    ensures number { IfSome result (λ n. (least ≤ n) × (n ≤ most) × (word.now ≡ decimal n)) }
+    ensures none { IfNone result ((n : ℕ) → least ≤ n → n ≤ most → word.now ≡ decimal n → ⊥) }
 {
-    let [run, digits] = words else {
+    let Some(number) = read_decimal(word) else {
         return None;
     };
-    if !is_run(run.as_bytes()) {
+    if number < least {
         return None;
     }
-    let Some(pool) = read_decimal(digits.as_bytes()) else {
+    if number > most {
+        return None;
+    }
+    Some(number)
+}
+
+/// The sizes that three words write, if they are within the limits.
+pub fn geometry_of(pages: &[u8], groups: &[u8], blocks: &[u8]) -> Option<Geometry>
+    ensures sizes { IfSome result (λ g. HasLimits g × (pages.now ≡ decimal g.pages) × (groups.now ≡ decimal g.groups) × (blocks.now ≡ decimal g.blocks)) }
+    ensures none { IfNone result ((g : Geometry) → HasLimits g → pages.now ≡ decimal g.pages → groups.now ≡ decimal g.groups → blocks.now ≡ decimal g.blocks → ⊥) }
+{
+    let Some(pages) = number_within(pages, 1, PAGES_MAX) else {
         return None;
     };
-    if pool < 1 {
+    let Some(groups) = number_within(groups, 8, GROUPS_MAX) else {
+        return None;
+    };
+    let Some(blocks) = number_within(blocks, 16, BLOCKS_MAX) else {
+        return None;
+    };
+    if groups % 4 != 0 {
         return None;
     }
-    if pool > POOL_MAX {
+    Some(Geometry {
+        pages,
+        groups,
+        blocks,
+    })
+}
+
+/// The sizes of `new PAGES GROUPS BLOCKS`; None for all other words. It takes no memory.
+pub fn sizes(words: &[String]) -> Option<Geometry>
+    ensures new { IfSome result (λ g. IsNew (words_of words.now) g) }
+    ensures none { IfNone result ((g : Geometry) → IsNew (words_of words.now) g → ⊥) }
+{
+    let [new, pages, groups, blocks] = words else {
+        return None;
+    };
+    if !is_new(new.as_bytes()) {
         return None;
     }
-    Some(pool)
+    geometry_of(pages.as_bytes(), groups.as_bytes(), blocks.as_bytes())
 }

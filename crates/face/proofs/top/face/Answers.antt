@@ -1,13 +1,24 @@
+use Rattle.std.proofs.Common.{rules, subst}
+use Rattle.site.specs.declared.geometry.Geometry.{Geometry}
+use Rattle.face.specs.New.{New, NewCauses}
+use Rattle.face.specs.Words.{IsNew, words_of}
+use Rattle.face.proofs.MemoryLaws.{lacked_new}
+use Rattle.face.proofs.WordLaws.{one_geometry}
 use Rattle.face.proofs.top.face.Goals as goal
 
-pub returns-in-None-clause-headline : goal.returns-in-None-clause-headline
-returns-in-None-clause-headline g c pool is_run = absurd (c.in-None.ensures.none pool is_run)
+pub returns-in-Ok-New-clause-new : goal.returns-in-Ok-New-clause-new
+returns-in-Ok-New-clause-new g c sizes is_new =
+    let old = g.S.Site.state c.args.site.now in
+    let new = g.S.Site.state c.make_new.new.site in
+    let found : IsNew (words_of c.args.words.now) c.in-Ok-New.geometry = search rules in
+    subst (λ (s : Geometry). New s old new c.make_new.result) (one_geometry (words_of c.args.words.now) _ sizes found is_new) c.make_new.ensures.new
 
-pub returns-in-None-clause-causes : goal.returns-in-None-clause-causes
-returns-in-None-clause-causes g c run = absurd (c.in-None.ensures.none run.0 run.1)
+pub returns-in-Ok-New-clause-new_causes : goal.returns-in-Ok-New-clause-new_causes
+returns-in-Ok-New-clause-new_causes g c sizes is_new =
+    let old = g.S.Site.state c.args.site.now in
+    let new = g.S.Site.state c.make_new.new.site in
+    let found : IsNew (words_of c.args.words.now) c.in-Ok-New.geometry = search rules in
+    subst (λ (s : Geometry). NewCauses s old new c.make_new.result) (one_geometry (words_of c.args.words.now) _ sizes found is_new) c.make_new.ensures.causes
 
-pub returns-in-None-clause-wrong : goal.returns-in-None-clause-wrong
-returns-in-None-clause-wrong g c is = c.in-None.ensures.none
-
-pub returns-in-None-clause-complete : goal.returns-in-None-clause-complete
-returns-in-None-clause-complete g c run = absurd (c.in-None.ensures.none run.0 run.1)
+pub returns-in-Err-Memory-clause-new : goal.returns-in-Err-Memory-clause-new
+returns-in-Err-Memory-clause-new g c sizes is_new = lacked_new c.lack_memory.result (g.S.Site.state c.args.site.now) (g.S.Site.state c.lack_memory.new.site) c.lack_memory.ensures.lacks sizes

@@ -1,33 +1,46 @@
-use Rattle.std.proofs.Common.{sym, ◌∙◌, ap}
+use Rattle.std.proofs.Common.{◌∙◌, ap}
 use Rattle.site.specs.Laws.{stays_honest}
-use Rattle.record_model.specs.State.{State}
 use Rattle.shell_text.specs.Texts.{open_text}
-use Rattle.face.proofs.Works.{store_fits, not_opened, opening_lost, opened}
+use Rattle.face.specs.Texts.{status_of}
+use Rattle.face.specs.declared.halt.Halt.TheVariants as halt
+use Rattle.face.proofs.Meanings.{stands_by}
+use Rattle.face.proofs.Works.{not_opened, opening_lost, opened}
+use Rattle.face.proofs.Logs.{goes_on}
+use Rattle.face.proofs.CommandLaws.{start_cause}
 use Rattle.face.proofs.top.open.Goals as goal
 
 pub returns-in-Err-clause-stops : goal.returns-in-Err-clause-stops
-returns-in-Err-clause-stops g c run begins = not_opened run (g.S.Site.state c.args.site.now) (g.S.Site.state c.start.new.site) begins (c.start.ensures.same begins.honest) _
+returns-in-Err-clause-stops g c run begins =
+    let stands = stands_by run.geometry (g.S.Site.state c.args.site.now).image run.opening begins.opens in
+    let leaves = c.start.ensures.any_moment begins.honest begins.quiet run.geometry run.opening.table run.opening.commits stands in
+    not_opened run (g.S.Site.state c.args.site.now) (g.S.Site.state c.start.new.site) leaves (halt.Stop c.in-Err.stop)
+    (λ ne. c.in-Err.ensures.quiet begins.honest begins.quiet run.geometry run.opening.table run.opening.commits stands (λ is. ne (ap (λ x. status_of (halt.Stop x)) is)))
+
+pub returns-in-Err-clause-cause : goal.returns-in-Err-clause-cause
+returns-in-Err-clause-cause g c = start_cause c.start.result c.in-Err.stop (g.S.Site.state c.args.site.now) (g.S.Site.state c.start.new.site) c.in-Err.is c.in-Err.ensures.stops c.start.ensures.device c.start.ensures.foreign
 
 pub returns-in-Err-tell_all-clause-stops : goal.returns-in-Err-tell_all-clause-stops
 returns-in-Err-tell_all-clause-stops g c run begins =
     let entry = g.S.Site.state c.args.site.now in
     let mid = g.S.Site.state c.start.new.site in
     let new = g.S.Site.state c.tell_all.new.site in
-    let same = c.start.ensures.same begins.honest in
-    let opens = c.in-Ok.ensures.opens run.geometry run.opening.table run.opening.commits begins.honest begins.stands in
-    let is = c.as_slice.ensures.value ∙ c.open_line.ensures ∙ ap open_text (c.commits.ensures ∙ ap (λ (b : State). b.commits) opens.1) in
+    let leaves = c.start.ensures.any_moment begins.honest begins.quiet run.geometry run.opening.table run.opening.commits (stands_by run.geometry entry.image run.opening begins.opens) in
+    let opens = c.in-Ok.ensures.opens begins.honest begins.quiet run.geometry run.opening begins.opens in
+    let is = c.as_slice.ensures.value ∙ c.open_line.ensures ∙ ap open_text (c.commits.ensures.model run.opening mid opens.0) in
     let honest = stays_honest entry mid c.start.ensures.goes begins.honest in
-    opening_lost run entry mid begins same new c.as_slice.result.now is (c.tell_all.ensures.any_moment honest) (c.tell_all.ensures.same honest).loose
+    opening_lost run entry mid leaves new c.as_slice.result.now is (c.tell_all.ensures.any_moment honest) ((c.tell_all.ensures.same honest).loose ∙ opens.0.holds.quiet)
 
 pub returns-in-Ok-tell_all-clause-going : goal.returns-in-Ok-tell_all-clause-going
 returns-in-Ok-tell_all-clause-going g c run begins =
     let entry = g.S.Site.state c.args.site.now in
     let mid = g.S.Site.state c.start.new.site in
     let new = g.S.Site.state c.tell_all.new.site in
-    let same = c.start.ensures.same begins.honest in
-    let opens = c.in-Ok.ensures.opens run.geometry run.opening.table run.opening.commits begins.honest begins.stands in
-    let state = opens.1 ∙ sym begins.opens in
-    let is = c.as_slice.ensures.value ∙ c.open_line.ensures ∙ ap open_text (c.commits.ensures ∙ ap (λ (b : State). b.commits) opens.1) in
+    let leaves = c.start.ensures.any_moment begins.honest begins.quiet run.geometry run.opening.table run.opening.commits (stands_by run.geometry entry.image run.opening begins.opens) in
+    let opens = c.in-Ok.ensures.opens begins.honest begins.quiet run.geometry run.opening begins.opens in
+    let is = c.as_slice.ensures.value ∙ c.open_line.ensures ∙ ap open_text (c.commits.ensures.model run.opening mid opens.0) in
     let honest = stays_honest entry mid c.start.ensures.goes begins.honest in
-    opened run entry mid begins same new c.as_slice.result.now is (c.tell_all.ensures.any_moment honest) c.in-Ok.store c.tell_all.ensures.goes (c.tell_all.ensures.same honest) (c.in-Ok-tell_all.ensures.told honest)
-    (store_fits run entry mid c.in-Ok.store begins c.start.ensures.goes same opens.0 state) opens.0 state
+    opened run entry mid leaves new c.as_slice.result.now is (c.tell_all.ensures.any_moment honest) c.in-Ok.engine c.tell_all.ensures.goes (c.tell_all.ensures.same honest) (c.in-Ok-tell_all.ensures.told honest)
+    opens.0 opens.1 begins.opens.sound.limits
+
+pub returns-in-Ok-tell_all-clause-goes_on : goal.returns-in-Ok-tell_all-clause-goes_on
+returns-in-Ok-tell_all-clause-goes_on g c = goes_on c.in-Ok.engine (g.S.Site.state c.start.new.site) (g.S.Site.state c.tell_all.new.site) c.in-Ok.ensures.going c.tell_all.ensures.goes

@@ -1,38 +1,35 @@
-use Rattle.std.proofs.Common.{subst, List, ℕ}
 use Rattle.site.specs.Laws.{stays_honest}
-use Rattle.site.specs.Moments.{EachMoment}
-use Rattle.site.specs.Telling.{TellsPart}
 use Rattle.face.proofs.CauseLaws.{cause_then, status_causes, no_causes}
 use Rattle.face.proofs.Faults.{begins, halted, finished, complete}
 use Rattle.face.proofs.top.serve.Goals as goal
 
 pub returns-in-Ok-clause-headline : goal.returns-in-Ok-clause-headline
-returns-in-Ok-clause-headline g c geometry table commits good =
+returns-in-Ok-clause-headline g c geometry opening good =
     let old = g.S.Site.state c.args.site.now in
-    finished geometry table commits old (g.S.Site.state c.work.new.site) _ (c.in-Ok.ensures.works _ (begins geometry table commits old good))
+    finished geometry opening old (g.S.Site.state c.work.new.site) _ (c.in-Ok.ensures.works _ (begins geometry opening old good))
 
 pub returns-in-Ok-clause-causes : goal.returns-in-Ok-clause-causes
 returns-in-Ok-clause-causes g c = no_causes _ _
 
 pub returns-in-Err-clause-headline : goal.returns-in-Err-clause-headline
-returns-in-Err-clause-headline g c geometry table commits good =
+returns-in-Err-clause-headline g c geometry opening good =
     let old = g.S.Site.state c.args.site.now in
     let mid = g.S.Site.state c.work.new.site in
-    let new = g.S.Site.state c.tell_all.new.site in
+    let new = g.S.Site.state c.tell_halt.new.site in
     let honest = stays_honest old mid c.work.ensures.goes good.honest in
-    let same = c.tell_all.ensures.same honest in
-    halted geometry table commits old mid new c.in-Err.halt (c.in-Err.ensures.works _ (begins geometry table commits old good))
-    (subst (λ (t : List ℕ). EachMoment mid new (TellsPart t mid)) c.line.ensures (c.tell_all.ensures.any_moment honest)) same.left same.loose
-    (cause_then c.in-Err.halt old mid new c.in-Err.ensures.cause c.tell_all.ensures.goes (λ h. same.left)) c.status.result c.status.ensures
+    let same = c.tell_halt.ensures.devices honest in
+    halted geometry opening old mid new c.in-Err.halt (c.in-Err.ensures.works _ (begins geometry opening old good))
+    (c.tell_halt.ensures.any_moment honest) same.left same.loose
+    (cause_then c.in-Err.halt old mid new c.in-Err.ensures.cause c.tell_halt.ensures.goes (λ h. same.left)) c.status.result c.status.ensures
 
 pub returns-in-Err-clause-causes : goal.returns-in-Err-clause-causes
 returns-in-Err-clause-causes g c =
     let old = g.S.Site.state c.args.site.now in
     let mid = g.S.Site.state c.work.new.site in
-    let new = g.S.Site.state c.tell_all.new.site in
+    let new = g.S.Site.state c.tell_halt.new.site in
     status_causes c.in-Err.halt c.status.result old new c.status.ensures
-    (cause_then c.in-Err.halt old mid new c.in-Err.ensures.cause c.tell_all.ensures.goes (λ h. (c.tell_all.ensures.same (stays_honest old mid c.work.ensures.goes h)).left))
+    (cause_then c.in-Err.halt old mid new c.in-Err.ensures.cause c.tell_halt.ensures.goes (λ h. (c.tell_halt.ensures.devices (stays_honest old mid c.work.ensures.goes h)).left))
 
 pub returns-in-Err-clause-complete : goal.returns-in-Err-clause-complete
-returns-in-Err-clause-complete g c geometry table commits good none ends =
-    complete geometry table commits _ _ _ good none ends (returns-in-Err-clause-causes g c) (returns-in-Err-clause-headline g c geometry table commits good)
+returns-in-Err-clause-complete g c geometry opening good none ends =
+    complete geometry opening _ _ _ good none ends (returns-in-Err-clause-causes g c) (returns-in-Err-clause-headline g c geometry opening good)

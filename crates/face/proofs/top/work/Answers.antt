@@ -6,18 +6,22 @@ use Rattle.face.specs.Going.{Going}
 use Rattle.face.specs.Lines.{up_to_quit}
 use Rattle.face.specs.Texts.{status_of}
 use Rattle.face.proofs.Cuts.{Cut, no_cut, cut_more, cut_stays, line_is, cut_few_octets}
-use Rattle.face.proofs.Ends.{never_opened, taking_failed, finished, answer_failed, heard_end, line_heard, quitted, taking_cause, answer_takes_nothing, answer_cause}
+use Rattle.face.proofs.Ends.{never_opened, taking_failed, finished, answer_failed, heard_end, line_heard, quitted, taking_cause, answer_takes_nothing, answer_cause, run_begins}
 use Rattle.face.proofs.Works.{moved, cut_short, goes_on}
+use Rattle.face.proofs.Logs.{goes_on as engine_goes_on}
 use Rattle.face.proofs.top.work.Goals as goal
 
 pub returns-in-Err-clause-works : goal.returns-in-Err-clause-works
 returns-in-Err-clause-works g c run begins = never_opened run (g.S.Site.state c.args.site.now) (g.S.Site.state c.open.new.site) c.in-Err.halt (c.in-Err.ensures.stops run begins) c.in-Err.ensures.halts (c.open.ensures.left begins.honest)
 
+pub answer-requires-clause-going : goal.answer-requires-clause-going
+answer-requires-clause-going g c = engine_goes_on c.loop-line.engine (g.S.Site.state c.loop-line.site) (g.S.Site.state c.next.new.site) c.loop-line.invariant.engine c.next.ensures.goes
+
 pub loop-line-init : goal.loop-line-init
 loop-line-init g c = record {
   goes = c.open.ensures.goes;
   source = c.new-source.ensures.source;
-  store = c.in-Ok.ensures.goes_on;
+  engine = c.in-Ok.ensures.goes_on;
   cut = λ honest. no_cut _ c.new-source.result _ c.new-source.ensures.empty c.new-source.ensures.taken c.new-source.ensures.going (c.open.ensures.left honest);
   going = c.in-Ok.ensures.going;
 }
@@ -29,8 +33,8 @@ returns-in-Err-next-clause-works g c run begins =
     let next = g.S.Site.state c.next.new.site in
     let cut = c.loop-line.invariant.cut begins.honest in
     let so_far = c.loop-line.invariant.going run begins in
-    let going = moved run entry mid next c.loop-line.store c.loop-line._line so_far c.next.ensures.goes (c.next.ensures.same so_far.fits.honest) in
-    taking_failed run entry mid next c.loop-line.store c.loop-line.source c.loop-line._line cut c.loop-line.invariant.source going c.in-Err-next.halt c.in-Err-next.ensures.halts (c.in-Err-next.ensures.cut_off so_far.fits.honest cut.ended)
+    let going = moved run entry mid next c.loop-line.engine c.loop-line._line so_far c.next.ensures.goes (c.next.ensures.same so_far.fits.honest) in
+    taking_failed run entry mid next c.loop-line.engine c.loop-line.source c.loop-line._line cut c.loop-line.invariant.source going c.in-Err-next.halt c.in-Err-next.ensures.halts (c.in-Err-next.ensures.cut_off so_far.fits.honest cut.ended)
 
 pub returns-in-Err-next-clause-cause : goal.returns-in-Err-next-clause-cause
 returns-in-Err-next-clause-cause g c =
@@ -48,9 +52,9 @@ returns-in-End-clause-works g c run begins =
     let cut = c.loop-line.invariant.cut begins.honest in
     let so_far = c.loop-line.invariant.going run begins in
     let honest = so_far.fits.honest in
-    let going = moved run entry mid next c.loop-line.store c.loop-line._line so_far c.next.ensures.goes (c.next.ensures.same honest) in
+    let going = moved run entry mid next c.loop-line.engine c.loop-line._line so_far c.next.ensures.goes (c.next.ensures.same honest) in
     let end = heard_end c.in-Ok-next.heard _ _ _ _ (c.in-Ok-next.ensures.heard honest cut.ended) c.in-End.is in
-    finished run entry mid next c.loop-line.store c.loop-line.source c.loop-line._line cut c.loop-line.invariant.source going _ end.0 (c.in-Ok-next.ensures.ended honest cut.ended end.1)
+    finished run entry mid next c.loop-line.engine c.loop-line.source c.loop-line._line cut c.loop-line.invariant.source going _ end.0 (c.in-Ok-next.ensures.ended honest cut.ended end.1)
 
 pub returns-in-Err-answer-clause-works : goal.returns-in-Err-answer-clause-works
 returns-in-Err-answer-clause-works g c run begins =
@@ -62,13 +66,13 @@ returns-in-Err-answer-clause-works g c run begins =
     let cut = c.loop-line.invariant.cut begins.honest in
     let so_far = c.loop-line.invariant.going run begins in
     let honest = so_far.fits.honest in
-    let going = moved run entry mid next c.loop-line.store i so_far c.next.ensures.goes (c.next.ensures.same honest) in
+    let going = moved run entry mid next c.loop-line.engine i so_far c.next.ensures.goes (c.next.ensures.same honest) in
     let hears = line_heard c.in-Ok-next.heard c.in-Line.line _ _ _ _ (c.in-Ok-next.ensures.heard honest cut.ended) c.in-Line.is in
     let ended = c.in-Ok-next.ensures.ended honest cut.ended in
     let is = ap (λ (l : List Line). drop i (up_to_quit l)) begins.lines ∙ line_is entry.left c.loop-line.source mid i cut c.loop-line.invariant.source c.next.new.self next c.in-Line.line hears ended c.next.ensures.source in
-    let stops = cut_short run entry next c.loop-line.store i going new c.in-Line.line _ is (c.answer.ensures.any_moment going.fits) c.in-Err-answer.halt
-    (λ ne. c.in-Err-answer.ensures.quiet going.fits (λ e. ne (ap status_of e))) (c.in-Err-answer.ensures.untold going.fits) in
-    answer_failed run entry mid next new c.loop-line.source c.next.new.self i cut c.loop-line.invariant.source c.in-Line.line hears ended c.next.ensures.source (c.answer.ensures.left going.fits.honest) c.in-Err-answer.halt stops (answer_takes_nothing c.in-Err-answer.halt c.in-Err-answer.ensures.halts)
+    let stops = cut_short run entry next c.loop-line.engine i going new c.in-Line.line _ is (c.answer.ensures.any_moment _ going.fits) c.in-Err-answer.halt
+    (λ ne. c.in-Err-answer.ensures.quiet _ going.fits (λ e. ne (ap status_of e))) (c.in-Err-answer.ensures.untold _ going.fits) in
+    answer_failed run entry mid next new c.loop-line.source c.next.new.self i cut c.loop-line.invariant.source c.in-Line.line hears ended c.next.ensures.source (c.answer.ensures.left going.fits.honest) c.in-Err-answer.halt stops (answer_takes_nothing c.in-Err-answer.halt c.loop-line.engine next new c.in-Err-answer.ensures.cause)
 
 pub loop-line-preserved : goal.loop-line-preserved
 loop-line-preserved g c =
@@ -80,7 +84,7 @@ loop-line-preserved g c =
     record {
       goes = goes_in_sequence _ _ _ c.loop-line.invariant.goes (goes_in_sequence _ _ _ c.next.ensures.goes c.answer.ensures.goes);
       source = c.next.ensures.source;
-      store = c.answer.ensures.goes_on;
+      engine = c.in_default.ensures.going;
       cut = λ honest-entry.
           let honest = stays_honest entry mid c.loop-line.invariant.goes honest-entry in
           let cut = c.loop-line.invariant.cut honest-entry in
@@ -92,13 +96,13 @@ loop-line-preserved g c =
           let cut = c.loop-line.invariant.cut begins.honest in
           let so_far = c.loop-line.invariant.going run begins in
           let honest = so_far.fits.honest in
-          let going = moved run entry mid next c.loop-line.store i so_far c.next.ensures.goes (c.next.ensures.same honest) in
+          let going = moved run entry mid next c.loop-line.engine i so_far c.next.ensures.goes (c.next.ensures.same honest) in
           let hears = line_heard c.in-Ok-next.heard c.in-Line.line _ _ _ _ (c.in-Ok-next.ensures.heard honest cut.ended) c.in-Line.is in
           let ended = c.in-Ok-next.ensures.ended honest cut.ended in
           let is = ap (λ (l : List Line). drop i (up_to_quit l)) begins.lines ∙ line_is entry.left c.loop-line.source mid i cut c.loop-line.invariant.source c.next.new.self next c.in-Line.line hears ended c.next.ensures.source in
-          subst (Going run entry new c.answer.new.store) (sym (add-one i))
-          (goes_on run entry next c.loop-line.store i going new c.in-Line.line _ is (c.answer.ensures.any_moment going.fits)
-          c.answer.new.store c.in_default.ensures.after c.answer.ensures.geometry (c.in_default.ensures.fits going.fits) (c.in_default.ensures.told going.fits));
+          subst (Going run entry new c.answer.new.engine) (sym (add-one i))
+          (goes_on run entry next c.loop-line.engine i going new c.in-Line.line _ is (c.answer.ensures.any_moment _ going.fits)
+          c.answer.new.engine c.answer.ensures.geometry (c.in_default.ensures.fits _ going.fits) (c.in_default.ensures.told _ going.fits));
     }
 
 pub returns-then-last-clause-works : goal.returns-then-last-clause-works
@@ -111,13 +115,13 @@ returns-then-last-clause-works g c run begins =
     let cut = c.loop-line.invariant.cut begins.honest in
     let so_far = c.loop-line.invariant.going run begins in
     let honest = so_far.fits.honest in
-    let going = moved run entry mid next c.loop-line.store i so_far c.next.ensures.goes (c.next.ensures.same honest) in
+    let going = moved run entry mid next c.loop-line.engine i so_far c.next.ensures.goes (c.next.ensures.same honest) in
     let hears = line_heard c.in-Ok-next.heard c.in-Line.line _ _ _ _ (c.in-Ok-next.ensures.heard honest cut.ended) c.in-Line.is in
     let ended = c.in-Ok-next.ensures.ended honest cut.ended in
     let is = ap (λ (l : List Line). drop i (up_to_quit l)) begins.lines ∙ line_is entry.left c.loop-line.source mid i cut c.loop-line.invariant.source c.next.new.self next c.in-Line.line hears ended c.next.ensures.source in
-    let gone = goes_on run entry next c.loop-line.store i going new c.in-Line.line _ is (c.answer.ensures.any_moment going.fits)
-    c.answer.new.store c.in_default.ensures.after c.answer.ensures.geometry (c.in_default.ensures.fits going.fits) (c.in_default.ensures.told going.fits) in
-    quitted run entry mid next new c.loop-line.source c.next.new.self i cut c.loop-line.invariant.source c.in-Line.line hears ended c.next.ensures.source (c.answer.ensures.left going.fits.honest) _ c.answer.new.store (sym c.quits-last.ensures ∙ c.if-last.true) gone
+    let gone = goes_on run entry next c.loop-line.engine i going new c.in-Line.line _ is (c.answer.ensures.any_moment _ going.fits)
+    c.answer.new.engine c.answer.ensures.geometry (c.in_default.ensures.fits _ going.fits) (c.in_default.ensures.told _ going.fits) in
+    quitted run entry mid next new c.loop-line.source c.next.new.self i cut c.loop-line.invariant.source c.in-Line.line hears ended c.next.ensures.source (c.answer.ensures.left going.fits.honest) _ c.answer.new.engine (sym c.quits-last.ensures ∙ c.if-last.true) gone
 
 pub returns-clause-works : goal.returns-clause-works
 returns-clause-works g c run begins =
@@ -130,4 +134,19 @@ returns-clause-cause g c = λ honest.
     absurd (omega (arith, few, c.loop-line-test.false))
 
 pub returns-in-Err-answer-clause-cause : goal.returns-in-Err-answer-clause-cause
-returns-in-Err-answer-clause-cause g c = answer_cause c.in-Err-answer.halt (g.S.Site.state c.args.site.now) (g.S.Site.state c.next.new.site) (g.S.Site.state c.answer.new.site) c.in-Err-answer.ensures.halts c.in-Err-answer.ensures.cause (goes_in_sequence _ _ _ c.loop-line.invariant.goes c.next.ensures.goes)
+returns-in-Err-answer-clause-cause g c =
+    let entry = g.S.Site.state c.args.site.now in
+    let mid = g.S.Site.state c.loop-line.site in
+    let next = g.S.Site.state c.next.new.site in
+    let new = g.S.Site.state c.answer.new.site in
+    answer_cause c.in-Err-answer.halt c.loop-line.engine entry next new c.in-Err-answer.ensures.cause (goes_in_sequence _ _ _ c.loop-line.invariant.goes c.next.ensures.goes)
+    (λ honest quiet geometry table commits stands.
+    let start = run_begins geometry table commits entry honest quiet stands in
+    let so_far = c.loop-line.invariant.going start.0 start.1 in
+    (_, (moved start.0 entry mid next c.loop-line.engine c.loop-line._line so_far c.next.ensures.goes (c.next.ensures.same so_far.fits.honest)).fits))
+
+pub returns-in-Err-next-clause-goes : goal.returns-in-Err-next-clause-goes
+returns-in-Err-next-clause-goes g c = goes_in_sequence _ _ _ c.loop-line.invariant.goes c.next.ensures.goes
+
+pub returns-in-Err-answer-clause-goes : goal.returns-in-Err-answer-clause-goes
+returns-in-Err-answer-clause-goes g c = goes_in_sequence _ _ _ c.loop-line.invariant.goes (goes_in_sequence _ _ _ c.next.ensures.goes c.answer.ensures.goes)

@@ -1,7 +1,7 @@
 use Rattle.std.proofs.Common.{IsTrue}
 use Rattle.site.specs.Calls.{Goes}
 use Rattle.face.specs.Going.{Going}
-use Rattle.face.specs.Leaves.{MayGoOn}
+use Rattle.engine.specs.Going.{MayGoOn}
 use Rattle.face.specs.Lines.{IsSource}
 use Rattle.face.specs.Run.{Run, Begins}
 use Rattle.face.proofs.Cuts.{Cut}
@@ -14,7 +14,7 @@ invariant-loop-line g l =
     record {
       goes : Goes old now;
       source : IsSource l.source;
-      store : MayGoOn l.store now;
+      engine : MayGoOn l.engine now;
       cut : IsTrue old.honest → Cut old.left l.source now l._line;
-      going : (run : Run) → Begins run old → Going run old now l.store l._line;
+      going : (run : Run) → Begins run old → Going run old now l.engine l._line;
     }

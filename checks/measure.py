@@ -1,0 +1,63 @@
+#!/usr/bin/env python3
+"""How long one durable set takes, and how long the bare calls that it makes take, in turns on the same disk, so that both
+meet the same load: measure.py [COUNT]. Each is handed one line and is timed until its reply. The current folder's disk is
+measured. FACE names another program than the one that is built here."""
+import os
+import shutil
+import statistics
+import subprocess
+import sys
+import tempfile
+import time
+
+ROOT = os.path.dirname(os.path.dirname(os.path.realpath(__file__)))
+COUNT = int(sys.argv[1]) if len(sys.argv) > 1 else 3000
+
+
+def start(words):
+    child = subprocess.Popen(words, stdin=subprocess.PIPE, stdout=subprocess.PIPE, bufsize=0)
+    child.stdout.readline()
+    return child
+
+
+def once(child, line):
+    begun = time.perf_counter()
+    child.stdin.write(line)
+    reply = child.stdout.readline()
+    assert reply.startswith(b"committed "), reply
+    return time.perf_counter() - begun
+
+
+def main():
+    face = os.environ.get("FACE")
+    if not face:
+        subprocess.run([f"{ROOT}/bin/face", "help"], stdout=subprocess.DEVNULL, stdin=subprocess.DEVNULL)
+        face = f"{ROOT}/crates/face/out/face"
+    face = os.path.realpath(face)
+    folder = tempfile.mkdtemp(dir=".")
+    try:
+        os.chdir(folder)
+        subprocess.run(["cc", "-O2", "-o", "raw_calls", f"{ROOT}/checks/raw_calls.c"], check=True)
+        subprocess.run([face, "new", "1024", "8", str(3 * COUNT + 100)], check=True, stdout=subprocess.DEVNULL)
+        program = start([face, "run", "64"])
+        bare = start(["./raw_calls", str(COUNT + 2)])
+        times = {"a durable set": [], "the bare calls": []}
+        for i in range(COUNT):
+            line = b"set %d 0102030405060708\n" % (i % 32768)
+            times["a durable set"].append(once(program, line))
+            times["the bare calls"].append(once(bare, line))
+        medians = []
+        for name, taken in times.items():
+            taken.sort()
+            medians.append(statistics.median(taken))
+            quarter = taken[len(taken) // 4]
+            print(f"{name}: median {medians[-1] * 1e6:.0f} us, lower quarter {quarter * 1e6:.0f} us, {COUNT} times")
+        print(f"rate of sets to rate of the bare calls, by medians: {medians[1] / medians[0]:.3f}")
+        program.stdin.close()
+        bare.stdin.close()
+    finally:
+        os.chdir("..")
+        shutil.rmtree(folder)
+
+
+main()

@@ -1,0 +1,248 @@
+#!/usr/bin/env bash
+# Tries the program over real files as a user would: new, run, run again, kills, files that can't be used, full disks, failing
+# calls and closed pipes. Prints 'N passed, M failed', and what was skipped for want of a tool. It works in a folder of its
+# own, which it removes. FACE names another program than the one that is built here.
+set -u
+root=$(cd "$(dirname "$(readlink -f "$0")")/.." && pwd)
+folder=$(mktemp -d)
+chmod 755 "$folder"
+trap 'cd /; rm -rf "$folder"' EXIT
+if [ -z "${FACE:-}" ]; then
+    "$root/bin/face" help >/dev/null </dev/null
+    FACE=$root/crates/face/out/face
+fi
+cp "$FACE" "$folder/face" || exit 1
+face=$folder/face
+passed=0
+failed=0
+skipped=0
+
+# verdict NAME, with the status of the test before it
+verdict() {
+    if [ "$2" -eq 0 ]; then
+        passed=$((passed + 1))
+    else
+        failed=$((failed + 1))
+        echo "failed: $1"
+    fi
+}
+
+skip() {
+    skipped=$((skipped + 1))
+    echo "skipped: $1"
+}
+
+has() {
+    command -v "$1" >/dev/null 2>&1
+}
+
+# told NAME STATUS TEXT INPUT WORDS..: the program ends with this status after this text; a slash stands for a newline
+told() {
+    local name=$1 status=$2 text=$3 input=$4
+    shift 4
+    local out got
+    out=$(printf '%s' "$input" | tr / '\n' | "${prefix[@]}" "$face" "$@" 2>/dev/null)
+    got=$?
+    [ "$got" -eq "$status" ] && [ "$out" = "$(printf '%s' "$text" | tr / '\n')" ]
+    local ok=$?
+    [ $ok -eq 0 ] || echo "  $name: status $got, told: $(printf '%s' "$out" | tr '\n' /)"
+    verdict "$name" $ok
+}
+prefix=()
+
+# a folder with a fresh database
+fresh() {
+    rm -rf "$folder/db"
+    mkdir "$folder/db"
+    cd "$folder/db" || exit 1
+    "$face" new 16 8 64 >/dev/null </dev/null
+}
+
+# --- new, run, run again
+mkdir "$folder/db"
+cd "$folder/db" || exit 1
+told 'run without files' 9 'fault foreign' '' run 1
+told 'new' 0 'ready 16 8 64' '' new 16 8 64
+[ "$(stat -c %s face.log face.flash face.disk | tr '\n' ' ')" = '34304 271360 65536 ' ]
+verdict 'the files have their lengths' $?
+told 'new once more' 0 'ready 16 8 64' '' new 16 8 64
+told 'run' 0 'open 0/committed 1/value 0a0b' 'set 5 0a0b/get 5/' run 1
+told 'run again' 0 'open 1/value 0a0b/committed 2' 'get 5/set 5 ff' run 1
+told 'and again' 0 'open 2/value ff/bye' 'get 5/quit/get 5/' run 4096
+told 'new on a used log' 10 'fault notblank log 1536' '' new 16 8 64
+told 'new of other sizes' 9 'fault foreign' '' new 16 8 65
+for words in '' help --help --version 'run 0' 'run 01' 'new 16 8' 'run -- 1'; do
+    # shellcheck disable=SC2086
+    told "words: $words" 2 'fault words' '' $words
+done
+told 'nothing was lost by these' 0 'open 2/value ff' 'get 5/' run 1
+
+# --- the sizes of a larger database
+mkdir "$folder/large"
+cd "$folder/large" || exit 1
+told 'new 1024 64 400' 0 'ready 1024 64 400' '' new 1024 64 400
+[ "$(stat -c %s face.log face.flash face.disk | tr '\n' ' ')" = '206336 2149376 4194304 ' ]
+verdict 'its files have their lengths' $?
+
+# --- killed in the middle of many sets
+mkdir "$folder/killed"
+cd "$folder/killed" || exit 1
+"$face" new 1024 8 60000 >/dev/null </dev/null
+first=1
+for wait in 0.05 0.1 0.2 0.3 0.4 0.15 0.25 0.35; do
+    awk -v from="$first" 'BEGIN { for (i = from; i < from + 15000; i++) printf "set %d %08x\n", i % 32768, i }' >sets
+    "$face" run 64 <sets >replies &
+    pid=$!
+    sleep "$wait"
+    kill -9 "$pid" 2>/dev/null
+    wait "$pid" 2>/dev/null
+    # the last reply that was wholly written
+    last=$(grep -c '' replies >/dev/null; awk '/^committed [0-9]+$/ { n = $2 } END { print n + 0 }' replies)
+    [ "$(tail -c 1 replies | od -An -c | tr -d ' ')" = '\n' ] || last=$((last > 0 ? last - 1 : 0))
+    [ "$last" -eq 0 ] && last=$((first - 1))
+    open=$(printf '' | "$face" run 64 | sed -n 's/^open \([0-9]*\)$/\1/p')
+    [ -n "$open" ] && [ "$open" -ge "$last" ] && [ "$open" -le $((last + 1)) ]
+    verdict "killed after $wait s: $last replies written, open ${open:-none}" $?
+    if [ -n "$open" ] && [ "$open" -ge 1 ]; then
+        value=$(printf 'get %d\n' $((open % 32768)) | "$face" run 64 | sed -n 2p)
+        [ "$value" = "value $(printf '%08x' "$open")" ]
+        verdict "the last commit after $wait s has its value" $?
+        first=$((open + 1))
+    fi
+done
+all=$(awk -v to="$((first - 1))" 'BEGIN { for (i = 1; i <= to; i++) printf "get %d\n", i % 32768 }' | "$face" run 64 | sed 1d | awk '{ if ($0 != sprintf("value %08x", NR)) bad++ } END { print NR, bad + 0 }')
+[ "$all" = "$((first - 1)) 0" ]
+verdict "all $((first - 1)) commits hold their values" $?
+
+# --- files that can't be used
+fresh
+printf 'set 5 0a0b\n' | "$face" run 1 >/dev/null
+for file in face.log face.flash face.disk; do
+    mv "$file" kept
+    told "$file isn't there" 9 'fault foreign' 'get 5/' run 1
+    mkdir "$file"
+    told "$file is a folder" 9 'fault foreign' 'get 5/' run 1
+    rmdir "$file"
+    head -c 1000 kept >"$file"
+    told "$file is too short" 9 'fault foreign' 'get 5/' run 1
+    cp kept "$file"
+    printf 'x' >>"$file"
+    told "$file is too long" 9 'fault foreign' 'get 5/' run 1
+    mv kept "$file"
+done
+if [ "$(id -u)" -eq 0 ] && has setpriv; then
+    prefix=(setpriv --reuid 65534 --regid 65534 --clear-groups)
+    chown 65534:65534 . face.*
+    for file in face.log face.flash face.disk; do
+        chmod 444 "$file"
+        told "$file can only be read" 9 'fault foreign' 'get 5/' run 1
+        chmod 000 "$file"
+        told "$file can't be read" 9 'fault foreign' 'get 5/' run 1
+        chmod 644 "$file"
+    done
+    told 'another user who may' 0 'open 1/value 0a0b' 'get 5/' run 1
+    mkdir "$folder/closed"
+    chmod 555 "$folder/closed"
+    cd "$folder/closed" || exit 1
+    told 'new in a folder that is closed' 9 'fault foreign' '' new 16 8 64
+    prefix=()
+    cd "$folder/db" || exit 1
+else
+    skip 'files of another user: needs root and setpriv'
+fi
+told 'nothing was lost by these files' 0 'open 1/value 0a0b' 'get 5/' run 1
+
+# --- a full disk
+mkdir "$folder/full"
+if [ "$(id -u)" -eq 0 ] && mount -t tmpfs -o size=256k none "$folder/full" 2>/dev/null; then
+    cd "$folder/full" || exit 1
+    told 'new on a full disk' 9 'fault foreign' '' new 16 8 64
+    [ ! -e face.flash ]
+    verdict 'a file that could not be filled is gone' $?
+    cd "$folder" || exit 1
+    umount "$folder/full"
+else
+    skip 'a full disk: needs root and a mount'
+fi
+
+# --- failing calls
+if has strace && strace -o /dev/null true 2>/dev/null; then
+    # fails NAME CALL ERROR WHEN STATUS TEXT INPUT: of the calls on the log
+    fails() {
+        fresh
+        printf 'set 5 0a0b\n' | "$face" run 1 >/dev/null
+        prefix=(strace -f -o /dev/null -P face.log -e "inject=$2:error=$3:when=$4")
+        told "$1" "$5" "$6" "$7" run 1
+        prefix=()
+    }
+    fails 'no room for the first write of a set' pwrite64 ENOSPC 1 3 'open 1/fault log' 'set 5 ff/get 5/'
+    told 'the set before it holds' 0 'open 1/value 0a0b' 'get 5/' run 1
+    fails 'no room for the third write of a set' pwrite64 ENOSPC 3 3 'open 1/fault log' 'set 5 ff/get 5/'
+    told 'the set before that one holds' 0 'open 1/value 0a0b' 'get 5/' run 1
+    fails 'a write of the second set fails' pwrite64 EIO 4 3 'open 1/committed 2/fault log' 'set 5 ff/set 5 fe/get 5/'
+    told 'the first set holds' 0 'open 2/value ff' 'get 5/' run 1
+    fails 'the first sync of a set fails' fdatasync EIO 2 3 'open 1/fault log' 'set 5 ff/get 5/'
+    fails 'the second sync of a set fails' fdatasync EIO 3 3 'open 1/fault log' 'set 5 ff/get 5/'
+    fails 'a read at restart fails' pread64 EIO 1 3 'fault log' 'get 5/'
+    fails 'an interrupted write is tried again' pwrite64 EINTR 1 0 'open 1/committed 2/value ff' 'set 5 ff/get 5/'
+    fails 'an interrupted read is tried again' pread64 EINTR 2 0 'open 1/value 0a0b' 'get 5/'
+    fails 'an interrupted sync is tried again' fdatasync EINTR 2 0 'open 1/committed 2/value ff' 'set 5 ff/get 5/'
+    fails 'a file that cannot be synced at the opening' fdatasync EIO 1 9 'fault foreign' 'get 5/'
+    printf 'get 5\n' >input
+    out=$(strace -f -o /dev/null -P "$PWD/input" -e inject=read:error=EIO:when=1 "$face" run 1 <input)
+    [ $? -eq 5 ] && [ "$out" = "$(printf 'open 1\nfault input')" ]
+    verdict 'reading the input fails' $?
+    out=$(strace -f -o /dev/null -P "$PWD/input" -e inject=read:error=EINTR:when=1 "$face" run 1 <input)
+    [ $? -eq 0 ] && [ "$out" = "$(printf 'open 1\nvalue 0a0b')" ]
+    verdict 'an interrupted read of the input is tried again' $?
+    rm -rf "$folder/made"
+    mkdir "$folder/made"
+    cd "$folder/made" || exit 1
+    prefix=(strace -f -o /dev/null -e inject=write:error=ENOSPC:when=1)
+    told 'no room for a new log' 9 'fault foreign' '' new 16 8 64
+    prefix=()
+    [ ! -e face.log ]
+    verdict 'the log that had no room is gone' $?
+    told 'new with room again' 0 'ready 16 8 64' '' new 16 8 64
+
+    # the calls of one commit
+    fresh
+    printf 'set 5 0a0b\nset 6 0c\n' | strace -f -o trace -e trace=read,write,pread64,pwrite64,fdatasync,fsync,lseek "$face" run 1 >/dev/null
+    calls=$(sed -n '/open 0/,$p' trace | sed 's/^[0-9]* *//; s/(.*"\(open\|committed\).*/ \1/; s/(.*//' | tr '\n' ' ')
+    wanted='write open read '
+    wanted+='pwrite64 pwrite64 fdatasync pwrite64 fdatasync write committed '
+    wanted+='pwrite64 pwrite64 fdatasync pwrite64 fdatasync write committed '
+    case $calls in "$wanted"*) true ;; *) false ;; esac
+    ok=$?
+    [ $ok -eq 0 ] || echo "  the calls: $calls"
+    verdict 'a commit is two writes, a sync, a write, a sync and the write of its reply' $ok
+else
+    skip 'failing calls and the calls of a commit: need strace'
+fi
+
+# --- closed pipes
+fresh
+printf 'set 5 0a0b\n' | "$face" run 1 >/dev/null
+told 'an input that ends at once' 0 'open 1' '' run 1
+out=$("$face" run 1 <&- 2>&-)
+[ $? -eq 5 ] && [ "$out" = "$(printf 'open 1\nfault input')" ]
+verdict 'no input' $?
+printf 'get 5\n' | "$face" run 1 >&-
+[ $? -eq 6 ]
+verdict 'no output' $?
+told 'closed streams cost nothing' 0 'open 1/value 0a0b' 'get 5/' run 1
+{
+    (
+        sleep 0.2
+        printf 'set 5 0c\nset 5 0d\nset 5 0e\n'
+    ) | "$face" run 1
+    echo $? >status
+} | head -n 1 >first
+[ "$(cat first)" = 'open 1' ] && [ "$(cat status)" -eq 6 ]
+verdict 'an output that is closed ends the run' $?
+open=$(printf 'get 5\n' | "$face" run 1 | tr '\n' /)
+[ "$open" = 'open 2/value 0c/' ]
+verdict "what was set before the lost reply holds: $open" $?
+
+echo "$passed passed, $failed failed, $skipped skipped"
+[ "$failed" -eq 0 ]

@@ -1,0 +1,292 @@
+-- What words are that `clap` has read.
+use Rattle.std.proofs.Common.{◌≡◌, ◌==◌, ◌||◌, ◌++◌, ◌∙◌, ap, refl, sym, subst, inl, inr, ◌⊎◌, ⊎_elim, ℕ, Bool, true, false, List, [], ◌∷◌, codes, fold, arith, append_assoc}
+use Rattle.std.specs.Prelude.{Option, Some, None, option_map}
+use Rattle.std.specs.Str.{bytes_eq}
+use Rattle.std.specs.List.{list_any}
+use Rattle.std.proofs.lemmas.Slice.Eq.{bytes_eq-Decides}
+use Rattle.std.proofs.lemmas.List.{append-nil}
+use Rattle.clap.specs.Lexer.{long_of, short_of}
+use Rattle.clap.specs.Walk.{Names, Row, Rule, Text, Walk, first_of, nothing_held, stop_after, walk_from, walked}
+use Rattle.clap.specs.Simple.{built, entered, names_of, subcommand_of}
+use Rattle.clap.specs.Faults.{entered_fault, fault_of}
+use Rattle.clap.specs.Kinds.{Kinds, or_else}
+use Rattle.clap.proofs.OnLiterals.{clap_on_literals}
+use Rattle.face.specs.Words.{is_dashed}
+use Rattle.std.proofs.Common.{length}
+use Rattle.std.specs.Prelude.{decimal}
+use Rattle.clap.specs.Words.{first_value, rows_of, subcommand_name_of, subcommand_rows_of}
+use Rattle.clap.specs.declared.parser.matches.ArgMatches.{ArgMatches}
+use Rattle.clap.specs.declared.parser.matches.ArgMatches.TheViews.{out-ArgMatches}
+use Rattle.clap.specs.declared.parser.matches.Found.{Found}
+use Rattle.clap.proofs.WalkLemmas.{first_value-rows}
+use Rattle.site.specs.declared.geometry.Geometry.{Geometry}
+use Rattle.face.specs.Words.{IsRun, IsNew, IsRight}
+use Rattle.face.specs.Program.{AreSizes, IsPool, IsReadFrom, program}
+use Rattle.face.proofs.WordLists.{second_word, four_words}
+use Rattle.face.proofs.ClapLaws.{differ, no_long, no_short, no_dashes}
+
+-- the words are `run` and a text, and the rows have it
+pub record IsRunLine (words : List Text) (rows : List Row) : Type 0 where
+  pub text : Text
+  pub words_are : words ≡ codes "run" ∷ text ∷ []
+  pub pool : first_of (codes "pool") rows ≡ Some text
+
+-- the words are `new` and three texts, and the rows have them
+pub record IsNewLine (words : List Text) (rows : List Row) : Type 0 where
+  pub pages : Text
+  pub groups : Text
+  pub blocks : Text
+  pub words_are : words ≡ codes "new" ∷ pages ∷ groups ∷ blocks ∷ []
+  pub pages_are : first_of (codes "pages") rows ≡ Some pages
+  pub groups_are : first_of (codes "groups") rows ≡ Some groups
+  pub blocks_are : first_of (codes "blocks") rows ≡ Some blocks
+
+neither : (a b : Bool) → (a || b) ≡ false → (a ≡ false) × (b ≡ false)
+neither true b e = let bad : true ≡ false = e in cc
+neither false b e = (refl, e)
+
+only : {X : Type 0} (a b : X) → Some a ≡ Some b → a ≡ b
+only a b e = cc
+
+-- a word without a dash is a text
+pub long : (w : Text) → is_dashed w ≡ false → long_of w ≡ None
+long [] e = refl
+long (x ∷ xs) e = no_long x xs e
+
+short : (w : Text) → is_dashed w ≡ false → short_of w ≡ None
+short [] e = refl
+short (x ∷ xs) e = no_short x xs e
+
+dashes : (w : Text) → is_dashed w ≡ false → bytes_eq w (45 ∷ 45 ∷ []) ≡ false
+dashes [] e = refl
+dashes (x ∷ xs) e = no_dashes x xs e
+
+-- a first word that is no subcommand is refused
+module _ (w : Text) (rest : List Text) (plain : is_dashed w ≡ false) where
+  stray : bytes_eq (codes "new") w ≡ false → bytes_eq (codes "run") w ≡ false → fault_of program (w ∷ rest) ≡ [] → ⊥
+  unfolding clap_on_literals
+  stray new_not run_not none =
+      let some : is_none (fault_of program (w ∷ rest)) ≡ false = rw (new_not, run_not, dashes w plain, long w plain, short w plain) refl in
+      let bad : true ≡ false = sym (ap is_none none) ∙ some in
+      cc
+    where
+      is_none : Kinds → Bool
+      is_none [] = true
+      is_none (k ∷ ks) = false
+
+-- behind a subcommand all words are its own
+stopped : (c : List Rule) (names : Names) (w : Walk) (name : Text) (had rest : List Text) → w.stopped ≡ Some (name, had) → (fold (walked c names) w rest).stopped ≡ Some (name, had ++ rest)
+unfolding clap_on_literals
+stopped c names w name had [] e = e ∙ ap (λ (l : List Text). Some (name, l)) (sym (append-nil had))
+stopped c names w name had (t ∷ rest) e =
+    stopped c names (walked c names w t) name (had ++ t ∷ []) rest (rw e refl)
+    ∙ ap (λ (l : List Text). Some (name, l)) (append_assoc had (t ∷ []) rest)
+
+abbrev is_none : Kinds → Bool
+is_none [] = true
+is_none (k ∷ ks) = false
+
+-- what `run` takes
+run_none : fault_of program (codes "run" ∷ []) ≡ [] → ⊥
+unfolding clap_on_literals
+run_none none = let bad : true ≡ false = sym (ap is_none none) in cc
+
+run_one : (t : Text) → is_dashed t ≡ false → option_map (λ p. first_of (codes "pool") p.1) (subcommand_of program (codes "run" ∷ t ∷ [])) ≡ Some (Some t)
+unfolding clap_on_literals
+run_one t a = rw (dashes t a, long t a, short t a) refl
+
+-- the subcommand at which the program's walk stops
+abbrev names : Names
+names = names_of (built program)
+
+stop_at : (name : Text) (rest : List Text) (w : Walk) → walked [] names (walk_from nothing_held) name ≡ w → w.stopped ≡ Some (name, []) → stop_after [] names (name ∷ rest) ≡ Some (name, rest)
+stop_at name rest w is e = ap (λ (v : Walk). (fold (walked [] names) v rest).stopped) is ∙ stopped [] names w name [] rest e
+
+stop_run : (rest : List Text) → stop_after [] names (codes "run" ∷ rest) ≡ Some (codes "run", rest)
+unfolding clap_on_literals
+stop_run rest = stop_at (codes "run") rest _ refl refl
+
+stop_new : (rest : List Text) → stop_after [] names (codes "new" ∷ rest) ≡ Some (codes "new", rest)
+unfolding clap_on_literals
+stop_new rest = stop_at (codes "new") rest _ refl refl
+
+after : (a b : Kinds) → or_else a b ≡ [] → b ≡ []
+after [] b e = e
+after (k ∷ ks) b e = let bad : true ≡ false = sym (ap is_none e) in cc
+
+first : (a b : Kinds) → or_else a b ≡ [] → a ≡ []
+first [] b e = refl
+first (k ∷ ks) b e = let bad : true ≡ false = sym (ap is_none e) in cc
+
+-- where the program takes the words, the subcommand takes those behind its name
+below : (name : Text) (rest : List Text) → stop_after [] names (name ∷ rest) ≡ Some (name, rest) → fault_of program (name ∷ rest) ≡ [] → entered_fault (built program) (Some (name, rest)) ≡ []
+below name rest stop none =
+    let low = first _ _ (after _ _ none) in
+    ap (entered_fault (built program)) (sym stop) ∙ low
+
+run_more : (t u : Text) (rest : List Text) → is_dashed t ≡ false → is_dashed u ≡ false → entered_fault (built program) (Some (codes "run", t ∷ u ∷ rest)) ≡ [] → ⊥
+unfolding clap_on_literals
+run_more t u rest a b none =
+    let some : is_none (entered_fault (built program) (Some (codes "run", t ∷ u ∷ rest))) ≡ false = rw (dashes t a, long t a, short t a, dashes u b, long u b, short u b) refl in
+    let bad : true ≡ false = sym (ap is_none none) ∙ some in
+    cc
+
+run_line : (rest : List Text) (rows : List Row) → list_any is_dashed rest ≡ false → fault_of program (codes "run" ∷ rest) ≡ [] → subcommand_of program (codes "run" ∷ rest) ≡ Some (codes "run", rows) → IsRunLine (codes "run" ∷ rest) rows
+run_line [] rows plain none same = absurd (run_none none)
+run_line (t ∷ []) rows plain none same = record { text = t; words_are = refl; pool = only _ _ (ap (option_map (λ p. first_of (codes "pool") p.1)) (sym same) ∙ run_one t (neither _ _ plain).0) }
+run_line (t ∷ u ∷ rest) rows plain none same =
+    absurd (run_more t u rest (neither _ _ plain).0 (neither _ _ (neither (is_dashed t) _ plain).1).0 (below (codes "run") (t ∷ u ∷ rest) (stop_run (t ∷ u ∷ rest)) none))
+
+-- what `new` takes
+new_none : fault_of program (codes "new" ∷ []) ≡ [] → ⊥
+unfolding clap_on_literals
+new_none none = let bad : true ≡ false = sym (ap is_none none) in cc
+
+new_one : (t : Text) → is_dashed t ≡ false → fault_of program (codes "new" ∷ t ∷ []) ≡ [] → ⊥
+unfolding clap_on_literals
+new_one t a none =
+    let some : is_none (fault_of program (codes "new" ∷ t ∷ [])) ≡ false = rw (dashes t a, long t a, short t a) refl in
+    let bad : true ≡ false = sym (ap is_none none) ∙ some in
+    cc
+
+new_two : (t u : Text) → is_dashed t ≡ false → is_dashed u ≡ false → fault_of program (codes "new" ∷ t ∷ u ∷ []) ≡ [] → ⊥
+unfolding clap_on_literals
+new_two t u a b none =
+    let some : is_none (fault_of program (codes "new" ∷ t ∷ u ∷ [])) ≡ false = rw (dashes t a, long t a, short t a, dashes u b, long u b, short u b) refl in
+    let bad : true ≡ false = sym (ap is_none none) ∙ some in
+    cc
+
+new_more : (t u v w : Text) (rest : List Text) → is_dashed t ≡ false → is_dashed u ≡ false → is_dashed v ≡ false → is_dashed w ≡ false → entered_fault (built program) (Some (codes "new", t ∷ u ∷ v ∷ w ∷ rest)) ≡ [] → ⊥
+unfolding clap_on_literals
+new_more t u v w rest a b c d none =
+    let some : is_none (entered_fault (built program) (Some (codes "new", t ∷ u ∷ v ∷ w ∷ rest))) ≡ false = rw (dashes t a, long t a, short t a, dashes u b, long u b, short u b, dashes v c, long v c, short v c, dashes w d, long w d, short w d) refl in
+    let bad : true ≡ false = sym (ap is_none none) ∙ some in
+    cc
+
+abbrev texts_in : Option (Text × List Row) → Option (Option Text × Option Text × Option Text)
+texts_in = option_map (λ p. (first_of (codes "pages") p.1, first_of (codes "groups") p.1, first_of (codes "blocks") p.1))
+
+new_three : (t u v : Text) → is_dashed t ≡ false → is_dashed u ≡ false → is_dashed v ≡ false → texts_in (subcommand_of program (codes "new" ∷ t ∷ u ∷ v ∷ [])) ≡ Some (Some t, Some u, Some v)
+unfolding clap_on_literals
+new_three t u v a b c = rw (dashes t a, long t a, short t a, dashes u b, long u b, short u b, dashes v c, long v c, short v c) refl
+
+new_line : (rest : List Text) (rows : List Row) → list_any is_dashed rest ≡ false → fault_of program (codes "new" ∷ rest) ≡ [] → subcommand_of program (codes "new" ∷ rest) ≡ Some (codes "new", rows) → IsNewLine (codes "new" ∷ rest) rows
+new_line [] rows plain none same = absurd (new_none none)
+new_line (t ∷ []) rows plain none same = absurd (new_one t (neither _ _ plain).0 none)
+new_line (t ∷ u ∷ []) rows plain none same = absurd (new_two t u (neither _ _ plain).0 (neither _ _ (neither (is_dashed t) _ plain).1).0 none)
+new_line (t ∷ u ∷ v ∷ []) rows plain none same =
+    let p = neither (is_dashed t) (list_any is_dashed (u ∷ v ∷ [])) plain in
+    let q = neither (is_dashed u) (list_any is_dashed (v ∷ [])) p.1 in
+    let r = neither (is_dashed v) false q.1 in
+    let three = only _ _ (ap texts_in (sym same) ∙ new_three t u v p.0 q.0 r.0) in
+    record { pages = t; groups = u; blocks = v; words_are = refl; pages_are = ap (λ x. x.0) three; groups_are = ap (λ x. x.1) three; blocks_are = ap (λ x. x.2) three }
+new_line (t ∷ u ∷ v ∷ w ∷ rest) rows plain none same =
+    let p = neither (is_dashed t) (list_any is_dashed (u ∷ v ∷ w ∷ rest)) plain in
+    let q = neither (is_dashed u) (list_any is_dashed (v ∷ w ∷ rest)) p.1 in
+    let r = neither (is_dashed v) (list_any is_dashed (w ∷ rest)) q.1 in
+    let s = neither (is_dashed w) (list_any is_dashed rest) r.1 in
+    absurd (new_more t u v w rest p.0 q.0 r.0 s.0 (below (codes "new") (t ∷ u ∷ v ∷ w ∷ rest) (stop_new (t ∷ u ∷ v ∷ w ∷ rest)) none))
+
+-- the first word names a subcommand, and it is that one which is found
+names_one : (w : Text) (rest : List Text) → is_dashed w ≡ false → fault_of program (w ∷ rest) ≡ [] → (w ≡ codes "new") ⊎ (w ≡ codes "run")
+names_one w rest plain none = go (bytes_eq (codes "new") w) refl (bytes_eq (codes "run") w) refl
+  where
+    go : (a : Bool) → bytes_eq (codes "new") w ≡ a → (b : Bool) → bytes_eq (codes "run") w ≡ b → (w ≡ codes "new") ⊎ (w ≡ codes "run")
+    go true e b f = inl (sym ((bytes_eq-Decides (codes "new") w).0 e))
+    go false e true f = inr (sym ((bytes_eq-Decides (codes "run") w).0 f))
+    go false e false f = absurd (stray w rest plain e f none)
+
+abbrev name_in : Option (Text × List Row) → Option Text
+name_in = option_map (λ p. p.0)
+
+run_found : (rest : List Text) → name_in (subcommand_of program (codes "run" ∷ rest)) ≡ Some (codes "run")
+unfolding clap_on_literals
+run_found rest = ap (λ o. name_in (entered (built program) o)) (stop_run rest)
+
+new_found : (rest : List Text) → name_in (subcommand_of program (codes "new" ∷ rest)) ≡ Some (codes "new")
+unfolding clap_on_literals
+new_found rest = ap (λ o. name_in (entered (built program) o)) (stop_new rest)
+
+other_name : (found : Option (Text × List Row)) (name a : Text) (rows : List Row) → name_in found ≡ Some name → found ≡ Some (a, rows) → a ≡ name
+other_name found name a rows is same = only _ _ (sym (ap name_in same) ∙ is)
+
+no_words : (a : Text) (rows : List Row) → subcommand_of program [] ≡ Some (a, rows) → ⊥
+unfolding clap_on_literals
+no_words a rows same = cc
+
+pub run_lines : (words : List Text) (rows : List Row) → list_any is_dashed words ≡ false → fault_of program words ≡ [] → subcommand_of program words ≡ Some (codes "run", rows) → IsRunLine words rows
+run_lines [] rows plain none same = absurd (no_words _ rows same)
+run_lines (w ∷ rest) rows plain none same = ⊎_elim
+    (λ e. absurd (differ (other_name _ (codes "new") (codes "run") rows (ap (λ (v : Text). name_in (subcommand_of program (v ∷ rest))) e ∙ new_found rest) same)))
+    (λ e. subst (λ (v : Text). IsRunLine (v ∷ rest) rows) (sym e) (run_line rest rows (neither (is_dashed w) _ plain).1 (ap (λ (v : Text). fault_of program (v ∷ rest)) (sym e) ∙ none) (ap (λ (v : Text). subcommand_of program (v ∷ rest)) (sym e) ∙ same)))
+    (names_one w rest (neither (is_dashed w) _ plain).0 none)
+
+pub new_lines : (words : List Text) (rows : List Row) → list_any is_dashed words ≡ false → fault_of program words ≡ [] → subcommand_of program words ≡ Some (codes "new", rows) → IsNewLine words rows
+new_lines [] rows plain none same = absurd (no_words _ rows same)
+new_lines (w ∷ rest) rows plain none same = ⊎_elim
+    (λ e. subst (λ (v : Text). IsNewLine (v ∷ rest) rows) (sym e) (new_line rest rows (neither (is_dashed w) _ plain).1 (ap (λ (v : Text). fault_of program (v ∷ rest)) (sym e) ∙ none) (ap (λ (v : Text). subcommand_of program (v ∷ rest)) (sym e) ∙ same)))
+    (λ e. absurd (differ (sym (other_name _ (codes "run") (codes "new") rows (ap (λ (v : Text). name_in (subcommand_of program (v ∷ rest))) e ∙ run_found rest) same))))
+    (names_one w rest (neither (is_dashed w) _ plain).0 none)
+
+-- what was read
+
+both : {A B : Type 0} (o : Option (A × B)) (a : A) (b : B) → option_map (λ p. p.0) o ≡ Some a → option_map (λ p. p.1) o ≡ Some b → o ≡ Some (a, b)
+both None a b e f = let bad : None ≡ Some a = e in cc
+both (Some (x, y)) a b e f = λ i. Some (only x a e i, only y b f i)
+
+compose : {X Y Z : Type 0} (f : X → Y) (g : Y → Z) (o : Option X) → option_map g (option_map f o) ≡ option_map (λ x. g (f x)) o
+compose f g None = refl
+compose f g (Some x) = refl
+
+has_name : (m : ArgMatches) → option_map (λ p. p.0) (subcommand_rows_of m) ≡ subcommand_name_of m
+has_name m = compose _ _ (out-ArgMatches m).subcommand
+
+module _ (words : List Text) (m : ArgMatches) (found : Found) (read : IsReadFrom words m) (rows : option_map (λ p. p.1) (subcommand_rows_of m) ≡ Some (rows_of found)) where
+  its : (name : Text) → subcommand_name_of m ≡ Some name → subcommand_of program words ≡ Some (name, rows_of found)
+  its name is = sym read.rows ∙ both _ name (rows_of found) (has_name m ∙ is) rows
+
+  text_is : (id a b : Text) → first_of id (rows_of found) ≡ Some a → first_value found id ≡ Some b → a ≡ b
+  text_is id a b e f = only a b (sym e ∙ sym (first_value-rows found id) ∙ f)
+
+  module _ (is : subcommand_name_of m ≡ Some (codes "run")) where
+    run_read : IsRunLine words (rows_of found)
+    run_read = run_lines words (rows_of found) read.plain read.faultless (its (codes "run") is)
+
+    pub run_right : (pool : ℕ) → IsPool found pool → IsRun words pool
+    run_right pool p = record { words_are = run_read.words_are ∙ ap (λ (t : Text). codes "run" ∷ t ∷ []) (text_is (codes "pool") run_read.text (decimal pool) run_read.pool p.text); from = p.from; to = p.to }
+
+    pub run_wrong : ((pool : ℕ) → IsPool found pool → ⊥) → IsRight words → ⊥
+    run_wrong none (inl run) = none run.0 (record {
+      text = first_value-rows found (codes "pool") ∙ run_read.pool ∙ ap (λ (t : Text). Some t) (second_word _ _ _ _ (sym run_read.words_are ∙ run.1.words_are));
+      from = run.1.from;
+      to = run.1.to;
+    })
+    run_wrong none (inr new) =
+        let two : length words ≡ 2 = ap length run_read.words_are in
+        let four : length words ≡ 4 = ap length new.1.words_are in
+        absurd (omega (arith, two, four))
+
+  module _ (is : subcommand_name_of m ≡ Some (codes "new")) where
+    new_read : IsNewLine words (rows_of found)
+    new_read = new_lines words (rows_of found) read.plain read.faultless (its (codes "new") is)
+
+    pub new_right : (g : Geometry) → AreSizes found g → IsNew words g
+    new_right g s =
+        let pages = text_is (codes "pages") new_read.pages (decimal g.pages) new_read.pages_are s.pages in
+        let groups = text_is (codes "groups") new_read.groups (decimal g.groups) new_read.groups_are s.groups in
+        let blocks = text_is (codes "blocks") new_read.blocks (decimal g.blocks) new_read.blocks_are s.blocks in
+        record { words_are = new_read.words_are ∙ (λ i. codes "new" ∷ pages i ∷ groups i ∷ blocks i ∷ []); limits = s.limits }
+
+    pub new_wrong : ((g : Geometry) → AreSizes found g → ⊥) → IsRight words → ⊥
+    new_wrong none (inr new) =
+        let same = four_words _ _ _ _ _ _ _ _ (sym new_read.words_are ∙ new.1.words_are) in
+        none new.0 (record {
+          pages = first_value-rows found (codes "pages") ∙ new_read.pages_are ∙ ap (λ (t : Text). Some t) same.second;
+          groups = first_value-rows found (codes "groups") ∙ new_read.groups_are ∙ ap (λ (t : Text). Some t) same.third;
+          blocks = first_value-rows found (codes "blocks") ∙ new_read.blocks_are ∙ ap (λ (t : Text). Some t) same.fourth;
+          limits = new.1.limits;
+        })
+    new_wrong none (inl run) =
+        let four : length words ≡ 4 = ap length new_read.words_are in
+        let two : length words ≡ 2 = ap length run.1.words_are in
+        absurd (omega (arith, two, four))

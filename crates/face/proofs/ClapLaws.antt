@@ -1,0 +1,132 @@
+-- What `clap` makes of the right words.
+use Rattle.std.proofs.Common.{◌≡◌, ◌==◌, ◌&&◌, ◌∙◌, ap, refl, sym, ℕ, Bool, true, false, List, [], ◌∷◌, codes, cond}
+use Rattle.std.specs.Prelude.{Option, Some, None, option_map, option_and_then}
+use Rattle.std.specs.Str.{bytes_eq}
+use Rattle.clap.specs.Lexer.{long_of, long_of_rest, short_of, short_of_rest, strip_byte}
+use Rattle.clap.specs.Walk.{Held, Rule, Step, Text, Waiting, Names, value, word_met, idle}
+use Rattle.clap.specs.Words.{takes, subcommand_of}
+use Rattle.clap.proofs.OnLiterals.{clap_on_literals}
+use Rattle.std.proofs.Common.{◌<◌, ◌≤◌, ◌^◌, ◌⊎◌, ◌||◌, length, map, slice_index_or, arith, subst, inl, inr}
+use Rattle.std.proofs.lemmas.Fmt.{decimal_is_IsNumeral}
+use Rattle.std.proofs.lemmas.Str.Parse.{digit_from_value}
+use Rattle.std.proofs.lemmas.Bool.{ne_eqb}
+use Rattle.std.specs.Prelude.{decimal, string_bytes}
+use Rattle.std.specs.declared.string.String.{String}
+use Rattle.std.specs.declared.alloc.Global.{Global}
+use Rattle.std.specs.List.{list_any}
+use Rattle.std.specs.Str.Parse.{IsNumeral}
+use Rattle.clap.specs.Words.{subcommand_name_of, subcommand_rows_of}
+use Rattle.clap.specs.declared.parser.matches.ArgMatches.{ArgMatches}
+use Rattle.clap.specs.declared.parser.matches.ArgMatches.TheViews.{out-ArgMatches}
+use Rattle.site.specs.declared.geometry.Geometry.{Geometry}
+use Rattle.face.specs.Words.{IsRun, IsNew, IsRight, HasDash, is_dashed, words_of}
+use Rattle.face.specs.Program.{program}
+
+-- a word whose first octet is no dash is neither a long nor a short flag
+pub no_long : (x : ℕ) (xs : Text) → (x == 45) ≡ false → long_of (x ∷ xs) ≡ None
+no_long x xs e = go (x == 45) e
+  where
+    go : (b : Bool) → b ≡ false → option_and_then long_of_rest (option_and_then (strip_byte 45) (cond b (Some xs) None)) ≡ None
+    go true bad = cc
+    go false ok = refl
+
+pub no_short : (x : ℕ) (xs : Text) → (x == 45) ≡ false → short_of (x ∷ xs) ≡ None
+no_short x xs e = go (x == 45) e
+  where
+    go : (b : Bool) → b ≡ false → option_and_then short_of_rest (cond b (Some xs) None) ≡ None
+    go true bad = cc
+    go false ok = refl
+
+pub no_dashes : (x : ℕ) (xs : Text) → (x == 45) ≡ false → bytes_eq (x ∷ xs) (45 ∷ 45 ∷ []) ≡ false
+no_dashes x xs e = go (x == 45) e
+  where
+    go : (b : Bool) → b ≡ false → (b && bytes_eq xs (45 ∷ [])) ≡ false
+    go true bad = cc
+    go false ok = refl
+
+-- a word whose first octet is no dash is a text
+pub a_text : (c : List Rule) (position x : ℕ) (xs : Text) (h : Held) → (x == 45) ≡ false → word_met c [] false idle position (x ∷ xs) h ≡ (h, value)
+a_text c position x xs h e = rw (no_dashes x xs e, no_long x xs e, no_short x xs e) refl
+
+pub taken_run : (x : ℕ) (xs : Text) → (x == 45) ≡ false → takes program (codes "run" ∷ (x ∷ xs) ∷ []) ≡ true
+unfolding clap_on_literals
+taken_run x xs e = rw (no_dashes x xs e, no_long x xs e, no_short x xs e) refl
+
+pub named_run : (t : Text) → option_map (λ p. p.0) (subcommand_of program (codes "run" ∷ t ∷ [])) ≡ Some (codes "run")
+unfolding clap_on_literals
+named_run t = refl
+
+pub named_new : (t u v : Text) → option_map (λ p. p.0) (subcommand_of program (codes "new" ∷ t ∷ u ∷ v ∷ [])) ≡ Some (codes "new")
+unfolding clap_on_literals
+named_new t u v = refl
+
+pub taken_new : (x : ℕ) (xs : Text) (y : ℕ) (ys : Text) (z : ℕ) (zs : Text) → (x == 45) ≡ false → (y == 45) ≡ false → (z == 45) ≡ false → takes program (codes "new" ∷ (x ∷ xs) ∷ (y ∷ ys) ∷ (z ∷ zs) ∷ []) ≡ true
+unfolding clap_on_literals
+taken_new x xs y ys z zs a b c = rw (no_dashes x xs a, no_long x xs a, no_short x xs a, no_dashes y ys b, no_long y ys b, no_short y ys b, no_dashes z zs c, no_long z zs c, no_short z zs c) refl
+
+-- a number in decimal has a first octet, and it is a digit
+record Begins (t : Text) : Type 0 where
+  pub first : ℕ
+  pub rest : Text
+  pub is : t ≡ first ∷ rest
+  pub no_dash : (first == 45) ≡ false
+
+numeral_begins : (t : Text) → IsNumeral 10 t → Begins t
+numeral_begins [] h = absurd (omega (arith, h.0))
+numeral_begins (d ∷ ds) h = record { first = d; rest = ds; is = refl; no_dash = ne_eqb _ _ (λ e. omega (arith, digit_from_value d h.1.0)) }
+
+begins : (n : ℕ) → n < 2 ^ 64 → Begins (decimal n)
+begins n few = numeral_begins (decimal n) (decimal_is_IsNumeral n few).0
+
+begins_undashed : (t : Text) → Begins t → is_dashed t ≡ false
+begins_undashed t b = ap is_dashed b.is ∙ b.no_dash
+
+run_taken : (t : Text) → Begins t → takes program (codes "run" ∷ t ∷ []) ≡ true
+run_taken t b = ap (λ (w : Text). takes program (codes "run" ∷ w ∷ [])) b.is ∙ taken_run b.first b.rest b.no_dash
+
+new_taken : (t u v : Text) → Begins t → Begins u → Begins v → takes program (codes "new" ∷ t ∷ u ∷ v ∷ []) ≡ true
+new_taken t u v a b c =
+    (λ i. takes program (codes "new" ∷ a.is i ∷ b.is i ∷ c.is i ∷ []))
+    ∙ taken_new a.first a.rest b.first b.rest c.first c.rest a.no_dash b.no_dash c.no_dash
+
+-- `clap` takes all right words
+pub right_taken : (words : List Text) → IsRight words → takes program words ≡ true
+right_taken words (inl run) = let most = run.1.to in ap (takes program) run.1.words_are ∙ run_taken (decimal run.0) (begins run.0 (omega (arith, most)))
+right_taken words (inr new) =
+    let limits = new.1.limits in
+    let pages = limits.few_pages in
+    let groups = limits.few_groups in
+    let blocks = limits.few_blocks in
+    ap (takes program) new.1.words_are
+    ∙ new_taken (decimal new.0.pages) (decimal new.0.groups) (decimal new.0.blocks) (begins new.0.pages (omega (arith, pages))) (begins new.0.groups (omega (arith, groups))) (begins new.0.blocks (omega (arith, blocks)))
+
+-- and they have no dash
+run_undashed : (t : Text) → is_dashed t ≡ false → HasDash (codes "run" ∷ t ∷ []) → ⊥
+run_undashed t e dash = let none : list_any is_dashed (codes "run" ∷ t ∷ []) ≡ false = rw e refl in cc
+
+new_undashed : (t u v : Text) → is_dashed t ≡ false → is_dashed u ≡ false → is_dashed v ≡ false → HasDash (codes "new" ∷ t ∷ u ∷ v ∷ []) → ⊥
+new_undashed t u v a b c dash = let none : list_any is_dashed (codes "new" ∷ t ∷ u ∷ v ∷ []) ≡ false = rw (a, b, c) refl in cc
+
+pub right_undashed : (words : List Text) → IsRight words → HasDash words → ⊥
+right_undashed words (inl run) dash =
+    let most = run.1.to in
+    run_undashed (decimal run.0) (begins_undashed _ (begins run.0 (omega (arith, most)))) (subst HasDash run.1.words_are dash)
+right_undashed words (inr new) dash =
+    let limits = new.1.limits in
+    let pages = limits.few_pages in
+    let groups = limits.few_groups in
+    let blocks = limits.few_blocks in
+    new_undashed (decimal new.0.pages) (decimal new.0.groups) (decimal new.0.blocks) (begins_undashed _ (begins new.0.pages (omega (arith, pages)))) (begins_undashed _ (begins new.0.groups (omega (arith, groups)))) (begins_undashed _ (begins new.0.blocks (omega (arith, blocks)))) (subst HasDash new.1.words_are dash)
+
+pub differ : codes "run" ≡ codes "new" → ⊥
+differ e = let bad : 114 ≡ 110 = ap (λ (l : Text). slice_index_or l 0 0) e in absurd (omega (arith, bad))
+
+any_of : {X Y : Type 0} (p : Y → Bool) (f : X → Y) (xs : List X) → list_any p (map f xs) ≡ list_any (λ x. p (f x)) xs
+any_of p f [] = refl
+any_of p f (x ∷ xs) = ap (λ (b : Bool). p (f x) || b) (any_of p f xs)
+
+pub dash_is : (words : List (String Global)) (found : Bool) → found ≡ list_any (λ word. is_dashed (string_bytes word)) words → list_any is_dashed (words_of words) ≡ found
+dash_is words found is = any_of is_dashed string_bytes words ∙ sym is
+
+pub no_dash : (words : List (String Global)) (found : Bool) → found ≡ list_any (λ word. is_dashed (string_bytes word)) words → found ≡ false → HasDash (words_of words) → ⊥
+no_dash words found is none dash = let bad : true ≡ false = sym dash ∙ dash_is words found is ∙ none in cc

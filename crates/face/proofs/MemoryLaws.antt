@@ -1,0 +1,72 @@
+-- Where memory is wanted before anything is done.
+use Rattle.std.proofs.Common.{◌≡◌, inl, inr, ℕ, List, [], refl, sym, subst, arith, true, IsTrue, ◌++◌}
+use Rattle.std.specs.Prelude.{Err}
+use Rattle.site.specs.declared.outside.Stop.TheVariants.{Memory}
+use Rattle.site.specs.declared.geometry.Geometry.{Geometry}
+use Rattle.site.specs.State.{State as Site}
+use Rattle.site.specs.Moments.{EachMoment, Leaves, LeavesOnly}
+use Rattle.site.specs.Telling.{TellsPart, SameDevices}
+use Rattle.record_model.specs.State.{State}
+use Rattle.face.specs.declared.halt.Halt.{Halt}
+use Rattle.face.specs.declared.halt.Halt.TheVariants as halt
+use Rattle.face.specs.Headline.{IsGood, Headline}
+use Rattle.face.specs.Run.{Works}
+use Rattle.face.specs.Causes.{HasCauses, NoFaultRose}
+use Rattle.face.specs.New.{New, NewCauses}
+use Rattle.face.specs.Words.{LacksMemory, memory_fault}
+use Rattle.face.specs.Range.{run_of}
+use Rattle.face.proofs.CauseLaws.{status_causes}
+use Rattle.face.proofs.Ends.{never_opened}
+use Rattle.face.proofs.Works.{not_opened}
+use Rattle.face.proofs.Faults.{halted}
+use Rattle.face.proofs.Meanings.{stands_by}
+use Rattle.engine.specs.Image.{Stands}
+use Rattle.engine.specs.Leaves.{LeavesTable}
+use Rattle.site.specs.Laws.{no_call, told_is, image_is}
+use Rattle.site.specs.State.{Image, now_of}
+
+abbrev lacks : Halt
+lacks = halt.Stop Memory
+
+-- a crash meanwhile leaves what stands there
+still : (g : Geometry) (opening : State) (old : Site) → IsGood g opening old → LeavesOnly old old (LeavesTable g opening.table opening.commits old.told)
+still g opening old good =
+    no_call old (Leaves (LeavesTable g opening.table opening.commits old.told)) (λ s left. record {
+      told = told_is old s left;
+      stands = subst (λ (x : Image). Stands g x opening.table opening.commits) (sym (image_is (now_of old) s good.quiet left)) (stands_by g old.image opening good.opens);
+    })
+
+pub lacked_headline : (g : Geometry) (opening : State) (old new : Site) → IsGood g opening old → EachMoment old new (TellsPart memory_fault old) → SameDevices old new → Headline g opening old new 4
+lacked_headline g opening old new good tells same =
+    let run = run_of g opening true old.left in
+    let stops = not_opened run old old (still g opening old good) lacks (λ ne. good.quiet) in
+    let works : Works {T = ℕ} run old old (Err lacks) = never_opened run old old lacks stops (λ e. cc, λ e. cc) refl in
+    halted g opening old old new lacks works tells same.left same.loose tt 4 refl
+
+module _ (status : ℕ) (old new : Site) (l : LacksMemory status old new) where
+  abbrev is : status ≡ 4
+  is = l.0
+
+  pub lacked_causes : HasCauses status old new
+  lacked_causes = status_causes lacks status old new is tt
+
+  pub lacked_new : (g : Geometry) → New g old new status
+  lacked_new g = record {
+    line = memory_fault;
+    answer = inr (inr (inr (is, refl)));
+    any_moment = l.1.any_moment;
+    devices = l.1.devices;
+    ready = λ honest zero. absurd (omega (arith, zero, is));
+  }
+
+  pub lacked_new_causes : (g : Geometry) → NewCauses g old new status
+  lacked_new_causes g = record {
+    others = inr (inr (inl is));
+    device = λ e. absurd (omega (arith, e, is));
+    output = λ e. absurd (omega (arith, e, is));
+    foreign = λ e. absurd (omega (arith, e, is));
+    lengths = λ no. inr is;
+    notblank = λ honest e. absurd (omega (arith, e, is));
+    blank = λ honest lengths not_blank. inr (inr is);
+    complete = λ honest lengths blank none. inr is;
+  }

@@ -1,0 +1,27 @@
+-- The words of `run` and those of `new` are told apart, and say one thing.
+use Rattle.std.proofs.Common.{◌≡◌, ℕ, List, [], ◌∷◌, sym, ◌∙◌, ap, arith, length}
+use Rattle.std.proofs.lemmas.Fmt.{decimal_injective}
+use Rattle.site.specs.declared.geometry.Geometry.{Geometry}
+use Rattle.site.specs.Geometry.{HasLimits}
+use Rattle.face.specs.Words.{IsRun, IsNew}
+use Rattle.face.proofs.WordLists.{SameFour, four_words}
+
+pub not_both : (words : List (List ℕ)) (pool : ℕ) (g : Geometry) → IsRun words pool → IsNew words g → ⊥
+not_both words pool g run new =
+    let two : length words ≡ 2 = ap length run.words_are in
+    let four : length words ≡ 4 = ap length new.words_are in
+    absurd (omega (arith, two, four))
+
+pub one_geometry : (words : List (List ℕ)) (g h : Geometry) → IsNew words g → IsNew words h → g ≡ h
+one_geometry words g h first second =
+    let same = four_words _ _ _ _ _ _ _ _ (sym first.words_are ∙ second.words_are) in
+    let p = first.limits.few_pages in
+    let q = second.limits.few_pages in
+    let r = first.limits.few_groups in
+    let s = second.limits.few_groups in
+    let t = first.limits.few_blocks in
+    let u = second.limits.few_blocks in
+    let pages = decimal_injective g.pages h.pages (omega (arith, p)) (omega (arith, q)) same.second in
+    let groups = decimal_injective g.groups h.groups (omega (arith, r)) (omega (arith, s)) same.third in
+    let blocks = decimal_injective g.blocks h.blocks (omega (arith, t)) (omega (arith, u)) same.fourth in
+    λ i. record { pages = pages i; groups = groups i; blocks = blocks i }

@@ -1,0 +1,13 @@
+use Rattle.std.proofs.Common.{ap, ◌∙◌, rules}
+use Rattle.std.proofs.lemmas.Result.{IfErr-weaker}
+use Rattle.clap.specs.Words.{App, takes}
+use Rattle.face.specs.Words.{words_of}
+use Rattle.face.proofs.ClapLaws.{right_taken}
+use Rattle.face.proofs.ClapInverse.{run_lines, new_lines}
+use Rattle.face.proofs.request.parse.Goals as goal
+
+pub returns-clause-right : goal.returns-clause-right
+returns-clause-right c =
+    let words = words_of c.args.words.now in
+    let parse = c.try_get_matches_from in
+    IfErr-weaker parse.result _ _ (λ e h right. h (ap (λ (a : App). takes a words) c.in_ok-command.ensures.0 ∙ right_taken words right)) parse.ensures.passes

@@ -1,0 +1,16 @@
+-- What telling a line does.
+use Rattle.std.specs.Prelude.{◌≡◌, List, ℕ, ◌++◌, IsTrue, Result, OnOk, OnErr}
+use Rattle.site.specs.State.{State}
+use Rattle.site.specs.Calls.{Goes, SameReads, Rose}
+use Rattle.site.specs.Moments.{EachMoment}
+use Rattle.site.specs.Telling.{TellsPart, SameDevices}
+use Rattle.site.specs.declared.outside.Failed.{Failed}
+
+-- the line is told, or after an error a front of it, and nothing else is done
+pub record Tells {T : Type 0} (line : List ℕ) (old new : State) (result : Result T Failed) : Type 0 where
+  pub any_moment : IsTrue old.honest → EachMoment old new (TellsPart line old)
+  pub told : IsTrue old.honest → OnOk result (new.told ≡ old.told ++ line)
+  pub devices : IsTrue old.honest → SameDevices old new
+  pub cause : OnErr result (Rose old.output_faults new.output_faults)
+  pub reads : SameReads old new
+  pub goes : Goes old new

@@ -1,0 +1,69 @@
+// The commands that are built.
+ghost use Rattle.std.specs.Prelude.{◌≡◌, ◌≢◌, IsTrue, IfOk, IfErr, OnOk};
+ghost use Rattle.site.specs.declared.outside.Dev.{Dev};
+ghost use Rattle.site.specs.declared.outside.Stop.{Stop};
+ghost use Rattle.site.specs.State.{IsQuiet};
+ghost use Rattle.site.specs.Calls.{Goes};
+ghost use Rattle.site.specs.Moments.{LeavesOnly};
+ghost use Rattle.record_model.specs.State.{State};
+ghost use Rattle.engine.specs.Going.{MayGoOn};
+ghost use Rattle.engine.specs.Fits.{Fits};
+ghost use Rattle.engine.specs.Leaves.{LeavesEither};
+ghost use Rattle.face.specs.Causes.{FailsBy};
+ghost use Rattle.face.specs.Grammar.{IsBuilt};
+ghost use Rattle.face.specs.Run.{step};
+
+use engine::Engine;
+use record_model::{Command, Reply, Why};
+use site::{Site, Stop};
+
+/// Carries out a line. A crash at any moment leaves the table before it or after it, and nothing is told.
+pub fn carry_out<S: Site>(
+    engine: &mut Engine,
+    site: &mut S,
+    line: Option<Command>,
+) -> Result<Reply, Stop>
+    requires going { MayGoOn engine.old (S.state site.old) }
+    requires built { IsBuilt line }
+
+    // Of an honest site that the database fits.
+    ensures reply { (s : State) → Fits engine.old (S.state site.old) s
+        → IfOk result (λ reply. reply ≡ (step s line).reply) }
+    ensures after { (s : State) → Fits engine.old (S.state site.old) s
+        → OnOk result (Fits engine.new (S.state site.new) (step s line).after) }
+    ensures any_moment { (s : State) → Fits engine.old (S.state site.old) s
+        → LeavesOnly (S.state site.old) (S.state site.new)
+        (LeavesEither engine.old.journal.log.geometry s (step s line).after (S.state site.old).told) }
+    ensures left { IsTrue (S.state site.old).honest
+        → (S.state site.new).left ≡ (S.state site.old).left }
+    // Where no device failed, nothing is loose after an error either.
+    ensures quiet { (s : State) → Fits engine.old (S.state site.old) s
+        → IfErr result (λ stop. stop ≢ Stop.Device Dev.Log → IsQuiet (S.state site.new)) }
+
+    // Of every site.
+    ensures going { OnOk result (MayGoOn engine.new (S.state site.new)) }
+    ensures cause { IfErr result (λ stop. FailsBy stop engine.old (S.state site.old) (S.state site.new)) }
+    ensures geometry { engine.new.journal.log.geometry ≡ engine.old.journal.log.geometry }
+    ensures goes { Goes (S.state site.old) (S.state site.new) }
+{
+    let Some(command) = line else {
+        return Ok(Reply::Refused(Why::BadLine));
+    };
+    match command {
+        Command::Begin { session } => engine.begin(site, session),
+        Command::Read { session, number } => engine.read(site, session, number),
+        Command::Write {
+            session,
+            number,
+            value,
+        } => engine.write(site, session, number, &value),
+        Command::Erase { session, number } => engine.erase(site, session, number),
+        Command::Commit { session } => engine.commit(site, session),
+        Command::Abort { session } => engine.abort(site, session),
+        Command::Get { number } => engine.get(site, number),
+        Command::Set { number, value } => engine.set(site, number, &value),
+        Command::Stat => Ok(engine.stat()),
+        Command::Quit => Ok(Reply::Bye),
+        _ => Ok(Reply::Refused(Why::BadLine)),
+    }
+}

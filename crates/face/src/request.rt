@@ -1,0 +1,176 @@
+// What the words ask for, as `clap` reads them.
+ghost use Rattle.std.specs.Prelude.{◌≡◌, ◌↔◌, IfSome, IfNone, IfOk, IfErr, Err, ℕ, List, false, string_bytes};
+ghost use Rattle.std.specs.List.{list_any};
+ghost use Rattle.clap.specs.Words.{found_of, kind_of, new_rule, rule_of};
+ghost use Rattle.clap.specs.declared.error.kind.ErrorKind.TheVariants.{OutOfMemory};
+ghost use Rattle.face.specs.Program.{AreSizes, IsLike, IsPool, IsReadFrom, bare, new_words, program, run_words, text};
+ghost use Rattle.face.specs.Words.{IsRight, IsRequest, HasDash, is_dashed, words_of};
+ghost use Rattle.face.specs.declared.request.Unread.{Unread};
+ghost use Rattle.site.specs.declared.geometry.Geometry.{Geometry};
+
+use crate::words::{POOL_MAX, geometry_of, number_within};
+use clap::error::ErrorKind;
+use clap::{Arg, ArgMatches, Command, Error};
+use site::Geometry;
+use std::alloc::{AllocError, Global};
+
+/// What the words ask for.
+#[derive(Clone, Copy, Debug, PartialEq, Eq, Drop)]
+pub enum Request {
+    /// The work of a run, with a pool of so many frames.
+    Run(u32),
+    /// A test that the devices have these sizes and are blank.
+    New(Geometry),
+}
+
+/// Why words ask for nothing.
+#[derive(Clone, Copy, Debug, PartialEq, Eq, Drop)]
+pub enum Unread {
+    /// They aren't right.
+    Words,
+    /// Memory was wanted to read them.
+    Memory,
+}
+
+// A text that has to be there.
+fn text_argument<'a>(alloc: Global, name: &'a str) -> Arg<'a>
+    ensures rule { rule_of result ≡ text (new_rule name.entry.now) }
+    ensures local { result.global ≡ false }
+{
+    Arg::new(alloc, name).required(true)
+}
+
+// The words behind `new`.
+fn new_command<'a>(alloc: Global) -> Result<Command<'a>, AllocError>
+    ensures { IfOk result (λ c. IsLike c new_words) }
+{
+    Command::new(alloc, "new")
+        .arg(text_argument(alloc, "pages"))?
+        .arg(text_argument(alloc, "groups"))?
+        .arg(text_argument(alloc, "blocks"))
+}
+
+// The words behind `run`.
+fn run_command<'a>(alloc: Global) -> Result<Command<'a>, AllocError>
+    ensures { IfOk result (λ c. IsLike c run_words) }
+{
+    Command::new(alloc, "run").arg(text_argument(alloc, "pool"))
+}
+
+// The words are the program's without its own name, and there is no help.
+fn bare_command<'a>(alloc: Global) -> Command<'a>
+    ensures { IsLike result bare }
+{
+    Command::new(alloc, "face")
+        .no_binary_name(true)
+        .disable_help_flag(true)
+        .disable_help_subcommand(true)
+        .disable_version_flag(true)
+        .subcommand_required(true)
+}
+
+// The program's command line: `new` and `run` with their texts.
+fn command<'a>(alloc: Global) -> Result<Command<'a>, AllocError>
+    ensures { IfOk result (λ c. IsLike c program) }
+{
+    let new = new_command(alloc)?;
+    let run = run_command(alloc)?;
+    bare_command(alloc).subcommand(new)?.subcommand(run)
+}
+
+fn begins_with_dash(word: &[u8]) -> bool
+    ensures { result ≡ is_dashed word.now }
+{
+    word.first() == Some(&b'-')
+}
+
+fn has_dash(words: &[String]) -> bool
+    ensures { result ≡ list_any (λ word. is_dashed (string_bytes word)) words.now }
+{
+    words.iter().any(|word| begins_with_dash(word.as_bytes()))
+}
+
+// Reads words as a line of the program.
+fn parse<'a>(alloc: Global, words: &'a [String]) -> Result<ArgMatches<'a>, Error>
+    requires { HasDash (words_of words.now) → ⊥ }
+    ensures reads { IfOk result (λ m. IsReadFrom (words_of words.now) m) }
+    ensures right { IfErr result (λ e. IsRight (words_of words.now) → kind_of e ≡ OutOfMemory) }
+{
+    let command = command(alloc)?;
+    command.try_get_matches_from(words)
+}
+
+// The number of pages that the text behind `run` gives.
+fn pool_in(run: &ArgMatches<'_>) -> Option<u32>
+    ensures pool { IfSome result (λ pool. IsPool (found_of run.now) pool) }
+    ensures none { IfNone result ((pool : ℕ) → IsPool (found_of run.now) pool → ⊥) }
+{
+    let Some(pool) = run.get_str("pool") else {
+        return None;
+    };
+    number_within(pool.as_bytes(), 1, POOL_MAX)
+}
+
+// The sizes that the texts behind `new` give.
+fn sizes_in(new: &ArgMatches<'_>) -> Option<Geometry>
+    ensures sizes { IfSome result (λ g. AreSizes (found_of new.now) g) }
+    ensures none { IfNone result ((g : Geometry) → AreSizes (found_of new.now) g → ⊥) }
+{
+    let Some(pages) = new.get_str("pages") else {
+        return None;
+    };
+    let Some(groups) = new.get_str("groups") else {
+        return None;
+    };
+    let Some(blocks) = new.get_str("blocks") else {
+        return None;
+    };
+    geometry_of(pages.as_bytes(), groups.as_bytes(), blocks.as_bytes())
+}
+
+fn unread_by(kind: ErrorKind) -> Unread
+    ensures { (result ≡ Unread.Memory) ↔ (kind ≡ OutOfMemory) }
+{
+    match kind {
+        ErrorKind::OutOfMemory => Unread::Memory,
+        _ => Unread::Words,
+    }
+}
+
+// What words ask for that `clap` has read.
+fn request_in(matches: &ArgMatches<'_>) -> Option<Request>
+    ensures some { (words : List (List ℕ)) → IsReadFrom words matches.now → IfSome result (λ request. IsRequest request words) }
+    ensures none { (words : List (List ℕ)) → IsReadFrom words matches.now → IfNone result (IsRight words → ⊥) }
+{
+    if let Some(run) = matches.subcommand_matches("run") {
+        let Some(pool) = pool_in(run) else {
+            return None;
+        };
+        return Some(Request::Run(pool));
+    }
+    if let Some(new) = matches.subcommand_matches("new") {
+        let Some(geometry) = sizes_in(new) else {
+            return None;
+        };
+        return Some(Request::New(geometry));
+    }
+    None
+}
+
+/// What the words ask for. Words of which one begins with a dash aren't handed to `clap`.
+pub fn read_words(alloc: Global, words: &[String]) -> Result<Request, Unread>
+    ensures request { IfOk result (λ request. IsRequest request (words_of words.now)) }
+    ensures unread { IfErr result (λ unread. unread ≡ Unread.Words → IsRight (words_of words.now) → ⊥) }
+    ensures dashed { HasDash (words_of words.now) → result ≡ Err Unread.Words }
+{
+    if has_dash(words) {
+        return Err(Unread::Words);
+    }
+    match parse(alloc, words) {
+        Ok(matches) => match request_in(&matches) {
+            Some(request) => Ok(request),
+            None => Err(Unread::Words),
+        },
+        Err(error) => Err(unread_by(error.kind())),
+    }
+}

@@ -1,0 +1,220 @@
+// Sessions, their locks, and restarts that undo them. What is expected was worked out by hand or by another program.
+use crate::top::serve;
+use site::{Call, Dev, Geometry, MemSite};
+use std::alloc::Global;
+use std::test::Fail;
+
+const STANDARD: Geometry = Geometry {
+    pages: 16,
+    groups: 8,
+    blocks: 64,
+};
+
+const SMALL: Geometry = Geometry {
+    pages: 16,
+    groups: 8,
+    blocks: 16,
+};
+
+// Runs over a site with some input, and answers the status.
+fn run(alloc: Global, site: &mut MemSite, input: &[u8]) -> Result<u8, Fail> {
+    site.feed(input)?;
+    Ok(serve(alloc, 1, site))
+}
+
+// Runs over blank devices, and answers whether this was told.
+fn tells(alloc: Global, sizes: &Geometry, input: &[u8], told: &[u8]) -> Result<bool, Fail> {
+    let mut site = MemSite::new(alloc, sizes)?;
+    let status = run(alloc, &mut site, input)?;
+    Ok(status == 0 && site.told() == told)
+}
+
+#[test]
+fn sessions_are_kept_apart(rt: HostRuntime) -> Result<(), Fail> {
+    let rows: [(&[u8], &[u8]); 5] = [
+        (
+            b"begin 0\nwrite 0 7 01\nbegin 1\nread 1 7\nabort 0\nread 1 7\n",
+            b"open 0\nok\nok\nok\nbusy 0\naborted\nnone\n",
+        ),
+        (
+            b"begin 0\nbegin 1\nread 0 9\nread 1 9\nwrite 0 9 aa\ncommit 1\nwrite 0 9 aa\ncommit 0\nget 9\n",
+            b"open 0\nok\nok\nnone\nnone\nbusy 1\ncommitted 1\nok\ncommitted 2\nvalue aa\n",
+        ),
+        (
+            b"begin 0\nwrite 0 1 aa\nerase 0 1\nread 0 1\ncommit 0\nget 1\n",
+            b"open 0\nok\nok\nok\nnone\ncommitted 1\nnone\n",
+        ),
+        (
+            b"begin 8\nread 0 0\nbegin 0\nbegin 0\nset 5 AB\nget 5\n",
+            b"open 0\nrefused session\nrefused session\nok\nrefused session\ncommitted 1\nvalue ab\n",
+        ),
+        (
+            b"set 1 aa\nbegin 3\nwrite 3 1 bb\nget 1\nset 1 cc\nbegin 2\nread 2 1\nread 3 1\nabort 3\nread 2 1\nset 1 dd\ncommit 2\nstat\n",
+            b"open 0\ncommitted 1\nok\nok\nbusy 3\nbusy 3\nok\nbusy 3\nvalue bb\naborted\nvalue aa\nbusy 2\ncommitted 2\nstat commits 2 used 9 owed 0 cap 63 active 0\n",
+        ),
+    ];
+    for (input, told) in rows {
+        assert!(rt; tells(rt.alloc(), &STANDARD, input, told)?);
+    }
+    Ok(())
+}
+
+#[test]
+fn lines_and_sessions_are_refused(rt: HostRuntime) -> Result<(), Fail> {
+    let mut site = MemSite::new(rt.alloc(), &STANDARD)?;
+    site.feed(b"\nget 05\nget  5\nget 5 \nset 5 0\nset 5 0g\nscan 0 0 0\nscan 0 0 65\nGET 5\n")?;
+    site.feed(&[b'7'; 501])?;
+    let input = b"\nbegin 8\nread 0 0\nbegin 0\nbegin 0\nset 5 AB\nget 5\n";
+    assert_eq!(rt; run(rt.alloc(), &mut site, input)?, 0);
+    let told = site.told();
+    assert!(rt; told.starts_with(b"open 0\n"));
+    let refusals = told.get(7..137);
+    assert!(rt;
+        refusals.is_some_and(|lines| lines
+            .chunks(13)
+            .all(|line| line == b"refused line\n".as_slice()))
+    );
+    let rest = told.get(137..);
+    assert!(rt;
+        rest.is_some_and(|rest| rest
+            == b"refused session\nrefused session\nok\nrefused session\ncommitted 1\nvalue ab\n".as_slice())
+    );
+    Ok(())
+}
+
+#[test]
+fn undo_has_room(rt: HostRuntime) -> Result<(), Fail> {
+    let rows: [(&[u8], &[u8]); 2] = [
+        (
+            b"begin 0\nwrite 0 1 aa\nwrite 0 1 aa\nwrite 0 1 aa\nwrite 0 1 aa\nwrite 0 1 aa\nwrite 0 1 aa\nwrite 0 1 aa\nabort 0\nstat\nset 0 aa\n",
+            b"open 0\nok\nok\nok\nok\nok\nok\nok\nfull 7 7 15\naborted\nstat commits 0 used 14 owed 0 cap 15 active 0\nfull 14 0 15\n",
+        ),
+        (
+            b"begin 0\nbegin 1\nbegin 2\nbegin 3\nbegin 4\nbegin 5\nbegin 6\nbegin 7\ncommit 0\nbegin 7\n",
+            b"open 0\nok\nok\nok\nok\nok\nok\nok\nfull 7 7 15\ncommitted 1\nfull 8 6 15\n",
+        ),
+    ];
+    for (input, told) in rows {
+        assert!(rt; tells(rt.alloc(), &SMALL, input, told)?);
+    }
+    Ok(())
+}
+
+#[test]
+fn faults_end_a_session(rt: HostRuntime) -> Result<(), Fail> {
+    let rows: [(Call, u64, u8, &[u8]); 3] = [
+        (Call::Write(Dev::Log), 1, 3, b"open 0\nok\nok\nfault log\n"),
+        (Call::Sync(Dev::Log), 2, 3, b"open 0\nok\nok\nfault log\n"),
+        (Call::Tell, 4, 6, b"open 0\nok\nok\n"),
+    ];
+    for (call, nth, status, told) in rows {
+        let mut site = MemSite::new(rt.alloc(), &STANDARD)?;
+        assert!(rt; nth >= 1);
+        site.fail(call, nth)?;
+        assert_eq!(rt;
+            run(rt.alloc(), &mut site, b"begin 0\nwrite 0 1 aa\ncommit 0\n")?,
+            status
+        );
+        assert!(rt; site.told() == told);
+    }
+    Ok(())
+}
+
+// Feeds a line that sets a record to 120 octets 0x5A.
+fn feed_long_set(site: &mut MemSite, record: &[u8]) -> Result<(), Fail> {
+    site.feed(b"set ")?;
+    site.feed(record)?;
+    site.feed(b" ")?;
+    for _octet in 0..120 {
+        site.feed(b"5a")?;
+    }
+    site.feed(b"\n")?;
+    Ok(())
+}
+
+// The devices after a crash that leaves two sessions unfinished: one has written the records 0 to 3 over long values, and
+// record 0 once more, the other one record 64. Record 7 was committed behind them.
+fn unfinished(alloc: Global) -> Result<MemSite, Fail> {
+    let mut site = MemSite::new(alloc, &STANDARD)?;
+    for record in [b"0".as_slice(), b"1", b"2", b"3"] {
+        feed_long_set(&mut site, record)?;
+    }
+    let sessions =
+        b"begin 0\nwrite 0 0 01\nwrite 0 1 01\nwrite 0 2 01\nwrite 0 3 01\nwrite 0 0 02\nbegin 1\nwrite 1 64 03\nset 7 04\n";
+    let _status = run(alloc, &mut site, sessions)?;
+    Ok(site.crash(0))
+}
+
+// Stops a restart after so many changes, and the restart after the crash likewise. Answers the statuses of both, and
+// whether the third one finds each record as it was committed.
+fn stop_twice(alloc: Global, first: u64, second: u64, seed: u64) -> Result<(u8, u8, bool), Fail> {
+    let mut site = unfinished(alloc)?;
+    site.fuse(first);
+    let one = run(alloc, &mut site, b"")?;
+    let mut site = site.crash(seed);
+    site.fuse(second);
+    let two = run(alloc, &mut site, b"")?;
+    let mut site = site.crash(seed);
+    let status = run(
+        alloc,
+        &mut site,
+        b"get 0\nget 1\nget 2\nget 3\nget 64\nget 7\nstat\n",
+    )?;
+    Ok((one, two, status == 0 && are_committed(site.told())))
+}
+
+// Whether a run has told the four long values, then none and 04, and the counts.
+fn are_committed(told: &[u8]) -> bool {
+    let values = told.get(7..995);
+    told.starts_with(b"open 5\n")
+        && values.is_some_and(|lines| lines.chunks(247).all(|line| is_long_value(line)))
+        && told.ends_with(b"none\nvalue 04\nstat commits 5 used 31 owed 0 cap 63 active 0\n")
+        && told.len() == 1_055
+}
+
+fn is_long_value(line: &[u8]) -> bool {
+    line.len() == 247
+        && line.starts_with(b"value ")
+        && line.get(6..246).is_some_and(|octets| octets
+            .chunks(2)
+            .all(|octet| octet == b"5a".as_slice()))
+}
+
+// The statuses of the first restart by the change at which it is stopped, and of the second one, which is stopped at its
+// change 3, for the seeds 0, 1, 2 and 77.
+const STATUSES: [(u8, [u8; 4]); 12] = [
+    (3, [3, 3, 3, 3]),
+    (3, [3, 3, 3, 3]),
+    (3, [3, 3, 3, 3]),
+    (3, [3, 3, 3, 3]),
+    (3, [3, 3, 3, 3]),
+    (3, [3, 3, 3, 3]),
+    (3, [3, 3, 3, 3]),
+    (3, [3, 3, 3, 3]),
+    (3, [0, 3, 0, 3]),
+    (3, [0, 3, 0, 3]),
+    (6, [0, 0, 0, 0]),
+    (0, [0, 0, 0, 0]),
+];
+
+#[test]
+fn a_stopped_restart_goes_on(rt: HostRuntime) -> Result<(), Fail> {
+    for (changes, (one, others)) in STATUSES.iter().enumerate() {
+        for (seed, two) in [0, 1, 2, 77].iter().zip(others) {
+            let found = stop_twice(rt.alloc(), changes as u64, 3, *seed)?;
+            assert!(rt; found == (*one, *two, true));
+        }
+    }
+    Ok(())
+}
+
+#[test]
+fn a_restart_stopped_at_any_two_changes_undoes_all(rt: HostRuntime) -> Result<(), Fail> {
+    for first in 0..11 {
+        for second in 0..11 {
+            let (_, _, committed) = stop_twice(rt.alloc(), first, second, first + second)?;
+            assert!(rt; committed);
+        }
+    }
+    Ok(())
+}
