@@ -6,7 +6,7 @@ use Rattle.std.proofs.lemmas.Option.{none-some}
 use Rattle.std.proofs.lemmas.List.{map-append}
 use Rattle.std.proofs.lemmas.List.Sums.{sum_by-append, sum_by-cons}
 use Rattle.site.specs.declared.geometry.Geometry.{Geometry}
-use Rattle.site.specs.State.{State}
+use Rattle.site.specs.State.{State, IsQuiet}
 use Rattle.site.specs.Moments.{Leaves, LeavesOnly}
 use Rattle.site.specs.Laws.{in_sequence, holds_now}
 use Rattle.record_model.specs.State.{Content}
@@ -122,9 +122,9 @@ then_leaves g g' table commits old mid new same first second =
     (subst (λ (l : List ℕ). LeavesOnly mid new (LeavesTable g table commits l)) told (subst (λ (x : Geometry). LeavesOnly mid new (LeavesTable x table commits mid.told)) same second))
 
 -- nothing happens
-pub leaves_nothing : (j : Journal) (site : State) (shows : List Content) (losers : List Loser) (table : List Content) (commits : ℕ) → MayUndo j site losers → IsUndoing j site shows losers table commits →
+pub leaves_nothing : (j : Journal) (site : State) (shows : List Content) (losers : List Loser) (table : List Content) (commits : ℕ) → MayUndo j site losers → IsUndoing j site shows losers table commits → IsQuiet site →
     LeavesOnly site site (LeavesTable j.log.geometry table commits site.told)
-leaves_nothing j site shows losers table commits may u = nothing_happens j site u.records table commits may.going.log.limits u.holds
+leaves_nothing j site shows losers table commits may u quiet = nothing_happens j site u.records table commits may.going.log.limits u.holds quiet
 
 pub at_place : (items : List Loser) (place : ℕ) (r : Loser) → place < length items → r ≡ slice_index_or items place r → r ≡ loser_at items place
 at_place [] place r less is = absurd (omega (arith, less))

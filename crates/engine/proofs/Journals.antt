@@ -4,12 +4,15 @@ use Rattle.std.specs.Prelude.{if◌then◌else◌}
 use Rattle.std.specs.List.{AllByRecursion}
 use Rattle.std.proofs.lemmas.Bool.{lt-ltb}
 use Rattle.std.proofs.lemmas.List.{length-append}
-use Rattle.site.specs.declared.outside.Dev.TheVariants.{Log}
+use Rattle.site.specs.declared.outside.Dev.TheVariants.{Log, Flash, Disk}
 use Rattle.site.specs.declared.geometry.Geometry.{Geometry}
 use Rattle.site.specs.Geometry.{HasLimits}
-use Rattle.site.specs.State.{State, Snapshot, now_of, snapshot_of, IsQuiet}
+use Rattle.site.specs.State.{State, Snapshot, snapshot_of, IsQuiet}
 use Rattle.site.specs.Moments.{LeavesOnly, OnlyDevice}
-use Rattle.site.specs.Laws.{leaves_weaker, holds_now}
+use Rattle.site.specs.Calls.{Goes}
+use Rattle.site.specs.Laws.{leaves_weaker, quiet_settled}
+use Rattle.sealed_ring.specs.Ring.{SameOutside}
+use Rattle.image_changes.specs.Rings.{log_shape}
 use Rattle.record_model.specs.State.{Content}
 use Rattle.log_records.specs.declared.log_record.LogRecord.{LogRecord}
 use Rattle.log_records.specs.Spelling.{spelling, AreBlock, used_by, block_len}
@@ -64,10 +67,10 @@ stands g blocks tail records table commits s limits runs has beside = record {
 }
 
 -- a crash leaves the sealed blocks, with the tail or without it: both stand for the same table
-pub leaves_table : (j : Journal) (old new : State) (records : List Entry) (table : List Content) (commits : ℕ) (sealing : Bool) (h : HoldsLog j old records table commits) → HasLimits j.log.geometry → (sealing ≡ true → 2 < j.log.used) →
+pub leaves_table : (j : Journal) (old new : State) (records : List Entry) (table : List Content) (commits : ℕ) (sealing : Bool) (h : HoldsLog j old records table commits) → IsQuiet old → HasLimits j.log.geometry → (sealing ≡ true → 2 < j.log.used) →
     OnlyDevice Log old new → LeavesOnly old new (KeepsBeside j.log.geometry old.image) → LeavesOnly old new (LeavesLog j.log.geometry sealing (record { first = 0; blocks = h.blocks; tail = h.tail }) old.told) →
     LeavesOnly old new (LeavesTable j.log.geometry table commits old.told)
-leaves_table j old new records table commits sealing h limits some only keeps leaves =
+leaves_table j old new records table commits sealing h quiet limits some only keeps leaves =
     let g = j.log.geometry in
     leaves_weaker old new (λ s. LeavesLog g sealing (record { first = 0; blocks = h.blocks; tail = h.tail }) old.told s × IsBlankBeside g s.image) (LeavesTable g table commits old.told)
     (λ s q. record {
@@ -76,27 +79,31 @@ leaves_table j old new records table commits sealing h limits some only keeps le
           (λ has. stands g (h.blocks ++ h.tail ∷ []) [] records table commits s limits
           (resealed g h.blocks h.tail records table commits h.runs_on (last_of_all AreBlock h.blocks h.tail has.1.are_blocks) (tail_room j old records table commits h (some has.0))) has.1 q.1) q.0.blocks;
     })
-    (leaves_blank g old new (LeavesLog g sealing (record { first = 0; blocks = h.blocks; tail = h.tail }) old.told) h.quiet h.beside only keeps leaves)
+    (leaves_blank g old new (LeavesLog g sealing (record { first = 0; blocks = h.blocks; tail = h.tail }) old.told) quiet h.beside only keeps leaves)
 
 -- all else is zero still
-pub still_blank : (g : Geometry) (old new : State) → IsQuiet old → IsBlankBeside g old.image → OnlyDevice Log old new → LeavesOnly old new (KeepsBeside g old.image) → IsBlankBeside g new.image
-still_blank g old new quiet beside only keeps =
-    (holds_now old new (λ s. KeepsBeside g old.image s × IsBlankBeside g s.image) (leaves_blank g old new (KeepsBeside g old.image) quiet beside only keeps keeps)).1
+pub still_blank : (g : Geometry) (old new : State) → IsBlankBeside g old.image → Goes old new → OnlyDevice Log old new → SameOutside (log_shape g) old.image.log new.image.log → IsBlankBeside g new.image
+still_blank g old new beside goes only outside =
+    blank_beside g old.image (snapshot_of new) beside (record { size = goes.sizes Log; outside = outside })
+    (only.now.content Flash (λ h. cc)) (only.now.content Disk (λ h. cc))
+
+-- a store that found its log fits a quiet site
+pub fits_quiet : (store : LogStore) (site : State) → held.Finds store site → IsQuiet site → held.Fits store site
+fits_quiet store site finds quiet = record { honest = finds.honest; settled = quiet_settled Log site quiet; form = finds.form; hi = finds.hi }
 
 -- one more record stands in the log
 pub appended : (j j' : Journal) (old new : State) (records : List Entry) (table : List Content) (commits : ℕ) (rec : LogRecord) (lsn : ℕ) (sealing : Bool) (h : HoldsLog j old records table commits) →
-    held.Fits j'.log new → IsQuiet new → IsBlankBeside j.log.geometry new.image → j'.log.geometry ≡ j.log.geometry →
+    held.Finds j'.log new → IsBlankBeside j.log.geometry new.image → j'.log.geometry ≡ j.log.geometry →
     Holds j'.log new.image (with_record rec (sealed_if sealing (record { first = 0; blocks = h.blocks; tail = h.tail }))) → (sealing ≡ true → 2 < j.log.used) →
     lsn ≡ (if sealing then 512 * (j.log.ring.hi + 1) + 2 else 512 * j.log.ring.hi + j.log.used) → MayGrow j records (record { lsn = lsn; rec = rec }) → blocks_to j' ≤ blocks_to j + 1 → j'.made ≡ j.made + 1 →
     HoldsLog j' new (records ++ record { lsn = lsn; rec = rec } ∷ []) table commits
-appended j j' old new records table commits rec lsn false h fits quiet beside geometry holds some is may blocks made =
+appended j j' old new records table commits rec lsn false h fits beside geometry holds some is may blocks made =
     let hi = count_is j old records table commits h in
     let end = h.holds.tail.end in
     let room = may.room in
     let before = h.made in
     record {
       fits = fits;
-      quiet = quiet;
       beside = subst (λ (g : Geometry). IsBlankBeside g new.image) (sym geometry) beside;
       blocks = h.blocks;
       tail = h.tail ++ rec ∷ [];
@@ -106,14 +113,13 @@ appended j j' old new records table commits rec lsn false h fits quiet beside ge
       room = subst (λ (g : Geometry). blocks_to j' + owed (records ++ record { lsn = lsn; rec = rec } ∷ []) ≤ g.blocks - 1) (sym geometry) (omega (arith, room, blocks));
       made = omega (arith, made, before, length-append records (record { lsn = lsn; rec = rec } ∷ []));
     }
-appended j j' old new records table commits rec lsn true h fits quiet beside geometry holds some is may blocks made =
+appended j j' old new records table commits rec lsn true h fits beside geometry holds some is may blocks made =
     let hi = count_is j old records table commits h in
     let room = may.room in
     let before = h.made in
     let again = resealed j.log.geometry h.blocks h.tail records table commits h.runs_on (last_of_all AreBlock h.blocks h.tail holds.blocks.are_blocks) (tail_room j old records table commits h (some refl)) in
     record {
       fits = fits;
-      quiet = quiet;
       beside = subst (λ (g : Geometry). IsBlankBeside g new.image) (sym geometry) beside;
       blocks = h.blocks ++ h.tail ∷ [];
       tail = rec ∷ [];

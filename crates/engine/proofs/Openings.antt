@@ -29,7 +29,7 @@ use Rattle.engine.specs.Image.{picture, IsBlankBeside, Stands}
 use Rattle.engine.specs.Leaves.{LeavesTable}
 use Rattle.engine.specs.Restarting.{HasRead, AreSound, MayUndo, IsUndoing}
 use Rattle.engine.proofs.Endings.{owed_is}
-use Rattle.engine.proofs.Blocks.{store_still, fits_still, held_still, count_of, finds_of}
+use Rattle.engine.proofs.Blocks.{store_still, finds_still, held_still, count_of}
 
 -- a crash leaves what stands there, while only is read
 pub stands_still : (g : Geometry) (old new : State) (table : List Content) (commits : ℕ) → IsQuiet old → Stands g old.image table commits → IsUnchanged old new → LeavesOnly old new (LeavesTable g table commits old.told)
@@ -62,16 +62,16 @@ may_undo store old new records items goes going empty kept some few owes room be
     }
 
 -- Of an honest site: the log that was found and read.
-module _ (store : LogStore) (g : Geometry) (old mid new : State) (table : List Content) (commits : ℕ) (s : Stands g old.image table commits) (is : store.geometry ≡ g) (quiet : IsQuiet old) (first : IsUnchanged old mid) (second : IsUnchanged mid new)
-    (goes : Goes mid new) (fits : held.Fits store mid) (holds : held.Holds store mid.image (record { first = 0; blocks = s.blocks; tail = [] })) where
+module _ (store : LogStore) (g : Geometry) (old mid new : State) (table : List Content) (commits : ℕ) (s : Stands g old.image table commits) (is : store.geometry ≡ g) (first : IsUnchanged old mid) (second : IsUnchanged mid new)
+    (goes : Goes mid new) (fits : held.Finds store mid) (holds : held.Holds store mid.image (record { first = 0; blocks = s.blocks; tail = [] })) where
   pub sound_here : AreSound store.geometry s.blocks
   sound_here = subst (λ (x : Geometry). AreSound x s.blocks) (sym is) s.sound.records
 
-  pub leaves_read : LeavesOnly old new (LeavesTable g table commits old.told)
-  leaves_read = stands_still g old new table commits quiet s (unchanged_in_sequence old mid new first second)
+  pub leaves_read : IsQuiet old → LeavesOnly old new (LeavesTable g table commits old.told)
+  leaves_read quiet = stands_still g old new table commits quiet s (unchanged_in_sequence old mid new first second)
 
   pub hi_is : length s.blocks ≡ store.ring.hi
-  hi_is = count_of store mid s.blocks (finds_of store mid fits) holds
+  hi_is = count_of store mid s.blocks fits holds
 
   module _ (reading : Reading) (read : HasRead store.geometry.pages reading (log_from 0 s.blocks)) where
     pub owed_here : owed (log_from 0 s.blocks) ≡ owed_for reading.analysis.losers.items
@@ -88,8 +88,7 @@ module _ (store : LogStore) (g : Geometry) (old mid new : State) (table : List C
         record {
           records = log_from 0 s.blocks;
           holds = record {
-            fits = fits_still store mid new goes second fits;
-            quiet = still.loose ∙ quiet;
+            fits = finds_still store mid new goes second fits;
             beside = subst (λ (x : Geometry). IsBlankBeside x new.image) (sym is) (subst (IsBlankBeside g) (sym still.image) s.sound.beside);
             blocks = s.blocks;
             tail = [];

@@ -1,7 +1,7 @@
 -- A site of which only was read.
 use Rattle.std.proofs.Common.{◌≡◌, ℕ, List, sym, ap, subst, ◌∙◌}
 use Rattle.site.specs.declared.outside.Dev.TheVariants.{Log, Flash, Disk}
-use Rattle.site.specs.State.{State, Image, Loose, loose_of}
+use Rattle.site.specs.State.{State, Image, IsQuiet}
 use Rattle.site.specs.Calls.{Goes, IsUnchanged}
 use Rattle.site.specs.Laws.{stays_honest, unchanged_calm}
 use Rattle.site.specs.Moments.{LeavesOnly, Leaves}
@@ -41,11 +41,9 @@ pub holds_still : (j : Journal) (old new : State) (records : List Entry) (table 
 holds_still j old new records table commits goes same h = record {
   fits = record {
     honest = stays_honest old new goes h.fits.honest;
-    settled = ap (λ (l : Loose). loose_of Log l) same.loose ∙ h.fits.settled;
     form = subst (λ (i : Image). IsRing (log_shape j.log.geometry) i.log) (sym same.image) h.fits.form;
     hi = subst (λ (i : Image). j.log.ring.hi ≡ hi_of (log_shape j.log.geometry) i.log) (sym same.image) h.fits.hi;
   };
-  quiet = same.loose ∙ h.quiet;
   beside = subst (IsBlankBeside j.log.geometry) (sym same.image) h.beside;
   blocks = h.blocks;
   tail = h.tail;
@@ -56,6 +54,6 @@ holds_still j old new records table commits goes same h = record {
 }
 
 -- a crash meanwhile leaves what stands there
-pub leaves_still : (j : Journal) (old new : State) (records : List Entry) (table : List Content) (commits : ℕ) → HasLimits j.log.geometry → IsUnchanged old new → HoldsLog j old records table commits → LeavesOnly old new (LeavesTable j.log.geometry table commits old.told)
-leaves_still j old new records table commits limits same h =
-    unchanged_calm old old new (Leaves (LeavesTable j.log.geometry table commits old.told)) (nothing_happens j old records table commits limits h) same
+pub leaves_still : (j : Journal) (old new : State) (records : List Entry) (table : List Content) (commits : ℕ) → HasLimits j.log.geometry → IsUnchanged old new → HoldsLog j old records table commits → IsQuiet old → LeavesOnly old new (LeavesTable j.log.geometry table commits old.told)
+leaves_still j old new records table commits limits same h quiet =
+    unchanged_calm old old new (Leaves (LeavesTable j.log.geometry table commits old.told)) (nothing_happens j old records table commits limits h quiet) same

@@ -36,23 +36,22 @@ use Rattle.engine.proofs.Tails.{resealed, seal_commit}
 use Rattle.engine.proofs.Journals.{tail_blocks, last_of_all, count_is, tail_room, stands}
 
 -- where nothing happens
-pub nothing_happens : (j : Journal) (site : State) (records : List Entry) (table : List Content) (commits : ℕ) → HasLimits j.log.geometry → HoldsLog j site records table commits → LeavesOnly site site (LeavesTable j.log.geometry table commits site.told)
-nothing_happens j site records table commits limits h = no_call site (Leaves (LeavesTable j.log.geometry table commits site.told)) (λ s left. record {
+pub nothing_happens : (j : Journal) (site : State) (records : List Entry) (table : List Content) (commits : ℕ) → HasLimits j.log.geometry → HoldsLog j site records table commits → IsQuiet site → LeavesOnly site site (LeavesTable j.log.geometry table commits site.told)
+nothing_happens j site records table commits limits h quiet = no_call site (Leaves (LeavesTable j.log.geometry table commits site.told)) (λ s left. record {
   told = told_is site s left;
-  stands = subst (λ (x : Image). Stands j.log.geometry x table commits) (sym (image_is (now_of site) s h.quiet left))
+  stands = subst (λ (x : Image). Stands j.log.geometry x table commits) (sym (image_is (now_of site) s quiet left))
       (stands j.log.geometry h.blocks h.tail records table commits (record { told = site.told; image = site.image }) limits h.runs_on h.holds.blocks h.beside);
 })
 
 -- the tail is sealed
 pub forced : (j j' : Journal) (old new : State) (records : List Entry) (table : List Content) (commits : ℕ) (sealing : Bool) (h : HoldsLog j old records table commits) →
-    held.Fits j'.log new → IsQuiet new → IsBlankBeside j.log.geometry new.image → j'.log.geometry ≡ j.log.geometry →
+    held.Finds j'.log new → IsBlankBeside j.log.geometry new.image → j'.log.geometry ≡ j.log.geometry →
     Holds j'.log new.image (sealed_if sealing (record { first = 0; blocks = h.blocks; tail = h.tail })) → (sealing ≡ true → 2 < j.log.used) →
     blocks_to j' ≤ blocks_to j → j'.made ≡ j.made → HoldsLog j' new records table commits
-forced j j' old new records table commits false h fits quiet beside geometry holds some blocks made =
+forced j j' old new records table commits false h fits beside geometry holds some blocks made =
     let room = h.room in
     record {
       fits = fits;
-      quiet = quiet;
       beside = subst (λ (g : Geometry). IsBlankBeside g new.image) (sym geometry) beside;
       blocks = h.blocks;
       tail = h.tail;
@@ -61,11 +60,10 @@ forced j j' old new records table commits false h fits quiet beside geometry hol
       room = subst (λ (g : Geometry). blocks_to j' + owed records ≤ g.blocks - 1) (sym geometry) (omega (arith, room, blocks));
       made = made ∙ h.made;
     }
-forced j j' old new records table commits true h fits quiet beside geometry holds some blocks made =
+forced j j' old new records table commits true h fits beside geometry holds some blocks made =
     let room = h.room in
     record {
       fits = fits;
-      quiet = quiet;
       beside = subst (λ (g : Geometry). IsBlankBeside g new.image) (sym geometry) beside;
       blocks = h.blocks ++ h.tail ∷ [];
       tail = [];
@@ -171,10 +169,10 @@ commit_leaves j middle old mid new log records table commits txn number lsn seal
 
 -- and what it leaves in the end
 pub commit_holds : (j j' : Journal) (old new : State) (log : LogList) (records : List Entry) (table : List Content) (commits txn number lsn : ℕ) (h : HoldsLog j old records table commits) (m : IsReady j log (Commit txn number) lsn records table commits) →
-    MayCommit records txn number commits → held.Fits j'.log new → IsQuiet new → IsBlankBeside j.log.geometry new.image → j'.log.geometry ≡ j.log.geometry → Holds j'.log new.image (sealed_if true log) →
+    MayCommit records txn number commits → held.Finds j'.log new → IsBlankBeside j.log.geometry new.image → j'.log.geometry ≡ j.log.geometry → Holds j'.log new.image (sealed_if true log) →
     blocks_to j' ≤ blocks_to j + 1 → j'.made ≡ j.made + 1 →
     HoldsLog j' new (records ++ record { lsn = lsn; rec = Commit txn number } ∷ []) (table_with table (writes_in txn records)) (commits + 1)
-commit_holds j j' old new log records table commits txn number lsn h m may fits quiet beside geometry holds blocks made =
+commit_holds j j' old new log records table commits txn number lsn h m may fits beside geometry holds blocks made =
     let e : Entry = record { lsn = lsn; rec = Commit txn number } in
     let listed : Holds j'.log new.image (record { first = 0; blocks = m.blocks ++ (m.front ++ Commit txn number ∷ []) ∷ []; tail = [] }) = subst (λ (l : LogList). Holds j'.log new.image (sealed_if true l)) m.list_is holds in
     let done = committed j old log records table commits txn number lsn h m may (last_of_all AreBlock m.blocks (m.front ++ Commit txn number ∷ []) listed.blocks.are_blocks) in
@@ -183,7 +181,6 @@ commit_holds j j' old new log records table commits txn number lsn h m may fits 
     let before = h.made in
     record {
       fits = fits;
-      quiet = quiet;
       beside = subst (λ (g : Geometry). IsBlankBeside g new.image) (sym geometry) beside;
       blocks = m.blocks ++ (m.front ++ Commit txn number ∷ []) ∷ [];
       tail = [];

@@ -1,7 +1,7 @@
 -- The log of an honest site, as a list of records.
 use Rattle.std.specs.Prelude.{◌≡◌, ℕ, ◌+◌, ◌-◌, ◌*◌, ◌≤◌, List, [], ◌∷◌, ◌++◌, length, None, IsTrue}
 use Rattle.site.specs.declared.geometry.Geometry.{Geometry}
-use Rattle.site.specs.State.{State, IsQuiet}
+use Rattle.site.specs.State.{State}
 use Rattle.record_model.specs.State.{Content}
 use Rattle.log_records.specs.declared.log_record.LogRecord.{LogRecord}
 use Rattle.log_records.specs.Log.{Entry, entries_of}
@@ -30,8 +30,7 @@ pub record RunsOn (g : Geometry) (blocks : List (List LogRecord)) (tail : List L
 -- Of an honest site: its log has these records. What is sealed of them stands for this table after so many commits, and
 -- there is room to undo all. All else is zero.
 pub record HoldsLog (journal : Journal) (site : State) (records : List Entry) (table : List Content) (commits : ℕ) : Type 0 where
-  pub fits : held.Fits journal.log site
-  pub quiet : IsQuiet site
+  pub fits : held.Finds journal.log site
   pub beside : IsBlankBeside journal.log.geometry site.image
   pub blocks : List (List LogRecord)
   pub tail : List LogRecord

@@ -6,6 +6,7 @@ ghost use Rattle.site.specs.declared.outside.Stop.{Stop};
 ghost use Rattle.site.specs.Calls.{Goes};
 ghost use Rattle.site.specs.Moments.{LeavesOnly};
 ghost use Rattle.sealed_ring.specs.Ready.{FaultRose};
+ghost use Rattle.site.specs.State.{IsQuiet};
 ghost use Rattle.record_model.specs.State.{Content};
 ghost use Rattle.log_records.specs.Log.{Entry};
 ghost use Rattle.log_records.specs.Sets.{blank_versions};
@@ -54,10 +55,13 @@ pub fn undo_updates<S: Site>(
         → HoldsLog journal.old (S.state site.old) records shows commits
         → table.old ≡ shown_table records (blank_versions journal.old.log.geometry.pages)
         → IsUnfinished records x → IsAt first x → x.remaining ≡ count
+        → IsQuiet (S.state site.old)
         → LeavesOnly (S.state site.old) (S.state site.new)
         (LeavesTable journal.old.log.geometry shows commits (S.state site.old).told) }
     ensures left { IsTrue (S.state site.old).honest
         → (S.state site.new).left ≡ (S.state site.old).left }
+    ensures stays_quiet { IsTrue (S.state site.old).honest → IsQuiet (S.state site.old)
+        → OnOk result (IsQuiet (S.state site.new)) }
 
     // Of every site.
     ensures going { OnOk result (MayLog journal.new (S.state site.new)) }

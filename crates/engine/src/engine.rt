@@ -24,8 +24,7 @@ ghost use Rattle.engine.specs.Image.{Stands, Opens, blank_master};
 ghost use Rattle.engine.specs.Rollback.{RollsBack};
 ghost use Rattle.engine.specs.OneWrite.{HasOneWrite};
 ghost use Rattle.engine.specs.Fits.{Fits, run, with_write, Refuses, Accepts, IsFull};
-ghost use Rattle.log_records.specs.Log.{Entry, log_from};
-ghost use Rattle.log_laws.specs.Analysis.{unfinished_in};
+ghost use Rattle.log_records.specs.Log.{Entry};
 ghost use Rattle.record_model.specs.State.{Write, table_with};
 ghost use Rattle.log_records.specs.Sets.{blank_versions};
 ghost use Rattle.log_laws.specs.Follow.{writes_in, shown_table, IsActive};
@@ -88,7 +87,7 @@ impl Engine {
         requires pool { (1 ≤ pool) × (pool ≤ 4096) }
 
         // Of an honest site whose image is sound.
-        ensures opens { IsTrue (S.state site.old).honest → IsQuiet (S.state site.old)
+        ensures opens { IsTrue (S.state site.old).honest
             → (g : Geometry) (s : State) → Opens g (S.state site.old).image s
             → IfOk result (λ engine. Fits engine (S.state site.new) s × (engine.journal.log.geometry ≡ g)) }
         ensures any_moment { IsTrue (S.state site.old).honest → IsQuiet (S.state site.old)
@@ -98,6 +97,8 @@ impl Engine {
             (LeavesTable g table commits (S.state site.old).told) }
         ensures left { IsTrue (S.state site.old).honest
             → (S.state site.new).left ≡ (S.state site.old).left }
+        ensures stays_quiet { IsTrue (S.state site.old).honest → IsQuiet (S.state site.old)
+            → OnOk result (IsQuiet (S.state site.new)) }
 
         // Of every site.
         ensures going { IfOk result (λ engine. MayGoOn engine (S.state site.new)) }
@@ -107,13 +108,8 @@ impl Engine {
         ensures device { IsErrOf result (Stop.Device Dev.Log)
             → FaultRose Dev.Log (S.state site.old) (S.state site.new) }
         ensures foreign { IsErrOf result Stop.Foreign → IsTrue (S.state site.old).honest
-            → IsQuiet (S.state site.old) → (g : Geometry) (table : List Content) (commits : ℕ)
-            → Stands g (S.state site.old).image table commits → ⊥ }
-        // Where the log leaves nothing unfinished, also whatever is loose.
-        ensures finished { IsErrOf result Stop.Foreign → IsTrue (S.state site.old).honest
             → (g : Geometry) (table : List Content) (commits : ℕ)
-            → (stands : Stands g (S.state site.old).image table commits)
-            → unfinished_in (log_from 0 stands.blocks) ≡ [] → ⊥ }
+            → Stands g (S.state site.old).image table commits → ⊥ }
         ensures quiet { IsTrue (S.state site.old).honest → IsQuiet (S.state site.old)
             → (g : Geometry) (table : List Content) (commits : ℕ)
             → Stands g (S.state site.old).image table commits
@@ -234,10 +230,13 @@ impl Engine {
         ensures after { (s : State) → Fits self.old (S.state site.old) s
             → OnOk result (Fits self.new (S.state site.new) (run s (Command.Begin session)).after) }
         ensures any_moment { (s : State) → Fits self.old (S.state site.old) s
+            → IsQuiet (S.state site.old)
             → LeavesOnly (S.state site.old) (S.state site.new)
             (LeavesTable self.old.journal.log.geometry s.table s.commits (S.state site.old).told) }
         ensures left { IsTrue (S.state site.old).honest
             → (S.state site.new).left ≡ (S.state site.old).left }
+        ensures stays_quiet { IsTrue (S.state site.old).honest → IsQuiet (S.state site.old)
+            → OnOk result (IsQuiet (S.state site.new)) }
 
         // Of every site.
         ensures going { OnOk result (MayGoOn self.new (S.state site.new)) }
@@ -273,6 +272,7 @@ impl Engine {
         ensures after { (s : State) → Fits self.old (S.state site.old) s
             → OnOk result (Fits self.new (S.state site.new) (effect s (Command.Begin session))) }
         ensures any_moment { (s : State) → Fits self.old (S.state site.old) s
+            → IsQuiet (S.state site.old)
             → LeavesOnly (S.state site.old) (S.state site.new)
             (LeavesTable self.old.journal.log.geometry s.table s.commits (S.state site.old).told) }
 
@@ -280,6 +280,8 @@ impl Engine {
         ensures geometry { self.new.journal.log.geometry ≡ self.old.journal.log.geometry }
         ensures left { IsTrue (S.state site.old).honest
             → (S.state site.new).left ≡ (S.state site.old).left }
+        ensures stays_quiet { IsTrue (S.state site.old).honest → IsQuiet (S.state site.old)
+            → OnOk result (IsQuiet (S.state site.new)) }
         ensures goes { Goes (S.state site.old) (S.state site.new) }
         ensures device { IsErrOf result (Stop.Device Dev.Log)
             → FaultRose Dev.Log (S.state site.old) (S.state site.new) }
@@ -332,10 +334,13 @@ impl Engine {
         ensures after { (s : State) → Fits self.old (S.state site.old) s
             → OnOk result (Fits self.new (S.state site.new) (run s (Command.Read session number)).after) }
         ensures any_moment { (s : State) → Fits self.old (S.state site.old) s
+            → IsQuiet (S.state site.old)
             → LeavesOnly (S.state site.old) (S.state site.new)
             (LeavesTable self.old.journal.log.geometry s.table s.commits (S.state site.old).told) }
         ensures left { IsTrue (S.state site.old).honest
             → (S.state site.new).left ≡ (S.state site.old).left }
+        ensures stays_quiet { IsTrue (S.state site.old).honest → IsQuiet (S.state site.old)
+            → OnOk result (IsQuiet (S.state site.new)) }
 
         // Of every site.
         ensures going { OnOk result (MayGoOn self.new (S.state site.new)) }
@@ -400,6 +405,7 @@ impl Engine {
         ensures after { (s : State) → Fits self.old (S.state site.old) s
             → OnOk result (Fits self.new (S.state site.new) (with_write s entry.session (number, after))) }
         ensures any_moment { (s : State) → Fits self.old (S.state site.old) s
+            → IsQuiet (S.state site.old)
             → LeavesOnly (S.state site.old) (S.state site.new)
             (LeavesTable self.old.journal.log.geometry s.table s.commits (S.state site.old).told) }
 
@@ -407,6 +413,8 @@ impl Engine {
         ensures geometry { self.new.journal.log.geometry ≡ self.old.journal.log.geometry }
         ensures left { IsTrue (S.state site.old).honest
             → (S.state site.new).left ≡ (S.state site.old).left }
+        ensures stays_quiet { IsTrue (S.state site.old).honest → IsQuiet (S.state site.old)
+            → OnOk result (IsQuiet (S.state site.new)) }
         ensures goes { Goes (S.state site.old) (S.state site.new) }
         ensures device { IsErrOf result (Stop.Device Dev.Log)
             → FaultRose Dev.Log (S.state site.old) (S.state site.new) }
@@ -478,10 +486,13 @@ impl Engine {
         ensures after { (s : State) → Fits self.old (S.state site.old) s
             → OnOk result (Fits self.new (S.state site.new) (run s (Command.Write session number value.now)).after) }
         ensures any_moment { (s : State) → Fits self.old (S.state site.old) s
+            → IsQuiet (S.state site.old)
             → LeavesOnly (S.state site.old) (S.state site.new)
             (LeavesTable self.old.journal.log.geometry s.table s.commits (S.state site.old).told) }
         ensures left { IsTrue (S.state site.old).honest
             → (S.state site.new).left ≡ (S.state site.old).left }
+        ensures stays_quiet { IsTrue (S.state site.old).honest → IsQuiet (S.state site.old)
+            → OnOk result (IsQuiet (S.state site.new)) }
 
         // Of every site.
         ensures going { OnOk result (MayGoOn self.new (S.state site.new)) }
@@ -544,10 +555,13 @@ impl Engine {
         ensures after { (s : State) → Fits self.old (S.state site.old) s
             → OnOk result (Fits self.new (S.state site.new) (run s (Command.Erase session number)).after) }
         ensures any_moment { (s : State) → Fits self.old (S.state site.old) s
+            → IsQuiet (S.state site.old)
             → LeavesOnly (S.state site.old) (S.state site.new)
             (LeavesTable self.old.journal.log.geometry s.table s.commits (S.state site.old).told) }
         ensures left { IsTrue (S.state site.old).honest
             → (S.state site.new).left ≡ (S.state site.old).left }
+        ensures stays_quiet { IsTrue (S.state site.old).honest → IsQuiet (S.state site.old)
+            → OnOk result (IsQuiet (S.state site.new)) }
 
         // Of every site.
         ensures going { OnOk result (MayGoOn self.new (S.state site.new)) }
@@ -609,6 +623,7 @@ impl Engine {
         ensures any_moment { (records : List Entry) (table : List Content) (commits : ℕ)
             → HoldsLog self.old.journal (S.state site.old) records table commits
             → MayCommit records txn (self.old.commits + 1) commits
+            → IsQuiet (S.state site.old)
             → LeavesOnly (S.state site.old) (S.state site.new)
             (LeavesCommit self.old.journal.log.geometry table commits (writes_in txn records) (S.state site.old).told) }
         ensures reply { IfOk result (λ reply. reply ≡ Reply.Committed (self.old.commits + 1)) }
@@ -621,6 +636,8 @@ impl Engine {
         ensures geometry { self.new.journal.log.geometry ≡ self.old.journal.log.geometry }
         ensures left { IsTrue (S.state site.old).honest
             → (S.state site.new).left ≡ (S.state site.old).left }
+        ensures stays_quiet { IsTrue (S.state site.old).honest → IsQuiet (S.state site.old)
+            → OnOk result (IsQuiet (S.state site.new)) }
         ensures goes { Goes (S.state site.old) (S.state site.new) }
         ensures device { IsErrOf result (Stop.Device Dev.Log)
             → FaultRose Dev.Log (S.state site.old) (S.state site.new) }
@@ -650,10 +667,13 @@ impl Engine {
             → IfOk result (λ txn. HasOneWrite self.new.journal (S.state site.new)
             fits.records s.table s.commits txn number after.now self.old.table.items) }
         ensures any_moment { (s : State) → Fits self.old (S.state site.old) s
+            → IsQuiet (S.state site.old)
             → LeavesOnly (S.state site.old) (S.state site.new)
             (LeavesTable self.old.journal.log.geometry s.table s.commits (S.state site.old).told) }
         ensures left { IsTrue (S.state site.old).honest
             → (S.state site.new).left ≡ (S.state site.old).left }
+        ensures stays_quiet { IsTrue (S.state site.old).honest → IsQuiet (S.state site.old)
+            → OnOk result (IsQuiet (S.state site.new)) }
 
         // Of every site.
         ensures rest { self.new ≡ record self.old { journal = self.new.journal } }
@@ -696,6 +716,7 @@ impl Engine {
         ensures after { (s : State) → Fits self.old (S.state site.old) s
             → OnOk result (Fits self.new (S.state site.new) (making 3 (committed s ((number, after) ∷ [])))) }
         ensures any_moment { (s : State) → Fits self.old (S.state site.old) s
+            → IsQuiet (S.state site.old)
             → LeavesOnly (S.state site.old) (S.state site.new)
             (LeavesEither self.old.journal.log.geometry s (making 3 (committed s ((number, after) ∷ []))) (S.state site.old).told) }
 
@@ -703,6 +724,8 @@ impl Engine {
         ensures geometry { self.new.journal.log.geometry ≡ self.old.journal.log.geometry }
         ensures left { IsTrue (S.state site.old).honest
             → (S.state site.new).left ≡ (S.state site.old).left }
+        ensures stays_quiet { IsTrue (S.state site.old).honest → IsQuiet (S.state site.old)
+            → OnOk result (IsQuiet (S.state site.new)) }
         ensures goes { Goes (S.state site.old) (S.state site.new) }
         ensures device { IsErrOf result (Stop.Device Dev.Log)
             → FaultRose Dev.Log (S.state site.old) (S.state site.new) }
@@ -757,10 +780,13 @@ impl Engine {
         ensures after { (s : State) → Fits self.old (S.state site.old) s
             → OnOk result (Fits self.new (S.state site.new) (run s (Command.Set number value.now)).after) }
         ensures any_moment { (s : State) → Fits self.old (S.state site.old) s
+            → IsQuiet (S.state site.old)
             → LeavesOnly (S.state site.old) (S.state site.new)
             (LeavesEither self.old.journal.log.geometry s (run s (Command.Set number value.now)).after (S.state site.old).told) }
         ensures left { IsTrue (S.state site.old).honest
             → (S.state site.new).left ≡ (S.state site.old).left }
+        ensures stays_quiet { IsTrue (S.state site.old).honest → IsQuiet (S.state site.old)
+            → OnOk result (IsQuiet (S.state site.new)) }
 
         // Of every site.
         ensures going { OnOk result (MayGoOn self.new (S.state site.new)) }
@@ -796,6 +822,7 @@ impl Engine {
         ensures after { (s : State) → Fits self.old (S.state site.old) s
             → OnOk result (Fits self.new (S.state site.new) (effect s (Command.Commit entry.session))) }
         ensures any_moment { (s : State) → Fits self.old (S.state site.old) s
+            → IsQuiet (S.state site.old)
             → LeavesOnly (S.state site.old) (S.state site.new)
             (LeavesEither self.old.journal.log.geometry s (effect s (Command.Commit entry.session)) (S.state site.old).told) }
 
@@ -803,6 +830,8 @@ impl Engine {
         ensures geometry { self.new.journal.log.geometry ≡ self.old.journal.log.geometry }
         ensures left { IsTrue (S.state site.old).honest
             → (S.state site.new).left ≡ (S.state site.old).left }
+        ensures stays_quiet { IsTrue (S.state site.old).honest → IsQuiet (S.state site.old)
+            → OnOk result (IsQuiet (S.state site.new)) }
         ensures goes { Goes (S.state site.old) (S.state site.new) }
         ensures device { IsErrOf result (Stop.Device Dev.Log)
             → FaultRose Dev.Log (S.state site.old) (S.state site.new) }
@@ -824,10 +853,13 @@ impl Engine {
         ensures after { (s : State) → Fits self.old (S.state site.old) s
             → OnOk result (Fits self.new (S.state site.new) (run s (Command.Commit session)).after) }
         ensures any_moment { (s : State) → Fits self.old (S.state site.old) s
+            → IsQuiet (S.state site.old)
             → LeavesOnly (S.state site.old) (S.state site.new)
             (LeavesEither self.old.journal.log.geometry s (run s (Command.Commit session)).after (S.state site.old).told) }
         ensures left { IsTrue (S.state site.old).honest
             → (S.state site.new).left ≡ (S.state site.old).left }
+        ensures stays_quiet { IsTrue (S.state site.old).honest → IsQuiet (S.state site.old)
+            → OnOk result (IsQuiet (S.state site.new)) }
 
         // Of every site.
         ensures going { OnOk result (MayGoOn self.new (S.state site.new)) }
@@ -876,10 +908,13 @@ impl Engine {
             → HoldsLog self.old.journal (S.state site.old) records table commits
             → self.old.table.items ≡ shown_table records (blank_versions self.old.journal.log.geometry.pages)
             → IsActive blank_master records entry.begin entry.last writes → length writes ≡ entry.writes
+            → IsQuiet (S.state site.old)
             → LeavesOnly (S.state site.old) (S.state site.new)
             (LeavesTable self.old.journal.log.geometry table commits (S.state site.old).told) }
         ensures left { IsTrue (S.state site.old).honest
             → (S.state site.new).left ≡ (S.state site.old).left }
+        ensures stays_quiet { IsTrue (S.state site.old).honest → IsQuiet (S.state site.old)
+            → OnOk result (IsQuiet (S.state site.new)) }
 
         // Of every site.
         ensures rest { self.new ≡ record self.old { journal = self.new.journal; table = self.new.table } }
@@ -927,6 +962,7 @@ impl Engine {
         ensures after { (s : State) → Fits self.old (S.state site.old) s
             → OnOk result (Fits self.new (S.state site.new) (effect s (Command.Abort entry.session))) }
         ensures any_moment { (s : State) → Fits self.old (S.state site.old) s
+            → IsQuiet (S.state site.old)
             → LeavesOnly (S.state site.old) (S.state site.new)
             (LeavesTable self.old.journal.log.geometry s.table s.commits (S.state site.old).told) }
 
@@ -934,6 +970,8 @@ impl Engine {
         ensures geometry { self.new.journal.log.geometry ≡ self.old.journal.log.geometry }
         ensures left { IsTrue (S.state site.old).honest
             → (S.state site.new).left ≡ (S.state site.old).left }
+        ensures stays_quiet { IsTrue (S.state site.old).honest → IsQuiet (S.state site.old)
+            → OnOk result (IsQuiet (S.state site.new)) }
         ensures goes { Goes (S.state site.old) (S.state site.new) }
         ensures device { IsErrOf result (Stop.Device Dev.Log)
             → FaultRose Dev.Log (S.state site.old) (S.state site.new) }
@@ -961,10 +999,13 @@ impl Engine {
         ensures after { (s : State) → Fits self.old (S.state site.old) s
             → OnOk result (Fits self.new (S.state site.new) (run s (Command.Abort session)).after) }
         ensures any_moment { (s : State) → Fits self.old (S.state site.old) s
+            → IsQuiet (S.state site.old)
             → LeavesOnly (S.state site.old) (S.state site.new)
             (LeavesTable self.old.journal.log.geometry s.table s.commits (S.state site.old).told) }
         ensures left { IsTrue (S.state site.old).honest
             → (S.state site.new).left ≡ (S.state site.old).left }
+        ensures stays_quiet { IsTrue (S.state site.old).honest → IsQuiet (S.state site.old)
+            → OnOk result (IsQuiet (S.state site.new)) }
 
         // Of every site.
         ensures going { OnOk result (MayGoOn self.new (S.state site.new)) }

@@ -2,7 +2,7 @@
 ghost use Rattle.std.specs.Prelude.{◌≡◌, ◌+◌, ◌-◌, ◌^◌, ◌<◌, ◌≤◌, ℕ, List, [], ◌∷◌, ◌++◌, IsTrue, IfOk, OnOk, IfErr, IsErrOf};
 ghost use Rattle.site.specs.declared.outside.Dev.{Dev};
 ghost use Rattle.site.specs.declared.outside.Stop.{Stop};
-ghost use Rattle.site.specs.State.{State};
+ghost use Rattle.site.specs.State.{State, IsQuiet};
 ghost use Rattle.site.specs.Calls.{Goes, SameReads};
 ghost use Rattle.site.specs.Moments.{LeavesOnly};
 ghost use Rattle.sealed_ring.specs.Ready.{FaultRose};
@@ -43,10 +43,13 @@ impl Journal {
             (records ++ record { lsn = lsn; rec = rec.now } ∷ []) table commits) }
         ensures any_moment { (records : List Entry) (table : List Content) (commits : ℕ)
             → HoldsLog self.old (S.state site.old) records table commits
+            → IsQuiet (S.state site.old)
             → LeavesOnly (S.state site.old) (S.state site.new)
             (LeavesTable self.old.log.geometry table commits (S.state site.old).told) }
         ensures left { IsTrue (S.state site.old).honest
             → (S.state site.new).left ≡ (S.state site.old).left }
+        ensures stays_quiet { IsTrue (S.state site.old).honest → IsQuiet (S.state site.old)
+            → OnOk result (IsQuiet (S.state site.new)) }
 
         // Of every site.
         ensures going { OnOk result (MayLog self.new (S.state site.new)) }
@@ -78,10 +81,13 @@ impl Journal {
             → OnOk result (HoldsLog self.new (S.state site.new) records table commits) }
         ensures any_moment { (records : List Entry) (table : List Content) (commits : ℕ)
             → HoldsLog self.old (S.state site.old) records table commits
+            → IsQuiet (S.state site.old)
             → LeavesOnly (S.state site.old) (S.state site.new)
             (LeavesTable self.old.log.geometry table commits (S.state site.old).told) }
         ensures left { IsTrue (S.state site.old).honest
             → (S.state site.new).left ≡ (S.state site.old).left }
+        ensures stays_quiet { IsTrue (S.state site.old).honest → IsQuiet (S.state site.old)
+            → OnOk result (IsQuiet (S.state site.new)) }
 
         // Of every site.
         ensures going { OnOk result (MayLog self.new (S.state site.new)) }
@@ -120,10 +126,13 @@ impl Journal {
         ensures any_moment { (records : List Entry) (table : List Content) (commits : ℕ)
             → HoldsLog self.old (S.state site.old) records table commits
             → MayCommit records txn number commits
+            → IsQuiet (S.state site.old)
             → LeavesOnly (S.state site.old) (S.state site.new)
             (LeavesCommit self.old.log.geometry table commits (writes_in txn records) (S.state site.old).told) }
         ensures left { IsTrue (S.state site.old).honest
             → (S.state site.new).left ≡ (S.state site.old).left }
+        ensures stays_quiet { IsTrue (S.state site.old).honest → IsQuiet (S.state site.old)
+            → OnOk result (IsQuiet (S.state site.new)) }
 
         // Of every site.
         ensures going { OnOk result (MayLog self.new (S.state site.new)) }

@@ -247,10 +247,13 @@ fn end_one<S: Site>(
         → OnOk result (IsUndoing journal.new (S.state site.new) shows analysis.new.losers.items table commits) }
     ensures any_moment { (shows table : List Content) (commits : ℕ)
         → IsUndoing journal.old (S.state site.old) shows analysis.old.losers.items table commits
+        → IsQuiet (S.state site.old)
         → LeavesOnly (S.state site.old) (S.state site.new)
         (LeavesTable journal.old.log.geometry table commits (S.state site.old).told) }
     ensures left { IsTrue (S.state site.old).honest
         → (S.state site.new).left ≡ (S.state site.old).left }
+    ensures stays_quiet { IsTrue (S.state site.old).honest → IsQuiet (S.state site.old)
+        → OnOk result (IsQuiet (S.state site.new)) }
 
     // Of every site.
     ensures may { OnOk result (MayUndo journal.new (S.state site.new) analysis.new.losers.items) }
@@ -288,10 +291,13 @@ fn end_undone<S: Site>(
         → OnOk result (IsUndoing journal.new (S.state site.new) shows analysis.new.losers.items table commits) }
     ensures any_moment { (shows table : List Content) (commits : ℕ)
         → IsUndoing journal.old (S.state site.old) shows analysis.old.losers.items table commits
+        → IsQuiet (S.state site.old)
         → LeavesOnly (S.state site.old) (S.state site.new)
         (LeavesTable journal.old.log.geometry table commits (S.state site.old).told) }
     ensures left { IsTrue (S.state site.old).honest
         → (S.state site.new).left ≡ (S.state site.old).left }
+    ensures stays_quiet { IsTrue (S.state site.old).honest → IsQuiet (S.state site.old)
+        → OnOk result (IsQuiet (S.state site.new)) }
 
     // Of every site.
     ensures may { OnOk result (MayUndo journal.new (S.state site.new) analysis.new.losers.items) }
@@ -340,10 +346,13 @@ fn undo_one<S: Site>(
         → IfErr result (λ stop. stop ≢ Stop.Foreign) }
     ensures any_moment { (shows : List Content) (commits : ℕ)
         → IsUndoing journal.old (S.state site.old) table.old analysis.old.losers.items shows commits
+        → IsQuiet (S.state site.old)
         → LeavesOnly (S.state site.old) (S.state site.new)
         (LeavesTable journal.old.log.geometry shows commits (S.state site.old).told) }
     ensures left { IsTrue (S.state site.old).honest
         → (S.state site.new).left ≡ (S.state site.old).left }
+    ensures stays_quiet { IsTrue (S.state site.old).honest → IsQuiet (S.state site.old)
+        → OnOk result (IsQuiet (S.state site.new)) }
 
     // Of every site.
     ensures may { OnOk result (MayUndo journal.new (S.state site.new) analysis.new.losers.items) }
@@ -392,10 +401,13 @@ fn undo_losers<S: Site>(
         → IfErr result (λ stop. stop ≢ Stop.Foreign) }
     ensures any_moment { (shows : List Content) (commits : ℕ)
         → IsUndoing journal.old (S.state site.old) table.old analysis.old.losers.items shows commits
+        → IsQuiet (S.state site.old)
         → LeavesOnly (S.state site.old) (S.state site.new)
         (LeavesTable journal.old.log.geometry shows commits (S.state site.old).told) }
     ensures left { IsTrue (S.state site.old).honest
         → (S.state site.new).left ≡ (S.state site.old).left }
+    ensures stays_quiet { IsTrue (S.state site.old).honest → IsQuiet (S.state site.old)
+        → OnOk result (IsQuiet (S.state site.new)) }
 
     // Of every site.
     ensures may { OnOk result (MayUndo journal.new (S.state site.new) analysis.new.losers.items) }
@@ -435,12 +447,15 @@ fn undo_all<S: Site>(
         → IfErr result (λ stop. stop ≢ Stop.Foreign) }
     ensures any_moment { (shows : List Content) (commits : ℕ)
         → IsUndoing journal.old (S.state site.old) table.old analysis.old.losers.items shows commits
+        → IsQuiet (S.state site.old)
         → LeavesOnly (S.state site.old) (S.state site.new)
         (LeavesTable journal.old.log.geometry shows commits (S.state site.old).told) }
     // Of every site, honest or not, where nothing is unfinished.
     ensures idle { analysis.old.losers.items ≡ [] → OnErr result ⊥ }
     ensures left { IsTrue (S.state site.old).honest
         → (S.state site.new).left ≡ (S.state site.old).left }
+    ensures stays_quiet { IsTrue (S.state site.old).honest → IsQuiet (S.state site.old)
+        → OnOk result (IsQuiet (S.state site.new)) }
 
     // Of every site.
     ensures may { OnOk result (MayUndo journal.new (S.state site.new) analysis.new.losers.items) }
@@ -464,7 +479,7 @@ fn undo_all<S: Site>(
 pub fn restart<S: Site>(alloc: Global, site: &mut S) -> Result<Restarted, Stop>
     // Of an honest site that stands for a table after so many commits.
     ensures opens { (g : Geometry) (s : model.State) → IsTrue (S.state site.old).honest
-        → IsQuiet (S.state site.old) → Opens g (S.state site.old).image s
+        → Opens g (S.state site.old).image s
         → IfOk result (λ restarted. RestartedAs g restarted (S.state site.new) s) }
     ensures any_moment { (g : Geometry) (table : List Content) (commits : ℕ)
         → IsTrue (S.state site.old).honest → IsQuiet (S.state site.old)
@@ -472,13 +487,8 @@ pub fn restart<S: Site>(alloc: Global, site: &mut S) -> Result<Restarted, Stop>
         → LeavesOnly (S.state site.old) (S.state site.new)
         (LeavesTable g table commits (S.state site.old).told) }
     ensures readable { (g : Geometry) (table : List Content) (commits : ℕ)
-        → IsTrue (S.state site.old).honest → IsQuiet (S.state site.old)
-        → Stands g (S.state site.old).image table commits
-        → IfErr result (λ stop. stop ≢ Stop.Foreign) }
-    ensures finished { (g : Geometry) (table : List Content) (commits : ℕ)
         → IsTrue (S.state site.old).honest
-        → (stands : Stands g (S.state site.old).image table commits)
-        → unfinished_in (log_from 0 stands.blocks) ≡ []
+        → Stands g (S.state site.old).image table commits
         → IfErr result (λ stop. stop ≢ Stop.Foreign) }
     ensures quiet { (g : Geometry) (table : List Content) (commits : ℕ)
         → IsTrue (S.state site.old).honest → IsQuiet (S.state site.old)
@@ -486,6 +496,8 @@ pub fn restart<S: Site>(alloc: Global, site: &mut S) -> Result<Restarted, Stop>
         → IfErr result (λ stop. stop ≢ Stop.Device Dev.Log → IsQuiet (S.state site.new)) }
     ensures left { IsTrue (S.state site.old).honest
         → (S.state site.new).left ≡ (S.state site.old).left }
+    ensures stays_quiet { IsTrue (S.state site.old).honest → IsQuiet (S.state site.old)
+        → OnOk result (IsQuiet (S.state site.new)) }
 
     // Of every site.
     ensures going { IfOk result (λ restarted. MayLog restarted.journal (S.state site.new)) }

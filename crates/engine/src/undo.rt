@@ -8,6 +8,7 @@ ghost use Rattle.sealed_ring.specs.Ready.{FaultRose};
 ghost use Rattle.log_records.specs.Spelling.{IsShort};
 ghost use Rattle.log_store.specs.Held.{end_of};
 ghost use Rattle.site.specs.Moments.{LeavesOnly};
+ghost use Rattle.site.specs.State.{IsQuiet};
 ghost use Rattle.record_model.specs.State.{Content};
 ghost use Rattle.log_records.specs.Log.{Entry};
 ghost use Rattle.log_records.specs.Sets.{blank_versions};
@@ -131,10 +132,13 @@ pub fn undo_update<S: Site>(
         → IfErr result (λ stop. stop ≢ Stop.Foreign) }
     ensures any_moment { (records : List Entry) (shows : List Content) (commits : ℕ)
         → HoldsLog journal.old (S.state site.old) records shows commits
+        → IsQuiet (S.state site.old)
         → LeavesOnly (S.state site.old) (S.state site.new)
         (LeavesTable journal.old.log.geometry shows commits (S.state site.old).told) }
     ensures left { IsTrue (S.state site.old).honest
         → (S.state site.new).left ≡ (S.state site.old).left }
+    ensures stays_quiet { IsTrue (S.state site.old).honest → IsQuiet (S.state site.old)
+        → OnOk result (IsQuiet (S.state site.new)) }
 
     // Of every site.
     ensures last { IfOk result (λ now. now.last < end_of journal.new.log) }

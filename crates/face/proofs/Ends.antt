@@ -134,17 +134,11 @@ answer_takes_nothing halt.Limit engine old new fails = absurd fails
 
 -- nothing is foreign where the run began over a sound image
 pub answer_cause : (h : Halt) (engine : Engine) (old mid new : Site) → AnswerFailsBy h engine mid new → Goes old mid
-    → (IsTrue old.honest → IsQuiet old → (g : Geometry) (table : List Content) (commits : ℕ) → Stands g old.image table commits → (s : State) × Fits engine mid s) → HasCause h old new
+    → (IsTrue old.honest → (g : Geometry) (table : List Content) (commits : ℕ) → Stands g old.image table commits → (s : State) × Fits engine mid s) → HasCause h old new
 answer_cause (halt.Stop (Device dev)) engine old mid new fails goes fits = rose_since (faults_of dev old) (faults_of dev mid) (faults_of dev new) (goes.faults dev) fails
 answer_cause (halt.Stop Memory) engine old mid new fails goes fits = fails
 answer_cause (halt.Stop (Worn dev)) engine old mid new fails goes fits = fails
-answer_cause (halt.Stop Foreign) engine old mid new fails goes fits = λ honest quiet g table commits stands. let f = fits honest quiet g table commits stands in fails f.0 f.1
+answer_cause (halt.Stop Foreign) engine old mid new fails goes fits = λ honest g table commits stands. let f = fits honest g table commits stands in fails f.0 f.1
 answer_cause halt.Input engine old mid new fails goes fits = absurd fails
 answer_cause halt.Output engine old mid new fails goes fits = rose_since old.output_faults mid.output_faults new.output_faults goes.output_faults fails
 answer_cause halt.Limit engine old mid new fails goes fits = absurd fails
-
--- the run over a sound image
-pub run_begins : (g : Geometry) (table : List Content) (commits : ℕ) (old : Site) → IsTrue old.honest → IsQuiet old → Stands g old.image table commits → (run : Run) × Begins run old
-run_begins g table commits old honest quiet stands =
-    let opens = opens_where_it_stands g old.image table commits stands in
-    (record { geometry = g; opening = opens.0; lines = commands_of true old.left }, record { honest = honest; quiet = quiet; opens = opens.1; lines = refl })

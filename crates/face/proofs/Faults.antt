@@ -217,7 +217,7 @@ not_over n left octets rest is (inr quit) many none = true_not_false (sym quit �
 pub complete : (g : Geometry) (opening : State) (old new : Site) (status : ℕ) → IsGood g opening old → NoFaultRose old new → EndsInTime old → HasCauses status old new → Headline g opening old new status → (status ≡ 0) ⊎ (status ≡ 4)
 complete g opening old new status good none ends causes h =
     ⊎_elim (λ e. inl e) (⊎_elim (λ e. let c = causes.device e in absurd (none.devices c.0 c.1)) (⊎_elim (λ e. inr e) (⊎_elim (λ e. absurd (none.input (causes.input e)))
-    (⊎_elim (λ e. absurd (none.output (causes.output e))) (⊎_elim (λ e. absurd (in_time (h.over e))) (λ e. absurd (causes.foreign e good.honest good.quiet g opening.table opening.commits (stands_by g old.image opening good.opens)))))))) causes.others
+    (⊎_elim (λ e. absurd (none.output (causes.output e))) (⊎_elim (λ e. absurd (in_time (h.over e))) (λ e. absurd (causes.foreign e good.honest g opening.table opening.commits (stands_by g old.image opening good.opens)))))))) causes.others
   where
     in_time : (length h.octets ≡ limit + 1) × (list_any is_quit (commands_of false (take limit h.octets)) ≡ false) → ⊥
     in_time over = not_over limit old.left h.octets new.left h.taken ends over.0 over.1

@@ -46,8 +46,8 @@ goes_on engine a b go goes = record {
 }
 
 -- it stands for the same state
-pub still_fits : (engine : Engine) (a b : Site) (s : State) → Fits engine a s → Goes a b → b.image ≡ a.image → b.loose ≡ a.loose → Fits engine b s
-still_fits engine a b s fits goes image loose =
+pub still_fits : (engine : Engine) (a b : Site) (s : State) → Fits engine a s → Goes a b → b.image ≡ a.image → Fits engine b s
+still_fits engine a b s fits goes image =
     let h = fits.holds in
     let log = engine.journal.log in
     record {
@@ -56,11 +56,9 @@ still_fits engine a b s fits goes image loose =
       holds = record {
         fits = record {
           honest = stays_honest a b goes fits.honest;
-          settled = quiet_settled Log b (loose ∙ h.quiet);
           form = subst (λ (x : Image). IsRing (log_shape log.geometry) x.log) (sym image) h.fits.form;
           hi = subst (λ (x : Image). log.ring.hi ≡ hi_of (log_shape log.geometry) x.log) (sym image) h.fits.hi;
         };
-        quiet = loose ∙ h.quiet;
         beside = subst (IsBlankBeside log.geometry) (sym image) h.beside;
         blocks = h.blocks;
         tail = h.tail;

@@ -66,9 +66,10 @@ module _ (run : Run) (entry mid : Site) (leaves : LeavesOnly entry mid (LeavesTa
     pub opening_lost : IsQuiet new → Stops run 0 entry new Output
     opening_lost quiet = record { any_moment = opening; between = λ ne. absurd (ne refl); quiet = λ ne. quiet }
 
-    pub opened : (engine : Engine) → Goes mid new → SameDevices mid new → new.told ≡ mid.told ++ text → Fits engine mid run.opening → engine.journal.log.geometry ≡ run.geometry → HasLimits run.geometry → Going run entry new engine 0
-    opened engine goes devices told fits geometry limits = record {
-      fits = still_fits engine mid new run.opening fits goes devices.image devices.loose;
+    pub opened : (engine : Engine) → Goes mid new → SameDevices mid new → IsQuiet new → new.told ≡ mid.told ++ text → Fits engine mid run.opening → engine.journal.log.geometry ≡ run.geometry → HasLimits run.geometry → Going run entry new engine 0
+    opened engine goes devices quiet told fits geometry limits = record {
+      fits = still_fits engine mid new run.opening fits goes devices.image;
+      quiet = quiet;
       geometry = geometry;
       limits = limits;
       told = told ∙ (λ i. untold i ++ is i) ∙ ap (λ (l : List ℕ). entry.told ++ l) (sym (told_more run 0 (omega arith)));
@@ -80,7 +81,8 @@ module _ (run : Run) (entry mid : Site) (leaves : LeavesOnly entry mid (LeavesTa
 
 pub moved : (run : Run) (entry mid new : Site) (engine : Engine) (i : ℕ) → Going run entry mid engine i → Goes mid new → HearsOnly mid new → Going run entry new engine i
 moved run entry mid new engine i going goes hears = record {
-  fits = still_fits engine mid new (state_at run i) going.fits goes hears.image hears.loose;
+  fits = still_fits engine mid new (state_at run i) going.fits goes hears.image;
+  quiet = hears.loose ∙ going.quiet;
   geometry = going.geometry;
   limits = going.limits;
   told = hears.told ∙ going.told;
@@ -97,14 +99,14 @@ module _ (run : Run) (entry mid : Site) (engine : Engine) (i : ℕ) (going : Goi
       whole = suc i;
       begun = omega arith;
       told = going.told ∙ ap (λ (n : ℕ). entry.told ++ told_after run n) (add-one i);
-      stands = λ s left. near_after run i i s.image (stands_now run mid i going.fits.holds.quiet (going_stands run entry mid engine i going) s left);
+      stands = λ s left. near_after run i i s.image (stands_now run mid i going.quiet (going_stands run entry mid engine i going) s left);
     };
-    quiet = λ ne. going.fits.holds.quiet;
+    quiet = λ ne. going.quiet;
   }
 
   -- there are no more lines
   pub ended : IsDone run i entry mid
-  ended = record { told = going.told; quiet = going.fits.holds.quiet; stands = going_stands run entry mid engine i going }
+  ended = record { told = going.told; quiet = going.quiet; stands = going_stands run entry mid engine i going }
 
   -- a line is answered
   module _ (new : Site) (line : Line) (rest : List Line) (is : drop i (answered run) ≡ line ∷ rest)
@@ -131,9 +133,10 @@ module _ (run : Run) (entry mid : Site) (engine : Engine) (i : ℕ) (going : Goi
       };
     }
 
-    pub goes_on : (engine' : Engine) → engine'.journal.log.geometry ≡ engine.journal.log.geometry → Fits engine' new (step (state_at run i) line).after → new.told ≡ mid.told ++ reply_text (step (state_at run i) line).reply → Going run entry new engine' (suc i)
-    goes_on engine' geometry fits told = record {
+    pub goes_on : (engine' : Engine) → engine'.journal.log.geometry ≡ engine.journal.log.geometry → Fits engine' new (step (state_at run i) line).after → new.loose ≡ no_loose → new.told ≡ mid.told ++ reply_text (step (state_at run i) line).reply → Going run entry new engine' (suc i)
+    goes_on engine' geometry fits quiet told = record {
       fits = subst (Fits engine' new) (sym (state_next run i line rest is)) fits;
+      quiet = quiet;
       geometry = geometry ∙ going.geometry;
       limits = going.limits;
       told = told ∙ (λ j. told_suc j ++ sym (text_next run i line rest is) j)

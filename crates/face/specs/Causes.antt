@@ -4,7 +4,7 @@ use Rattle.site.specs.declared.outside.Dev.{Dev}
 use Rattle.site.specs.declared.outside.Stop.{Stop}
 use Rattle.site.specs.declared.outside.Stop.TheVariants.{Device, Memory, Worn, Foreign}
 use Rattle.site.specs.declared.geometry.Geometry.{Geometry}
-use Rattle.site.specs.State.{State, IsQuiet, faults_of}
+use Rattle.site.specs.State.{State, faults_of}
 use Rattle.site.specs.Calls.{Rose}
 use Rattle.record_model.specs.State.{Content}
 use Rattle.record_model.specs.State as model
@@ -17,9 +17,9 @@ use Rattle.std.specs.List.{list_any}
 use Rattle.record_model.specs.Run.{is_quit}
 use Rattle.face.specs.Lines.{limit, commands_of}
 
--- of an honest and quiet site: the image isn't sound
+-- of an honest site: the image isn't sound
 abbrev pub IsForeign : State → Type 0
-IsForeign site = IsTrue site.honest → IsQuiet site → (g : Geometry) (table : List Content) (commits : ℕ) → Stands g site.image table commits → ⊥
+IsForeign site = IsTrue site.honest → (g : Geometry) (table : List Content) (commits : ℕ) → Stands g site.image table commits → ⊥
 
 -- of an honest site: more octets were taken than a run may take
 abbrev pub IsOverLimit : State → State → Type 0

@@ -1,6 +1,6 @@
 -- A run under way.
 use Rattle.std.specs.Prelude.{◌≡◌, ℕ, ◌+◌, ◌≤◌, [], ◌++◌, length}
-use Rattle.site.specs.State.{State as Site}
+use Rattle.site.specs.State.{State as Site, no_loose}
 use Rattle.site.specs.Geometry.{HasLimits}
 use Rattle.site.specs.Moments.{LeavesOnly}
 use Rattle.engine.specs.declared.engine.Engine.{Engine}
@@ -10,6 +10,7 @@ use Rattle.face.specs.Run.{Run, answered, told_after, state_at, IsAccounted}
 -- so many lines of the run were answered
 pub record Going (run : Run) (entry now : Site) (engine : Engine) (lines : ℕ) : Type 0 where
   pub fits : Fits engine now (state_at run lines)
+  pub quiet : now.loose ≡ no_loose
   pub geometry : engine.journal.log.geometry ≡ run.geometry
   pub limits : HasLimits run.geometry
   pub told : now.told ≡ entry.told ++ told_after run (lines + 1)

@@ -28,16 +28,22 @@ pub fn answer<S: Site>(engine: &mut Engine, site: &mut S, line: Option<Command>)
 
     // Of an honest site that the database fits.
     ensures any_moment { (s : State) → Fits engine.old (S.state site.old) s
+        → IsQuiet (S.state site.old)
         → LeavesOnly (S.state site.old) (S.state site.new)
         (LeavesAnswer engine.old.journal.log.geometry s (step s line).after (reply_text (step s line).reply) (S.state site.old).told) }
     ensures fits { (s : State) → Fits engine.old (S.state site.old) s
         → OnOk result (Fits engine.new (S.state site.new) (step s line).after) }
     ensures told { (s : State) → Fits engine.old (S.state site.old) s
+        → IsQuiet (S.state site.old)
         → OnOk result ((S.state site.new).told ≡ (S.state site.old).told ++ reply_text (step s line).reply) }
     ensures untold { (s : State) → Fits engine.old (S.state site.old) s
+        → IsQuiet (S.state site.old)
         → IfErr result (λ halt. halt ≢ Halt.Output → (S.state site.new).told ≡ (S.state site.old).told) }
     ensures left { IsTrue (S.state site.old).honest → (S.state site.new).left ≡ (S.state site.old).left }
+    ensures stays_quiet { IsTrue (S.state site.old).honest → IsQuiet (S.state site.old)
+        → OnOk result (IsQuiet (S.state site.new)) }
     ensures quiet { (s : State) → Fits engine.old (S.state site.old) s
+        → IsQuiet (S.state site.old)
         → IfErr result (λ halt. halt ≢ Halt.Stop (Stop.Device Dev.Log) → IsQuiet (S.state site.new)) }
 
     // Of every site.

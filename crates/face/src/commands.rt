@@ -32,12 +32,16 @@ pub fn carry_out<S: Site>(
     ensures after { (s : State) → Fits engine.old (S.state site.old) s
         → OnOk result (Fits engine.new (S.state site.new) (step s line).after) }
     ensures any_moment { (s : State) → Fits engine.old (S.state site.old) s
+        → IsQuiet (S.state site.old)
         → LeavesOnly (S.state site.old) (S.state site.new)
         (LeavesEither engine.old.journal.log.geometry s (step s line).after (S.state site.old).told) }
     ensures left { IsTrue (S.state site.old).honest
         → (S.state site.new).left ≡ (S.state site.old).left }
+    ensures stays_quiet { IsTrue (S.state site.old).honest → IsQuiet (S.state site.old)
+        → OnOk result (IsQuiet (S.state site.new)) }
     // Where no device failed, nothing is loose after an error either.
     ensures quiet { (s : State) → Fits engine.old (S.state site.old) s
+        → IsQuiet (S.state site.old)
         → IfErr result (λ stop. stop ≢ Stop.Device Dev.Log → IsQuiet (S.state site.new)) }
 
     // Of every site.

@@ -3,7 +3,9 @@ ghost use Rattle.std.specs.Prelude.{◌≡◌, ◌≢◌, ◌⊎◌, ◌≤◌, 
 ghost use Rattle.site.specs.Calls.{Goes};
 ghost use Rattle.face.specs.declared.halt.Halt.{Halt};
 ghost use Rattle.site.specs.declared.geometry.Geometry.{Geometry};
-ghost use Rattle.record_model.specs.State.{State};
+ghost use Rattle.record_model.specs.State.{State, Content};
+ghost use Rattle.engine.specs.Image.{Stands};
+ghost use Rattle.engine.specs.Fits.{Fits};
 ghost use Rattle.record_model.specs.Run.{is_quit};
 ghost use Rattle.engine.specs.Going.{MayGoOn};
 ghost use Rattle.engine.specs.Leaves.{HasNoSizes};
@@ -33,6 +35,8 @@ const LINES: u64 = (1 << 40) + 1;
 fn open<S: Site>(alloc: Global, pool: u32, site: &mut S) -> Result<Engine, Halt>
     requires pool { (1 ≤ pool) × (pool ≤ 4096) }
     ensures going { (run : Run) → Begins run (S.state site.old) → IfOk result (λ engine. Going run (S.state site.old) (S.state site.new) engine 0) }
+    // The same, whatever is loose at entry.
+    ensures fits { IsTrue (S.state site.old).honest → (g : Geometry) (table : List Content) (commits : ℕ) → Stands g (S.state site.old).image table commits → IfOk result (λ engine. (s : State) × Fits engine (S.state site.new) s) }
     ensures stops { (run : Run) → Begins run (S.state site.old) → IfErr result (λ halt. Stops run 0 (S.state site.old) (S.state site.new) halt) }
     ensures left { IsTrue (S.state site.old).honest → (S.state site.new).left ≡ (S.state site.old).left }
     ensures goes_on { IfOk result (λ engine. MayGoOn engine (S.state site.new)) }

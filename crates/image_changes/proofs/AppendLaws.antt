@@ -5,7 +5,7 @@ use Rattle.site.specs.declared.outside.Dev.TheVariants.{Disk}
 use Rattle.site.specs.declared.geometry.Geometry.{Geometry}
 use Rattle.site.specs.Geometry.{HasLimits, HasLengths}
 use Rattle.site.specs.State.{Image, Range, MayStand, content_of}
-use Rattle.site.specs.Laws.{cases_dev, leaves_weaker, leaves_others_too, settled_is, quiet_settled, holds_now}
+use Rattle.site.specs.Laws.{cases_dev, leaves_weaker, leaves_others_too, settled_is, quiet_settled}
 use Rattle.sealed_ring.specs.declared.slots.Shape.{Shape}
 use Rattle.sealed_ring.specs.Ring.{FitsIn, IsRing, units_of, appended, OldOrNew}
 use Rattle.sealed_ring.specs.Ready.{LeavesOldOrNew}
@@ -135,5 +135,5 @@ append_makes g ring bytes old new limits lengths quiet room leaves only =
     }) (leaves_others_too (shape_of g ring).dev old new (LeavesOldOrNew (shape_of g ring) (octets_of (shape_of g ring) old.image) bytes) leaves only)
 
 pub append_done : AppendDone
-append_done g ring bytes old new limits lengths room leaves only more =
-    appends g ring bytes old.image new.image limits lengths (holds_now old new _ leaves) (λ d ne. only.now.content d ne) room more
+append_done g ring bytes old new limits lengths room size form outside only more =
+    appends g ring bytes old.image new.image limits lengths (record { size = size; form = form; units = inr more; outside = outside }) (λ d ne. only.now.content d ne) room more

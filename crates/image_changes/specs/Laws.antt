@@ -5,7 +5,7 @@ use Rattle.site.specs.declared.geometry.Geometry.{Geometry}
 use Rattle.site.specs.Geometry.{HasLimits, HasLengths}
 use Rattle.site.specs.State.{State, Image, Snapshot, IsQuiet}
 use Rattle.site.specs.Moments.{LeavesOnly, OnlyDevice}
-use Rattle.sealed_ring.specs.Ring.{appended}
+use Rattle.sealed_ring.specs.Ring.{IsRing, SameOutside, appended}
 use Rattle.sealed_ring.specs.Ready.{LeavesOldOrNew}
 use Rattle.image_changes.specs.Rings.{RingName, shape_of, octets_of, units_on, KeepsUnits}
 use Rattle.image_changes.specs.Changes.{Change, ring_of, ReadsAs, Appends, Reaches}
@@ -45,7 +45,9 @@ abbrev pub AppendDone : Type 0
 AppendDone =
     (g : Geometry) (ring : RingName) (bytes : List ℕ) (old new : State) →
     HasLimits g → HasLengths g old.image → length bytes ≡ (shape_of g ring).room →
-    LeavesOnly old new (LeavesOldOrNew (shape_of g ring) (octets_of (shape_of g ring) old.image) bytes) →
+    length (octets_of (shape_of g ring) new.image) ≡ length (octets_of (shape_of g ring) old.image) →
+    IsRing (shape_of g ring) (octets_of (shape_of g ring) new.image) →
+    SameOutside (shape_of g ring) (octets_of (shape_of g ring) old.image) (octets_of (shape_of g ring) new.image) →
     OnlyDevice (shape_of g ring).dev old new →
     units_on (shape_of g ring) new.image ≡ appended (shape_of g ring) (units_on (shape_of g ring) old.image) bytes →
     Appends g ring bytes old.image new.image

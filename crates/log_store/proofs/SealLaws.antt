@@ -4,12 +4,14 @@ use Rattle.std.specs.Prelude.{slice_index}
 use Rattle.site.specs.declared.outside.Dev.TheVariants.{Log}
 use Rattle.site.specs.declared.geometry.Geometry.{Geometry}
 use Rattle.site.specs.State.{State, Image, Snapshot, loose_of, IsSettled, IsQuiet}
+use Rattle.site.specs.Calls.{Goes}
 use Rattle.site.specs.Moments.{Leaves, LeavesOnly, OnlyDevice}
 use Rattle.site.specs.Laws.{leaves_weaker, leaves_others_too, no_call, settled_leaves, told_is, unchanged}
 use Rattle.sealed_ring.specs.declared.slots.Shape.{Shape}
 use Rattle.sealed_ring.specs.declared.ring.Ring.{Ring}
-use Rattle.sealed_ring.specs.Ring.{IsRing, hi_of, units_of, appended}
+use Rattle.sealed_ring.specs.Ring.{IsRing, SameOutside, hi_of, units_of, appended}
 use Rattle.sealed_ring.specs.Ready.{region, IsReady, LeavesOldOrNew}
+use Rattle.sealed_ring.specs.Ready as ready
 use Rattle.log_records.specs.Spelling.{block, AreBlock}
 use Rattle.log_records.proofs.Blocks.{length-block}
 use Rattle.image_changes.specs.Rings.{Blocks, log_shape, units_on}
@@ -21,7 +23,7 @@ use Rattle.image_changes.proofs.Adding.{none_made}
 use Rattle.image_changes.proofs.AppendLaws.{append_makes, append_done}
 use Rattle.log_store.specs.declared.store.LogStore.{LogStore}
 use Rattle.log_store.specs.LogList.{LogList, sealed_if, changes_if}
-use Rattle.log_store.specs.Held.{MayGoOn, HasRoom, Fits, HasBlocks, Holds, LeavesLog, KeepsBeside}
+use Rattle.log_store.specs.Held.{MayGoOn, HasRoom, Fits, Finds, HasBlocks, Holds, LeavesLog, KeepsBeside}
 use Rattle.log_store.proofs.TailLaws.{tail_has_block}
 use Rattle.log_store.proofs.BlockLaws.{blocks_stay, blocks_more}
 
@@ -66,9 +68,24 @@ fits_again store site shape honest ready = record {
   hi = ready.hi ∙ ap (λ (s : Shape). hi_of s (region s site)) shape;
 }
 
+-- the ring of a store that found its log is found
+pub ring_finds : (store : LogStore) (site : State) → MayGoOn store site → Finds store site → ready.Finds store.ring site
+ring_finds store site going finds = record {
+  form = subst (λ (s : Shape). IsRing s (region s site)) (sym going.shape) finds.form;
+  hi = finds.hi ∙ sym (ap (λ (s : Shape). hi_of s (region s site)) going.shape);
+}
+
+-- and the store has found its log where its ring is ready
+pub finds_again : (store : LogStore) (site : State) → store.ring.shape ≡ log_shape store.geometry → IsTrue site.honest → IsReady store.ring site → Finds store site
+finds_again store site shape honest ready = record {
+  honest = honest;
+  form = subst (λ (s : Shape). IsRing s (region s site)) shape ready.form;
+  hi = ready.hi ∙ ap (λ (s : Shape). hi_of s (region s site)) shape;
+}
+
 -- an append of the tail's block
-module _ (store : LogStore) (old new : State) (log : LogList) (bytes : List ℕ) (going : MayGoOn store old) (fits : Fits store old) (holds : Holds store old.image log) (room : HasRoom store) (some : 2 < store.used)
-    (is : bytes ≡ block log.tail) (so_far : LeavesOnly old new (LeavesOldOrNew store.ring.shape (region store.ring.shape old) bytes)) (only : OnlyDevice store.ring.shape.dev old new) where
+module _ (store : LogStore) (old new : State) (log : LogList) (bytes : List ℕ) (going : MayGoOn store old) (finds : Finds store old) (holds : Holds store old.image log) (room : HasRoom store) (some : 2 < store.used)
+    (is : bytes ≡ block log.tail) (only : OnlyDevice store.ring.shape.dev old new) where
   abbrev g : Geometry
   g = store.geometry
 
@@ -78,45 +95,49 @@ module _ (store : LogStore) (old new : State) (log : LogList) (bytes : List ℕ)
   long : length (block log.tail) ≡ 503
   long = length-block log.tail are.room
 
-  leaves : LeavesOnly old new (LeavesOldOrNew (log_shape g) old.image.log (block log.tail))
-  leaves = subst (λ (l : List ℕ). LeavesOnly old new (LeavesOldOrNew (log_shape g) old.image.log l)) is
-      (subst (λ (s : Shape). LeavesOnly old new (LeavesOldOrNew s (region s old) bytes)) going.shape so_far)
-
   only_log : OnlyDevice Log old new
   only_log = subst (λ (s : Shape). OnlyDevice s.dev old new) going.shape only
 
   few : length log.blocks + 1 ≤ g.blocks - 1
-  few = let next = holds.blocks.next in let hi = fits.hi in let kept = holds.kept in let more = room in omega (arith, next, hi, kept, more)
+  few = let next = holds.blocks.next in let hi = finds.hi in let kept = holds.kept in let more = room in omega (arith, next, hi, kept, more)
 
   more_blocks : (image : Image) → IsRing (log_shape g) image.log → units_on (log_shape g) image ≡ appended (log_shape g) (units_on (log_shape g) old.image) (block log.tail) → HasBlocks g log.first (log.blocks ++ log.tail ∷ []) image
   more_blocks image form units = blocks_more g log.first log.blocks log.tail old.image image holds.blocks few are form units
 
-  pub seal_left : (sealing : Bool) → sealing ≡ true → LeavesOnly old new (LeavesLog g sealing log old.told)
-  seal_left sealing wants =
-      leaves_weaker old new _ (LeavesLog g sealing log old.told) (λ snapshot p. record {
-        told = p.1;
-        blocks = ⊎_elim (λ same. inl (blocks_stay g log.first log.blocks old.image snapshot.image holds.blocks (record { units = same; form = λ form. p.0.form })))
-            (λ more. inr (wants, more_blocks snapshot.image p.0.form more)) p.0.units;
-      }) (leaves_others_too Log old new (LeavesOldOrNew (log_shape g) old.image.log (block log.tail)) leaves only_log)
+  module _ (so_far : LeavesOnly old new (LeavesOldOrNew store.ring.shape (region store.ring.shape old) bytes)) where
+    leaves : LeavesOnly old new (LeavesOldOrNew (log_shape g) old.image.log (block log.tail))
+    leaves = subst (λ (l : List ℕ). LeavesOnly old new (LeavesOldOrNew (log_shape g) old.image.log l)) is
+        (subst (λ (s : Shape). LeavesOnly old new (LeavesOldOrNew s (region s old) bytes)) going.shape so_far)
 
-  module _ (quiet : IsQuiet old) where
-    either : LeavesOnly old new (KeepsOrAppends g Blocks (block log.tail) old)
-    either = append_makes g Blocks (block log.tail) old new going.limits going.lengths quiet long leaves only_log
+    pub seal_left : (sealing : Bool) → sealing ≡ true → LeavesOnly old new (LeavesLog g sealing log old.told)
+    seal_left sealing wants =
+        leaves_weaker old new _ (LeavesLog g sealing log old.told) (λ snapshot p. record {
+          told = p.1;
+          blocks = ⊎_elim (λ same. inl (blocks_stay g log.first log.blocks old.image snapshot.image holds.blocks (record { units = same; form = λ form. p.0.form })))
+              (λ more. inr (wants, more_blocks snapshot.image p.0.form more)) p.0.units;
+        }) (leaves_others_too Log old new (LeavesOldOrNew (log_shape g) old.image.log (block log.tail)) leaves only_log)
 
-    one_front : LeavesFront g (SealsBlock log.tail ∷ []) old new
-    one_front = leaves_weaker old new (KeepsOrAppends g Blocks (block log.tail) old) (IsReached g (IsFrontOf (SealsBlock log.tail ∷ [])) old) (λ snapshot k. reached snapshot k k.either) either
-      where
-        reached : (snapshot : Snapshot) → KeepsOrAppends g Blocks (block log.tail) old snapshot → ReadsAs g old.image snapshot.image ⊎ Appends g Blocks (block log.tail) old.image snapshot.image →
-            IsReached g (IsFrontOf (SealsBlock log.tail ∷ [])) old snapshot
-        reached snapshot k (inl reads) = record { told = k.told; changes = []; made = (SealsBlock log.tail ∷ [], refl); reaches = reads }
-        reached snapshot k (inr appends) = record { told = k.told; changes = SealsBlock log.tail ∷ []; made = ([], refl); reaches = (snapshot.image, (are, appends), reads_itself g snapshot.image) }
+    module _ (quiet : IsQuiet old) where
+      either : LeavesOnly old new (KeepsOrAppends g Blocks (block log.tail) old)
+      either = append_makes g Blocks (block log.tail) old new going.limits going.lengths quiet long leaves only_log
 
-    pub seal_front : (sealing : Bool) → sealing ≡ true → LeavesFront g (changes_if sealing log) old new
-    seal_front sealing wants = subst (λ (b : Bool). LeavesFront g (changes_if b log) old new) (sym wants) one_front
+      one_front : LeavesFront g (SealsBlock log.tail ∷ []) old new
+      one_front = leaves_weaker old new (KeepsOrAppends g Blocks (block log.tail) old) (IsReached g (IsFrontOf (SealsBlock log.tail ∷ [])) old) (λ snapshot k. reached snapshot k k.either) either
+        where
+          reached : (snapshot : Snapshot) → KeepsOrAppends g Blocks (block log.tail) old snapshot → ReadsAs g old.image snapshot.image ⊎ Appends g Blocks (block log.tail) old.image snapshot.image →
+              IsReached g (IsFrontOf (SealsBlock log.tail ∷ [])) old snapshot
+          reached snapshot k (inl reads) = record { told = k.told; changes = []; made = (SealsBlock log.tail ∷ [], refl); reaches = reads }
+          reached snapshot k (inr appends) = record { told = k.told; changes = SealsBlock log.tail ∷ []; made = ([], refl); reaches = (snapshot.image, (are, appends), reads_itself g snapshot.image) }
 
-  module _ (stands : units_of store.ring.shape (region store.ring.shape new) ≡ appended store.ring.shape (units_of store.ring.shape (region store.ring.shape old)) bytes) where
+      pub seal_front : (sealing : Bool) → sealing ≡ true → LeavesFront g (changes_if sealing log) old new
+      seal_front sealing wants = subst (λ (b : Bool). LeavesFront g (changes_if b log) old new) (sym wants) one_front
+
+  module _ (goes : Goes old new) (ring' : Ring) (ready : IsReady ring' new) (same_shape : ring'.shape ≡ store.ring.shape) (outside : SameOutside store.ring.shape (region store.ring.shape old) (region store.ring.shape new))
+      (stands : units_of store.ring.shape (region store.ring.shape new) ≡ appended store.ring.shape (units_of store.ring.shape (region store.ring.shape old)) bytes) where
     done : Appends g Blocks (block log.tail) old.image new.image
-    done = append_done g Blocks (block log.tail) old new going.limits going.lengths long leaves only_log
+    done = append_done g Blocks (block log.tail) old new going.limits going.lengths long (goes.sizes Log)
+        (subst (λ (s : Shape). IsRing s (region s new)) (same_shape ∙ going.shape) ready.form)
+        (subst (λ (s : Shape). SameOutside s (region s old) (region s new)) going.shape outside) only_log
         (subst (λ (l : List ℕ). units_on (log_shape g) new.image ≡ appended (log_shape g) (units_on (log_shape g) old.image) l) is
         (subst (λ (s : Shape). units_of s (region s new) ≡ appended s (units_of s (region s old)) bytes) going.shape stands))
 

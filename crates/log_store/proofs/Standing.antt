@@ -125,7 +125,7 @@ held_block store site log n fits holds from below =
     stands_there store.geometry log site.image n holds.blocks from (omega (arith, next, hi, below))
 
 -- what was found in the tail, and in a sealed block
-module _ (store : LogStore) (site : State) (log : LogList) (lsn : ℕ) (fits : Fits store site) (holds : Holds store site.image log) (result : Option LogRecord) where
+module _ (store : LogStore) (site : State) (log : LogList) (lsn : ℕ) (fits : Finds store site) (holds : Holds store site.image log) (result : Option LogRecord) where
   abbrev b : ℕ
   b = lsn / 512
 

@@ -6,7 +6,7 @@ ghost use Rattle.site.specs.Geometry.{HasLimits, HasLengths};
 ghost use Rattle.site.specs.State.{State, reads_of, IsSettled, IsQuiet};
 ghost use Rattle.site.specs.Calls.{Goes, SameReads, ReadsMore, IsUnchanged};
 ghost use Rattle.site.specs.Moments.{LeavesOnly};
-ghost use Rattle.sealed_ring.specs.Ring.{IsRing, IsLive};
+ghost use Rattle.sealed_ring.specs.Ring.{IsRing, IsLive, SameOutside};
 ghost use Rattle.sealed_ring.specs.Ready.{FaultRose, ChangesOnly};
 ghost use Rattle.log_records.specs.declared.log_record.LogRecord.{LogRecord};
 ghost use Rattle.log_records.specs.Spelling.{spelling, used_by, block, HasForm, FitsFields, IsBlock};
@@ -135,13 +135,13 @@ impl LogStore {
         requires form { HasForm rec.now }
         requires room { HasRoom self.old }
 
-        // Of an honest site that the store fits.
+        // Of an honest site that the store fits, or whose log it found while ranges of the device are loose.
         ensures holds { (log : LogList)
-            → Fits self.old (S.state site.old) → Holds self.old (S.state site.old).image log
+            → Finds self.old (S.state site.old) → Holds self.old (S.state site.old).image log
             → OnOk result (Holds self.new (S.state site.new).image
             (with_record rec.now (sealed_if (overflows self.old rec.now) log))) }
         ensures listed { (log : LogList)
-            → Fits self.old (S.state site.old) → Holds self.old (S.state site.old).image log
+            → Finds self.old (S.state site.old) → Holds self.old (S.state site.old).image log
             → IfOk result (λ lsn.
             entries (with_record rec.now (sealed_if (overflows self.old rec.now) log))
             ≡ entries log ++ record { lsn = lsn; rec = rec.now } ∷ []) }
@@ -154,10 +154,14 @@ impl LogStore {
             → IsQuiet (S.state site.old) → LeavesFront self.old.geometry
             (changes_if (overflows self.old rec.now) log) (S.state site.old) (S.state site.new) }
         ensures reaches { (log : LogList)
-            → Fits self.old (S.state site.old) → Holds self.old (S.state site.old).image log
+            → Finds self.old (S.state site.old) → Holds self.old (S.state site.old).image log
             → OnOk result (Reaches self.old.geometry (changes_if (overflows self.old rec.now) log)
             (S.state site.old).image (S.state site.new).image) }
+        ensures finds { Finds self.old (S.state site.old) → OnOk result (Finds self.new (S.state site.new)) }
         ensures fits { Fits self.old (S.state site.old) → OnOk result (Fits self.new (S.state site.new)) }
+        ensures outside { IsTrue (S.state site.old).honest
+            → OnOk result (SameOutside (log_shape self.old.geometry)
+            (S.state site.old).image.log (S.state site.new).image.log) }
         ensures beside { Fits self.old (S.state site.old)
             → LeavesOnly (S.state site.old) (S.state site.new)
             (KeepsBeside self.old.geometry (S.state site.old).image) }
@@ -202,9 +206,9 @@ impl LogStore {
         requires going { MayGoOn self.old (S.state site.old) }
         requires room { HasRoom self.old }
 
-        // Of an honest site that the store fits.
+        // Of an honest site that the store fits, or whose log it found while ranges of the device are loose.
         ensures holds { (log : LogList)
-            → Fits self.old (S.state site.old) → Holds self.old (S.state site.old).image log
+            → Finds self.old (S.state site.old) → Holds self.old (S.state site.old).image log
             → OnOk result (Holds self.new (S.state site.new).image (sealed_if (has_tail self.old) log)) }
         ensures any_moment { (log : LogList)
             → Fits self.old (S.state site.old) → Holds self.old (S.state site.old).image log
@@ -215,10 +219,14 @@ impl LogStore {
             → IsQuiet (S.state site.old) → LeavesFront self.old.geometry
             (changes_if (has_tail self.old) log) (S.state site.old) (S.state site.new) }
         ensures reaches { (log : LogList)
-            → Fits self.old (S.state site.old) → Holds self.old (S.state site.old).image log
+            → Finds self.old (S.state site.old) → Holds self.old (S.state site.old).image log
             → OnOk result (Reaches self.old.geometry (changes_if (has_tail self.old) log)
             (S.state site.old).image (S.state site.new).image) }
+        ensures finds { Finds self.old (S.state site.old) → OnOk result (Finds self.new (S.state site.new)) }
         ensures fits { Fits self.old (S.state site.old) → OnOk result (Fits self.new (S.state site.new)) }
+        ensures outside { IsTrue (S.state site.old).honest
+            → OnOk result (SameOutside (log_shape self.old.geometry)
+            (S.state site.old).image.log (S.state site.new).image.log) }
         ensures beside { Fits self.old (S.state site.old)
             → LeavesOnly (S.state site.old) (S.state site.new)
             (KeepsBeside self.old.geometry (S.state site.old).image) }
@@ -261,7 +269,7 @@ impl LogStore {
         requires some { IsTrue wanted → 2 < self.old.used }
 
         ensures holds { (log : LogList)
-            → Fits self.old (S.state site.old) → Holds self.old (S.state site.old).image log
+            → Finds self.old (S.state site.old) → Holds self.old (S.state site.old).image log
             → OnOk result (Holds self.new (S.state site.new).image (sealed_if wanted log)) }
         ensures any_moment { (log : LogList)
             → Fits self.old (S.state site.old) → Holds self.old (S.state site.old).image log
@@ -272,10 +280,14 @@ impl LogStore {
             → IsQuiet (S.state site.old) → LeavesFront self.old.geometry
             (changes_if wanted log) (S.state site.old) (S.state site.new) }
         ensures reaches { (log : LogList)
-            → Fits self.old (S.state site.old) → Holds self.old (S.state site.old).image log
+            → Finds self.old (S.state site.old) → Holds self.old (S.state site.old).image log
             → OnOk result (Reaches self.old.geometry (changes_if wanted log)
             (S.state site.old).image (S.state site.new).image) }
+        ensures finds { Finds self.old (S.state site.old) → OnOk result (Finds self.new (S.state site.new)) }
         ensures fits { Fits self.old (S.state site.old) → OnOk result (Fits self.new (S.state site.new)) }
+        ensures outside { IsTrue (S.state site.old).honest
+            → OnOk result (SameOutside (log_shape self.old.geometry)
+            (S.state site.old).image.log (S.state site.new).image.log) }
         ensures beside { Fits self.old (S.state site.old)
             → LeavesOnly (S.state site.old) (S.state site.new)
             (KeepsBeside self.old.geometry (S.state site.old).image) }
@@ -372,9 +384,10 @@ impl LogStore {
         requires below { block ≤ self.old.ring.hi }
         ensures kept { self.new ≡ record self.old { kept = block } }
         ensures going { (site : State) → MayGoOn self.old site → MayGoOn self.new site }
+        ensures finds { (site : State) → Finds self.old site → Finds self.new site }
         ensures fits { (site : State) → Fits self.old site → Fits self.new site }
         ensures holds { (site : State) (log : LogList)
-            → MayGoOn self.old site → Fits self.old site → Holds self.old site.image log
+            → MayGoOn self.old site → Finds self.old site → Holds self.old site.image log
             → Holds self.new site.image (from_block block log) }
     {
         self.kept = block;
@@ -387,7 +400,7 @@ impl LogStore {
         requires before { lsn < end_of self.now }
 
         ensures found { (log : LogList)
-            → Fits self.now (S.state site.old) → Holds self.now (S.state site.old).image log
+            → Finds self.now (S.state site.old) → Holds self.now (S.state site.old).image log
             → 512 * log.first ≤ lsn → IfOk result (λ rec. at_lsn lsn (entries log) ≡ Some rec) }
         ensures form { IfOk result (λ rec. HasForm rec × FitsFields rec) }
         ensures same { IsTrue (S.state site.old).honest
@@ -399,7 +412,7 @@ impl LogStore {
         ensures device { IsErrOf result (Stop.Device Dev.Log)
             → FaultRose Dev.Log (S.state site.old) (S.state site.new) }
         ensures foreign { IsErrOf result Stop.Foreign → (log : LogList)
-            → Fits self.now (S.state site.old) → Holds self.now (S.state site.old).image log
+            → Finds self.now (S.state site.old) → Holds self.now (S.state site.old).image log
             → 512 * log.first ≤ lsn → at_lsn lsn (entries log) ≡ None }
         ensures stops { IfErr result (λ stop. (stop ≡ Stop.Device Dev.Log)
             ⊎ (stop ≡ Stop.Foreign)) }
@@ -431,14 +444,9 @@ impl LogStore {
         requires live { IsLive self.now.ring.shape self.now.ring.hi block }
         requires room { length into.old ≡ 503 }
 
-        ensures block { Fits self.now (S.state site.old)
+        ensures block { Finds self.now (S.state site.old)
             → OnOk result (into.new ≡ block_on self.now.geometry (S.state site.old).image block) }
         ensures holds { (log : LogList)
-            → Fits self.now (S.state site.old) → Holds self.now (S.state site.old).image log
-            → log.first ≤ block → IfOk result (λ used. IsBlock into.new (sealed_block log block)
-            × (used ≡ used_by (sealed_block log block))) }
-        // Also while ranges of the log device are loose.
-        ensures found { (log : LogList)
             → Finds self.now (S.state site.old) → Holds self.now (S.state site.old).image log
             → log.first ≤ block → IfOk result (λ used. IsBlock into.new (sealed_block log block)
             × (used ≡ used_by (sealed_block log block))) }
@@ -457,7 +465,7 @@ impl LogStore {
         // When each answer comes.
         ensures device { IsErrOf result (Stop.Device Dev.Log)
             → FaultRose Dev.Log (S.state site.old) (S.state site.new) }
-        ensures foreign { IsErrOf result Stop.Foreign → Fits self.now (S.state site.old)
+        ensures foreign { IsErrOf result Stop.Foreign → Finds self.now (S.state site.old)
             → (records : List LogRecord)
             → IsBlock (block_on self.now.geometry (S.state site.old).image block) records → ⊥ }
         ensures stops { IfErr result (λ stop. (stop ≡ Stop.Device Dev.Log)

@@ -3,7 +3,7 @@ use Rattle.std.proofs.Common.{◌≡◌, ◌≢◌, inl, inr, ℕ, ◌+◌, ◌%
 use Rattle.std.proofs.lemmas.Bool.{cases_eq, and_parts, and_from, eqb-true, eq-eqb}
 use Rattle.std.proofs.lemmas.Nat.{mod_below}
 use Rattle.sealed_ring.specs.declared.slots.Shape.{Shape}
-use Rattle.sealed_ring.specs.Ring.{FitsIn, place, IsBeside, gate, number, counts, hi_of, HasForm, Keeps, IsStaged, Adds, Stages, Opens, Seals}
+use Rattle.sealed_ring.specs.Ring.{FitsIn, place, IsBeside, gate, number, counts, hi_of, SameOutside, HasForm, Keeps, IsStaged, Adds, Stages, Opens, Seals}
 use Rattle.sealed_ring.proofs.Rows.{mod_apart}
 use Rattle.sealed_ring.proofs.Alters.{Alters, next_alters, is_opened, number_same, content_same}
 use Rattle.sealed_ring.proofs.Places.{alters_by, alters_gate, slot_beside, body_not_gate, gates_apart}
@@ -100,3 +100,14 @@ module _ (s : Shape) (hi : ℕ) (bytes old now : List ℕ) (fits : FitsIn s (len
       let least : number s now (hi % s.slots) < hi_of s now = hi_at_least s now (hi % s.slots) s.slots (mod_below hi s.slots (omega (arith, fits.slots))) newest in
       let number_is = is.number in
       omega arith
+
+  -- and all outside the ring is as it was
+  pub sealed_outside : SameOutside s old now
+  sealed_outside p out =
+      let next = (hi + 1) % s.slots in
+      is.others p (out (hi % s.slots) (mod_below hi s.slots (omega (arith, fits.slots))))
+      (not_at (place s next) (9 + s.room) p (omega arith) (out next (mod_below (hi + 1) s.slots (omega (arith, fits.slots)))))
+    where
+      not_at : (at n p : ℕ) → 0 < n → IsBeside at n p → p ≢ at
+      not_at at n p some (inl below) same = omega arith
+      not_at at n p some (inr behind) same = omega arith

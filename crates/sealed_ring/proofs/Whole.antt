@@ -6,7 +6,7 @@ use Rattle.site.specs.State.{State, now_of, IsSettled}
 use Rattle.site.specs.Moments.{Leaves, LeavesOnly}
 use Rattle.site.specs.Laws.{in_sequence, leaves_weaker, settled_leaves}
 use Rattle.sealed_ring.specs.declared.ring.Ring.{Ring}
-use Rattle.sealed_ring.specs.Ready.{region, region_left, IsReady, IsAtRest, LeavesOldOrNew, LeavesKept, LeavesEither}
+use Rattle.sealed_ring.specs.Ready.{region, region_left, Finds, IsReady, IsAtRest, LeavesOldOrNew, LeavesKept, LeavesEither}
 use Rattle.sealed_ring.proofs.Highest.{hi_is}
 
 -- the units of a ring whose next unit is known
@@ -52,5 +52,9 @@ module _ (s : Shape) (hi : ℕ) (bytes : List ℕ) (old : State) (slots : 3 ≤ 
       (leaves_weaker mid new (LeavesEither s hi (region s mid)) (LeavesOldOrNew s (region s old) bytes)
       (λ snapshot e. either_of s hi (region s old) bytes slots rest.form (region s mid) (region_left s snapshot) k is e) later)
 
+-- a ring that is found is of the form for its own next unit
+pub form_of : (ring : Ring) (site : State) → Finds ring site → HasForm ring.shape ring.hi (region ring.shape site)
+form_of ring site finds = subst (λ (h : ℕ). HasForm ring.shape h (region ring.shape site)) (sym finds.hi) finds.form
+
 pub at_rest : (ring : Ring) (site : State) → IsReady ring site → IsAtRest ring.shape ring.hi site
-at_rest ring site ready = record { settled = ready.settled; form = subst (λ (h : ℕ). HasForm ring.shape h (region ring.shape site)) (sym ready.hi) ready.form }
+at_rest ring site ready = record { settled = ready.settled; form = form_of ring site (record { form = ready.form; hi = ready.hi }) }

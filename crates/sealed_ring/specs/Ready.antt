@@ -35,6 +35,11 @@ pub record IsReady (ring : Ring) (site : State) : Type 0 where
   pub form : IsRing ring.shape (region ring.shape site)
   pub hi : Fits ring site
 
+-- over an honest site, whatever of its device is loose: the content is of the form, and the ring's next unit is its
+pub record Finds (ring : Ring) (site : State) : Type 0 where
+  pub form : IsRing ring.shape (region ring.shape site)
+  pub hi : Fits ring site
+
 -- each snapshot has the old units, or the new one too
 abbrev pub LeavesOldOrNew : Shape → List ℕ → List ℕ → Snapshot → Type 0
 LeavesOldOrNew s old bytes snapshot = OldOrNew s old bytes (region_left s snapshot)
@@ -65,5 +70,5 @@ pub record HasSealed {T : Type 0} (s : Shape) (hi : ℕ) (bytes : List ℕ) (old
   pub changes : ChangesOnly s.dev old new
   pub seals : OnOk result (Seals s hi bytes (region s old) (region s new))
   pub settled : OnOk result (IsSettled s.dev new)
-  pub form : IsAtRest s hi old → OnOk result (HasForm s (hi + 1) (region s new))
-  pub stands : IsAtRest s hi old → OnOk result (units_of s (region s new) ≡ appended s (units_of s (region s old)) bytes)
+  pub form : HasForm s hi (region s old) → OnOk result (HasForm s (hi + 1) (region s new))
+  pub stands : HasForm s hi (region s old) → OnOk result (units_of s (region s new) ≡ appended s (units_of s (region s old)) bytes)

@@ -4,8 +4,8 @@ ghost use Rattle.site.specs.declared.outside.Dev.{Dev};
 ghost use Rattle.site.specs.State.{reads_of, IsSettled, IsQuiet};
 ghost use Rattle.site.specs.Calls.{Goes, SameReads, ReadsMore, IsUnchanged};
 ghost use Rattle.site.specs.Moments.{LeavesOnly};
-ghost use Rattle.sealed_ring.specs.Ring.{FitsIn, IsRing, Seals, appended, gate, number, first_number, unit_at, IsLive};
-ghost use Rattle.sealed_ring.specs.Ready.{region, units_in, FaultRose, IsUsable, Fits, IsReady, ChangesOnly, LeavesOldOrNew};
+ghost use Rattle.sealed_ring.specs.Ring.{FitsIn, IsRing, SameOutside, Seals, appended, gate, number, first_number, unit_at, IsLive};
+ghost use Rattle.sealed_ring.specs.Ready.{region, units_in, FaultRose, IsUsable, Fits, Finds, IsReady, ChangesOnly, LeavesOldOrNew};
 
 use crate::Shape;
 use crate::sealing::{OPEN, seal};
@@ -187,11 +187,16 @@ impl Ring {
             (LeavesOldOrNew self.old.shape (region self.old.shape (S.state site.old)) content.now) }
         ensures changes { IsTrue (S.state site.old).honest
             → ChangesOnly self.old.shape.dev (S.state site.old) (S.state site.new) }
-        ensures ready { IsTrue (S.state site.old).honest → IsReady self.old (S.state site.old)
+
+        // Of every honest site, also while ranges of its device are loose at entry.
+        ensures ready { IsTrue (S.state site.old).honest → Finds self.old (S.state site.old)
             → OnOk result (IsReady self.new (S.state site.new)) }
-        ensures stands { IsTrue (S.state site.old).honest → IsReady self.old (S.state site.old)
+        ensures stands { IsTrue (S.state site.old).honest → Finds self.old (S.state site.old)
             → OnOk result (units_in self.old.shape (S.state site.new)
             ≡ appended self.old.shape (units_in self.old.shape (S.state site.old)) content.now) }
+        ensures outside { IsTrue (S.state site.old).honest
+            → OnOk result (SameOutside self.old.shape
+            (region self.old.shape (S.state site.old)) (region self.old.shape (S.state site.new))) }
 
         // Of every honest site, whatever stood in the ring.
         ensures seals { IsTrue (S.state site.old).honest

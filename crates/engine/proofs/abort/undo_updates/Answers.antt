@@ -23,7 +23,8 @@ loop-update-init g c = record {
   goes = goes_nowhere (g.S.Site.state c.args.site.now);
   left = λ honest. refl;
   undone = λ records shows commits x h shown unfinished at is. starts c.args.journal.now (g.S.Site.state c.args.site.now) records shows commits x c.args.first c.args.table.now h shown unfinished at;
-  any_moment = λ records shows commits x h shown unfinished at is. nothing_happens c.args.journal.now (g.S.Site.state c.args.site.now) records shows commits c.requires.going.log.limits h;
+  quiet = λ honest quiet. quiet;
+  any_moment = λ records shows commits x h shown unfinished at is quiet. nothing_happens c.args.journal.now (g.S.Site.state c.args.site.now) records shows commits c.requires.going.log.limits h quiet;
 }
 
 pub returns-in-Err-clause-readable : goal.returns-in-Err-clause-readable
@@ -33,11 +34,11 @@ returns-in-Err-clause-readable g c records shows commits x h shown unfinished at
     c.in-Err.ensures.readable inv.log shows commits (left_of c.loop-update.at inv.remaining) inv.holds inv.shown_is inv.left (record { txn = refl; last = refl; next = refl }) some
 
 pub returns-in-Err-clause-any_moment : goal.returns-in-Err-clause-any_moment
-returns-in-Err-clause-any_moment g c records shows commits x h shown unfinished at is =
+returns-in-Err-clause-any_moment g c records shows commits x h shown unfinished at is quiet =
     let inv = c.loop-update.invariant.undone records shows commits x h shown unfinished at is in
     and_then c.args.journal.now.log.geometry c.loop-update.journal.log.geometry (g.S.Site.state c.args.site.now) (g.S.Site.state c.loop-update.site) (g.S.Site.state c.undo_update.new.site) shows commits c.loop-update.invariant.geometry
-    (c.loop-update.invariant.any_moment records shows commits x h shown unfinished at is)
-    (c.undo_update.ensures.any_moment inv.log shows commits inv.holds)
+    (c.loop-update.invariant.any_moment records shows commits x h shown unfinished at is quiet)
+    (c.undo_update.ensures.any_moment inv.log shows commits inv.holds (c.loop-update.invariant.quiet h.fits.honest quiet))
 
 pub returns-in-Err-clause-device : goal.returns-in-Err-clause-device
 returns-in-Err-clause-device g c is =
@@ -72,11 +73,12 @@ loop-update-preserved g c =
           let some = remains c.loop-update.journal mid records shows commits x c.loop-update.at c.loop-update._update c.args.count c.loop-update.table before is c.loop-update-test.true in
           goes_on c.loop-update.journal c.undo_update.new.journal mid new records shows commits x c.loop-update.at c.in-Ok.next c.loop-update._update c.loop-update.table c.undo_update.new.table before some c.undo_update.ensures.geometry
           (c.in-Ok.ensures.undone before.log shows commits (left_of c.loop-update.at before.remaining) before.holds before.shown_is before.left (record { txn = refl; last = refl; next = refl }) some);
-      any_moment = λ records shows commits x h shown unfinished at is.
+      quiet = λ honest quiet. c.in-Ok.ensures.stays_quiet (stays_honest old mid inv.goes honest) (inv.quiet honest quiet);
+      any_moment = λ records shows commits x h shown unfinished at is quiet.
           let before = inv.undone records shows commits x h shown unfinished at is in
           and_then c.args.journal.now.log.geometry c.loop-update.journal.log.geometry old mid new shows commits inv.geometry
-          (inv.any_moment records shows commits x h shown unfinished at is)
-          (c.undo_update.ensures.any_moment before.log shows commits before.holds);
+          (inv.any_moment records shows commits x h shown unfinished at is quiet)
+          (c.undo_update.ensures.any_moment before.log shows commits before.holds (inv.quiet h.fits.honest quiet));
     }
 
 pub returns-clause-undone : goal.returns-clause-undone

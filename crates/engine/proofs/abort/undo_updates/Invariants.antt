@@ -1,5 +1,6 @@
 use Rattle.std.proofs.Common.{◌≡◌, ℕ, ◌+◌, ◌<◌, ◌≤◌, ◌^◌, List, length, IsTrue}
 use Rattle.std.specs.List.{AllByRecursion}
+use Rattle.site.specs.State.{IsQuiet}
 use Rattle.site.specs.Calls.{Goes}
 use Rattle.site.specs.Moments.{LeavesOnly}
 use Rattle.record_model.specs.State.{Content}
@@ -33,6 +34,7 @@ invariant-loop-update g l =
       left : IsTrue old.honest → now.left ≡ old.left;
       undone : (records : List Entry) (shows : List Content) (commits : ℕ) (x : Unfinished) → HoldsLog l.fn.journal old records shows commits → l.fn.table ≡ shown_table records (blank_versions l.fn.journal.log.geometry.pages)
           → IsUnfinished records x → IsAt l.fn.first x → x.remaining ≡ l.count → Compensates l.journal now records shows commits x l.at l._update l.table;
+      quiet : IsTrue old.honest → IsQuiet old → IsQuiet now;
       any_moment : (records : List Entry) (shows : List Content) (commits : ℕ) (x : Unfinished) → HoldsLog l.fn.journal old records shows commits → l.fn.table ≡ shown_table records (blank_versions l.fn.journal.log.geometry.pages)
-          → IsUnfinished records x → IsAt l.fn.first x → x.remaining ≡ l.count → LeavesOnly old now (LeavesTable l.fn.journal.log.geometry shows commits old.told);
+          → IsUnfinished records x → IsAt l.fn.first x → x.remaining ≡ l.count → IsQuiet old → LeavesOnly old now (LeavesTable l.fn.journal.log.geometry shows commits old.told);
     }

@@ -8,10 +8,10 @@ use Rattle.engine.proofs.Endings.{standing, at_place, ended, may_ended}
 use Rattle.engine.proofs.restart.end_one.Goals as goal
 
 pub returns-in_err-append-clause-any_moment : goal.returns-in_err-append-clause-any_moment
-returns-in_err-append-clause-any_moment g c shows table commits u = c.append.ensures.any_moment u.records table commits u.holds
+returns-in_err-append-clause-any_moment g c shows table commits u quiet = c.append.ensures.any_moment u.records table commits u.holds quiet
 
 pub returns-clause-any_moment : goal.returns-clause-any_moment
-returns-clause-any_moment g c shows table commits u = c.append.ensures.any_moment u.records table commits u.holds
+returns-clause-any_moment g c shows table commits u quiet = c.append.ensures.any_moment u.records table commits u.holds quiet
 
 pub returns-clause-undoing : goal.returns-clause-undoing
 returns-clause-undoing g c shows table commits u =

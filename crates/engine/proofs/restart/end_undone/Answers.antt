@@ -19,7 +19,8 @@ loop-place-init g c =
       goes = goes_nowhere site;
       left = λ honest. refl;
       undoing = λ shows table commits u. u;
-      leaves = λ shows table commits u. leaves_nothing c.args.journal.now site shows c.args.analysis.now.losers.items table commits c.requires.may u;
+      quiet = λ honest quiet. quiet;
+      leaves = λ shows table commits u quiet. leaves_nothing c.args.journal.now site shows c.args.analysis.now.losers.items table commits c.requires.may u quiet;
     }
 
 pub loop-place-preserved-in-Continue-1 : goal.loop-place-preserved-in-Continue-1
@@ -44,15 +45,16 @@ loop-place-preserved-in-Continue-1 g c =
       goes = goes_in_sequence old mid new i.goes c.end_one.ensures.goes;
       left = λ honest. c.end_one.ensures.left (stays_honest old mid i.goes honest) ∙ i.left honest;
       undoing = λ shows table commits u. c.in_ok-end_one.ensures.undoing shows table commits (i.undoing shows table commits u);
-      leaves = λ shows table commits u. then_leaves c.args.journal.now.log.geometry c.loop-place.journal.log.geometry table commits old mid new i.geometry
-          (i.leaves shows table commits u) (c.end_one.ensures.any_moment shows table commits (i.undoing shows table commits u));
+      quiet = λ honest quiet. c.in_ok-end_one.ensures.stays_quiet (stays_honest old mid i.goes honest) (i.quiet honest quiet);
+      leaves = λ shows table commits u quiet. then_leaves c.args.journal.now.log.geometry c.loop-place.journal.log.geometry table commits old mid new i.geometry
+          (i.leaves shows table commits u quiet) (c.end_one.ensures.any_moment shows table commits (i.undoing shows table commits u) (i.quiet u.holds.fits.honest quiet));
     }
 
 pub returns-in_err-end_one-clause-any_moment : goal.returns-in_err-end_one-clause-any_moment
-returns-in_err-end_one-clause-any_moment g c shows table commits u =
+returns-in_err-end_one-clause-any_moment g c shows table commits u quiet =
     let i = c.loop-place.invariant in
     then_leaves c.args.journal.now.log.geometry c.loop-place.journal.log.geometry table commits (g.S.Site.state c.args.site.now) (g.S.Site.state c.loop-place.site) (g.S.Site.state c.end_one.new.site) i.geometry
-    (i.leaves shows table commits u) (c.end_one.ensures.any_moment shows table commits (i.undoing shows table commits u))
+    (i.leaves shows table commits u quiet) (c.end_one.ensures.any_moment shows table commits (i.undoing shows table commits u) (i.quiet u.holds.fits.honest quiet))
 
 pub returns-in_err-end_one-clause-device : goal.returns-in_err-end_one-clause-device
 returns-in_err-end_one-clause-device g c is =

@@ -1,4 +1,5 @@
 use Rattle.std.proofs.Common.{◌-◌, ◌≡◌, ◌+◌, ◌≤◌, ℕ, List, length, take, IsTrue}
+use Rattle.site.specs.State.{IsQuiet}
 use Rattle.site.specs.Calls.{Goes}
 use Rattle.site.specs.Moments.{LeavesOnly}
 use Rattle.record_model.specs.State.{Content}
@@ -22,7 +23,8 @@ invariant-loop-place g l =
       goes : Goes old now;
       left : IsTrue old.honest → now.left ≡ old.left;
       undoing : (shows table : List Content) (commits : ℕ) → IsUndoing l.fn.journal old shows l.fn.analysis.losers.items table commits → IsUndoing l.journal now shows l.analysis.losers.items table commits;
-      leaves : (shows table : List Content) (commits : ℕ) → IsUndoing l.fn.journal old shows l.fn.analysis.losers.items table commits → LeavesOnly old now (LeavesTable l.fn.journal.log.geometry table commits old.told);
+      quiet : IsTrue old.honest → IsQuiet old → IsQuiet now;
+      leaves : (shows table : List Content) (commits : ℕ) → IsUndoing l.fn.journal old shows l.fn.analysis.losers.items table commits → IsQuiet old → LeavesOnly old now (LeavesTable l.fn.journal.log.geometry table commits old.told);
     }
 
 abbrev pub decreases-loop-place : goal.decreases-loop-place

@@ -65,7 +65,7 @@ returns-in_err-take_block-clause-readable g c blocks fits holds sound len =
     let inside : c.loop-block.block < length blocks = omega (arith, count, sealed, end) in
     let minus : c.loop-block.block - 0 ≡ c.loop-block.block = omega arith in
     let read = subst (λ (n : ℕ). IsBlock c.read_block.new.into (block_of blocks n) × (c.in_ok-used.used ≡ used_by (block_of blocks n))) minus
-    (c.in_ok-used.ensures.found (record { first = 0; blocks = blocks; tail = [] }) (finds_still c.args.log.now old mid c.loop-block.invariant.goes same fits) (held_still c.args.log.now (record { first = 0; blocks = blocks; tail = [] }) old mid same holds) (omega arith)) in
+    (c.in_ok-used.ensures.holds (record { first = 0; blocks = blocks; tail = [] }) (finds_still c.args.log.now old mid c.loop-block.invariant.goes same fits) (held_still c.args.log.now (record { first = 0; blocks = blocks; tail = [] }) old mid same holds) (omega arith)) in
     let h = c.in_err-take_block.ensures.readable c.args.log.now.geometry blocks (log_from 0 (take c.loop-block.block blocks)) (log_from (c.loop-block.block + 1) (drop (suc c.loop-block.block) blocks)) (block_of blocks c.loop-block.block)
     sound read.0 read.1 (log_split 0 c.loop-block.block c.loop-block.block blocks (omega arith) inside) (c.loop-block.invariant.read blocks fits holds sound len) in
     let ne : c.in_err-take_block.field-0.0 ≢ Foreign = λ same_stop. cc in search (rules, ne)
@@ -99,7 +99,7 @@ loop-block-preserved g c =
           let minus : c.loop-block.block - 0 ≡ c.loop-block.block = omega arith in
           let plus : suc c.loop-block.block ≡ c.loop-block.block + 1 = omega arith in
           let read = subst (λ (n : ℕ). IsBlock c.read_block.new.into (block_of blocks n) × (c.in_ok-used.used ≡ used_by (block_of blocks n))) minus
-          (c.in_ok-used.ensures.found (record { first = 0; blocks = blocks; tail = [] }) (finds_still c.args.log.now old mid i.goes same fits) (held_still c.args.log.now (record { first = 0; blocks = blocks; tail = [] }) old mid same holds) (omega arith)) in
+          (c.in_ok-used.ensures.holds (record { first = 0; blocks = blocks; tail = [] }) (finds_still c.args.log.now old mid i.goes same fits) (held_still c.args.log.now (record { first = 0; blocks = blocks; tail = [] }) old mid same holds) (omega arith)) in
           subst (HasRead c.args.log.now.geometry.pages c.take_block.new.self) (sym (log_take 0 c.loop-block.block c.loop-block.block blocks (omega arith) inside) ∙ ap (λ (n : ℕ). log_from 0 (take n blocks)) plus)
           (c.in_ok-take_block.ensures.read c.args.log.now.geometry blocks (log_from 0 (take c.loop-block.block blocks)) (log_from (c.loop-block.block + 1) (drop (suc c.loop-block.block) blocks)) (block_of blocks c.loop-block.block)
           sound read.0 read.1 (log_split 0 c.loop-block.block c.loop-block.block blocks (omega arith) inside) (i.read blocks fits holds sound len));

@@ -32,18 +32,18 @@ returns-in_err-reading-clause-any_moment g c g' table commits honest quiet stand
     stands_still g' old new table commits quiet stands (unchanged_in_sequence old mid new (c.start.ensures.same honest) (c.read_all.ensures.same (stays_honest old mid c.start.ensures.goes honest)))
 
 pub returns-in_err-reading-clause-readable : goal.returns-in_err-reading-clause-readable
-returns-in_err-reading-clause-readable g c g' table commits honest quiet stands =
+returns-in_err-reading-clause-readable g c g' table commits honest stands =
     let old = g.S.Site.state c.args.site.now in
     let mid = g.S.Site.state c.start.new.site in
     let new = g.S.Site.state c.read_all.new.site in
     let found : c.in_ok-geometry.geometry ≡ g' = (c.in_ok-geometry.ensures.found g' stands.sound.limits stands.sound.beside.lengths).1 in
     let is = c.in_ok-log.ensures.geometry ∙ found in
-    let fits = c.in_ok-log.ensures.fits honest (quiet_settled Log old quiet) (subst (λ (x : Geometry). IsRing (log_shape x) old.image.log) (sym found) stands.sound.held.form) in
+    let fits = c.in_ok-log.ensures.found honest (subst (λ (x : Geometry). IsRing (log_shape x) old.image.log) (sym found) stands.sound.held.form) in
     let holds = c.in_ok-log.ensures.holds honest 0 stands.blocks (subst (λ (x : Geometry). HasBlocks x 0 stands.blocks old.image) (sym found) stands.sound.held) in
     let first = c.start.ensures.same honest in
     let second = c.read_all.ensures.same (stays_honest old mid c.start.ensures.goes honest) in
-    let sound = sound_here c.in_ok-log.log g' old mid new table commits stands is quiet first second c.read_all.ensures.goes fits holds in
-    let ne : c.in_err-reading.field-0.0 ≢ Foreign = c.in_err-reading.ensures.readable stands.blocks (finds_of c.in_ok-log.log mid fits) holds sound (ap (λ (x : Geometry). 32 * x.pages) (sym c.in_ok-log.ensures.geometry)) in
+    let sound = sound_here c.in_ok-log.log g' old mid new table commits stands is first second c.read_all.ensures.goes fits holds in
+    let ne : c.in_err-reading.field-0.0 ≢ Foreign = c.in_err-reading.ensures.readable stands.blocks fits holds sound (ap (λ (x : Geometry). 32 * x.pages) (sym c.in_ok-log.ensures.geometry)) in
     search (rules, ne)
 
 pub returns-in_err-reading-clause-device : goal.returns-in_err-reading-clause-device
@@ -58,19 +58,19 @@ returns-then-sealed_end-owed-clause-any_moment g c g' table commits honest quiet
     stands_still g' old new table commits quiet stands (unchanged_in_sequence old mid new (c.start.ensures.same honest) (c.read_all.ensures.same (stays_honest old mid c.start.ensures.goes honest)))
 
 pub returns-then-sealed_end-owed-clause-readable : goal.returns-then-sealed_end-owed-clause-readable
-returns-then-sealed_end-owed-clause-readable g c g' table commits honest quiet stands same =
+returns-then-sealed_end-owed-clause-readable g c g' table commits honest stands same =
     let old = g.S.Site.state c.args.site.now in
     let mid = g.S.Site.state c.start.new.site in
     let new = g.S.Site.state c.read_all.new.site in
     let found : c.in_ok-geometry.geometry ≡ g' = (c.in_ok-geometry.ensures.found g' stands.sound.limits stands.sound.beside.lengths).1 in
     let is = c.in_ok-log.ensures.geometry ∙ found in
-    let fits = c.in_ok-log.ensures.fits honest (quiet_settled Log old quiet) (subst (λ (x : Geometry). IsRing (log_shape x) old.image.log) (sym found) stands.sound.held.form) in
+    let fits = c.in_ok-log.ensures.found honest (subst (λ (x : Geometry). IsRing (log_shape x) old.image.log) (sym found) stands.sound.held.form) in
     let holds = c.in_ok-log.ensures.holds honest 0 stands.blocks (subst (λ (x : Geometry). HasBlocks x 0 stands.blocks old.image) (sym found) stands.sound.held) in
     let first = c.start.ensures.same honest in
     let second = c.read_all.ensures.same (stays_honest old mid c.start.ensures.goes honest) in
-    let sound = sound_here c.in_ok-log.log g' old mid new table commits stands is quiet first second c.read_all.ensures.goes fits holds in
-    let read = c.in_ok-reading.ensures.read stands.blocks (finds_of c.in_ok-log.log mid fits) holds sound (ap (λ (x : Geometry). 32 * x.pages) (sym c.in_ok-log.ensures.geometry)) in
-    let room = has_room c.in_ok-log.log g' old mid new table commits stands is quiet first second c.read_all.ensures.goes fits holds c.in_ok-reading.reading read in
+    let sound = sound_here c.in_ok-log.log g' old mid new table commits stands is first second c.read_all.ensures.goes fits holds in
+    let read = c.in_ok-reading.ensures.read stands.blocks fits holds sound (ap (λ (x : Geometry). 32 * x.pages) (sym c.in_ok-log.ensures.geometry)) in
+    let room = has_room c.in_ok-log.log g' old mid new table commits stands is first second c.read_all.ensures.goes fits holds c.in_ok-reading.reading read in
     let sealed = c.sealed_end.ensures in
     let owes = c.owed.ensures in
     let many = c.if-sealed_end-owed.true in
@@ -96,29 +96,29 @@ returns-in_err-undo_all-clause-any_moment g c g' table commits honest quiet stan
     let new = g.S.Site.state c.read_all.new.site in
     let found : c.in_ok-geometry.geometry ≡ g' = (c.in_ok-geometry.ensures.found g' stands.sound.limits stands.sound.beside.lengths).1 in
     let is = c.in_ok-log.ensures.geometry ∙ found in
-    let fits = c.in_ok-log.ensures.fits honest (quiet_settled Log old quiet) (subst (λ (x : Geometry). IsRing (log_shape x) old.image.log) (sym found) stands.sound.held.form) in
+    let fits = c.in_ok-log.ensures.found honest (subst (λ (x : Geometry). IsRing (log_shape x) old.image.log) (sym found) stands.sound.held.form) in
     let holds = c.in_ok-log.ensures.holds honest 0 stands.blocks (subst (λ (x : Geometry). HasBlocks x 0 stands.blocks old.image) (sym found) stands.sound.held) in
     let first = c.start.ensures.same honest in
     let second = c.read_all.ensures.same (stays_honest old mid c.start.ensures.goes honest) in
-    let sound = sound_here c.in_ok-log.log g' old mid new table commits stands is quiet first second c.read_all.ensures.goes fits holds in
-    let read = c.in_ok-reading.ensures.read stands.blocks (finds_of c.in_ok-log.log mid fits) holds sound (ap (λ (x : Geometry). 32 * x.pages) (sym c.in_ok-log.ensures.geometry)) in
-    let undoing = opening c.in_ok-log.log g' old mid new table commits stands is quiet first second c.read_all.ensures.goes fits holds c.in_ok-reading.reading read c.deref_mut.result.now c.deref_mut.ensures.value c.in_ok-log.ensures.empty in
-    then_leaves g' c.in_ok-log.log.geometry table commits old new (g.S.Site.state c.undo_all.new.site) is (leaves_read c.in_ok-log.log g' old mid new table commits stands is quiet first second c.read_all.ensures.goes fits holds) (c.undo_all.ensures.any_moment table commits undoing)
+    let sound = sound_here c.in_ok-log.log g' old mid new table commits stands is first second c.read_all.ensures.goes fits holds in
+    let read = c.in_ok-reading.ensures.read stands.blocks fits holds sound (ap (λ (x : Geometry). 32 * x.pages) (sym c.in_ok-log.ensures.geometry)) in
+    let undoing = opening c.in_ok-log.log g' old mid new table commits stands is first second c.read_all.ensures.goes fits holds c.in_ok-reading.reading read c.deref_mut.result.now c.deref_mut.ensures.value c.in_ok-log.ensures.empty in
+    then_leaves g' c.in_ok-log.log.geometry table commits old new (g.S.Site.state c.undo_all.new.site) is (leaves_read c.in_ok-log.log g' old mid new table commits stands is first second c.read_all.ensures.goes fits holds quiet) (c.undo_all.ensures.any_moment table commits undoing ((unchanged_in_sequence old mid new first second).loose ∙ quiet))
 
 pub returns-in_err-undo_all-clause-readable : goal.returns-in_err-undo_all-clause-readable
-returns-in_err-undo_all-clause-readable g c g' table commits honest quiet stands =
+returns-in_err-undo_all-clause-readable g c g' table commits honest stands =
     let old = g.S.Site.state c.args.site.now in
     let mid = g.S.Site.state c.start.new.site in
     let new = g.S.Site.state c.read_all.new.site in
     let found : c.in_ok-geometry.geometry ≡ g' = (c.in_ok-geometry.ensures.found g' stands.sound.limits stands.sound.beside.lengths).1 in
     let is = c.in_ok-log.ensures.geometry ∙ found in
-    let fits = c.in_ok-log.ensures.fits honest (quiet_settled Log old quiet) (subst (λ (x : Geometry). IsRing (log_shape x) old.image.log) (sym found) stands.sound.held.form) in
+    let fits = c.in_ok-log.ensures.found honest (subst (λ (x : Geometry). IsRing (log_shape x) old.image.log) (sym found) stands.sound.held.form) in
     let holds = c.in_ok-log.ensures.holds honest 0 stands.blocks (subst (λ (x : Geometry). HasBlocks x 0 stands.blocks old.image) (sym found) stands.sound.held) in
     let first = c.start.ensures.same honest in
     let second = c.read_all.ensures.same (stays_honest old mid c.start.ensures.goes honest) in
-    let sound = sound_here c.in_ok-log.log g' old mid new table commits stands is quiet first second c.read_all.ensures.goes fits holds in
-    let read = c.in_ok-reading.ensures.read stands.blocks (finds_of c.in_ok-log.log mid fits) holds sound (ap (λ (x : Geometry). 32 * x.pages) (sym c.in_ok-log.ensures.geometry)) in
-    let undoing = opening c.in_ok-log.log g' old mid new table commits stands is quiet first second c.read_all.ensures.goes fits holds c.in_ok-reading.reading read c.deref_mut.result.now c.deref_mut.ensures.value c.in_ok-log.ensures.empty in
+    let sound = sound_here c.in_ok-log.log g' old mid new table commits stands is first second c.read_all.ensures.goes fits holds in
+    let read = c.in_ok-reading.ensures.read stands.blocks fits holds sound (ap (λ (x : Geometry). 32 * x.pages) (sym c.in_ok-log.ensures.geometry)) in
+    let undoing = opening c.in_ok-log.log g' old mid new table commits stands is first second c.read_all.ensures.goes fits holds c.in_ok-reading.reading read c.deref_mut.result.now c.deref_mut.ensures.value c.in_ok-log.ensures.empty in
     let ne : c.in_err-undo_all.field-0.0 ≢ Foreign = c.in_err-undo_all.ensures.readable table commits undoing in
     search (rules, ne)
 
@@ -129,13 +129,13 @@ returns-in_err-undo_all-clause-quiet g c g' table commits honest quiet stands =
     let new = g.S.Site.state c.read_all.new.site in
     let found : c.in_ok-geometry.geometry ≡ g' = (c.in_ok-geometry.ensures.found g' stands.sound.limits stands.sound.beside.lengths).1 in
     let is = c.in_ok-log.ensures.geometry ∙ found in
-    let fits = c.in_ok-log.ensures.fits honest (quiet_settled Log old quiet) (subst (λ (x : Geometry). IsRing (log_shape x) old.image.log) (sym found) stands.sound.held.form) in
+    let fits = c.in_ok-log.ensures.found honest (subst (λ (x : Geometry). IsRing (log_shape x) old.image.log) (sym found) stands.sound.held.form) in
     let holds = c.in_ok-log.ensures.holds honest 0 stands.blocks (subst (λ (x : Geometry). HasBlocks x 0 stands.blocks old.image) (sym found) stands.sound.held) in
     let first = c.start.ensures.same honest in
     let second = c.read_all.ensures.same (stays_honest old mid c.start.ensures.goes honest) in
-    let sound = sound_here c.in_ok-log.log g' old mid new table commits stands is quiet first second c.read_all.ensures.goes fits holds in
-    let read = c.in_ok-reading.ensures.read stands.blocks (finds_of c.in_ok-log.log mid fits) holds sound (ap (λ (x : Geometry). 32 * x.pages) (sym c.in_ok-log.ensures.geometry)) in
-    let undoing = opening c.in_ok-log.log g' old mid new table commits stands is quiet first second c.read_all.ensures.goes fits holds c.in_ok-reading.reading read c.deref_mut.result.now c.deref_mut.ensures.value c.in_ok-log.ensures.empty in
+    let sound = sound_here c.in_ok-log.log g' old mid new table commits stands is first second c.read_all.ensures.goes fits holds in
+    let read = c.in_ok-reading.ensures.read stands.blocks fits holds sound (ap (λ (x : Geometry). 32 * x.pages) (sym c.in_ok-log.ensures.geometry)) in
+    let undoing = opening c.in_ok-log.log g' old mid new table commits stands is first second c.read_all.ensures.goes fits holds c.in_ok-reading.reading read c.deref_mut.result.now c.deref_mut.ensures.value c.in_ok-log.ensures.empty in
     let ne : c.in_err-undo_all.field-0.0 ≢ Foreign = c.in_err-undo_all.ensures.readable table commits undoing in
     let settled : c.in_err-undo_all.field-0.0 ≢ Device Log → IsQuiet (g.S.Site.state c.undo_all.new.site) = λ other. absurd (⊎_elim other ne c.in_err-undo_all.ensures.stops) in
     search (rules, settled)
@@ -154,18 +154,18 @@ returns-in_err-force-clause-any_moment g c g' table commits honest quiet stands 
     let new = g.S.Site.state c.read_all.new.site in
     let found : c.in_ok-geometry.geometry ≡ g' = (c.in_ok-geometry.ensures.found g' stands.sound.limits stands.sound.beside.lengths).1 in
     let is = c.in_ok-log.ensures.geometry ∙ found in
-    let fits = c.in_ok-log.ensures.fits honest (quiet_settled Log old quiet) (subst (λ (x : Geometry). IsRing (log_shape x) old.image.log) (sym found) stands.sound.held.form) in
+    let fits = c.in_ok-log.ensures.found honest (subst (λ (x : Geometry). IsRing (log_shape x) old.image.log) (sym found) stands.sound.held.form) in
     let holds = c.in_ok-log.ensures.holds honest 0 stands.blocks (subst (λ (x : Geometry). HasBlocks x 0 stands.blocks old.image) (sym found) stands.sound.held) in
     let first = c.start.ensures.same honest in
     let second = c.read_all.ensures.same (stays_honest old mid c.start.ensures.goes honest) in
     let done = g.S.Site.state c.undo_all.new.site in
     let last = g.S.Site.state c.force.new.site in
-    let sound = sound_here c.in_ok-log.log g' old mid new table commits stands is quiet first second c.read_all.ensures.goes fits holds in
-    let read = c.in_ok-reading.ensures.read stands.blocks (finds_of c.in_ok-log.log mid fits) holds sound (ap (λ (x : Geometry). 32 * x.pages) (sym c.in_ok-log.ensures.geometry)) in
-    let undoing = opening c.in_ok-log.log g' old mid new table commits stands is quiet first second c.read_all.ensures.goes fits holds c.in_ok-reading.reading read c.deref_mut.result.now c.deref_mut.ensures.value c.in_ok-log.ensures.empty in
+    let sound = sound_here c.in_ok-log.log g' old mid new table commits stands is first second c.read_all.ensures.goes fits holds in
+    let read = c.in_ok-reading.ensures.read stands.blocks fits holds sound (ap (λ (x : Geometry). 32 * x.pages) (sym c.in_ok-log.ensures.geometry)) in
+    let undoing = opening c.in_ok-log.log g' old mid new table commits stands is first second c.read_all.ensures.goes fits holds c.in_ok-reading.reading read c.deref_mut.result.now c.deref_mut.ensures.value c.in_ok-log.ensures.empty in
     let undone = c.in_ok-undo_all.ensures.undoing table commits undoing in
-    let before = then_leaves g' c.in_ok-log.log.geometry table commits old new done is (leaves_read c.in_ok-log.log g' old mid new table commits stands is quiet first second c.read_all.ensures.goes fits holds) (c.undo_all.ensures.any_moment table commits undoing) in
-    then_leaves g' c.undo_all.new.journal.log.geometry table commits old done last (c.undo_all.ensures.geometry ∙ is) before (c.force.ensures.any_moment undone.records table commits undone.holds)
+    let before = then_leaves g' c.in_ok-log.log.geometry table commits old new done is (leaves_read c.in_ok-log.log g' old mid new table commits stands is first second c.read_all.ensures.goes fits holds quiet) (c.undo_all.ensures.any_moment table commits undoing ((unchanged_in_sequence old mid new first second).loose ∙ quiet)) in
+    then_leaves g' c.undo_all.new.journal.log.geometry table commits old done last (c.undo_all.ensures.geometry ∙ is) before (c.force.ensures.any_moment undone.records table commits undone.holds (c.in_ok-undo_all.ensures.stays_quiet (stays_honest mid new c.read_all.ensures.goes (stays_honest old mid c.start.ensures.goes honest)) ((unchanged_in_sequence old mid new first second).loose ∙ quiet)))
 
 pub returns-in_err-force-clause-device : goal.returns-in_err-force-clause-device
 returns-in_err-force-clause-device g c is =
@@ -176,26 +176,26 @@ returns-in_err-force-clause-device g c is =
     fault_since Log old done (g.S.Site.state c.force.new.site) (goes_in_sequence old new done (goes_in_sequence old mid new c.start.ensures.goes c.read_all.ensures.goes) c.undo_all.ensures.goes) (search rules)
 
 pub returns-clause-opens : goal.returns-clause-opens
-returns-clause-opens g c g' s honest quiet opens =
+returns-clause-opens g c g' s honest opens =
     let stands : Stands g' (g.S.Site.state c.args.site.now).image s.table s.commits = record { blocks = opens.blocks; sound = opens.sound; means = opens.means } in
     let old = g.S.Site.state c.args.site.now in
     let mid = g.S.Site.state c.start.new.site in
     let new = g.S.Site.state c.read_all.new.site in
     let found : c.in_ok-geometry.geometry ≡ g' = (c.in_ok-geometry.ensures.found g' stands.sound.limits stands.sound.beside.lengths).1 in
     let is = c.in_ok-log.ensures.geometry ∙ found in
-    let fits = c.in_ok-log.ensures.fits honest (quiet_settled Log old quiet) (subst (λ (x : Geometry). IsRing (log_shape x) old.image.log) (sym found) stands.sound.held.form) in
+    let fits = c.in_ok-log.ensures.found honest (subst (λ (x : Geometry). IsRing (log_shape x) old.image.log) (sym found) stands.sound.held.form) in
     let holds = c.in_ok-log.ensures.holds honest 0 stands.blocks (subst (λ (x : Geometry). HasBlocks x 0 stands.blocks old.image) (sym found) stands.sound.held) in
     let first = c.start.ensures.same honest in
     let second = c.read_all.ensures.same (stays_honest old mid c.start.ensures.goes honest) in
     let done = g.S.Site.state c.undo_all.new.site in
     let last = g.S.Site.state c.force.new.site in
-    let sound = sound_here c.in_ok-log.log g' old mid new s.table s.commits stands is quiet first second c.read_all.ensures.goes fits holds in
-    let read = c.in_ok-reading.ensures.read stands.blocks (finds_of c.in_ok-log.log mid fits) holds sound (ap (λ (x : Geometry). 32 * x.pages) (sym c.in_ok-log.ensures.geometry)) in
-    let undoing = opening c.in_ok-log.log g' old mid new s.table s.commits stands is quiet first second c.read_all.ensures.goes fits holds c.in_ok-reading.reading read c.deref_mut.result.now c.deref_mut.ensures.value c.in_ok-log.ensures.empty in
+    let sound = sound_here c.in_ok-log.log g' old mid new s.table s.commits stands is first second c.read_all.ensures.goes fits holds in
+    let read = c.in_ok-reading.ensures.read stands.blocks fits holds sound (ap (λ (x : Geometry). 32 * x.pages) (sym c.in_ok-log.ensures.geometry)) in
+    let undoing = opening c.in_ok-log.log g' old mid new s.table s.commits stands is first second c.read_all.ensures.goes fits holds c.in_ok-reading.reading read c.deref_mut.result.now c.deref_mut.ensures.value c.in_ok-log.ensures.empty in
     let undone = c.in_ok-undo_all.ensures.undoing s.table s.commits undoing in
     let back = written_back c.in_ok-reading.reading.table.len c.in_ok-reading.reading.table.items c.undo_all.new.table c.undo_all.new.table (search rules) (search rules) refl in
     let finished = sym undone.unfinished ∙ ap (map view) c.in_ok-undo_all.ensures.none in
-    let owes = owed_here c.in_ok-log.log g' old mid new s.table s.commits stands is quiet first second c.read_all.ensures.goes fits holds c.in_ok-reading.reading read in
+    let owes = owed_here c.in_ok-log.log g' old mid new s.table s.commits stands is first second c.read_all.ensures.goes fits holds c.in_ok-reading.reading read in
     let opened = ap (λ (x : State). x.made) opens.state in
     let total = c.in_ok-undo_all.ensures.made in
     let same = c.force.ensures.made in
@@ -207,7 +207,7 @@ returns-clause-opens g c g' s honest quiet opens =
       table = back ∙ undone.shown ∙ shows_table c.undo_all.new.journal done undone.records s.table s.commits undone.holds finished;
       finished = finished;
       made = same ∙ total ∙ ap (λ (n : ℕ). n + owed_for c.in_ok-reading.reading.analysis.losers.items) read.count ∙ ap (λ (n : ℕ). length (log_from 0 opens.blocks) + n) (sym owes) ∙ sym opened;
-      commits = c.undo_all.ensures.commits ∙ commits_here c.in_ok-log.log g' old mid new s.table s.commits stands is quiet first second c.read_all.ensures.goes fits holds c.in_ok-reading.reading read;
+      commits = c.undo_all.ensures.commits ∙ commits_here c.in_ok-log.log g' old mid new s.table s.commits stands is first second c.read_all.ensures.goes fits holds c.in_ok-reading.reading read;
     }
 
 pub returns-clause-any_moment : goal.returns-clause-any_moment
@@ -217,60 +217,26 @@ returns-clause-any_moment g c g' table commits honest quiet stands =
     let new = g.S.Site.state c.read_all.new.site in
     let found : c.in_ok-geometry.geometry ≡ g' = (c.in_ok-geometry.ensures.found g' stands.sound.limits stands.sound.beside.lengths).1 in
     let is = c.in_ok-log.ensures.geometry ∙ found in
-    let fits = c.in_ok-log.ensures.fits honest (quiet_settled Log old quiet) (subst (λ (x : Geometry). IsRing (log_shape x) old.image.log) (sym found) stands.sound.held.form) in
+    let fits = c.in_ok-log.ensures.found honest (subst (λ (x : Geometry). IsRing (log_shape x) old.image.log) (sym found) stands.sound.held.form) in
     let holds = c.in_ok-log.ensures.holds honest 0 stands.blocks (subst (λ (x : Geometry). HasBlocks x 0 stands.blocks old.image) (sym found) stands.sound.held) in
     let first = c.start.ensures.same honest in
     let second = c.read_all.ensures.same (stays_honest old mid c.start.ensures.goes honest) in
     let done = g.S.Site.state c.undo_all.new.site in
     let last = g.S.Site.state c.force.new.site in
-    let sound = sound_here c.in_ok-log.log g' old mid new table commits stands is quiet first second c.read_all.ensures.goes fits holds in
-    let read = c.in_ok-reading.ensures.read stands.blocks (finds_of c.in_ok-log.log mid fits) holds sound (ap (λ (x : Geometry). 32 * x.pages) (sym c.in_ok-log.ensures.geometry)) in
-    let undoing = opening c.in_ok-log.log g' old mid new table commits stands is quiet first second c.read_all.ensures.goes fits holds c.in_ok-reading.reading read c.deref_mut.result.now c.deref_mut.ensures.value c.in_ok-log.ensures.empty in
+    let sound = sound_here c.in_ok-log.log g' old mid new table commits stands is first second c.read_all.ensures.goes fits holds in
+    let read = c.in_ok-reading.ensures.read stands.blocks fits holds sound (ap (λ (x : Geometry). 32 * x.pages) (sym c.in_ok-log.ensures.geometry)) in
+    let undoing = opening c.in_ok-log.log g' old mid new table commits stands is first second c.read_all.ensures.goes fits holds c.in_ok-reading.reading read c.deref_mut.result.now c.deref_mut.ensures.value c.in_ok-log.ensures.empty in
     let undone = c.in_ok-undo_all.ensures.undoing table commits undoing in
-    let before = then_leaves g' c.in_ok-log.log.geometry table commits old new done is (leaves_read c.in_ok-log.log g' old mid new table commits stands is quiet first second c.read_all.ensures.goes fits holds) (c.undo_all.ensures.any_moment table commits undoing) in
-    then_leaves g' c.undo_all.new.journal.log.geometry table commits old done last (c.undo_all.ensures.geometry ∙ is) before (c.force.ensures.any_moment undone.records table commits undone.holds)
+    let before = then_leaves g' c.in_ok-log.log.geometry table commits old new done is (leaves_read c.in_ok-log.log g' old mid new table commits stands is first second c.read_all.ensures.goes fits holds quiet) (c.undo_all.ensures.any_moment table commits undoing ((unchanged_in_sequence old mid new first second).loose ∙ quiet)) in
+    then_leaves g' c.undo_all.new.journal.log.geometry table commits old done last (c.undo_all.ensures.geometry ∙ is) before (c.force.ensures.any_moment undone.records table commits undone.holds (c.in_ok-undo_all.ensures.stays_quiet (stays_honest mid new c.read_all.ensures.goes (stays_honest old mid c.start.ensures.goes honest)) ((unchanged_in_sequence old mid new first second).loose ∙ quiet)))
 
--- Where nothing is unfinished, whatever is loose.
-
-pub returns-in_err-reading-clause-finished : goal.returns-in_err-reading-clause-finished
-returns-in_err-reading-clause-finished g c g' table commits honest stands none =
+pub returns-clause-stays_quiet : goal.returns-clause-stays_quiet
+returns-clause-stays_quiet g c honest quiet =
     let old = g.S.Site.state c.args.site.now in
     let mid = g.S.Site.state c.start.new.site in
-    let found : c.in_ok-geometry.geometry ≡ g' = (c.in_ok-geometry.ensures.found g' stands.sound.limits stands.sound.beside.lengths).1 in
-    let is = c.in_ok-log.ensures.geometry ∙ found in
-    let finds = c.in_ok-log.ensures.found honest (subst (λ (x : Geometry). IsRing (log_shape x) old.image.log) (sym found) stands.sound.held.form) in
-    let holds = c.in_ok-log.ensures.holds honest 0 stands.blocks (subst (λ (x : Geometry). HasBlocks x 0 stands.blocks old.image) (sym found) stands.sound.held) in
-    let sound : AreSound c.in_ok-log.log.geometry stands.blocks = subst (λ (x : Geometry). AreSound x stands.blocks) (sym is) stands.sound.records in
-    let ne : c.in_err-reading.field-0.0 ≢ Foreign = c.in_err-reading.ensures.readable stands.blocks finds holds sound (ap (λ (x : Geometry). 32 * x.pages) (sym c.in_ok-log.ensures.geometry)) in
-    search (rules, ne)
-
-pub returns-then-sealed_end-owed-clause-finished : goal.returns-then-sealed_end-owed-clause-finished
-returns-then-sealed_end-owed-clause-finished g c g' table commits honest stands none same =
-    let old = g.S.Site.state c.args.site.now in
-    let mid = g.S.Site.state c.start.new.site in
-    let found : c.in_ok-geometry.geometry ≡ g' = (c.in_ok-geometry.ensures.found g' stands.sound.limits stands.sound.beside.lengths).1 in
-    let is = c.in_ok-log.ensures.geometry ∙ found in
-    let finds = c.in_ok-log.ensures.found honest (subst (λ (x : Geometry). IsRing (log_shape x) old.image.log) (sym found) stands.sound.held.form) in
-    let holds = c.in_ok-log.ensures.holds honest 0 stands.blocks (subst (λ (x : Geometry). HasBlocks x 0 stands.blocks old.image) (sym found) stands.sound.held) in
-    let sound : AreSound c.in_ok-log.log.geometry stands.blocks = subst (λ (x : Geometry). AreSound x stands.blocks) (sym is) stands.sound.records in
-    let read = c.in_ok-reading.ensures.read stands.blocks finds holds sound (ap (λ (x : Geometry). 32 * x.pages) (sym c.in_ok-log.ensures.geometry)) in
-    let room = room_found c.in_ok-log.log g' mid table commits old.image stands is finds holds c.in_ok-reading.reading read in
-    let sealed = c.sealed_end.ensures in
-    let owes = c.owed.ensures in
-    let many = c.if-sealed_end-owed.true in
-    let geometry = ap (λ (x : Geometry). x.blocks) c.in_ok-log.ensures.geometry in
-    let limits = c.in_ok-log.ensures.going.limits.blocks in
-    absurd (omega (arith, room, sealed, owes, many, geometry, limits))
-
-pub returns-in_err-undo_all-clause-finished : goal.returns-in_err-undo_all-clause-finished
-returns-in_err-undo_all-clause-finished g c g' table commits honest stands none =
-    let old = g.S.Site.state c.args.site.now in
-    let mid = g.S.Site.state c.start.new.site in
-    let found : c.in_ok-geometry.geometry ≡ g' = (c.in_ok-geometry.ensures.found g' stands.sound.limits stands.sound.beside.lengths).1 in
-    let is = c.in_ok-log.ensures.geometry ∙ found in
-    let finds = c.in_ok-log.ensures.found honest (subst (λ (x : Geometry). IsRing (log_shape x) old.image.log) (sym found) stands.sound.held.form) in
-    let holds = c.in_ok-log.ensures.holds honest 0 stands.blocks (subst (λ (x : Geometry). HasBlocks x 0 stands.blocks old.image) (sym found) stands.sound.held) in
-    let sound : AreSound c.in_ok-log.log.geometry stands.blocks = subst (λ (x : Geometry). AreSound x stands.blocks) (sym is) stands.sound.records in
-    let read = c.in_ok-reading.ensures.read stands.blocks finds holds sound (ap (λ (x : Geometry). 32 * x.pages) (sym c.in_ok-log.ensures.geometry)) in
-    let idle = no_loser c.in_ok-reading.reading.analysis.losers.items (read.analysis.unfinished ∙ none) in
-    absurd (c.in_err-undo_all.ensures.idle idle)
+    let new = g.S.Site.state c.read_all.new.site in
+    let done = g.S.Site.state c.undo_all.new.site in
+    let honest-mid = stays_honest old mid c.start.ensures.goes honest in
+    let honest-new = stays_honest mid new c.read_all.ensures.goes honest-mid in
+    let still = (unchanged_in_sequence old mid new (c.start.ensures.same honest) (c.read_all.ensures.same honest-mid)).loose ∙ quiet in
+    c.in_ok-force.ensures.stays_quiet (stays_honest new done c.undo_all.ensures.goes honest-new) (c.in_ok-undo_all.ensures.stays_quiet honest-new still)

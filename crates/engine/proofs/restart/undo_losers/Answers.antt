@@ -6,7 +6,7 @@ use Rattle.engine.proofs.Endings.{then_leaves, none_left}
 use Rattle.engine.proofs.restart.undo_losers.Goals as goal
 
 pub returns-in_err-end_undone-clause-any_moment : goal.returns-in_err-end_undone-clause-any_moment
-returns-in_err-end_undone-clause-any_moment g c shows commits u = c.end_undone.ensures.any_moment c.args.table.now shows commits u
+returns-in_err-end_undone-clause-any_moment g c shows commits u quiet = c.end_undone.ensures.any_moment c.args.table.now shows commits u quiet
 
 pub loop-place-init : goal.loop-place-init
 loop-place-init g c = record {
@@ -19,7 +19,8 @@ loop-place-init g c = record {
   goes = c.end_undone.ensures.goes;
   left = c.end_undone.ensures.left;
   undoing = λ shows commits u. c.in_ok-end_undone.ensures.undoing c.args.table.now shows commits u;
-  leaves = λ shows commits u. c.end_undone.ensures.any_moment c.args.table.now shows commits u;
+  quiet = c.in_ok-end_undone.ensures.stays_quiet;
+  leaves = λ shows commits u quiet. c.end_undone.ensures.any_moment c.args.table.now shows commits u quiet;
 }
 
 pub loop-place-preserved : goal.loop-place-preserved
@@ -38,8 +39,9 @@ loop-place-preserved g c =
       goes = goes_in_sequence old mid new i.goes c.undo_one.ensures.goes;
       left = λ honest. c.undo_one.ensures.left (stays_honest old mid i.goes honest) ∙ i.left honest;
       undoing = λ shows commits u. c.in_ok-undo_one.ensures.undoing shows commits (i.undoing shows commits u);
-      leaves = λ shows commits u. then_leaves c.args.journal.now.log.geometry c.loop-place.journal.log.geometry shows commits old mid new i.geometry
-          (i.leaves shows commits u) (c.undo_one.ensures.any_moment shows commits (i.undoing shows commits u));
+      quiet = λ honest quiet. c.in_ok-undo_one.ensures.stays_quiet (stays_honest old mid i.goes honest) (i.quiet honest quiet);
+      leaves = λ shows commits u quiet. then_leaves c.args.journal.now.log.geometry c.loop-place.journal.log.geometry shows commits old mid new i.geometry
+          (i.leaves shows commits u quiet) (c.undo_one.ensures.any_moment shows commits (i.undoing shows commits u) (i.quiet u.holds.fits.honest quiet));
     }
 
 pub returns-in_err-undo_one-clause-readable : goal.returns-in_err-undo_one-clause-readable
@@ -47,10 +49,10 @@ returns-in_err-undo_one-clause-readable g c shows commits u =
     let h = c.in_err-undo_one.ensures.readable shows commits (c.loop-place.invariant.undoing shows commits u) in search (rules, h)
 
 pub returns-in_err-undo_one-clause-any_moment : goal.returns-in_err-undo_one-clause-any_moment
-returns-in_err-undo_one-clause-any_moment g c shows commits u =
+returns-in_err-undo_one-clause-any_moment g c shows commits u quiet =
     let i = c.loop-place.invariant in
     then_leaves c.args.journal.now.log.geometry c.loop-place.journal.log.geometry shows commits (g.S.Site.state c.args.site.now) (g.S.Site.state c.loop-place.site) (g.S.Site.state c.undo_one.new.site) i.geometry
-    (i.leaves shows commits u) (c.undo_one.ensures.any_moment shows commits (i.undoing shows commits u))
+    (i.leaves shows commits u quiet) (c.undo_one.ensures.any_moment shows commits (i.undoing shows commits u) (i.quiet u.holds.fits.honest quiet))
 
 pub returns-in_err-undo_one-clause-device : goal.returns-in_err-undo_one-clause-device
 returns-in_err-undo_one-clause-device g c is =

@@ -1,5 +1,6 @@
 use Rattle.std.proofs.Common.{◌≡◌, ◌+◌, ℕ, List, IsTrue}
 use Rattle.std.specs.List.{AllByRecursion}
+use Rattle.site.specs.State.{IsQuiet}
 use Rattle.site.specs.Calls.{Goes}
 use Rattle.site.specs.Moments.{LeavesOnly}
 use Rattle.record_model.specs.State.{Content}
@@ -23,7 +24,8 @@ invariant-loop-place g l =
       goes : Goes old now;
       left : IsTrue old.honest → now.left ≡ old.left;
       undoing : (shows : List Content) (commits : ℕ) → IsUndoing l.fn.journal old l.fn.table l.fn.analysis.losers.items shows commits → IsUndoing l.journal now l.table l.analysis.losers.items shows commits;
-      leaves : (shows : List Content) (commits : ℕ) → IsUndoing l.fn.journal old l.fn.table l.fn.analysis.losers.items shows commits → LeavesOnly old now (LeavesTable l.fn.journal.log.geometry shows commits old.told);
+      quiet : IsTrue old.honest → IsQuiet old → IsQuiet now;
+      leaves : (shows : List Content) (commits : ℕ) → IsUndoing l.fn.journal old l.fn.table l.fn.analysis.losers.items shows commits → IsQuiet old → LeavesOnly old now (LeavesTable l.fn.journal.log.geometry shows commits old.told);
     }
 
 abbrev pub decreases-loop-place : goal.decreases-loop-place

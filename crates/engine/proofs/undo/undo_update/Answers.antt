@@ -1,7 +1,7 @@
-use Rattle.std.proofs.Common.{◌≡◌, ℕ, ◌*◌, ◌++◌, ◌∷◌, [], List, length, Err, sym, ap, subst, arith}
+use Rattle.std.proofs.Common.{◌∙◌, ◌≡◌, ℕ, ◌*◌, ◌++◌, ◌∷◌, [], List, length, Err, sym, ap, subst, arith}
 use Rattle.std.proofs.lemmas.List.{length-replicate}
 use Rattle.std.proofs.lemmas.List.FromFn.{length-map-range_with_len}
-use Rattle.site.specs.Laws.{in_sequence, fault_since}
+use Rattle.site.specs.Laws.{in_sequence, fault_since, stays_honest}
 use Rattle.site.specs.declared.outside.Dev.TheVariants.{Log}
 use Rattle.site.specs.declared.outside.Stop.TheVariants.{Device}
 use Rattle.log_records.specs.Log.{blank_version}
@@ -23,8 +23,8 @@ pub returns-in-Err-clause-readable : goal.returns-in-Err-clause-readable
 returns-in-Err-clause-readable g c records shows commits x h shown unfinished at some = c.in-Err.ensures.readable records shows commits x h unfinished at some
 
 pub returns-in-Err-clause-any_moment : goal.returns-in-Err-clause-any_moment
-returns-in-Err-clause-any_moment g c records shows commits h =
-    leaves_still c.args.journal.now (g.S.Site.state c.args.site.now) (g.S.Site.state c.read_update.new.site) records shows commits c.requires.going.log.limits (c.read_update.ensures.same h.fits.honest) h
+returns-in-Err-clause-any_moment g c records shows commits h quiet =
+    leaves_still c.args.journal.now (g.S.Site.state c.args.site.now) (g.S.Site.state c.read_update.new.site) records shows commits c.requires.going.log.limits (c.read_update.ensures.same h.fits.honest) h quiet
 
 pub returns-then-number-table-clause-readable : goal.returns-then-number-table-clause-readable
 returns-then-number-table-clause-readable g c records shows commits x h shown unfinished at some = λ same.
@@ -35,20 +35,20 @@ returns-then-number-table-clause-readable g c records shows commits x h shown un
     absurd (omega (arith, within, size, all, pages))
 
 pub returns-then-number-table-clause-any_moment : goal.returns-then-number-table-clause-any_moment
-returns-then-number-table-clause-any_moment g c records shows commits h =
-    leaves_still c.args.journal.now (g.S.Site.state c.args.site.now) (g.S.Site.state c.read_update.new.site) records shows commits c.requires.going.log.limits (c.read_update.ensures.same h.fits.honest) h
+returns-then-number-table-clause-any_moment g c records shows commits h quiet =
+    leaves_still c.args.journal.now (g.S.Site.state c.args.site.now) (g.S.Site.state c.read_update.new.site) records shows commits c.requires.going.log.limits (c.read_update.ensures.same h.fits.honest) h quiet
 
 pub returns-in-Err-append-clause-any_moment : goal.returns-in-Err-append-clause-any_moment
-returns-in-Err-append-clause-any_moment g c records shows commits h =
+returns-in-Err-append-clause-any_moment g c records shows commits h quiet =
     let old = g.S.Site.state c.args.site.now in
     let mid = g.S.Site.state c.read_update.new.site in
     let new = g.S.Site.state c.append.new.site in
     let same = c.read_update.ensures.same h.fits.honest in
     let geometry = c.args.journal.now.log.geometry in
     in_sequence old mid new (Leaves (LeavesTable geometry shows commits old.told))
-    (leaves_still c.args.journal.now old mid records shows commits c.requires.going.log.limits same h)
+    (leaves_still c.args.journal.now old mid records shows commits c.requires.going.log.limits same h quiet)
     (subst (λ (told : List ℕ). LeavesOnly mid new (LeavesTable geometry shows commits told)) same.told
-    (c.append.ensures.any_moment records shows commits (holds_still c.args.journal.now old mid records shows commits c.read_update.ensures.goes same h)))
+    (c.append.ensures.any_moment records shows commits (holds_still c.args.journal.now old mid records shows commits c.read_update.ensures.goes same h) (same.loose ∙ quiet)))
 
 pub returns-in-Err-append-clause-device : goal.returns-in-Err-append-clause-device
 returns-in-Err-append-clause-device g c is =
@@ -56,16 +56,16 @@ returns-in-Err-append-clause-device g c is =
     (let same : c.in-Err-append.stop ≡ Device Log = cc in c.in-Err-append.ensures.device (ap Err same))
 
 pub returns-clause-any_moment : goal.returns-clause-any_moment
-returns-clause-any_moment g c records shows commits h =
+returns-clause-any_moment g c records shows commits h quiet =
     let old = g.S.Site.state c.args.site.now in
     let mid = g.S.Site.state c.read_update.new.site in
     let new = g.S.Site.state c.append.new.site in
     let same = c.read_update.ensures.same h.fits.honest in
     let geometry = c.args.journal.now.log.geometry in
     in_sequence old mid new (Leaves (LeavesTable geometry shows commits old.told))
-    (leaves_still c.args.journal.now old mid records shows commits c.requires.going.log.limits same h)
+    (leaves_still c.args.journal.now old mid records shows commits c.requires.going.log.limits same h quiet)
     (subst (λ (told : List ℕ). LeavesOnly mid new (LeavesTable geometry shows commits told)) same.told
-    (c.append.ensures.any_moment records shows commits (holds_still c.args.journal.now old mid records shows commits c.read_update.ensures.goes same h)))
+    (c.append.ensures.any_moment records shows commits (holds_still c.args.journal.now old mid records shows commits c.read_update.ensures.goes same h) (same.loose ∙ quiet)))
 
 pub returns-clause-undone : goal.returns-clause-undone
 returns-clause-undone g c records shows commits x h shown unfinished at some =
@@ -85,3 +85,7 @@ returns-clause-undone g c records shows commits x h shown unfinished at some =
     let holds = subst (λ (after : Content). HoldsLog c.append.new.self (g.S.Site.state c.append.new.site) (records ++ record { lsn = c.in-Ok-append.last; rec = Clr c.args.at.txn c.args.at.last w.prev w.page w.slot after } ∷ []) shows commits) c.copy_of.ensures
     (c.in-Ok-append.ensures.holds records shows commits still may_be) in
     undone c.append.new.self (g.S.Site.state c.append.new.site) j.log.geometry records shows commits x c.args.at w c.in-Ok-append.last c.args.table.now unfinished at some shown holds
+
+pub returns-clause-stays_quiet : goal.returns-clause-stays_quiet
+returns-clause-stays_quiet g c honest quiet =
+    c.in-Ok-append.ensures.stays_quiet (stays_honest (g.S.Site.state c.args.site.now) (g.S.Site.state c.read_update.new.site) c.read_update.ensures.goes honest) ((c.read_update.ensures.same honest).loose ∙ quiet)

@@ -1,7 +1,7 @@
 use Rattle.std.proofs.Common.{◌++◌, List, ℕ, ap, subst, ◌∙◌}
 use Rattle.site.specs.declared.geometry.Geometry.{Geometry}
 use Rattle.site.specs.Moments.{EachMoment}
-use Rattle.site.specs.Laws.{holds_now}
+use Rattle.site.specs.Laws.{holds_now, stays_honest}
 use Rattle.site.specs.Telling.{TellsPart}
 use Rattle.shell_text.specs.Texts.{reply_text}
 use Rattle.face.specs.declared.halt.Halt.TheVariants as halt
@@ -11,33 +11,33 @@ use Rattle.face.proofs.Logs.{still_fits, fits_stands, goes_on}
 use Rattle.face.proofs.answer.answer.Goals as goal
 
 pub returns-in-Err-clause-any_moment : goal.returns-in-Err-clause-any_moment
-returns-in-Err-clause-any_moment g c s fits = not_told c.args.engine.now.journal.log.geometry (g.S.Site.state c.args.site.now) (g.S.Site.state c.carry_out.new.site) s _ _ (c.carry_out.ensures.any_moment s fits)
+returns-in-Err-clause-any_moment g c s fits quiet = not_told c.args.engine.now.journal.log.geometry (g.S.Site.state c.args.site.now) (g.S.Site.state c.carry_out.new.site) s _ _ (c.carry_out.ensures.any_moment s fits quiet)
 
 pub returns-in-Err-clause-quiet : goal.returns-in-Err-clause-quiet
-returns-in-Err-clause-quiet g c s fits other = c.in-Err.ensures.quiet s fits (λ is. other (ap halt.Stop is))
+returns-in-Err-clause-quiet g c s fits quiet other = c.in-Err.ensures.quiet s fits quiet (λ is. other (ap halt.Stop is))
 
 pub returns-clause-quiet : goal.returns-clause-quiet
-returns-clause-quiet g c s fits other = (c.tell_reply.ensures.same (c.in-Ok.ensures.after s fits).honest).loose ∙ (c.in-Ok.ensures.after s fits).holds.quiet
+returns-clause-quiet g c s fits quiet other = (c.tell_reply.ensures.same (c.in-Ok.ensures.after s fits).honest).loose ∙ c.in-Ok.ensures.stays_quiet fits.honest quiet
 
 pub returns-in-Err-clause-untold : goal.returns-in-Err-clause-untold
-returns-in-Err-clause-untold g c s fits ne = (holds_now (g.S.Site.state c.args.site.now) (g.S.Site.state c.carry_out.new.site) _ (c.carry_out.ensures.any_moment s fits)).told
+returns-in-Err-clause-untold g c s fits quiet ne = (holds_now (g.S.Site.state c.args.site.now) (g.S.Site.state c.carry_out.new.site) _ (c.carry_out.ensures.any_moment s fits quiet)).told
 
 pub returns-in-Ok-tell_reply-clause-told : goal.returns-in-Ok-tell_reply-clause-told
-returns-in-Ok-tell_reply-clause-told g c s fits =
+returns-in-Ok-tell_reply-clause-told g c s fits quiet =
     let old = g.S.Site.state c.args.site.now in
     let mid = g.S.Site.state c.carry_out.new.site in
     let text = ap reply_text (c.in-Ok.ensures.reply s fits) in
-    let same = (holds_now old mid _ (c.carry_out.ensures.any_moment s fits)).told in
+    let same = (holds_now old mid _ (c.carry_out.ensures.any_moment s fits quiet)).told in
     c.in-Ok-tell_reply.ensures.told (c.in-Ok.ensures.after s fits).honest ∙ (λ i. same i ++ text i)
 
 pub returns-in-Ok-tell_reply-clause-fits : goal.returns-in-Ok-tell_reply-clause-fits
 returns-in-Ok-tell_reply-clause-fits g c s fits =
     let fits-mid = c.in-Ok.ensures.after s fits in
     let same = c.tell_reply.ensures.same fits-mid.honest in
-    still_fits c.carry_out.new.engine (g.S.Site.state c.carry_out.new.site) (g.S.Site.state c.tell_reply.new.site) _ fits-mid c.tell_reply.ensures.goes same.image same.loose
+    still_fits c.carry_out.new.engine (g.S.Site.state c.carry_out.new.site) (g.S.Site.state c.tell_reply.new.site) _ fits-mid c.tell_reply.ensures.goes same.image
 
 pub returns-in-Ok-tell_reply-clause-any_moment : goal.returns-in-Ok-tell_reply-clause-any_moment
-returns-in-Ok-tell_reply-clause-any_moment g c s fits =
+returns-in-Ok-tell_reply-clause-any_moment g c s fits quiet =
     let old = g.S.Site.state c.args.site.now in
     let mid = g.S.Site.state c.carry_out.new.site in
     let new = g.S.Site.state c.tell_reply.new.site in
@@ -45,11 +45,11 @@ returns-in-Ok-tell_reply-clause-any_moment g c s fits =
     let fits-mid = c.in-Ok.ensures.after s fits in
     let text = ap reply_text (c.in-Ok.ensures.reply s fits) in
     let stands = subst (λ (x : Geometry). StandsFor x mid.image next.after) c.carry_out.ensures.geometry (fits_stands c.carry_out.new.engine mid next.after c.in-Ok.ensures.going.journal.log.limits fits-mid) in
-    is_told c.args.engine.now.journal.log.geometry old mid new s next.after (reply_text next.reply) (c.carry_out.ensures.any_moment s fits) fits-mid.holds.quiet stands
+    is_told c.args.engine.now.journal.log.geometry old mid new s next.after (reply_text next.reply) (c.carry_out.ensures.any_moment s fits quiet) (c.in-Ok.ensures.stays_quiet fits.honest quiet) stands
     (subst (λ (t : List ℕ). EachMoment mid new (TellsPart t mid)) text (c.tell_reply.ensures.any_moment fits-mid.honest))
 
 pub returns-clause-any_moment : goal.returns-clause-any_moment
-returns-clause-any_moment g c s fits =
+returns-clause-any_moment g c s fits quiet =
     let old = g.S.Site.state c.args.site.now in
     let mid = g.S.Site.state c.carry_out.new.site in
     let new = g.S.Site.state c.tell_reply.new.site in
@@ -57,8 +57,12 @@ returns-clause-any_moment g c s fits =
     let fits-mid = c.in-Ok.ensures.after s fits in
     let text = ap reply_text (c.in-Ok.ensures.reply s fits) in
     let stands = subst (λ (x : Geometry). StandsFor x mid.image next.after) c.carry_out.ensures.geometry (fits_stands c.carry_out.new.engine mid next.after c.in-Ok.ensures.going.journal.log.limits fits-mid) in
-    is_told c.args.engine.now.journal.log.geometry old mid new s next.after (reply_text next.reply) (c.carry_out.ensures.any_moment s fits) fits-mid.holds.quiet stands
+    is_told c.args.engine.now.journal.log.geometry old mid new s next.after (reply_text next.reply) (c.carry_out.ensures.any_moment s fits quiet) (c.in-Ok.ensures.stays_quiet fits.honest quiet) stands
     (subst (λ (t : List ℕ). EachMoment mid new (TellsPart t mid)) text (c.tell_reply.ensures.any_moment fits-mid.honest))
 
 pub returns-in-Ok-tell_reply-clause-going : goal.returns-in-Ok-tell_reply-clause-going
 returns-in-Ok-tell_reply-clause-going g c = goes_on c.carry_out.new.engine (g.S.Site.state c.carry_out.new.site) (g.S.Site.state c.tell_reply.new.site) c.in-Ok.ensures.going c.tell_reply.ensures.goes
+
+pub returns-in-Ok-tell_reply-clause-stays_quiet : goal.returns-in-Ok-tell_reply-clause-stays_quiet
+returns-in-Ok-tell_reply-clause-stays_quiet g c honest quiet =
+    (c.tell_reply.ensures.same (stays_honest (g.S.Site.state c.args.site.now) (g.S.Site.state c.carry_out.new.site) c.carry_out.ensures.goes honest)).loose ∙ c.in-Ok.ensures.stays_quiet honest quiet

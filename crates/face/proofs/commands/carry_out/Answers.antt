@@ -34,32 +34,32 @@ pub returns-in-Set-clause-after : goal.returns-in-Set-clause-after
 returns-in-Set-clause-after g c s fits = subst (λ (l : Line). OnOk c.set.result (Fits c.set.new.self (g.S.Site.state c.set.new.site) (step s l).after)) (sym (c.in-Some.is ∙ ap Some c.in-Set.is)) (c.set.ensures.after s fits)
 
 pub returns-in-Begin-clause-any_moment : goal.returns-in-Begin-clause-any_moment
-returns-in-Begin-clause-any_moment g c s fits = table_stays c.args.engine.now.journal.log.geometry (g.S.Site.state c.args.site.now) (g.S.Site.state c.begin.new.site) s _ (c.begin.ensures.any_moment s fits)
+returns-in-Begin-clause-any_moment g c s fits quiet = table_stays c.args.engine.now.journal.log.geometry (g.S.Site.state c.args.site.now) (g.S.Site.state c.begin.new.site) s _ (c.begin.ensures.any_moment s fits quiet)
 
 pub returns-in-Read-clause-any_moment : goal.returns-in-Read-clause-any_moment
-returns-in-Read-clause-any_moment g c s fits = table_stays c.args.engine.now.journal.log.geometry (g.S.Site.state c.args.site.now) (g.S.Site.state c.read.new.site) s _ (c.read.ensures.any_moment s fits)
+returns-in-Read-clause-any_moment g c s fits quiet = table_stays c.args.engine.now.journal.log.geometry (g.S.Site.state c.args.site.now) (g.S.Site.state c.read.new.site) s _ (c.read.ensures.any_moment s fits quiet)
 
 pub returns-in-Write-clause-any_moment : goal.returns-in-Write-clause-any_moment
-returns-in-Write-clause-any_moment g c s fits = table_stays c.args.engine.now.journal.log.geometry (g.S.Site.state c.args.site.now) (g.S.Site.state c.write.new.site) s _ (c.write.ensures.any_moment s fits)
+returns-in-Write-clause-any_moment g c s fits quiet = table_stays c.args.engine.now.journal.log.geometry (g.S.Site.state c.args.site.now) (g.S.Site.state c.write.new.site) s _ (c.write.ensures.any_moment s fits quiet)
 
 pub returns-in-Erase-clause-any_moment : goal.returns-in-Erase-clause-any_moment
-returns-in-Erase-clause-any_moment g c s fits = table_stays c.args.engine.now.journal.log.geometry (g.S.Site.state c.args.site.now) (g.S.Site.state c.erase.new.site) s _ (c.erase.ensures.any_moment s fits)
+returns-in-Erase-clause-any_moment g c s fits quiet = table_stays c.args.engine.now.journal.log.geometry (g.S.Site.state c.args.site.now) (g.S.Site.state c.erase.new.site) s _ (c.erase.ensures.any_moment s fits quiet)
 
 pub returns-in-Abort-clause-any_moment : goal.returns-in-Abort-clause-any_moment
-returns-in-Abort-clause-any_moment g c s fits = table_stays c.args.engine.now.journal.log.geometry (g.S.Site.state c.args.site.now) (g.S.Site.state c.abort.new.site) s _ (c.abort.ensures.any_moment s fits)
+returns-in-Abort-clause-any_moment g c s fits quiet = table_stays c.args.engine.now.journal.log.geometry (g.S.Site.state c.args.site.now) (g.S.Site.state c.abort.new.site) s _ (c.abort.ensures.any_moment s fits quiet)
 
 pub returns-in-Commit-clause-any_moment : goal.returns-in-Commit-clause-any_moment
-returns-in-Commit-clause-any_moment g c s fits =
+returns-in-Commit-clause-any_moment g c s fits quiet =
     let old = g.S.Site.state c.args.site.now in
-    subst (λ (l : Line). LeavesOnly old (g.S.Site.state c.commit.new.site) (LeavesEither c.args.engine.now.journal.log.geometry s (step s l).after old.told)) (sym (c.in-Some.is ∙ ap Some c.in-Commit.is)) (c.commit.ensures.any_moment s fits)
+    subst (λ (l : Line). LeavesOnly old (g.S.Site.state c.commit.new.site) (LeavesEither c.args.engine.now.journal.log.geometry s (step s l).after old.told)) (sym (c.in-Some.is ∙ ap Some c.in-Commit.is)) (c.commit.ensures.any_moment s fits quiet)
 
 pub returns-in-Set-clause-any_moment : goal.returns-in-Set-clause-any_moment
-returns-in-Set-clause-any_moment g c s fits =
+returns-in-Set-clause-any_moment g c s fits quiet =
     let old = g.S.Site.state c.args.site.now in
-    subst (λ (l : Line). LeavesOnly old (g.S.Site.state c.set.new.site) (LeavesEither c.args.engine.now.journal.log.geometry s (step s l).after old.told)) (sym (c.in-Some.is ∙ ap Some c.in-Set.is)) (c.set.ensures.any_moment s fits)
+    subst (λ (l : Line). LeavesOnly old (g.S.Site.state c.set.new.site) (LeavesEither c.args.engine.now.journal.log.geometry s (step s l).after old.told)) (sym (c.in-Some.is ∙ ap Some c.in-Set.is)) (c.set.ensures.any_moment s fits quiet)
 
 pub returns-in-Abort-clause-quiet : goal.returns-in-Abort-clause-quiet
-returns-in-Abort-clause-quiet g c s fits = only_device c.abort.result _ c.abort.ensures.stops (λ is. c.abort.ensures.foreign is s fits)
+returns-in-Abort-clause-quiet g c s fits quiet = only_device c.abort.result _ c.abort.ensures.stops (λ is. c.abort.ensures.foreign is s fits)
 
 pub returns-in-Abort-clause-cause : goal.returns-in-Abort-clause-cause
 returns-in-Abort-clause-cause g c = abort_fails c.abort.result c.args.engine.now (g.S.Site.state c.args.site.now) _ c.abort.ensures.stops c.abort.ensures.device c.abort.ensures.foreign
@@ -69,20 +69,20 @@ returns-in-Get-clause-after g c s fits =
     get_fits c.get.result c.args.engine.now (g.S.Site.state c.args.site.now) (g.S.Site.state c.get.new.site) s c.args.line _ (c.in-Some.is ∙ ap Some c.in-Get.is) (ap g.S.Site.state c.get.ensures.site) fits
 
 pub returns-in-Get-clause-any_moment : goal.returns-in-Get-clause-any_moment
-returns-in-Get-clause-any_moment g c s fits =
+returns-in-Get-clause-any_moment g c s fits quiet =
     let old = g.S.Site.state c.args.site.now in
     let geometry = c.args.engine.now.journal.log.geometry in
     subst (λ (x : Site). LeavesOnly old x (LeavesEither geometry s (step s c.args.line).after old.told)) (sym (ap g.S.Site.state c.get.ensures.site))
-    (no_change geometry old s _ fits.holds.quiet (fits_stands c.args.engine.now old s c.requires.going.journal.log.limits fits))
+    (no_change geometry old s _ quiet (fits_stands c.args.engine.now old s c.requires.going.journal.log.limits fits))
 
 pub returns-in-Stat-clause-reply : goal.returns-in-Stat-clause-reply
 returns-in-Stat-clause-reply g c s fits = c.stat.ensures s (g.S.Site.state c.args.site.now) fits ∙ (λ i. (step s (sym (c.in-Some.is ∙ ap Some c.in-Stat.is) i)).reply)
 
 pub returns-in-Stat-clause-any_moment : goal.returns-in-Stat-clause-any_moment
-returns-in-Stat-clause-any_moment g c s fits = no_change c.args.engine.now.journal.log.geometry (g.S.Site.state c.args.site.now) s _ fits.holds.quiet (fits_stands c.args.engine.now (g.S.Site.state c.args.site.now) s c.requires.going.journal.log.limits fits)
+returns-in-Stat-clause-any_moment g c s fits quiet = no_change c.args.engine.now.journal.log.geometry (g.S.Site.state c.args.site.now) s _ quiet (fits_stands c.args.engine.now (g.S.Site.state c.args.site.now) s c.requires.going.journal.log.limits fits)
 
 pub returns-in-Quit-clause-any_moment : goal.returns-in-Quit-clause-any_moment
-returns-in-Quit-clause-any_moment g c s fits = no_change c.args.engine.now.journal.log.geometry (g.S.Site.state c.args.site.now) s _ fits.holds.quiet (fits_stands c.args.engine.now (g.S.Site.state c.args.site.now) s c.requires.going.journal.log.limits fits)
+returns-in-Quit-clause-any_moment g c s fits quiet = no_change c.args.engine.now.journal.log.geometry (g.S.Site.state c.args.site.now) s _ quiet (fits_stands c.args.engine.now (g.S.Site.state c.args.site.now) s c.requires.going.journal.log.limits fits)
 
 pub returns-in_default-clause-any_moment : goal.returns-in_default-clause-any_moment
-returns-in_default-clause-any_moment g c s fits = no_change c.args.engine.now.journal.log.geometry (g.S.Site.state c.args.site.now) s _ fits.holds.quiet (fits_stands c.args.engine.now (g.S.Site.state c.args.site.now) s c.requires.going.journal.log.limits fits)
+returns-in_default-clause-any_moment g c s fits quiet = no_change c.args.engine.now.journal.log.geometry (g.S.Site.state c.args.site.now) s _ quiet (fits_stands c.args.engine.now (g.S.Site.state c.args.site.now) s c.requires.going.journal.log.limits fits)

@@ -3,9 +3,9 @@ use Rattle.site.specs.Laws.{stays_honest}
 use Rattle.shell_text.specs.Texts.{open_text}
 use Rattle.face.specs.Texts.{status_of}
 use Rattle.face.specs.declared.halt.Halt.TheVariants as halt
-use Rattle.face.proofs.Meanings.{stands_by}
+use Rattle.face.proofs.Meanings.{stands_by, opens_where_it_stands}
 use Rattle.face.proofs.Works.{not_opened, opening_lost, opened}
-use Rattle.face.proofs.Logs.{goes_on}
+use Rattle.face.proofs.Logs.{goes_on, still_fits}
 use Rattle.face.proofs.CommandLaws.{start_cause}
 use Rattle.face.proofs.top.open.Goals as goal
 
@@ -25,10 +25,10 @@ returns-in-Err-tell_all-clause-stops g c run begins =
     let mid = g.S.Site.state c.start.new.site in
     let new = g.S.Site.state c.tell_all.new.site in
     let leaves = c.start.ensures.any_moment begins.honest begins.quiet run.geometry run.opening.table run.opening.commits (stands_by run.geometry entry.image run.opening begins.opens) in
-    let opens = c.in-Ok.ensures.opens begins.honest begins.quiet run.geometry run.opening begins.opens in
+    let opens = c.in-Ok.ensures.opens begins.honest run.geometry run.opening begins.opens in
     let is = c.as_slice.ensures.value ∙ c.open_line.ensures ∙ ap open_text (c.commits.ensures.model run.opening mid opens.0) in
     let honest = stays_honest entry mid c.start.ensures.goes begins.honest in
-    opening_lost run entry mid leaves new c.as_slice.result.now is (c.tell_all.ensures.any_moment honest) ((c.tell_all.ensures.same honest).loose ∙ opens.0.holds.quiet)
+    opening_lost run entry mid leaves new c.as_slice.result.now is (c.tell_all.ensures.any_moment honest) ((c.tell_all.ensures.same honest).loose ∙ c.in-Ok.ensures.stays_quiet begins.honest begins.quiet)
 
 pub returns-in-Ok-tell_all-clause-going : goal.returns-in-Ok-tell_all-clause-going
 returns-in-Ok-tell_all-clause-going g c run begins =
@@ -36,11 +36,19 @@ returns-in-Ok-tell_all-clause-going g c run begins =
     let mid = g.S.Site.state c.start.new.site in
     let new = g.S.Site.state c.tell_all.new.site in
     let leaves = c.start.ensures.any_moment begins.honest begins.quiet run.geometry run.opening.table run.opening.commits (stands_by run.geometry entry.image run.opening begins.opens) in
-    let opens = c.in-Ok.ensures.opens begins.honest begins.quiet run.geometry run.opening begins.opens in
+    let opens = c.in-Ok.ensures.opens begins.honest run.geometry run.opening begins.opens in
     let is = c.as_slice.ensures.value ∙ c.open_line.ensures ∙ ap open_text (c.commits.ensures.model run.opening mid opens.0) in
     let honest = stays_honest entry mid c.start.ensures.goes begins.honest in
-    opened run entry mid leaves new c.as_slice.result.now is (c.tell_all.ensures.any_moment honest) c.in-Ok.engine c.tell_all.ensures.goes (c.tell_all.ensures.same honest) (c.in-Ok-tell_all.ensures.told honest)
+    opened run entry mid leaves new c.as_slice.result.now is (c.tell_all.ensures.any_moment honest) c.in-Ok.engine c.tell_all.ensures.goes (c.tell_all.ensures.same honest) ((c.tell_all.ensures.same honest).loose ∙ c.in-Ok.ensures.stays_quiet begins.honest begins.quiet) (c.in-Ok-tell_all.ensures.told honest)
     opens.0 opens.1 begins.opens.sound.limits
 
 pub returns-in-Ok-tell_all-clause-goes_on : goal.returns-in-Ok-tell_all-clause-goes_on
 returns-in-Ok-tell_all-clause-goes_on g c = goes_on c.in-Ok.engine (g.S.Site.state c.start.new.site) (g.S.Site.state c.tell_all.new.site) c.in-Ok.ensures.going c.tell_all.ensures.goes
+
+pub returns-in-Ok-tell_all-clause-fits : goal.returns-in-Ok-tell_all-clause-fits
+returns-in-Ok-tell_all-clause-fits g c honest geometry table commits stands =
+    let entry = g.S.Site.state c.args.site.now in
+    let mid = g.S.Site.state c.start.new.site in
+    let opens = opens_where_it_stands geometry entry.image table commits stands in
+    let same = c.tell_all.ensures.same (stays_honest entry mid c.start.ensures.goes honest) in
+    (opens.0, still_fits c.in-Ok.engine mid (g.S.Site.state c.tell_all.new.site) opens.0 (c.in-Ok.ensures.opens honest geometry opens.0 opens.1).0 c.tell_all.ensures.goes same.image)

@@ -6,9 +6,9 @@ use Rattle.face.specs.Going.{Going}
 use Rattle.face.specs.Lines.{up_to_quit}
 use Rattle.face.specs.Texts.{status_of}
 use Rattle.face.proofs.Cuts.{Cut, no_cut, cut_more, cut_stays, line_is, cut_few_octets}
-use Rattle.face.proofs.Ends.{never_opened, taking_failed, finished, answer_failed, heard_end, line_heard, quitted, taking_cause, answer_takes_nothing, answer_cause, run_begins}
+use Rattle.face.proofs.Ends.{never_opened, taking_failed, finished, answer_failed, heard_end, line_heard, quitted, taking_cause, answer_takes_nothing, answer_cause}
 use Rattle.face.proofs.Works.{moved, cut_short, goes_on}
-use Rattle.face.proofs.Logs.{goes_on as engine_goes_on}
+use Rattle.face.proofs.Logs.{still_fits, goes_on as engine_goes_on}
 use Rattle.face.proofs.top.work.Goals as goal
 
 pub returns-in-Err-clause-works : goal.returns-in-Err-clause-works
@@ -23,6 +23,7 @@ loop-line-init g c = record {
   source = c.new-source.ensures.source;
   engine = c.in-Ok.ensures.goes_on;
   cut = λ honest. no_cut _ c.new-source.result _ c.new-source.ensures.empty c.new-source.ensures.taken c.new-source.ensures.going (c.open.ensures.left honest);
+  fits = c.in-Ok.ensures.fits;
   going = c.in-Ok.ensures.going;
 }
 
@@ -70,8 +71,8 @@ returns-in-Err-answer-clause-works g c run begins =
     let hears = line_heard c.in-Ok-next.heard c.in-Line.line _ _ _ _ (c.in-Ok-next.ensures.heard honest cut.ended) c.in-Line.is in
     let ended = c.in-Ok-next.ensures.ended honest cut.ended in
     let is = ap (λ (l : List Line). drop i (up_to_quit l)) begins.lines ∙ line_is entry.left c.loop-line.source mid i cut c.loop-line.invariant.source c.next.new.self next c.in-Line.line hears ended c.next.ensures.source in
-    let stops = cut_short run entry next c.loop-line.engine i going new c.in-Line.line _ is (c.answer.ensures.any_moment _ going.fits) c.in-Err-answer.halt
-    (λ ne. c.in-Err-answer.ensures.quiet _ going.fits (λ e. ne (ap status_of e))) (c.in-Err-answer.ensures.untold _ going.fits) in
+    let stops = cut_short run entry next c.loop-line.engine i going new c.in-Line.line _ is (c.answer.ensures.any_moment _ going.fits going.quiet) c.in-Err-answer.halt
+    (λ ne. c.in-Err-answer.ensures.quiet _ going.fits going.quiet (λ e. ne (ap status_of e))) (c.in-Err-answer.ensures.untold _ going.fits going.quiet) in
     answer_failed run entry mid next new c.loop-line.source c.next.new.self i cut c.loop-line.invariant.source c.in-Line.line hears ended c.next.ensures.source (c.answer.ensures.left going.fits.honest) c.in-Err-answer.halt stops (answer_takes_nothing c.in-Err-answer.halt c.loop-line.engine next new c.in-Err-answer.ensures.cause)
 
 pub loop-line-preserved : goal.loop-line-preserved
@@ -92,6 +93,11 @@ loop-line-preserved g c =
           let ended = c.in-Ok-next.ensures.ended honest cut.ended in
           subst (Cut entry.left c.next.new.self new) (sym (add-one i))
           (cut_stays entry.left c.next.new.self next new (suc i) (cut_more entry.left c.loop-line.source mid i cut c.loop-line.invariant.source c.next.new.self next c.in-Line.line hears ended (c.in-Ok-next.ensures.count honest) (sym c.quits-last.ensures ∙ c.if-last.false)) (c.answer.ensures.left (stays_honest mid next c.next.ensures.goes honest)));
+      fits = λ honest-entry geometry table commits stands.
+          let so_far = c.loop-line.invariant.fits honest-entry geometry table commits stands in
+          let honest = so_far.1.honest in
+          let still = still_fits c.loop-line.engine mid next so_far.0 so_far.1 c.next.ensures.goes (c.next.ensures.same honest).image in
+          (_, c.in_default.ensures.fits so_far.0 still);
       going = λ run begins.
           let cut = c.loop-line.invariant.cut begins.honest in
           let so_far = c.loop-line.invariant.going run begins in
@@ -101,8 +107,8 @@ loop-line-preserved g c =
           let ended = c.in-Ok-next.ensures.ended honest cut.ended in
           let is = ap (λ (l : List Line). drop i (up_to_quit l)) begins.lines ∙ line_is entry.left c.loop-line.source mid i cut c.loop-line.invariant.source c.next.new.self next c.in-Line.line hears ended c.next.ensures.source in
           subst (Going run entry new c.answer.new.engine) (sym (add-one i))
-          (goes_on run entry next c.loop-line.engine i going new c.in-Line.line _ is (c.answer.ensures.any_moment _ going.fits)
-          c.answer.new.engine c.answer.ensures.geometry (c.in_default.ensures.fits _ going.fits) (c.in_default.ensures.told _ going.fits));
+          (goes_on run entry next c.loop-line.engine i going new c.in-Line.line _ is (c.answer.ensures.any_moment _ going.fits going.quiet)
+          c.answer.new.engine c.answer.ensures.geometry (c.in_default.ensures.fits _ going.fits) (c.in_default.ensures.stays_quiet going.fits.honest going.quiet) (c.in_default.ensures.told _ going.fits going.quiet));
     }
 
 pub returns-then-last-clause-works : goal.returns-then-last-clause-works
@@ -119,8 +125,8 @@ returns-then-last-clause-works g c run begins =
     let hears = line_heard c.in-Ok-next.heard c.in-Line.line _ _ _ _ (c.in-Ok-next.ensures.heard honest cut.ended) c.in-Line.is in
     let ended = c.in-Ok-next.ensures.ended honest cut.ended in
     let is = ap (λ (l : List Line). drop i (up_to_quit l)) begins.lines ∙ line_is entry.left c.loop-line.source mid i cut c.loop-line.invariant.source c.next.new.self next c.in-Line.line hears ended c.next.ensures.source in
-    let gone = goes_on run entry next c.loop-line.engine i going new c.in-Line.line _ is (c.answer.ensures.any_moment _ going.fits)
-    c.answer.new.engine c.answer.ensures.geometry (c.in_default.ensures.fits _ going.fits) (c.in_default.ensures.told _ going.fits) in
+    let gone = goes_on run entry next c.loop-line.engine i going new c.in-Line.line _ is (c.answer.ensures.any_moment _ going.fits going.quiet)
+    c.answer.new.engine c.answer.ensures.geometry (c.in_default.ensures.fits _ going.fits) (c.in_default.ensures.stays_quiet going.fits.honest going.quiet) (c.in_default.ensures.told _ going.fits going.quiet) in
     quitted run entry mid next new c.loop-line.source c.next.new.self i cut c.loop-line.invariant.source c.in-Line.line hears ended c.next.ensures.source (c.answer.ensures.left going.fits.honest) _ c.answer.new.engine (sym c.quits-last.ensures ∙ c.if-last.true) gone
 
 pub returns-clause-works : goal.returns-clause-works
@@ -140,10 +146,9 @@ returns-in-Err-answer-clause-cause g c =
     let next = g.S.Site.state c.next.new.site in
     let new = g.S.Site.state c.answer.new.site in
     answer_cause c.in-Err-answer.halt c.loop-line.engine entry next new c.in-Err-answer.ensures.cause (goes_in_sequence _ _ _ c.loop-line.invariant.goes c.next.ensures.goes)
-    (λ honest quiet geometry table commits stands.
-    let start = run_begins geometry table commits entry honest quiet stands in
-    let so_far = c.loop-line.invariant.going start.0 start.1 in
-    (_, (moved start.0 entry mid next c.loop-line.engine c.loop-line._line so_far c.next.ensures.goes (c.next.ensures.same so_far.fits.honest)).fits))
+    (λ honest geometry table commits stands.
+    let so_far = c.loop-line.invariant.fits honest geometry table commits stands in
+    (so_far.0, still_fits c.loop-line.engine mid next so_far.0 so_far.1 c.next.ensures.goes (c.next.ensures.same so_far.1.honest).image))
 
 pub returns-in-Err-next-clause-goes : goal.returns-in-Err-next-clause-goes
 returns-in-Err-next-clause-goes g c = goes_in_sequence _ _ _ c.loop-line.invariant.goes c.next.ensures.goes

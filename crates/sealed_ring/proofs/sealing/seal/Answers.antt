@@ -18,8 +18,8 @@ returns-in_err-stage-clause-sealed g c honest =
       changes = staged.changes;
       seals = search rules;
       settled = search rules;
-      form = λ rest. search rules;
-      stands = λ rest. search rules;
+      form = λ form. search rules;
+      stands = λ form. search rules;
     }
 
 pub returns-clause-sealed : goal.returns-clause-sealed
@@ -42,6 +42,6 @@ returns-clause-sealed g c honest =
       changes = changes_in_sequence s.dev old mid new staged.changes (c.open.ensures.changes honest-mid);
       seals = seals_ok s c.args.hi bytes (region s old) (region s mid) (region s new) c.requires.fits stages c.open.result opens;
       settled = c.open.ensures.settled honest-mid;
-      form = λ rest. form_ok s c.args.hi bytes (region s old) (region s mid) (region s new) c.requires.fits c.requires.bounded stages rest.form c.open.result opens;
-      stands = λ rest. stands_ok s c.args.hi bytes (region s old) (region s mid) (region s new) c.requires.fits c.requires.bounded stages rest.form c.open.result opens;
+      form = λ form. form_ok s c.args.hi bytes (region s old) (region s mid) (region s new) c.requires.fits c.requires.bounded stages form c.open.result opens;
+      stands = λ form. stands_ok s c.args.hi bytes (region s old) (region s mid) (region s new) c.requires.fits c.requires.bounded stages form c.open.result opens;
     }

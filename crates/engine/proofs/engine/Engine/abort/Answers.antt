@@ -22,7 +22,7 @@ runs engine site s n entry fits at =
     carried_out s (Abort n) (wants_active_is s n found.session found.is) refl
 
 pub returns-in_default-clause-any_moment : goal.returns-in_default-clause-any_moment
-returns-in_default-clause-any_moment g c s fits = nothing_happens c.args.self.now.journal (g.S.Site.state c.args.site.now) fits.records s.table s.commits c.requires.going.journal.log.limits fits.holds
+returns-in_default-clause-any_moment g c s fits quiet = nothing_happens c.args.self.now.journal (g.S.Site.state c.args.site.now) fits.records s.table s.commits c.requires.going.journal.log.limits fits.holds quiet
 
 pub carry_out_abort-requires-clause-active : goal.carry_out_abort-requires-clause-active
 carry_out_abort-requires-clause-active g c =
@@ -42,7 +42,7 @@ returns-in-Ok-clause-after g c s fits =
     (subst (λ (k : ℕ). Fits c.carry_out_abort.new.self new (effect s (Abort k))) same (c.in-Ok.ensures.after s fits))
 
 pub returns-in-Ok-clause-any_moment : goal.returns-in-Ok-clause-any_moment
-returns-in-Ok-clause-any_moment g c s fits = c.carry_out_abort.ensures.any_moment s fits
+returns-in-Ok-clause-any_moment g c s fits quiet = c.carry_out_abort.ensures.any_moment s fits quiet
 
 pub returns-in-Err-clause-any_moment : goal.returns-in-Err-clause-any_moment
-returns-in-Err-clause-any_moment g c s fits = c.carry_out_abort.ensures.any_moment s fits
+returns-in-Err-clause-any_moment g c s fits quiet = c.carry_out_abort.ensures.any_moment s fits quiet

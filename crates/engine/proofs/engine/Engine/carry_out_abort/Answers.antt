@@ -30,14 +30,14 @@ returns-in-Ok-clause-after g c s fits =
     c.undo.ensures.rest c.in-Ok.ensures.made c.release.ensures c.remove.ensures.entry c.remove.ensures.owed refl refl refl refl
 
 pub returns-in-Ok-clause-any_moment : goal.returns-in-Ok-clause-any_moment
-returns-in-Ok-clause-any_moment g c s fits =
+returns-in-Ok-clause-any_moment g c s fits quiet =
     let found = some_active fits.records c.args.self.now.active s fits.sessions c.args.entry.session c.args.entry c.requires.active in
-    c.undo.ensures.any_moment fits.records s.table s.commits found.session.writes fits.holds fits.shown_is found.under_way.is_active (sym found.under_way.count)
+    c.undo.ensures.any_moment fits.records s.table s.commits found.session.writes fits.holds fits.shown_is found.under_way.is_active (sym found.under_way.count) quiet
 
 pub returns-in-Err-clause-any_moment : goal.returns-in-Err-clause-any_moment
-returns-in-Err-clause-any_moment g c s fits =
+returns-in-Err-clause-any_moment g c s fits quiet =
     let found = some_active fits.records c.args.self.now.active s fits.sessions c.args.entry.session c.args.entry c.requires.active in
-    c.undo.ensures.any_moment fits.records s.table s.commits found.session.writes fits.holds fits.shown_is found.under_way.is_active (sym found.under_way.count)
+    c.undo.ensures.any_moment fits.records s.table s.commits found.session.writes fits.holds fits.shown_is found.under_way.is_active (sym found.under_way.count) quiet
 
 pub returns-in-Err-clause-foreign : goal.returns-in-Err-clause-foreign
 returns-in-Err-clause-foreign g c is s fits =

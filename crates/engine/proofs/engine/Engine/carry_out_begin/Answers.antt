@@ -18,10 +18,10 @@ use Rattle.engine.proofs.Locks.{locks_stay, at_set}
 use Rattle.engine.proofs.engine.Engine.carry_out_begin.Goals as goal
 
 pub returns-in_err-begin-clause-any_moment : goal.returns-in_err-begin-clause-any_moment
-returns-in_err-begin-clause-any_moment g c s fits = c.append.ensures.any_moment fits.records s.table s.commits fits.holds
+returns-in_err-begin-clause-any_moment g c s fits quiet = c.append.ensures.any_moment fits.records s.table s.commits fits.holds quiet
 
 pub returns-clause-any_moment : goal.returns-clause-any_moment
-returns-clause-any_moment g c s fits = c.append.ensures.any_moment fits.records s.table s.commits fits.holds
+returns-clause-any_moment g c s fits quiet = c.append.ensures.any_moment fits.records s.table s.commits fits.holds quiet
 
 pub returns-clause-after : goal.returns-clause-after
 returns-clause-after g c s fits =

@@ -41,14 +41,14 @@ seal_commit-requires-clause-few g c =
     omega (arith, part, bounded)
 
 pub returns-in_err-reply-clause-any_moment : goal.returns-in_err-reply-clause-any_moment
-returns-in_err-reply-clause-any_moment g c s fits =
+returns-in_err-reply-clause-any_moment g c s fits quiet =
     commits_either c.args.self.now (g.S.Site.state c.args.site.now) (g.S.Site.state c.seal_commit.new.site) s c.args.entry fits c.requires.active
-    (c.seal_commit.ensures.any_moment fits.records s.table s.commits fits.holds (may_commit c.args.self.now (g.S.Site.state c.args.site.now) s c.args.entry fits c.requires.active))
+    (c.seal_commit.ensures.any_moment fits.records s.table s.commits fits.holds (may_commit c.args.self.now (g.S.Site.state c.args.site.now) s c.args.entry fits c.requires.active) quiet)
 
 pub returns-clause-any_moment : goal.returns-clause-any_moment
-returns-clause-any_moment g c s fits =
+returns-clause-any_moment g c s fits quiet =
     commits_either c.args.self.now (g.S.Site.state c.args.site.now) (g.S.Site.state c.seal_commit.new.site) s c.args.entry fits c.requires.active
-    (c.seal_commit.ensures.any_moment fits.records s.table s.commits fits.holds (may_commit c.args.self.now (g.S.Site.state c.args.site.now) s c.args.entry fits c.requires.active))
+    (c.seal_commit.ensures.any_moment fits.records s.table s.commits fits.holds (may_commit c.args.self.now (g.S.Site.state c.args.site.now) s c.args.entry fits c.requires.active) quiet)
 
 pub returns-clause-after : goal.returns-clause-after
 returns-clause-after g c s fits =

@@ -16,33 +16,33 @@ use Rattle.engine.proofs.Settings.{may_commit_one, set_either, set_fits}
 use Rattle.engine.proofs.engine.Engine.carry_out_set.Goals as goal
 
 pub returns-in-Err-clause-any_moment : goal.returns-in-Err-clause-any_moment
-returns-in-Err-clause-any_moment g c s fits =
+returns-in-Err-clause-any_moment g c s fits quiet =
     let old = g.S.Site.state c.args.site.now in
     let geometry = c.args.self.now.journal.log.geometry in
     leaves_weaker old (g.S.Site.state c.log_set.new.site) (LeavesTable geometry s.table s.commits old.told) (LeavesEither geometry s (making 3 (committed s ((c.args.number, c.args.after) ∷ []))) old.told)
-    (λ snapshot q. record { told = q.told; stands = inl q.stands }) (c.log_set.ensures.any_moment s fits)
+    (λ snapshot q. record { told = q.told; stands = inl q.stands }) (c.log_set.ensures.any_moment s fits quiet)
 
 pub returns-in-Ok-seal_commit-clause-any_moment : goal.returns-in-Ok-seal_commit-clause-any_moment
-returns-in-Ok-seal_commit-clause-any_moment g c s fits =
+returns-in-Ok-seal_commit-clause-any_moment g c s fits quiet =
     let engine = c.args.self.now in
     let one = c.log_set.new.self in
     let between = g.S.Site.state c.log_set.new.site in
     let w = c.in-Ok.ensures.logged s fits in
     let commits = ap (λ (x : Engine). x.commits) c.log_set.ensures.rest ∙ fits.counts.commits in
     set_either engine.journal.log.geometry one.journal.log.geometry (g.S.Site.state c.args.site.now) between (g.S.Site.state c.seal_commit.new.site) s c.args.number c.args.after (writes_in c.in-Ok.txn w.log) c.log_set.ensures.geometry (sym w.active.writes_are)
-    (c.log_set.ensures.any_moment s fits)
-    (c.seal_commit.ensures.any_moment w.log s.table s.commits w.holds (may_commit_one one.journal between fits.records s.table s.commits c.in-Ok.txn c.args.number one.commits c.args.after engine.table.items w commits))
+    (c.log_set.ensures.any_moment s fits quiet)
+    (c.seal_commit.ensures.any_moment w.log s.table s.commits w.holds (may_commit_one one.journal between fits.records s.table s.commits c.in-Ok.txn c.args.number one.commits c.args.after engine.table.items w commits) (c.in-Ok.ensures.stays_quiet fits.honest quiet))
 
 pub returns-in-Err-seal_commit-clause-any_moment : goal.returns-in-Err-seal_commit-clause-any_moment
-returns-in-Err-seal_commit-clause-any_moment g c s fits =
+returns-in-Err-seal_commit-clause-any_moment g c s fits quiet =
     let engine = c.args.self.now in
     let one = c.log_set.new.self in
     let between = g.S.Site.state c.log_set.new.site in
     let w = c.in-Ok.ensures.logged s fits in
     let commits = ap (λ (x : Engine). x.commits) c.log_set.ensures.rest ∙ fits.counts.commits in
     set_either engine.journal.log.geometry one.journal.log.geometry (g.S.Site.state c.args.site.now) between (g.S.Site.state c.seal_commit.new.site) s c.args.number c.args.after (writes_in c.in-Ok.txn w.log) c.log_set.ensures.geometry (sym w.active.writes_are)
-    (c.log_set.ensures.any_moment s fits)
-    (c.seal_commit.ensures.any_moment w.log s.table s.commits w.holds (may_commit_one one.journal between fits.records s.table s.commits c.in-Ok.txn c.args.number one.commits c.args.after engine.table.items w commits))
+    (c.log_set.ensures.any_moment s fits quiet)
+    (c.seal_commit.ensures.any_moment w.log s.table s.commits w.holds (may_commit_one one.journal between fits.records s.table s.commits c.in-Ok.txn c.args.number one.commits c.args.after engine.table.items w commits) (c.in-Ok.ensures.stays_quiet fits.honest quiet))
 
 pub returns-in-Err-seal_commit-clause-device : goal.returns-in-Err-seal_commit-clause-device
 returns-in-Err-seal_commit-clause-device g c is =

@@ -57,13 +57,13 @@ returns-clause-going g c =
     }
 
 pub returns-in_err-add-clause-any_moment : goal.returns-in_err-add-clause-any_moment
-returns-in_err-add-clause-any_moment g c s fits = nothing_happens c.args.self.now.journal (g.S.Site.state c.args.site.now) fits.records s.table s.commits c.requires.going.journal.log.limits fits.holds
+returns-in_err-add-clause-any_moment g c s fits quiet = nothing_happens c.args.self.now.journal (g.S.Site.state c.args.site.now) fits.records s.table s.commits c.requires.going.journal.log.limits fits.holds quiet
 
 pub returns-in_err-lsn-clause-any_moment : goal.returns-in_err-lsn-clause-any_moment
-returns-in_err-lsn-clause-any_moment g c s fits = c.append.ensures.any_moment fits.records s.table s.commits fits.holds
+returns-in_err-lsn-clause-any_moment g c s fits quiet = c.append.ensures.any_moment fits.records s.table s.commits fits.holds quiet
 
 pub returns-clause-any_moment : goal.returns-clause-any_moment
-returns-clause-any_moment g c s fits = c.append.ensures.any_moment fits.records s.table s.commits fits.holds
+returns-clause-any_moment g c s fits quiet = c.append.ensures.any_moment fits.records s.table s.commits fits.holds quiet
 
 pub returns-clause-after : goal.returns-clause-after
 returns-clause-after g c s fits =

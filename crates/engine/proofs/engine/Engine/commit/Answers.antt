@@ -22,11 +22,11 @@ runs engine site s n entry fits at =
     carried_out s (Commit n) (wants_active_is s n found.session found.is) refl
 
 pub returns-in_default-clause-any_moment : goal.returns-in_default-clause-any_moment
-returns-in_default-clause-any_moment g c s fits =
+returns-in_default-clause-any_moment g c s fits quiet =
     let old = g.S.Site.state c.args.site.now in
     let g0 = c.args.self.now.journal.log.geometry in
     leaves_weaker old old (LeavesTable g0 s.table s.commits old.told) (LeavesEither g0 s _ old.told) (λ snapshot q. record { told = q.told; stands = inl q.stands })
-    (nothing_happens c.args.self.now.journal old fits.records s.table s.commits c.requires.going.journal.log.limits fits.holds)
+    (nothing_happens c.args.self.now.journal old fits.records s.table s.commits c.requires.going.journal.log.limits fits.holds quiet)
 
 pub carry_out_commit-requires-clause-active : goal.carry_out_commit-requires-clause-active
 carry_out_commit-requires-clause-active g c =
@@ -46,21 +46,21 @@ returns-in-Ok-clause-after g c s fits =
     (subst (λ (k : ℕ). Fits c.carry_out_commit.new.self new (effect s (Commit k))) same (c.in-Ok.ensures.after s fits))
 
 pub returns-in-Ok-clause-any_moment : goal.returns-in-Ok-clause-any_moment
-returns-in-Ok-clause-any_moment g c s fits =
+returns-in-Ok-clause-any_moment g c s fits quiet =
     let at = sym c.find.ensures.entry ∙ c.in-Some.is in
     let old = g.S.Site.state c.args.site.now in
     let new = g.S.Site.state c.carry_out_commit.new.site in
     let g0 = c.args.self.now.journal.log.geometry in
     let same = (entry_is c.args.self.now.active c.args.session c.in-Some.entry c.requires.going.table at).session in
     subst (λ (o : Outcome). LeavesOnly old new (LeavesEither g0 s o.after old.told)) (sym (runs c.args.self.now old s c.args.session c.in-Some.entry fits at))
-    (subst (λ (k : ℕ). LeavesOnly old new (LeavesEither g0 s (effect s (Commit k)) old.told)) same (c.carry_out_commit.ensures.any_moment s fits))
+    (subst (λ (k : ℕ). LeavesOnly old new (LeavesEither g0 s (effect s (Commit k)) old.told)) same (c.carry_out_commit.ensures.any_moment s fits quiet))
 
 pub returns-in-Err-clause-any_moment : goal.returns-in-Err-clause-any_moment
-returns-in-Err-clause-any_moment g c s fits =
+returns-in-Err-clause-any_moment g c s fits quiet =
     let at = sym c.find.ensures.entry ∙ c.in-Some.is in
     let old = g.S.Site.state c.args.site.now in
     let new = g.S.Site.state c.carry_out_commit.new.site in
     let g0 = c.args.self.now.journal.log.geometry in
     let same = (entry_is c.args.self.now.active c.args.session c.in-Some.entry c.requires.going.table at).session in
     subst (λ (o : Outcome). LeavesOnly old new (LeavesEither g0 s o.after old.told)) (sym (runs c.args.self.now old s c.args.session c.in-Some.entry fits at))
-    (subst (λ (k : ℕ). LeavesOnly old new (LeavesEither g0 s (effect s (Commit k)) old.told)) same (c.carry_out_commit.ensures.any_moment s fits))
+    (subst (λ (k : ℕ). LeavesOnly old new (LeavesEither g0 s (effect s (Commit k)) old.told)) same (c.carry_out_commit.ensures.any_moment s fits quiet))

@@ -14,7 +14,7 @@ use Rattle.engine.proofs.Settings.{may_begin, may_update, one_write}
 use Rattle.engine.proofs.engine.Engine.log_set.Goals as goal
 
 pub returns-in-Err-clause-any_moment : goal.returns-in-Err-clause-any_moment
-returns-in-Err-clause-any_moment g c s fits = c.append.ensures.any_moment fits.records s.table s.commits fits.holds
+returns-in-Err-clause-any_moment g c s fits quiet = c.append.ensures.any_moment fits.records s.table s.commits fits.holds quiet
 
 pub returns-in-Ok-append-clause-logged : goal.returns-in-Ok-append-clause-logged
 returns-in-Ok-append-clause-logged g c s fits =
@@ -37,24 +37,24 @@ returns-in-Ok-append-clause-logged g c s fits =
     (subst (λ (rec : LogRecord). HoldsLog c.append-2.new.self (g.S.Site.state c.append-2.new.site) (log ++ record { lsn = lsn; rec = rec } ∷ []) s.table s.commits) update both)
 
 pub returns-in-Ok-append-clause-any_moment : goal.returns-in-Ok-append-clause-any_moment
-returns-in-Ok-append-clause-any_moment g c s fits =
+returns-in-Ok-append-clause-any_moment g c s fits quiet =
     let engine = c.args.self.now in
     let old = g.S.Site.state c.args.site.now in
     let going = c.requires.going in
     let holds = c.in-Ok.ensures.holds fits.records s.table s.commits fits.holds (may_begin engine old s c.args.number fits going.table c.requires.number c.requires.room going.journal.blocks going.cap c.requires.free c.in-Ok.txn c.in-Ok.ensures.rises.0) in
     and_then engine.journal.log.geometry c.append.new.self.log.geometry old (g.S.Site.state c.append.new.site) (g.S.Site.state c.append-2.new.site) s.table s.commits c.append.ensures.geometry
-    (c.append.ensures.any_moment fits.records s.table s.commits fits.holds)
-    (c.append-2.ensures.any_moment (fits.records ++ record { lsn = c.in-Ok.txn; rec = Begin } ∷ []) s.table s.commits holds)
+    (c.append.ensures.any_moment fits.records s.table s.commits fits.holds quiet)
+    (c.append-2.ensures.any_moment (fits.records ++ record { lsn = c.in-Ok.txn; rec = Begin } ∷ []) s.table s.commits holds (c.in-Ok.ensures.stays_quiet fits.honest quiet))
 
 pub returns-in-Err-append-clause-any_moment : goal.returns-in-Err-append-clause-any_moment
-returns-in-Err-append-clause-any_moment g c s fits =
+returns-in-Err-append-clause-any_moment g c s fits quiet =
     let engine = c.args.self.now in
     let old = g.S.Site.state c.args.site.now in
     let going = c.requires.going in
     let holds = c.in-Ok.ensures.holds fits.records s.table s.commits fits.holds (may_begin engine old s c.args.number fits going.table c.requires.number c.requires.room going.journal.blocks going.cap c.requires.free c.in-Ok.txn c.in-Ok.ensures.rises.0) in
     and_then engine.journal.log.geometry c.append.new.self.log.geometry old (g.S.Site.state c.append.new.site) (g.S.Site.state c.append-2.new.site) s.table s.commits c.append.ensures.geometry
-    (c.append.ensures.any_moment fits.records s.table s.commits fits.holds)
-    (c.append-2.ensures.any_moment (fits.records ++ record { lsn = c.in-Ok.txn; rec = Begin } ∷ []) s.table s.commits holds)
+    (c.append.ensures.any_moment fits.records s.table s.commits fits.holds quiet)
+    (c.append-2.ensures.any_moment (fits.records ++ record { lsn = c.in-Ok.txn; rec = Begin } ∷ []) s.table s.commits holds (c.in-Ok.ensures.stays_quiet fits.honest quiet))
 
 pub returns-in-Err-append-clause-device : goal.returns-in-Err-append-clause-device
 returns-in-Err-append-clause-device g c is =

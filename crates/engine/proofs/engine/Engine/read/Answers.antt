@@ -13,13 +13,13 @@ pub returns-in-Some-clause-reply : goal.returns-in-Some-clause-reply
 returns-in-Some-clause-reply g c s fits = sym (ap (λ (o : Outcome). o.reply) (c.in-Some.ensures.refused s (g.S.Site.state c.args.site.now) fits))
 
 pub returns-in-Some-clause-any_moment : goal.returns-in-Some-clause-any_moment
-returns-in-Some-clause-any_moment g c s fits = nothing_happens c.args.self.now.journal (g.S.Site.state c.args.site.now) fits.records s.table s.commits c.requires.going.journal.log.limits fits.holds
+returns-in-Some-clause-any_moment g c s fits quiet = nothing_happens c.args.self.now.journal (g.S.Site.state c.args.site.now) fits.records s.table s.commits c.requires.going.journal.log.limits fits.holds quiet
 
 pub returns-in-Ok-clause-any_moment : goal.returns-in-Ok-clause-any_moment
-returns-in-Ok-clause-any_moment g c s fits = nothing_happens c.args.self.now.journal (g.S.Site.state c.args.site.now) fits.records s.table s.commits c.requires.going.journal.log.limits fits.holds
+returns-in-Ok-clause-any_moment g c s fits quiet = nothing_happens c.args.self.now.journal (g.S.Site.state c.args.site.now) fits.records s.table s.commits c.requires.going.journal.log.limits fits.holds quiet
 
 pub returns-in-Err-clause-any_moment : goal.returns-in-Err-clause-any_moment
-returns-in-Err-clause-any_moment g c s fits = nothing_happens c.args.self.now.journal (g.S.Site.state c.args.site.now) fits.records s.table s.commits c.requires.going.journal.log.limits fits.holds
+returns-in-Err-clause-any_moment g c s fits quiet = nothing_happens c.args.self.now.journal (g.S.Site.state c.args.site.now) fits.records s.table s.commits c.requires.going.journal.log.limits fits.holds quiet
 
 pub returns-in-Ok-clause-reply : goal.returns-in-Ok-clause-reply
 returns-in-Ok-clause-reply g c s fits =

@@ -19,10 +19,10 @@ returns-in-Err-clause-readable g c records table commits writes h shown active c
     c.in-Err.ensures.readable records table commits x h (c.deref_mut.ensures.value ∙ shown) unfinished (record { txn = refl; last = refl; next = refl }) count
 
 pub returns-in-Err-clause-any_moment : goal.returns-in-Err-clause-any_moment
-returns-in-Err-clause-any_moment g c records table commits writes h shown active count =
+returns-in-Err-clause-any_moment g c records table commits writes h shown active count quiet =
     let x : Unfinished = record { txn = c.args.entry.begin; last = c.args.entry.last; next = c.args.entry.last; remaining = length writes } in
     let unfinished = active_left c.args.self.now.journal (g.S.Site.state c.args.site.now) records table commits c.args.entry.begin c.args.entry.last writes h active in
-    c.undo_updates.ensures.any_moment records table commits x h (c.deref_mut.ensures.value ∙ shown) unfinished (record { txn = refl; last = refl; next = refl }) count
+    c.undo_updates.ensures.any_moment records table commits x h (c.deref_mut.ensures.value ∙ shown) unfinished (record { txn = refl; last = refl; next = refl }) count quiet
 
 pub returns-in-Ok-append-clause-undone : goal.returns-in-Ok-append-clause-undone
 returns-in-Ok-append-clause-undone g c records table commits writes h shown active count =
@@ -41,7 +41,7 @@ returns-in-Ok-append-clause-undone g c records table commits writes h shown acti
     (c.in-Ok-append.ensures.holds all.log table commits all.holds (may_end c.undo_updates.new.journal mid records table commits x c.in-Ok.undone c.args.entry.writes c.in-Ok-append._end c.undo_updates.new.table all count)))
 
 pub returns-in-Ok-append-clause-any_moment : goal.returns-in-Ok-append-clause-any_moment
-returns-in-Ok-append-clause-any_moment g c records table commits writes h shown active count =
+returns-in-Ok-append-clause-any_moment g c records table commits writes h shown active count quiet =
     let old = g.S.Site.state c.args.site.now in
     let mid = g.S.Site.state c.undo_updates.new.site in
     let new = g.S.Site.state c.append.new.site in
@@ -49,11 +49,11 @@ returns-in-Ok-append-clause-any_moment g c records table commits writes h shown 
     let unfinished = active_left c.args.self.now.journal old records table commits c.args.entry.begin c.args.entry.last writes h active in
     let all = c.in-Ok.ensures.undone records table commits x h (c.deref_mut.ensures.value ∙ shown) unfinished (record { txn = refl; last = refl; next = refl }) count in
     and_then c.args.self.now.journal.log.geometry c.undo_updates.new.journal.log.geometry old mid new table commits c.undo_updates.ensures.geometry
-    (c.undo_updates.ensures.any_moment records table commits x h (c.deref_mut.ensures.value ∙ shown) unfinished (record { txn = refl; last = refl; next = refl }) count)
-    (c.append.ensures.any_moment all.log table commits all.holds)
+    (c.undo_updates.ensures.any_moment records table commits x h (c.deref_mut.ensures.value ∙ shown) unfinished (record { txn = refl; last = refl; next = refl }) count quiet)
+    (c.append.ensures.any_moment all.log table commits all.holds (c.in-Ok.ensures.stays_quiet h.fits.honest quiet))
 
 pub returns-in-Err-append-clause-any_moment : goal.returns-in-Err-append-clause-any_moment
-returns-in-Err-append-clause-any_moment g c records table commits writes h shown active count =
+returns-in-Err-append-clause-any_moment g c records table commits writes h shown active count quiet =
     let old = g.S.Site.state c.args.site.now in
     let mid = g.S.Site.state c.undo_updates.new.site in
     let new = g.S.Site.state c.append.new.site in
@@ -61,8 +61,8 @@ returns-in-Err-append-clause-any_moment g c records table commits writes h shown
     let unfinished = active_left c.args.self.now.journal old records table commits c.args.entry.begin c.args.entry.last writes h active in
     let all = c.in-Ok.ensures.undone records table commits x h (c.deref_mut.ensures.value ∙ shown) unfinished (record { txn = refl; last = refl; next = refl }) count in
     and_then c.args.self.now.journal.log.geometry c.undo_updates.new.journal.log.geometry old mid new table commits c.undo_updates.ensures.geometry
-    (c.undo_updates.ensures.any_moment records table commits x h (c.deref_mut.ensures.value ∙ shown) unfinished (record { txn = refl; last = refl; next = refl }) count)
-    (c.append.ensures.any_moment all.log table commits all.holds)
+    (c.undo_updates.ensures.any_moment records table commits x h (c.deref_mut.ensures.value ∙ shown) unfinished (record { txn = refl; last = refl; next = refl }) count quiet)
+    (c.append.ensures.any_moment all.log table commits all.holds (c.in-Ok.ensures.stays_quiet h.fits.honest quiet))
 
 pub returns-in-Err-append-clause-device : goal.returns-in-Err-append-clause-device
 returns-in-Err-append-clause-device g c is =

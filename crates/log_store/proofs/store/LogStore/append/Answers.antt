@@ -37,7 +37,7 @@ returns-clause-listed g c log fits holds =
     let now = g.S.Site.state c.seal_if.new.site in
     let sealing : Bool = nat_lt block_len (c.args.self.now.used + c.length.result) in
     let mid = c.seal_if.new.self in
-    let is = next_place mid now (sealed_if sealing log) c.place.result (c.in_ok-seal_if.ensures.fits fits) (c.in_ok-seal_if.ensures.holds log fits holds) c.place.ensures.lsn in
+    let is = next_place mid now (sealed_if sealing log) c.place.result (c.in_ok-seal_if.ensures.finds fits) (c.in_ok-seal_if.ensures.holds log fits holds) c.place.ensures.lsn in
     let kept : Bool = overflows c.args.self.now c.args.rec.now in
     let same : sealing ≡ kept = ap (λ (n : ℕ). nat_lt block_len (c.args.self.now.used + n)) c.length.ensures in
     subst (λ (b : Bool). entries (with_record c.args.rec.now (sealed_if b log)) ≡ entries log ++ record { lsn = c.place.result; rec = c.args.rec.now } ∷ []) same

@@ -1,6 +1,6 @@
 use Rattle.std.proofs.Common.{◌/◌, ◌∙◌, sym, rules}
 use Rattle.log_store.specs.LogList.{sealed_block}
-use Rattle.log_store.proofs.Standing.{finds, found_in_tail, found_in_block, held_block, block_bounds}
+use Rattle.log_store.proofs.Standing.{found_in_tail, found_in_block, held_block, block_bounds}
 use Rattle.log_store.proofs.store.LogStore.read_at.Goals as goal
 
 pub returns-in-Some-clause-found : goal.returns-in-Some-clause-found
@@ -16,7 +16,7 @@ returns-in_err-used-clause-foreign g c says log fits holds from =
     let store = c.args.self.now in
     let site = g.S.Site.state c.args.site.now in
     let bounds = block_bounds store log c.args.lsn c.requires.going.high c.requires.before from (λ at. c.if-block-hi.false (at ∙ sym c.hi.ensures)) in
-    absurd (c.in_err-used.ensures.foreign (search rules) fits (sealed_block log (c.args.lsn / 512)) (held_block store site log (c.args.lsn / 512) (finds store site fits) holds bounds.0 bounds.1))
+    absurd (c.in_err-used.ensures.foreign (search rules) fits (sealed_block log (c.args.lsn / 512)) (held_block store site log (c.args.lsn / 512) fits holds bounds.0 bounds.1))
 
 pub returns-in-Some-record_at-clause-found : goal.returns-in-Some-record_at-clause-found
 returns-in-Some-record_at-clause-found g c log fits holds from =

@@ -2,16 +2,15 @@ use Rattle.std.proofs.Common.{ℕ, List, ◌∙◌, sym, subst, arith}
 use Rattle.log_records.specs.Spelling.{IsBlock}
 use Rattle.log_records.proofs.Blocks.{used_low}
 use Rattle.log_store.specs.LogList.{sealed_block}
-use Rattle.log_store.proofs.Standing.{finds, ring_found, unit_read, held_block, one_end}
+use Rattle.log_store.proofs.Standing.{ring_found, unit_read, held_block, one_end}
 use Rattle.log_store.proofs.store.LogStore.read_block.Goals as goal
 
 pub returns-in_default-clause-foreign : goal.returns-in_default-clause-foreign
-returns-in_default-clause-foreign g c says fits records is =
+returns-in_default-clause-foreign g c says found records is =
     let store = c.args.self.now in
     let site = g.S.Site.state c.args.site.now in
-    let found = finds store site fits in
     let read = unit_read store site c.args.block _ _ c.requires.going found c.requires.live c.copy_from_slice.ensures.after
-    (c.in_ok-read_unit.ensures.unit fits.honest (ring_found store site c.requires.going found)) in
+    (c.in_ok-read_unit.ensures.unit found.honest (ring_found store site c.requires.going found)) in
     c.in_default.ensures.bad records (subst (λ (l : List ℕ). IsBlock l records) (sym read) is)
 
 pub returns-in_default-clause-readable : goal.returns-in_default-clause-readable
@@ -24,15 +23,14 @@ returns-in_default-clause-readable g c log found holds from says =
     (subst (λ (l : List ℕ). IsBlock l (sealed_block log c.args.block)) (sym read) (held_block store site log c.args.block found holds from c.requires.live.below))
 
 pub returns-clause-block : goal.returns-clause-block
-returns-clause-block g c fits =
+returns-clause-block g c found =
     let store = c.args.self.now in
     let site = g.S.Site.state c.args.site.now in
-    let found = finds store site fits in
     unit_read store site c.args.block _ _ c.requires.going found c.requires.live c.copy_from_slice.ensures.after
-    (c.in_ok-read_unit.ensures.unit fits.honest (ring_found store site c.requires.going found))
+    (c.in_ok-read_unit.ensures.unit found.honest (ring_found store site c.requires.going found))
 
-pub returns-clause-found : goal.returns-clause-found
-returns-clause-found g c log found holds from =
+pub returns-clause-holds : goal.returns-clause-holds
+returns-clause-holds g c log found holds from =
     let store = c.args.self.now in
     let site = g.S.Site.state c.args.site.now in
     let read = unit_read store site c.args.block _ _ c.requires.going found c.requires.live c.copy_from_slice.ensures.after
@@ -40,9 +38,6 @@ returns-clause-found g c log found holds from =
     let is = subst (λ (l : List ℕ). IsBlock l (sealed_block log c.args.block)) (sym read) (held_block store site log c.args.block found holds from c.requires.live.below) in
     let checked = c.in-Ok.ensures.found in
     (is, checked.2 ∙ one_end _ checked.0 (sealed_block log c.args.block) checked.1 is)
-
-pub returns-clause-holds : goal.returns-clause-holds
-returns-clause-holds g c log fits holds from = returns-clause-found g c log (finds c.args.self.now (g.S.Site.state c.args.site.now) fits) holds from
 
 pub returns-clause-within : goal.returns-clause-within
 returns-clause-within g c =

@@ -1,7 +1,11 @@
-use Rattle.std.proofs.Common.{◌≡◌, ap, arith, refl, true, rules}
+use Rattle.std.proofs.Common.{◌≡◌, ap, arith, refl, true, subst, rules}
 use Rattle.sealed_ring.specs.declared.ring.Ring.{Ring}
+use Rattle.sealed_ring.specs.declared.slots.Shape.{Shape}
+use Rattle.sealed_ring.specs.Ring.{SameOutside}
+use Rattle.sealed_ring.specs.Ready.{region}
 use Rattle.log_store.proofs.GoingOn.{goes_on}
-use Rattle.log_store.proofs.SealLaws.{none_left, none_front, none_beside, seal_beside, ring_ready, seal_left, seal_front, seal_reaches, seal_holds}
+use Rattle.log_store.proofs.SealLaws.{none_left, none_front, none_beside, seal_beside, ring_ready, ring_finds, fits_again, finds_again, seal_left, seal_front, seal_reaches, seal_holds}
+use Rattle.log_store.proofs.Standing.{finds}
 use Rattle.log_store.proofs.store.LogStore.seal_if.Goals as goal
 
 pub returns-then-not-wanted-clause-any_moment : goal.returns-then-not-wanted-clause-any_moment
@@ -32,8 +36,8 @@ returns-in_err-append-clause-any_moment g c log fits holds =
     let store = c.args.self.now in
     let wants : c.args.wanted ≡ true = search rules in
     let ready = ring_ready store old c.requires.going fits in
-    seal_left store old new log c.tail_block-content.result c.requires.going fits holds c.requires.room (c.requires.some wants) (c.tail_block-content.ensures log.tail holds.tail)
-    (c.append.ensures.any_moment fits.honest ready) (c.append.ensures.changes fits.honest).only c.args.wanted wants
+    seal_left store old new log c.tail_block-content.result c.requires.going (finds store old fits) holds c.requires.room (c.requires.some wants) (c.tail_block-content.ensures log.tail holds.tail)
+    (c.append.ensures.changes fits.honest).only (c.append.ensures.any_moment fits.honest ready) c.args.wanted wants
 
 pub returns-in_err-append-clause-front : goal.returns-in_err-append-clause-front
 returns-in_err-append-clause-front g c log fits holds quiet =
@@ -42,8 +46,8 @@ returns-in_err-append-clause-front g c log fits holds quiet =
     let store = c.args.self.now in
     let wants : c.args.wanted ≡ true = search rules in
     let ready = ring_ready store old c.requires.going fits in
-    seal_front store old new log c.tail_block-content.result c.requires.going fits holds c.requires.room (c.requires.some wants) (c.tail_block-content.ensures log.tail holds.tail)
-    (c.append.ensures.any_moment fits.honest ready) (c.append.ensures.changes fits.honest).only quiet c.args.wanted wants
+    seal_front store old new log c.tail_block-content.result c.requires.going (finds store old fits) holds c.requires.room (c.requires.some wants) (c.tail_block-content.ensures log.tail holds.tail)
+    (c.append.ensures.changes fits.honest).only (c.append.ensures.any_moment fits.honest ready) quiet c.args.wanted wants
 
 pub returns-clause-any_moment : goal.returns-clause-any_moment
 returns-clause-any_moment g c log fits holds =
@@ -52,8 +56,8 @@ returns-clause-any_moment g c log fits holds =
     let store = c.args.self.now in
     let wants : c.args.wanted ≡ true = search rules in
     let ready = ring_ready store old c.requires.going fits in
-    seal_left store old new log c.tail_block-content.result c.requires.going fits holds c.requires.room (c.requires.some wants) (c.tail_block-content.ensures log.tail holds.tail)
-    (c.append.ensures.any_moment fits.honest ready) (c.append.ensures.changes fits.honest).only c.args.wanted wants
+    seal_left store old new log c.tail_block-content.result c.requires.going (finds store old fits) holds c.requires.room (c.requires.some wants) (c.tail_block-content.ensures log.tail holds.tail)
+    (c.append.ensures.changes fits.honest).only (c.append.ensures.any_moment fits.honest ready) c.args.wanted wants
 
 pub returns-clause-front : goal.returns-clause-front
 returns-clause-front g c log fits holds quiet =
@@ -62,30 +66,30 @@ returns-clause-front g c log fits holds quiet =
     let store = c.args.self.now in
     let wants : c.args.wanted ≡ true = search rules in
     let ready = ring_ready store old c.requires.going fits in
-    seal_front store old new log c.tail_block-content.result c.requires.going fits holds c.requires.room (c.requires.some wants) (c.tail_block-content.ensures log.tail holds.tail)
-    (c.append.ensures.any_moment fits.honest ready) (c.append.ensures.changes fits.honest).only quiet c.args.wanted wants
+    seal_front store old new log c.tail_block-content.result c.requires.going (finds store old fits) holds c.requires.room (c.requires.some wants) (c.tail_block-content.ensures log.tail holds.tail)
+    (c.append.ensures.changes fits.honest).only (c.append.ensures.any_moment fits.honest ready) quiet c.args.wanted wants
 
 pub returns-clause-reaches : goal.returns-clause-reaches
-returns-clause-reaches g c log fits holds =
+returns-clause-reaches g c log found holds =
     let old = g.S.Site.state c.args.site.now in
     let new = g.S.Site.state c.append.new.site in
     let store = c.args.self.now in
     let wants : c.args.wanted ≡ true = search rules in
-    let ready = ring_ready store old c.requires.going fits in
-    seal_reaches store old new log c.tail_block-content.result c.requires.going fits holds c.requires.room (c.requires.some wants) (c.tail_block-content.ensures log.tail holds.tail)
-    (c.append.ensures.any_moment fits.honest ready) (c.append.ensures.changes fits.honest).only
-    (c.in_ok-append.ensures.stands fits.honest ready) c.args.wanted wants
+    let there = ring_finds store old c.requires.going found in
+    seal_reaches store old new log c.tail_block-content.result c.requires.going found holds c.requires.room (c.requires.some wants) (c.tail_block-content.ensures log.tail holds.tail) (c.append.ensures.changes found.honest).only
+    c.append.ensures.goes c.append.new.self (c.in_ok-append.ensures.ready found.honest there) c.append.ensures.shape (c.in_ok-append.ensures.outside found.honest)
+    (c.in_ok-append.ensures.stands found.honest there) c.args.wanted wants
 
 pub returns-clause-holds : goal.returns-clause-holds
-returns-clause-holds g c log fits holds =
+returns-clause-holds g c log found holds =
     let old = g.S.Site.state c.args.site.now in
     let new = g.S.Site.state c.append.new.site in
     let store = c.args.self.now in
     let wants : c.args.wanted ≡ true = search rules in
-    let ready = ring_ready store old c.requires.going fits in
-    seal_holds store old new log c.tail_block-content.result c.requires.going fits holds c.requires.room (c.requires.some wants) (c.tail_block-content.ensures log.tail holds.tail)
-    (c.append.ensures.any_moment fits.honest ready) (c.append.ensures.changes fits.honest).only
-    (c.in_ok-append.ensures.stands fits.honest ready) c.args.wanted wants c.append.new.self
+    let there = ring_finds store old c.requires.going found in
+    seal_holds store old new log c.tail_block-content.result c.requires.going found holds c.requires.room (c.requires.some wants) (c.tail_block-content.ensures log.tail holds.tail) (c.append.ensures.changes found.honest).only
+    c.append.ensures.goes c.append.new.self (c.in_ok-append.ensures.ready found.honest there) c.append.ensures.shape (c.in_ok-append.ensures.outside found.honest)
+    (c.in_ok-append.ensures.stands found.honest there) c.args.wanted wants c.append.new.self
 
 pub returns-in_err-append-clause-going : goal.returns-in_err-append-clause-going
 returns-in_err-append-clause-going g c =
@@ -100,3 +104,9 @@ returns-clause-going g c =
     let more = ap (λ (r : Ring). r.hi) c.in_ok-append.ensures.ok in
     goes_on c.args.self.now _ (g.S.Site.state c.args.site.now) (g.S.Site.state c.append.new.site) going c.append.ensures.goes refl c.append.ensures.usable c.append.ensures.shape
     (let kept = going.kept in omega (arith, kept, more)) (let room = c.requires.room in let kept = going.kept in omega (arith, room, more, kept)) (omega arith) (omega arith)
+
+pub returns-clause-outside : goal.returns-clause-outside
+returns-clause-outside g c honest =
+    let old = g.S.Site.state c.args.site.now in
+    let new = g.S.Site.state c.append.new.site in
+    subst (λ (s : Shape). SameOutside s (region s old) (region s new)) c.requires.going.shape (c.in_ok-append.ensures.outside honest)

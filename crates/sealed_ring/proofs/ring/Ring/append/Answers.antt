@@ -3,9 +3,9 @@ use Rattle.site.specs.Laws.{no_call}
 use Rattle.site.specs.Moments.{Leaves}
 use Rattle.sealed_ring.specs.Ready.{region, LeavesOldOrNew}
 use Rattle.sealed_ring.proofs.Highest.{hi_is}
-use Rattle.sealed_ring.proofs.Sealed.{seals_hi}
+use Rattle.sealed_ring.proofs.Sealed.{seals_hi, sealed_outside}
 use Rattle.sealed_ring.proofs.Stays.{quiet_again}
-use Rattle.sealed_ring.proofs.Whole.{left_as_it_is, at_rest, ring_at}
+use Rattle.sealed_ring.proofs.Whole.{left_as_it_is, at_rest, form_of, ring_at}
 use Rattle.sealed_ring.proofs.ring.Ring.append.Goals as goal
 
 pub returns-then-self-eq-HI_MAX-clause-any_moment : goal.returns-then-self-eq-HI_MAX-clause-any_moment
@@ -23,10 +23,10 @@ returns-clause-any_moment g c honest ready =
     (c.seal.ensures.sealed honest).any_moment (at_rest c.args.self.now (g.S.Site.state c.args.site.now) ready)
 
 pub returns-clause-ready : goal.returns-clause-ready
-returns-clause-ready g c honest ready =
+returns-clause-ready g c honest finds =
     let sealed = c.in-Ok.ensures.sealed honest in
-    let form = sealed.form (at_rest c.args.self.now (g.S.Site.state c.args.site.now) ready) in
     let ring = c.args.self.now in
+    let form = sealed.form (form_of ring (g.S.Site.state c.args.site.now) finds) in
     let there = region ring.shape (g.S.Site.state c.seal.new.site) in
     let slots = c.requires.usable.fits.slots in
     record {
@@ -36,8 +36,13 @@ returns-clause-ready g c honest ready =
     }
 
 pub returns-clause-stands : goal.returns-clause-stands
-returns-clause-stands g c honest ready =
-    (c.in-Ok.ensures.sealed honest).stands (at_rest c.args.self.now (g.S.Site.state c.args.site.now) ready)
+returns-clause-stands g c honest finds =
+    (c.in-Ok.ensures.sealed honest).stands (form_of c.args.self.now (g.S.Site.state c.args.site.now) finds)
+
+pub returns-clause-outside : goal.returns-clause-outside
+returns-clause-outside g c honest =
+    let s = c.args.self.now.shape in
+    sealed_outside s c.args.self.now.hi c.args.content.now (region s (g.S.Site.state c.args.site.now)) (region s (g.S.Site.state c.seal.new.site)) c.requires.usable.fits (c.in-Ok.ensures.sealed honest).seals
 
 pub returns-clause-fits : goal.returns-clause-fits
 returns-clause-fits g c honest fits =
