@@ -1,5 +1,5 @@
 -- The last frame of a page, where the directory says that it stands.
-use Rattle.std.proofs.Common.{◌≡◌, ℕ, zero, suc, ◌+◌, ◌*◌, ◌<◌, ◌≤◌, true, false, List, [], ◌∷◌, length, get_or, map, take, drop, Option, Some, None, option_map, arith, refl, sym, ap, subst, ◌∙◌}
+use Rattle.std.proofs.Common.{◌≡◌, ℕ, ◌+◌, ◌*◌, ◌<◌, true, false, List, [], length, get_or, map, take, drop, Option, Some, None, option_map, arith, refl, sym, ap, subst, ◌∙◌}
 use Rattle.std.proofs.lemmas.Option.{none-some, same_Some}
 use Rattle.site.specs.declared.outside.Dev.TheVariants.{Log, Flash, Disk}
 use Rattle.site.specs.declared.geometry.Geometry.{Geometry}
@@ -9,15 +9,14 @@ use Rattle.site.specs.Calls.{Goes}
 use Rattle.frame_group.specs.Groups.{Frame, group}
 use Rattle.frame_group.specs.Versions.{frames_of, last_frame, version_by}
 use Rattle.frame_group.proofs.Pages.{pages_stand}
-use Rattle.second_chance.specs.declared.frame.Frame.{Frame as Known}
-use Rattle.second_chance.specs.Queue.{Queue, groups_read, with_read}
+use Rattle.second_chance.specs.Queue.{Queue, with_read}
 use Rattle.flash_directory.specs.declared.place.Place.{Place}
 use Rattle.flash_directory.specs.Heads.{last_place, newest}
 use Rattle.flash_directory.proofs.Newest.{placed, last_among-place, place_bound, last_bound}
 use Rattle.flash_directory.proofs.Reading.{length-groups_read, sizes_read}
 use Rattle.flash_cache.specs.declared.cache.FlashCache.{FlashCache}
-use Rattle.flash_cache.specs.Held.{HasFrames, HasGroups, Holds, MayGoOn, group_on, disk_on, version_on, AllTogether, Shows}
-use Rattle.flash_cache.proofs.Queues.{last_of_groups, frames_of_groups, joined, has_at, groups_shown, exist_read, together_length, together_at}
+use Rattle.flash_cache.specs.Held.{HasGroups, Holds, MayGoOn, group_on, disk_on, version_on, AllTogether, Shows}
+use Rattle.flash_cache.proofs.Queues.{last_of_groups, frames_of_groups, has_at, groups_shown, exist_read, together_length, together_at}
 use Rattle.flash_cache.proofs.Standing.{stands, usable_later}
 
 -- where the newest frame of a page stands

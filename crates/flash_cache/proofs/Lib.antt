@@ -1,4 +1,14 @@
+pub mod Gathering
+pub mod Given
 pub mod PushLaws
+pub mod Pushing
+pub mod PushedImages
+pub mod PushedOutcome
+pub mod PushedVersions
 pub mod Queues
+pub mod Staging
+pub mod StagedContents
+pub mod StagedFrames
+pub mod StagedMarks
 pub mod Standing
 pub mod Fetching

@@ -1,13 +1,13 @@
 -- Staging and an append, one after the other.
-use Rattle.std.proofs.Common.{◌≡◌, ◌⊎◌, inl, inr, ℕ, List, [], ◌∷◌, ◌++◌, length, refl, sym, ◌∙◌, ap, subst, append_assoc, append-nil}
+use Rattle.std.proofs.Common.{◌≡◌, ◌⊎◌, inl, inr, ℕ, List, [], ◌∷◌, ◌++◌, length, sym, ◌∙◌, ap, subst, append_assoc, append-nil}
 use Rattle.site.specs.declared.geometry.Geometry.{Geometry}
 use Rattle.site.specs.Geometry.{HasLimits, HasLengths}
-use Rattle.site.specs.State.{State, Image, Snapshot, IsQuiet}
+use Rattle.site.specs.State.{State, Snapshot, IsQuiet}
 use Rattle.site.specs.Moments.{Leaves, LeavesOnly, OnlyDevice}
 use Rattle.site.specs.Laws.{in_sequence, leaves_weaker}
 use Rattle.sealed_ring.specs.Ready.{LeavesOldOrNew}
 use Rattle.image_changes.specs.Rings.{Groups, shape_of, octets_of}
-use Rattle.image_changes.specs.Changes.{Change, AppendsGroup, ReadsAs, Appends, Reaches}
+use Rattle.image_changes.specs.Changes.{Change, AppendsGroup, Reaches}
 use Rattle.image_changes.specs.Reached.{IsReached, LeavesFront, IsFrontOf}
 use Rattle.image_changes.specs.Laws.{KeepsOrAppends}
 use Rattle.image_changes.proofs.Sequence.{changes_add_up, reads_itself}

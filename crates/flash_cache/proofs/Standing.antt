@@ -1,5 +1,5 @@
 -- The groups that stand on flash.
-use Rattle.std.proofs.Common.{◌≡◌, ℕ, zero, suc, ◌+◌, ◌-◌, ◌*◌, ◌<◌, ◌≤◌, min, Bool, true, false, true≢false, cond, IsTrue, List, [], ◌∷◌, ◌++◌, length, get_or, map, take, drop, replicate, add-one, arith, refl, sym, ap, subst, ◌∙◌}
+use Rattle.std.proofs.Common.{◌≡◌, ℕ, zero, suc, ◌+◌, ◌-◌, ◌*◌, ◌<◌, ◌≤◌, min, Bool, true, false, true≢false, cond, List, [], ◌∷◌, ◌++◌, length, get_or, map, take, drop, replicate, arith, refl, sym, ap, subst, ◌∙◌}
 use Rattle.std.proofs.lemmas.List.{take-take, take_all, get_or-replicate, length-replicate}
 use Rattle.std.specs.List.{All, AllByRecursion, take_while, prefix_len}
 use Rattle.site.specs.declared.geometry.Geometry.{Geometry}
@@ -8,12 +8,12 @@ use Rattle.site.specs.Calls.{Goes}
 use Rattle.sealed_ring.specs.declared.slots.Shape.{Shape}
 use Rattle.sealed_ring.specs.declared.ring.Ring.{Ring}
 use Rattle.sealed_ring.specs.Ring.{FitsIn, hi_of, units_of, unit_at}
-use Rattle.sealed_ring.specs.Ready.{region, units_in, IsUsable, Fits as RingFits}
+use Rattle.sealed_ring.specs.Ready.{region, units_in, IsUsable}
 use Rattle.sealed_ring.proofs.Units.{live_count}
 use Rattle.byte_fields.specs.declared.frame_head.FrameHead.{FrameHead}
-use Rattle.byte_fields.specs.FrameHeads.{blank, AreGroupHeads, present_in_front}
+use Rattle.byte_fields.specs.FrameHeads.{blank, AreGroupHeads}
 use Rattle.image_changes.specs.Rings.{group_shape, units_on}
-use Rattle.frame_group.specs.Groups.{Frame, group, head_of, heads_of, IsGroup, HasHeads}
+use Rattle.frame_group.specs.Groups.{Frame, group, head_of, heads_of, HasHeads}
 use Rattle.frame_group.proofs.Front.{begins_with_heads, one_heads}
 use Rattle.second_chance.specs.declared.frame.Frame.{Frame as Known}
 use Rattle.second_chance.specs.Queue.{frame_of as known_of}
@@ -113,7 +113,7 @@ pub sizes_known : (lists : List (List FrameHead)) → All (λ heads. AreGroupHea
 sizes_known [] all = tt
 sizes_known (heads ∷ lists) all = (size_of_heads heads (all 0 [] (omega arith)), sizes_known lists (λ k d lt. all (suc k) d (omega (arith, lt))))
 
-exist_in : (pages : ℕ) (heads : List FrameHead) → PagesExist pages heads → AllByRecursion (λ (frame : Known). frame.page < pages) (frames_in heads)
+pub exist_in : (pages : ℕ) (heads : List FrameHead) → PagesExist pages heads → AllByRecursion (λ (frame : Known). frame.page < pages) (frames_in heads)
 exist_in pages [] all = tt
 exist_in pages (head ∷ heads) all = by head.present refl (exist_in pages heads (λ k d lt. all (suc k) d (omega (arith, lt))))
   where

@@ -1,5 +1,5 @@
 -- What the cache knows of the queue on flash, and what an image has of it.
-use Rattle.std.specs.Prelude.{◌≡◌, ◌⊎◌, ℕ, ◌+◌, ◌-◌, ◌≤◌, ◌<◌, Bool, false, IsTrue, List, [], ◌∷◌, ◌++◌, length, map, flat_map, slice_index, slice_index_or, Option, Some}
+use Rattle.std.specs.Prelude.{◌≡◌, ℕ, ◌+◌, ◌≤◌, ◌<◌, IsTrue, List, [], ◌∷◌, length, map}
 use Rattle.std.specs.List.{All, AllByRecursion}
 use Rattle.site.specs.declared.outside.Dev.TheVariants.{Flash}
 use Rattle.site.specs.declared.geometry.Geometry.{Geometry}
@@ -89,7 +89,3 @@ AllTogether R (a ∷ as') (b ∷ bs) = R a b × AllTogether R as' bs
 pub record Holds (cache : FlashCache) (image : Image) (groups : List (List Frame)) : Type 0 where
   pub has : HasGroups cache.geometry cache.directory.first groups image
   pub shown : AllTogether (AllTogether Shows) cache.directory.groups groups
-
--- the queue has as many groups as can be: its front one leaves at the next push
-abbrev pub IsFull : FlashCache → Type 0
-IsFull cache = length cache.directory.groups + 1 ≡ cache.geometry.groups

@@ -1,12 +1,57 @@
--- What a push does to the devices: pages are staged, then a group is appended.
-use Rattle.std.specs.Prelude.{◌≡◌, ◌⊎◌, ℕ, List, [], ◌∷◌, ◌++◌}
+-- What a push does to the queue and to the devices: pages are staged, then a group is appended.
+use Rattle.std.specs.Prelude.{◌≡◌, ◌⊎◌, ℕ, Bool, false, List, [], ◌∷◌, ◌++◌, map, drop, zip, slice_index_or, if◌then◌else◌}
 use Rattle.site.specs.declared.geometry.Geometry.{Geometry}
+use Rattle.site.specs.declared.outside.Dev.TheVariants.{Log}
 use Rattle.site.specs.State.{State, Snapshot}
+use Rattle.site.specs.Moments.{Untouched}
 use Rattle.image_changes.specs.Changes.{Change, AppendsGroup, Reaches}
 use Rattle.image_changes.specs.Reached.{IsFrontOf}
 use Rattle.stage_out.specs.Staged.{HasStaged, changes_of}
+use Rattle.frame_group.specs.Groups.{Frame}
+use Rattle.second_chance.specs.declared.frame.Frame.{Frame as Known}
+use Rattle.second_chance.specs.Queue.{Queue, pushed, frame_of as known_of}
+use Rattle.second_chance.specs.Plans.{Placed, staged_of, chances_given}
+use Rattle.second_chance.specs.Machine.{rules_of, is_full, leaving}
+use Rattle.flash_cache.specs.declared.cache.FlashCache.{FlashCache}
 
--- all its changes: the staged pages are rewritten, if there are any, and the group is appended
+-- whether the front group leaves with a push: the queue has as many groups as can be
+abbrev pub front_leaves : FlashCache → Bool
+front_leaves cache = is_full (rules_of 0 cache.geometry.groups) cache.directory
+
+-- the frames of the front group that the machine's push stages
+abbrev pub staged_marks : FlashCache → List Placed
+staged_marks cache = staged_of chances_given (leaving (rules_of 0 cache.geometry.groups) cache.directory)
+
+abbrev pub staged_pages : FlashCache → List ℕ
+staged_pages cache = map (λ f. f.1.page) (staged_marks cache)
+
+abbrev pub no_frame : Frame
+no_frame = record { page = 0; dirty = false; octets = [] }
+
+-- what they have on flash
+abbrev pub staged_contents : FlashCache → List (List Frame) → List (List ℕ)
+staged_contents cache groups = map (λ f. (slice_index_or (slice_index_or groups 0 []) f.0 no_frame).octets) (staged_marks cache)
+
+-- the frames of the pages given, each dirty where it was changed
+abbrev pub given_frame : (ℕ × Bool) × List ℕ → Frame
+given_frame f = record { page = f.0.0; dirty = f.0.1; octets = f.1 }
+
+abbrev pub frames_given : List ℕ → List Bool → List (List ℕ) → List Frame
+frames_given pages changed contents = map given_frame (zip (zip pages changed) contents)
+
+-- and as the directory knows them
+abbrev pub known_given : List ℕ → List Bool → List Known
+known_given pages changed = map (λ f. known_of f.0 f.1) (zip pages changed)
+
+-- the groups with one more, and without the front one where that leaves
+abbrev pub pushed_groups : FlashCache → List (List Frame) → List Frame → List (List Frame)
+pushed_groups cache groups frames = (if front_leaves cache then drop 1 groups else groups) ++ frames ∷ []
+
+-- the same of the queue
+abbrev pub pushed_queue : FlashCache → List Known → Queue
+pushed_queue cache frames = pushed (front_leaves cache) frames cache.directory
+
+-- all changes of a push: the staged pages are rewritten, if there are any, and the group is appended
 abbrev pub changes_of_push : List ℕ → List ℕ → List Change
 changes_of_push pages group = changes_of pages ++ AppendsGroup group ∷ []
 
@@ -16,3 +61,9 @@ pub record LeavesPush (g : Geometry) (pages : List ℕ) (contents : List (List �
   pub told : snapshot.told ≡ old.told
   pub either : ((changes : List Change) × IsFrontOf (changes_of pages) changes × Reaches g changes old.image snapshot.image)
       ⊎ (HasStaged pages contents old.image.disk snapshot.image.disk × Reaches g (changes_of_push pages group) old.image snapshot.image)
+
+-- the log's device stays as it is, nothing was told, and nothing was heard
+pub record ChangesPages (old new : State) : Type 0 where
+  pub log : Untouched Log old new
+  pub told : new.told ≡ old.told
+  pub left : new.left ≡ old.left

@@ -1,26 +1,38 @@
 // The queue on flash: its groups stand on a ring of the flash device, and a directory in memory knows their frames.
-ghost use Rattle.std.specs.Prelude.{◌≡◌, ◌≢◌, ◌⊎◌, ◌↔◌, ◌+◌, ◌-◌, ◌*◌, ◌^◌, ◌<◌, ◌≤◌, ℕ, List, length, map, take, [], ◌∷◌, ◌++◌, true, false, IsTrue, IfOk, OnOk, OnErr, IfErr, IsErrOf, IfSome, IfNone, Some, if◌then◌else◌, slice_get};
+ghost use Rattle.std.specs.Prelude.{◌≡◌, ◌≢◌, ◌⊎◌, ◌↔◌, ◌+◌, ◌-◌, ◌*◌, ◌^◌, ◌<◌, ◌≤◌, ℕ, List, length, map, take, [], ◌∷◌, ◌++◌, true, false, IsTrue, IfOk, OnOk, OnErr, IfErr, IsErrOf, IfSome, IfNone, Some, if◌then◌else◌, slice_get, AllPairs};
 ghost use Rattle.std.specs.List.{All, AllByRecursion};
 ghost use Rattle.site.specs.declared.outside.Dev.{Dev};
 ghost use Rattle.site.specs.declared.outside.Stop.{Stop};
 ghost use Rattle.site.specs.Geometry.{HasLimits, HasLengths};
-ghost use Rattle.site.specs.State.{reads_of, IsSettled};
-ghost use Rattle.site.specs.Calls.{Goes, FaultRose, IsUnchanged};
+ghost use Rattle.site.specs.State.{reads_of, IsSettled, IsQuiet};
+ghost use Rattle.site.specs.Calls.{Goes, SameReads, FaultRose, IsUnchanged};
+ghost use Rattle.site.specs.Moments.{LeavesOnly, ChangesOnly, Untouched};
 ghost use Rattle.sealed_ring.specs.Ring.{IsRing, IsLive};
-ghost use Rattle.sealed_ring.specs.Ready.{IsUsable, Fits as RingFits};
+ghost use Rattle.sealed_ring.specs.Ready.{IsUsable, Fits as RingFits, LeavesOldOrNew};
 ghost use Rattle.byte_fields.specs.declared.frame_head.FrameHead.{FrameHead};
 ghost use Rattle.byte_fields.specs.FrameHeads.{AreGroupHeads};
-ghost use Rattle.image_changes.specs.Rings.{group_shape};
-ghost use Rattle.frame_group.specs.Groups.{Frame, heads_of};
+ghost use Rattle.image_changes.specs.Rings.{group_shape, Groups as GroupRing};
+ghost use Rattle.image_changes.specs.Changes.{Appends, Reaches};
+ghost use Rattle.image_changes.specs.Reached.{LeavesFront};
+ghost use Rattle.frame_group.specs.Groups.{Frame, heads_of, group};
 ghost use Rattle.second_chance.specs.Queue.{has_frame, with_read, marks, front_marks};
-ghost use Rattle.flash_cache.specs.Held.{MayGoOn, Fits, HasGroups, HasFrames, Holds, queue_of, version_on, group_on, PagesExist};
+ghost use Rattle.second_chance.specs.Machine.{rules_of, leaving};
+ghost use Rattle.stage_out.specs.Staged.{HasStaged};
+ghost use Rattle.flash_directory.specs.Heads.{frames_in};
+ghost use Rattle.flash_cache.specs.Held.{MayGoOn, Fits, HasGroups, HasFrames, Holds, queue_of, version_on, group_on, PagesExist, IsCleanOn};
+ghost use Rattle.flash_cache.specs.Pushed.{staged_marks, staged_pages, staged_contents, frames_given, known_given, pushed_groups, pushed_queue, changes_of_push, LeavesPush, ChangesPages};
+ghost use Rattle.flash_cache.specs.Kept.{GivesVersions, LeavesVersions, AreCleanGiven, LeavesClean};
 
+use crate::leaving::{contents_at, pages_at};
+use crate::making::group_content;
 use byte_fields::{FrameHead, Mark};
 use flash_directory::{Directory, HeadView};
 use frame_group::{GROUP_LEN, HEADS_LEN, PAGE_LEN, group_heads};
 use sealed_ring::{Ring, Shape};
+use second_chance::Plan;
 use site::{Dev, Geometry, Site, Stop};
 use slotted_page::Page;
+use stage_out::stage;
 use std::alloc::Global;
 
 /// The queue of groups on flash. It is ended once a call that changes it gave an error.
@@ -230,6 +242,7 @@ impl FlashCache {
             → Fits self.old (S.state site.old) → Holds self.old (S.state site.old).image groups
             → OnOk result (Holds self.new (S.state site.new).image groups) }
         ensures err { OnErr result (self.new ≡ record self.old { ended = true }) }
+        ensures geometry { self.new.geometry ≡ self.old.geometry }
         ensures same { IsTrue (S.state site.old).honest
             → IsUnchanged (S.state site.old) (S.state site.new) }
         ensures goes { Goes (S.state site.old) (S.state site.new) }
@@ -255,13 +268,319 @@ impl FlashCache {
         Ok(true)
     }
 
+    /// Pushes a group with the pages given, each dirty where it was changed. Where the queue is full its front group leaves,
+    /// and the frames of it that the plan stages, those that are valid and dirty, are read, written to the disk, and synced
+    /// there before the group is appended.
+    ///
+    /// At each moment of the call the queue has its old groups, and the staged pages may have any octets on the disk; or it
+    /// has the new group, and the staged pages stand on the disk. So each page has the version that it had, or all pages
+    /// given have their contents.
+    ///
+    /// `plan` is that of the machine for the front group. The lists are 1 to 8 pages, of which none is given twice, whether
+    /// each was changed, and the content of each.
+    pub fn push_group<S: Site>(
+        &mut self,
+        site: &mut S,
+        plan: &Plan,
+        pages: &[u32],
+        changed: &[bool],
+        contents: &[Page],
+    ) -> Result<(), Stop>
+        requires going { MayGoOn self.old (S.state site.old) }
+        requires chances { plan.now.chances ≡ [] }
+        requires staged { plan.now.staged ≡ map (λ f. f.0) (staged_marks self.old) }
+        requires marks { length changed.now ≡ length pages.now }
+        requires lists { length contents.now ≡ length pages.now }
+        requires some { 1 ≤ length pages.now }
+        requires few { length pages.now ≤ 8 }
+        requires exist { All (λ page. page < self.old.geometry.pages) pages.now }
+        requires apart { AllPairs (λ a b. a ≢ b) pages.now }
+
+        // The devices, of an honest site that the cache fits and whose groups it holds.
+        ensures any_moment { (groups : List (List Frame))
+            → Fits self.old (S.state site.old) → Holds self.old (S.state site.old).image groups
+            → IsQuiet (S.state site.old)
+            → LeavesOnly (S.state site.old) (S.state site.new) (LeavesPush self.old.geometry
+            (staged_pages self.old) (staged_contents self.old groups)
+            (group (frames_given pages.now changed.now contents.now)) (S.state site.old)) }
+        ensures front { (groups : List (List Frame))
+            → Fits self.old (S.state site.old) → Holds self.old (S.state site.old).image groups
+            → IsQuiet (S.state site.old) → LeavesFront self.old.geometry
+            (changes_of_push (staged_pages self.old)
+            (group (frames_given pages.now changed.now contents.now)))
+            (S.state site.old) (S.state site.new) }
+        ensures reaches { (groups : List (List Frame))
+            → Fits self.old (S.state site.old) → Holds self.old (S.state site.old).image groups
+            → OnOk result (Reaches self.old.geometry (changes_of_push (staged_pages self.old)
+            (group (frames_given pages.now changed.now contents.now)))
+            (S.state site.old).image (S.state site.new).image) }
+        ensures staged { (groups : List (List Frame))
+            → Fits self.old (S.state site.old) → Holds self.old (S.state site.old).image groups
+            → OnOk result (HasStaged (staged_pages self.old) (staged_contents self.old groups)
+            (S.state site.old).image.disk (S.state site.new).image.disk) }
+        ensures changes { IsTrue (S.state site.old).honest
+            → ChangesPages (S.state site.old) (S.state site.new) }
+        ensures alone { IsTrue (S.state site.old).honest → staged_pages self.old ≡ []
+            → Untouched Dev.Disk (S.state site.old) (S.state site.new) }
+
+        // What that means for the pages, where valid clean frames equal their disk pages.
+        ensures versions { (groups : List (List Frame))
+            → Fits self.old (S.state site.old) → Holds self.old (S.state site.old).image groups
+            → IsQuiet (S.state site.old) → IsCleanOn self.old.geometry (S.state site.old).image
+            → LeavesOnly (S.state site.old) (S.state site.new)
+            (LeavesVersions self.old groups pages.now changed.now contents.now (S.state site.old)) }
+        ensures gives { (groups : List (List Frame))
+            → Fits self.old (S.state site.old) → Holds self.old (S.state site.old).image groups
+            → IsCleanOn self.old.geometry (S.state site.old).image
+            → OnOk result (GivesVersions self.old.geometry self.new.directory.first
+            (pushed_groups self.old groups (frames_given pages.now changed.now contents.now))
+            pages.now contents.now (S.state site.old).image (S.state site.new).image) }
+        ensures clean_moment { (groups : List (List Frame))
+            → Fits self.old (S.state site.old) → Holds self.old (S.state site.old).image groups
+            → IsQuiet (S.state site.old) → IsCleanOn self.old.geometry (S.state site.old).image
+            → AreCleanGiven self.old pages.now changed.now contents.now (S.state site.old).image
+            → LeavesOnly (S.state site.old) (S.state site.new) (LeavesClean self.old.geometry) }
+        ensures clean { (groups : List (List Frame))
+            → Fits self.old (S.state site.old) → Holds self.old (S.state site.old).image groups
+            → IsCleanOn self.old.geometry (S.state site.old).image
+            → AreCleanGiven self.old pages.now changed.now contents.now (S.state site.old).image
+            → OnOk result (IsCleanOn self.old.geometry (S.state site.new).image) }
+
+        // The cache.
+        ensures directory { OnOk result (self.new.directory
+            ≡ pushed_queue self.old (known_given pages.now changed.now)) }
+        ensures holds { (groups : List (List Frame))
+            → Fits self.old (S.state site.old) → Holds self.old (S.state site.old).image groups
+            → OnOk result (Holds self.new (S.state site.new).image
+            (pushed_groups self.old groups (frames_given pages.now changed.now contents.now))) }
+        ensures fits { Fits self.old (S.state site.old) → OnOk result (Fits self.new (S.state site.new)) }
+        ensures quiet { IsTrue (S.state site.old).honest → IsQuiet (S.state site.old)
+            → OnOk result (IsQuiet (S.state site.new)) }
+
+        // Of every site.
+        ensures going { MayGoOn self.new (S.state site.new) }
+        ensures geometry { self.new.geometry ≡ self.old.geometry }
+        ensures ended { OnOk result (self.new.ended ≡ self.old.ended) }
+        ensures err { OnErr result (self.new.ended ≡ true) }
+        ensures kept { OnErr result (self.new.directory ≡ self.old.directory) }
+        ensures goes { Goes (S.state site.old) (S.state site.new) }
+        ensures reads { (S.state site.new).flash_reads ≤ (S.state site.old).flash_reads + 8 }
+        ensures others { (d : Dev) → d ≢ Dev.Flash
+            → reads_of d (S.state site.new) ≡ reads_of d (S.state site.old) }
+
+        // When each answer comes.
+        ensures worn { IsErrOf result (Stop.Worn Dev.Flash) → self.old.ring.hi ≡ 2 ^ 40 }
+        ensures never_past { self.old.ring.hi ≡ 2 ^ 40 → OnOk result ⊥ }
+        ensures device { (d : Dev) → IsErrOf result (Stop.Device d)
+            → FaultRose d (S.state site.old) (S.state site.new) }
+        ensures stops { IfErr result (λ stop. (stop ≡ Stop.Device Dev.Flash)
+            ⊎ ((stop ≡ Stop.Device Dev.Disk)
+            ⊎ ((stop ≡ Stop.Memory) ⊎ (stop ≡ Stop.Worn Dev.Flash)))) }
+    {
+        if let Err(stop) = self.push(site, plan, pages, changed, contents) {
+            self.ended = true;
+            return Err(stop);
+        }
+        Ok(())
+    }
+
+    // The same, but that an error doesn't end the cache.
+    fn push<S: Site>(
+        &mut self,
+        site: &mut S,
+        plan: &Plan,
+        pages: &[u32],
+        changed: &[bool],
+        contents: &[Page],
+    ) -> Result<(), Stop>
+        requires going { MayGoOn self.old (S.state site.old) }
+        requires staged { plan.now.staged ≡ map (λ f. f.0) (staged_marks self.old) }
+        requires marks { length changed.now ≡ length pages.now }
+        requires lists { length contents.now ≡ length pages.now }
+        requires some { 1 ≤ length pages.now }
+        requires few { length pages.now ≤ 8 }
+        requires exist { All (λ page. page < self.old.geometry.pages) pages.now }
+
+        ensures any_moment { (groups : List (List Frame))
+            → Fits self.old (S.state site.old) → Holds self.old (S.state site.old).image groups
+            → IsQuiet (S.state site.old)
+            → LeavesOnly (S.state site.old) (S.state site.new) (LeavesPush self.old.geometry
+            (staged_pages self.old) (staged_contents self.old groups)
+            (group (frames_given pages.now changed.now contents.now)) (S.state site.old)) }
+        ensures reaches { Fits self.old (S.state site.old)
+            → OnOk result (Reaches self.old.geometry (changes_of_push (staged_pages self.old)
+            (group (frames_given pages.now changed.now contents.now)))
+            (S.state site.old).image (S.state site.new).image) }
+        ensures staged { (groups : List (List Frame))
+            → Fits self.old (S.state site.old) → Holds self.old (S.state site.old).image groups
+            → OnOk result (HasStaged (staged_pages self.old) (staged_contents self.old groups)
+            (S.state site.old).image.disk (S.state site.new).image.disk) }
+        ensures changes { IsTrue (S.state site.old).honest
+            → ChangesPages (S.state site.old) (S.state site.new) }
+        ensures alone { IsTrue (S.state site.old).honest → staged_pages self.old ≡ []
+            → Untouched Dev.Disk (S.state site.old) (S.state site.new) }
+        ensures fits { Fits self.old (S.state site.old) → OnOk result (Fits self.new (S.state site.new)) }
+        ensures quiet { IsTrue (S.state site.old).honest → IsQuiet (S.state site.old)
+            → OnOk result (IsQuiet (S.state site.new)) }
+
+        // Of every site.
+        ensures frames { let frames = frames_given pages.now changed.now contents.now in
+            HasFrames self.old.geometry frames (group frames) }
+        ensures directory { OnOk result (self.new.directory
+            ≡ pushed_queue self.old (known_given pages.now changed.now)) }
+        ensures kept { OnErr result (self.new.directory ≡ self.old.directory) }
+        ensures going { MayGoOn self.new (S.state site.new) }
+        ensures geometry { self.new.geometry ≡ self.old.geometry }
+        ensures ended { self.new.ended ≡ self.old.ended }
+        ensures goes { Goes (S.state site.old) (S.state site.new) }
+        ensures reads { (S.state site.new).flash_reads ≤ (S.state site.old).flash_reads + 8 }
+        ensures others { (d : Dev) → d ≢ Dev.Flash
+            → reads_of d (S.state site.new) ≡ reads_of d (S.state site.old) }
+
+        // When each answer comes.
+        ensures worn { IsErrOf result (Stop.Worn Dev.Flash) → self.old.ring.hi ≡ 2 ^ 40 }
+        ensures never_past { self.old.ring.hi ≡ 2 ^ 40 → OnOk result ⊥ }
+        ensures device { (d : Dev) → IsErrOf result (Stop.Device d)
+            → FaultRose d (S.state site.old) (S.state site.new) }
+        ensures stops { IfErr result (λ stop. (stop ≡ Stop.Device Dev.Flash)
+            ⊎ ((stop ≡ Stop.Device Dev.Disk)
+            ⊎ ((stop ≡ Stop.Memory) ⊎ (stop ≡ Stop.Worn Dev.Flash)))) }
+    {
+        let content = group_content(pages, changed, contents);
+        let Ok(heads) = group_heads(&content) else {
+            unreachable!()
+        };
+        let staged = pages_at(self.alloc, &self.directory, &plan.staged)?;
+        let first = self.directory.first();
+        let octets = match contents_at(self.alloc, site, &self.ring, first, &plan.staged) {
+            Ok(octets) => octets,
+            Err(stop) => return Err(stop),
+        };
+        self.write(site, staged.as_slice(), octets.as_slice(), &content, &heads)
+    }
+
+    // Stages pages, and then appends a group; its heads are these.
+    fn write<S: Site>(
+        &mut self,
+        site: &mut S,
+        staged: &[u32],
+        octets: &[Page],
+        content: &[u8],
+        heads: &[FrameHead; 8],
+    ) -> Result<(), Stop>
+        requires going { MayGoOn self.old (S.state site.old) }
+        requires lists { length octets.now ≡ length staged.now }
+        requires once { AllPairs (λ a b. a ≢ b) staged.now }
+        requires pages { All (λ page. page < self.old.geometry.pages) staged.now }
+        requires room { length content.now ≡ 32896 }
+        requires heads { AreGroupHeads heads.now }
+        requires exist { PagesExist self.old.geometry.pages heads.now }
+
+        ensures any_moment { Fits self.old (S.state site.old) → IsQuiet (S.state site.old)
+            → LeavesOnly (S.state site.old) (S.state site.new) (LeavesPush self.old.geometry
+            staged.now octets.now content.now (S.state site.old)) }
+        ensures reaches { Fits self.old (S.state site.old)
+            → OnOk result (Reaches self.old.geometry (changes_of_push staged.now content.now)
+            (S.state site.old).image (S.state site.new).image) }
+        ensures staged { Fits self.old (S.state site.old) → OnOk result (HasStaged staged.now octets.now
+            (S.state site.old).image.disk (S.state site.new).image.disk) }
+        ensures changes { IsTrue (S.state site.old).honest
+            → ChangesPages (S.state site.old) (S.state site.new) }
+        ensures alone { IsTrue (S.state site.old).honest → staged.now ≡ []
+            → Untouched Dev.Disk (S.state site.old) (S.state site.new) }
+        ensures fits { Fits self.old (S.state site.old) → OnOk result (Fits self.new (S.state site.new)) }
+        ensures quiet { IsTrue (S.state site.old).honest → IsQuiet (S.state site.old)
+            → OnOk result (IsQuiet (S.state site.new)) }
+
+        // Of every site.
+        ensures ok { OnOk result (self.new.directory ≡ pushed_queue self.old (frames_in heads.now)) }
+        ensures kept { OnErr result (self.new.directory ≡ self.old.directory) }
+        ensures going { MayGoOn self.new (S.state site.new) }
+        ensures geometry { self.new.geometry ≡ self.old.geometry }
+        ensures ended { self.new.ended ≡ self.old.ended }
+        ensures goes { Goes (S.state site.old) (S.state site.new) }
+        ensures reads { SameReads (S.state site.old) (S.state site.new) }
+
+        // When each answer comes.
+        ensures worn { IsErrOf result (Stop.Worn Dev.Flash) → self.old.ring.hi ≡ 2 ^ 40 }
+        ensures never_past { self.old.ring.hi ≡ 2 ^ 40 → OnOk result ⊥ }
+        ensures device { (d : Dev) → IsErrOf result (Stop.Device d)
+            → FaultRose d (S.state site.old) (S.state site.new) }
+        ensures stops { IfErr result (λ stop. (stop ≡ Stop.Device Dev.Flash)
+            ⊎ ((stop ≡ Stop.Device Dev.Disk)
+            ⊎ ((stop ≡ Stop.Memory) ⊎ (stop ≡ Stop.Worn Dev.Flash)))) }
+    {
+        if let Err(stop) = stage(site, staged, octets) {
+            return Err(stop);
+        }
+        self.append(site, content, heads)
+    }
+
+    // Appends a group behind the others, on flash and in the directory; its heads are these.
+    fn append<S: Site>(
+        &mut self,
+        site: &mut S,
+        content: &[u8],
+        heads: &[FrameHead; 8],
+    ) -> Result<(), Stop>
+        requires going { MayGoOn self.old (S.state site.old) }
+        requires room { length content.now ≡ 32896 }
+        requires heads { AreGroupHeads heads.now }
+        requires exist { PagesExist self.old.geometry.pages heads.now }
+
+        ensures any_moment { Fits self.old (S.state site.old)
+            → LeavesOnly (S.state site.old) (S.state site.new) (LeavesOldOrNew
+            (group_shape self.old.geometry) (S.state site.old).image.flash content.now) }
+        ensures changes { IsTrue (S.state site.old).honest
+            → ChangesOnly Dev.Flash (S.state site.old) (S.state site.new) }
+        ensures appends { Fits self.old (S.state site.old) → OnOk result (Appends self.old.geometry
+            GroupRing content.now (S.state site.old).image (S.state site.new).image) }
+        ensures fits { Fits self.old (S.state site.old) → OnOk result (Fits self.new (S.state site.new)) }
+        ensures quiet { IsTrue (S.state site.old).honest → IsQuiet (S.state site.old)
+            → OnOk result (IsQuiet (S.state site.new)) }
+
+        // Of every site.
+        ensures ok { OnOk result (self.new.directory ≡ pushed_queue self.old (frames_in heads.now)) }
+        ensures kept { OnErr result (self.new.directory ≡ self.old.directory) }
+        ensures going { MayGoOn self.new (S.state site.new) }
+        ensures geometry { self.new.geometry ≡ self.old.geometry }
+        ensures ended { self.new.ended ≡ self.old.ended }
+        ensures goes { Goes (S.state site.old) (S.state site.new) }
+        ensures reads { SameReads (S.state site.old) (S.state site.new) }
+
+        // When each answer comes.
+        ensures worn { IsErrOf result (Stop.Worn Dev.Flash) → self.old.ring.hi ≡ 2 ^ 40 }
+        ensures never_past { self.old.ring.hi ≡ 2 ^ 40 → OnOk result ⊥ }
+        ensures device { IsErrOf result (Stop.Device Dev.Flash)
+            → FaultRose Dev.Flash (S.state site.old) (S.state site.new) }
+        ensures stops { IfErr result (λ stop. (stop ≡ Stop.Device Dev.Flash)
+            ⊎ ((stop ≡ Stop.Memory) ⊎ (stop ≡ Stop.Worn Dev.Flash))) }
+    {
+        let hi = self.ring.hi();
+        self.ring.append(site, content)?;
+        let full = self.is_full();
+        if let Err(stop) = self.directory.push_group(heads, full) {
+            // The directory lacks the group, so the ring is to name no more than it does.
+            self.ring.hi = hi;
+            return Err(stop);
+        }
+        Ok(())
+    }
+
     /// What a plan knows of the front group's frames, in the first places of `into`, with their number; none where the queue
     /// has room for one group more.
     pub fn front_marks(&self, into: &mut [Mark; 8]) -> Option<usize>
         requires { 2 ≤ self.now.geometry.groups }
         ensures marks { IfSome result (λ count. slice_get (marks self.now.directory) 0 ≡ Some (take count into.new)) }
         ensures full { IfSome result (λ count. length self.now.directory.groups + 1 ≡ self.now.geometry.groups) }
+        ensures most { IfSome result (λ count. count ≤ 8) }
         ensures few { IfNone result (length self.now.directory.groups + 1 ≢ self.now.geometry.groups) }
+
+        // They are the marks of what leaves with the next push.
+        ensures leaves { length self.now.directory.groups < self.now.geometry.groups → IfSome result (λ count.
+            leaving (rules_of 0 self.now.geometry.groups) self.now.directory ≡ take count into.new) }
+        ensures stays { length self.now.directory.groups < self.now.geometry.groups → IfNone result
+            (leaving (rules_of 0 self.now.geometry.groups) self.now.directory ≡ []) }
     {
         if !self.is_full() {
             return None;

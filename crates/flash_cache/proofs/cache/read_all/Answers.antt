@@ -1,4 +1,4 @@
-use Rattle.std.proofs.Common.{◌≡◌, ◌≢◌, ℕ, ◌+◌, ◌-◌, ◌<◌, ◌≤◌, List, [], ◌∷◌, ◌++◌, length, get_or, map, take, sym, ◌∙◌, ap, subst, arith, add-one, refl}
+use Rattle.std.proofs.Common.{◌≡◌, ℕ, ◌+◌, ◌-◌, ◌<◌, List, [], ◌∷◌, ◌++◌, length, get_or, map, take, sym, ◌∙◌, ap, subst, arith, add-one}
 use Rattle.std.specs.List.{All}
 use Rattle.std.proofs.lemmas.List.{length-append}
 use Rattle.std.proofs.lemmas.List.Elements.{All-push}
@@ -6,14 +6,13 @@ use Rattle.site.specs.declared.outside.Dev.TheVariants.{Flash}
 use Rattle.site.specs.Laws.{stays_honest, goes_in_sequence, unchanged_in_sequence, fault_since}
 use Rattle.site.specs.State.{Image}
 use Rattle.sealed_ring.specs.declared.slots.Shape.{Shape}
-use Rattle.sealed_ring.specs.declared.ring.Ring.{Ring}
 use Rattle.sealed_ring.specs.Ring.{hi_of, IsRing}
 use Rattle.sealed_ring.specs.Ready.{region, Fits as RingFits}
 use Rattle.byte_fields.specs.declared.frame_head.FrameHead.{FrameHead}
 use Rattle.byte_fields.specs.FrameHeads.{AreGroupHeads}
 use Rattle.image_changes.specs.Rings.{group_shape}
-use Rattle.frame_group.specs.Groups.{Frame, heads_of}
-use Rattle.flash_cache.specs.Held.{HasGroups, HasFrames, PagesExist, group_on}
+use Rattle.frame_group.specs.Groups.{heads_of}
+use Rattle.flash_cache.specs.Held.{HasFrames, PagesExist, group_on}
 use Rattle.flash_cache.proofs.Queues.{err_again}
 use Rattle.flash_cache.proofs.Standing.{usable_later, first_is, has_frames, read_more, read_whole}
 use Rattle.flash_cache.proofs.cache.read_all.Goals as goal

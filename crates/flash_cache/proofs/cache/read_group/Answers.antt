@@ -1,4 +1,4 @@
-use Rattle.std.proofs.Common.{List, IsTrue, sym, ◌∙◌, true≢false, subst}
+use Rattle.std.proofs.Common.{List, sym, ◌∙◌, true≢false, subst}
 use Rattle.byte_fields.specs.declared.frame_head.FrameHead.{FrameHead}
 use Rattle.frame_group.specs.Groups.{heads_of}
 use Rattle.flash_cache.specs.Held.{PagesExist}

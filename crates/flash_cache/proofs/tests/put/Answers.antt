@@ -1,7 +1,6 @@
-use Rattle.std.proofs.Common.{◌≡◌, ◌<◌, ℕ, List, length, sym, ◌∙◌, ap, subst, arith}
+use Rattle.std.proofs.Common.{List, sym, ◌∙◌, ap, subst, arith}
 use Rattle.std.proofs.lemmas.List.{length-set}
-use Rattle.site.specs.State.{State, Range, is_loose}
-use Rattle.site.specs.MemState.{state_of}
+use Rattle.site.specs.State.{Range, is_loose}
 use Rattle.flash_cache.specs.Trying.{IsSmall}
 use Rattle.flash_cache.proofs.tests.put.Goals as goal
 

@@ -1,6 +1,5 @@
-use Rattle.std.proofs.Common.{◌≡◌, ℕ, ◌+◌, ◌-◌, ◌<◌, List, length, map, false, sym, ◌∙◌, ap, subst, arith, rules}
+use Rattle.std.proofs.Common.{◌≡◌, List, map, false, sym, ◌∙◌, ap, subst, arith, rules}
 use Rattle.site.specs.Laws.{stays_honest, goes_in_sequence}
-use Rattle.site.specs.State.{Image}
 use Rattle.sealed_ring.specs.declared.slots.Shape.{Shape}
 use Rattle.sealed_ring.specs.Ring.{hi_of}
 use Rattle.sealed_ring.specs.Ready.{region}
@@ -9,7 +8,7 @@ use Rattle.image_changes.specs.Rings.{group_shape}
 use Rattle.second_chance.specs.Queue.{Queue}
 use Rattle.flash_directory.specs.Heads.{frames_in}
 use Rattle.flash_cache.specs.declared.cache.FlashCache.{FlashCache}
-use Rattle.flash_cache.specs.Held.{HasGroups, MayGoOn, Holds, queue_of}
+use Rattle.flash_cache.specs.Held.{HasGroups, MayGoOn, Holds}
 use Rattle.flash_cache.proofs.Queues.{err_again}
 use Rattle.flash_cache.proofs.Standing.{usable_later, first_is, known_groups, all_shown, sizes_known, exist_known, length-mapped}
 use Rattle.flash_cache.proofs.Fetching.{lengths_later}

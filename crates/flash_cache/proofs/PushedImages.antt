@@ -1,0 +1,212 @@
+-- The images that a push leaves: its changes, the groups that stand there, and the versions of pages.
+use Rattle.std.proofs.Common.{◌≡◌, ℕ, ◌+◌, ◌-◌, ◌<◌, ◌≤◌, Bool, true, false, cond, List, [], ◌∷◌, ◌++◌, length, get_or, map, drop, Some, None, arith, refl, sym, ap, subst, ◌∙◌, length-append, append_assoc, append-nil}
+use Rattle.std.specs.List.{AllByRecursion, Contains}
+use Rattle.std.proofs.lemmas.List.{map-append, get_or-map, length-map}
+use Rattle.std.proofs.lemmas.Option.{none-some}
+use Rattle.site.specs.declared.outside.Dev.TheVariants.{Disk}
+use Rattle.site.specs.declared.geometry.Geometry.{Geometry}
+use Rattle.site.specs.State.{Image}
+use Rattle.sealed_ring.specs.Ring.{Units, IsRing, hi_of, appended, last_of}
+use Rattle.image_changes.specs.Rings.{Groups, group_shape, units_on, KeepsUnits}
+use Rattle.image_changes.specs.Changes.{Change, RewritesPages, AppendsGroup, Rewrites, Makes, Reaches}
+use Rattle.image_changes.specs.Reached.{IsFrontOf}
+use Rattle.stage_out.specs.Staged.{changes_of}
+use Rattle.frame_group.specs.Groups.{Frame, group}
+use Rattle.frame_group.specs.Versions.{frames_of, last_frame}
+use Rattle.second_chance.specs.declared.frame.Frame.{Frame as Known}
+use Rattle.second_chance.specs.Queue.{group_marks, front_marks, pushed}
+use Rattle.second_chance.specs.Plans.{Placed, staged_of}
+use Rattle.flash_cache.specs.declared.cache.FlashCache.{FlashCache}
+use Rattle.flash_cache.specs.Held.{HasGroups, HasFrames, AllTogether, Shows, frames_on}
+use Rattle.flash_cache.specs.Pushed.{no_frame, front_leaves}
+use Rattle.flash_cache.proofs.Given.{all_more}
+use Rattle.flash_cache.proofs.Queues.{joined, frames_of_groups, together_length}
+use Rattle.flash_cache.proofs.Pushing.{leaves_when, stays_when}
+use Rattle.flash_cache.proofs.Standing.{length-mapped}
+use Rattle.flash_cache.proofs.StagedFrames.{each_staged, found_staged}
+use Rattle.flash_cache.proofs.PushedVersions.{IsBeside, AreStaged, some_is_some}
+use Rattle.flash_cache.specs.Leaving.{no_mark}
+use Rattle.frame_group.proofs.LastFrames.{last_of_both}
+use Rattle.std.specs.Option.{option_or}
+
+-- changes that rewrite these pages alone
+abbrev pub OnlyRewrite : List ℕ → List Change → Type 0
+OnlyRewrite pages changes = AllByRecursion (λ change. change ≡ RewritesPages pages) changes
+
+pub staging_only : (pages : List ℕ) → OnlyRewrite pages (changes_of pages)
+staging_only [] = tt
+staging_only (page ∷ pages) = (refl, tt)
+
+all_front : {X : Type 0} (P : X → Type 0) (xs ys : List X) → AllByRecursion P (xs ++ ys) → AllByRecursion P xs
+all_front P [] ys all = tt
+all_front P (x ∷ xs) ys all = (all.0, all_front P xs ys all.1)
+
+pub front_only : (pages : List ℕ) (changes : List Change) → IsFrontOf (changes_of pages) changes → OnlyRewrite pages changes
+front_only pages changes is = all_front (λ change. change ≡ RewritesPages pages) changes is.0 (subst (OnlyRewrite pages) is.1 (staging_only pages))
+
+rewritten : (g : Geometry) (pages : List ℕ) (change : Change) (a b : Image) → change ≡ RewritesPages pages → Makes g change a b → Rewrites g pages a b
+rewritten g pages change a b is makes = let P : Change → Type 0 = λ (c : Change). Makes g c a b in subst P is makes
+
+-- they leave the groups, and the disk beside the pages
+pub record Keeps (g : Geometry) (pages : List ℕ) (old new : Image) : Type 0 where
+  pub beside : IsBeside pages old.disk new.disk
+  pub units : KeepsUnits (group_shape g) old new
+
+pub keeps_by : (g : Geometry) (pages : List ℕ) (changes : List Change) (a b : Image) → OnlyRewrite pages changes → Reaches g changes a b → Keeps g pages a b
+keeps_by g pages [] a b only reaches = record {
+  beside = record { size = reaches.sizes Disk; beside = λ place out. ap (λ (d : List ℕ). get_or d place 0) reaches.disk };
+  units = reaches.rings Groups;
+}
+keeps_by g pages (change ∷ changes) a b only reaches =
+    let mid : Image = reaches.0 in
+    let first = rewritten g pages change a mid only.0 reaches.1 in
+    let rest = keeps_by g pages changes mid b only.1 reaches.2 in
+    record {
+      beside = record { size = rest.beside.size ∙ first.sizes Disk; beside = λ place out. rest.beside.beside place out ∙ first.others place out };
+      units = record { units = rest.units.units ∙ (first.rings Groups).units; form = λ form. rest.units.form ((first.rings Groups).form form) };
+    }
+
+-- and once the group is appended, it stands behind the others
+pub record Grown (g : Geometry) (content : List ℕ) (old new : Image) : Type 0 where
+  pub form : IsRing (group_shape g) new.flash
+  pub units : units_on (group_shape g) new ≡ appended (group_shape g) (units_on (group_shape g) old) content
+
+pub grown_by : (g : Geometry) (pages : List ℕ) (content : List ℕ) (changes : List Change) (a b : Image) → OnlyRewrite pages changes → Reaches g (changes ++ AppendsGroup content ∷ []) a b → Grown g content a b
+grown_by g pages content [] a b only reaches = record { form = (reaches.2.rings Groups).form reaches.1.form; units = (reaches.2.rings Groups).units ∙ reaches.1.units }
+grown_by g pages content (change ∷ changes) a b only reaches =
+    let mid : Image = reaches.0 in
+    let first = rewritten g pages change a mid only.0 reaches.1 in
+    let rest = grown_by g pages content changes mid b only.1 reaches.2 in
+    record { form = rest.form; units = rest.units ∙ ap (λ (u : Units). appended (group_shape g) u content) (first.rings Groups).units }
+
+-- the groups that stand there
+
+pub kept_groups : (g : Geometry) (first : ℕ) (groups : List (List Frame)) (old new : Image) → HasGroups g first groups old → KeepsUnits (group_shape g) old new → HasGroups g first groups new
+kept_groups g first groups old new has keeps = record {
+  form = keeps.form has.form;
+  next = has.next ∙ ap (λ (u : Units). u.hi) (sym keeps.units);
+  are_groups = has.are_groups;
+  live = ap (λ (u : Units). u.live) keeps.units ∙ has.live;
+}
+
+pub frames_are : (g : Geometry) (first : ℕ) (groups : List (List Frame)) (image : Image) → HasGroups g first groups image → frames_on g image ≡ joined groups
+frames_are g first groups image has = ap frames_of has.live ∙ frames_of_groups g groups has.are_groups
+
+pub joined_more : (groups : List (List Frame)) (frames : List Frame) → joined (groups ++ frames ∷ []) ≡ joined groups ++ frames
+joined_more [] frames = append-nil frames
+joined_more (x ∷ groups) frames = ap (λ (l : List Frame). x ++ l) (joined_more groups frames) ∙ sym (append_assoc x (joined groups) frames)
+
+-- what stays of the groups, and what leaves
+abbrev pub rest_of : Bool → List (List Frame) → List (List Frame)
+rest_of b groups = cond b (drop 1 groups) groups
+
+abbrev pub front_of : Bool → List (List Frame) → List Frame
+front_of b groups = cond b (get_or groups 0 []) []
+
+pub joined_parts : (b : Bool) (groups : List (List Frame)) → front_of b groups ++ joined (rest_of b groups) ≡ joined groups
+joined_parts true [] = refl
+joined_parts true (x ∷ groups) = refl
+joined_parts false groups = refl
+
+-- a group more
+module _ (g : Geometry) (first : ℕ) (groups : List (List Frame)) (frames : List Frame) (old new : Image) (has : HasGroups g first groups old) (own : HasFrames g frames (group frames)) (grown : Grown g (group frames) old new) where
+  hi_is : hi_of (group_shape g) new.flash ≡ hi_of (group_shape g) old.flash + 1
+  hi_is = ap (λ (u : Units). u.hi) grown.units
+
+  live_is : (units_on (group_shape g) new).live ≡ last_of (g.groups - 1) (map group groups ++ group frames ∷ [])
+  live_is = ap (λ (u : Units). u.live) grown.units ∙ ap (λ (l : List (List ℕ)). last_of (g.groups - 1) (l ++ group frames ∷ [])) has.live
+
+  long : length (map group groups ++ group frames ∷ []) ≡ length groups + 1
+  long = length-append (map group groups) (group frames ∷ []) ∙ ap (λ (n : ℕ). n + 1) (length-mapped group groups)
+
+  next_is : (n : ℕ) (rest : List (List Frame)) → first + length groups + 1 ≡ n + length (rest ++ frames ∷ []) → n + length (rest ++ frames ∷ []) ≡ hi_of (group_shape g) new.flash
+  next_is n rest is = let next = has.next in let hi = hi_is in omega (arith, is, next, hi)
+
+  pub grown_behind : length groups < g.groups - 1 → HasGroups g first (groups ++ frames ∷ []) new
+  grown_behind few = record {
+    form = grown.form;
+    next = next_is first groups (let n = length-append groups (frames ∷ []) in omega (arith, n));
+    are_groups = all_more (λ fs. HasFrames g fs (group fs)) groups frames has.are_groups own;
+    live = live_is ∙ ap (λ (n : ℕ). drop n (map group groups ++ group frames ∷ [])) (let n = long in let none : length (map group groups ++ group frames ∷ []) - (g.groups - 1) ≡ 0 = omega (arith, n, few) in none)
+        ∙ sym (map-append group groups (frames ∷ []));
+  }
+
+pub grown_full : (g : Geometry) (first : ℕ) (groups : List (List Frame)) (frames : List Frame) (old new : Image) → HasGroups g first groups old → HasFrames g frames (group frames) → Grown g (group frames) old new
+    → length groups ≡ g.groups - 1 → 0 < length groups → HasGroups g (first + 1) (drop 1 groups ++ frames ∷ []) new
+grown_full g first [] frames old new has own grown full some = absurd (omega (arith, some))
+grown_full g first (x ∷ groups) frames old new has own grown full some = record {
+  form = grown.form;
+  next = next_is g first (x ∷ groups) frames old new has own grown (first + 1) groups (let n = length-append groups (frames ∷ []) in omega (arith, n));
+  are_groups = all_more (λ fs. HasFrames g fs (group fs)) groups frames has.are_groups.1 own;
+  live = live_is g first (x ∷ groups) frames old new has own grown
+      ∙ ap (λ (n : ℕ). drop n (map group (x ∷ groups) ++ group frames ∷ [])) (let n = long g first (x ∷ groups) frames old new has own grown in let one : length (map group (x ∷ groups) ++ group frames ∷ []) - (g.groups - 1) ≡ 1 = omega (arith, n, full) in one)
+      ∙ sym (map-append group groups (frames ∷ []));
+}
+
+-- of the cache
+module _ (cache : FlashCache) (groups : List (List Frame)) (shown : AllTogether (AllTogether Shows) cache.directory.groups groups) (few : length cache.directory.groups < cache.geometry.groups) (room : 8 ≤ cache.geometry.groups) where
+  many : length cache.directory.groups ≡ length groups
+  many = together_length (AllTogether Shows) cache.directory.groups groups shown
+
+  pub grown_groups : (known : List Known) (frames : List Frame) (old new : Image) (b : Bool) → front_leaves cache ≡ b → HasGroups cache.geometry cache.directory.first groups old → HasFrames cache.geometry frames (group frames) → Grown cache.geometry (group frames) old new
+      → HasGroups cache.geometry (pushed b known cache.directory).first (rest_of b groups ++ frames ∷ []) new
+  grown_groups known frames old new true is has own grown =
+      let all = leaves_when cache is in let n = many in
+      grown_full cache.geometry cache.directory.first groups frames old new has own grown (omega (arith, all, n, few)) (omega (arith, all, n, room))
+  grown_groups known frames old new false is has own grown =
+      let less = stays_when cache is in let n = many in
+      grown_behind cache.geometry cache.directory.first groups frames old new has own grown (omega (arith, less, n))
+
+-- the staged pages
+
+nothing_staged : (rest : List Frame) (contents : List (List ℕ)) → AreStaged [] rest [] contents
+nothing_staged rest contents = record {
+  dirty = λ page listed. absurd (let lt = listed.1 in omega (arith, lt));
+  found = λ page frame none last dirty. absurd (none-some frame last);
+}
+
+module _ (known : List Known) (later : List (List Known)) (frames : List Frame) (rest : List (List Frame)) (shown : AllTogether Shows known frames) (others : AllTogether (AllTogether Shows) later rest) where
+  abbrev marks : List Placed
+  marks = staged_of false (group_marks known later)
+
+  none_placed : Placed
+  none_placed = (0, no_mark)
+
+  page_is : (j page : ℕ) → j < length marks → get_or (map (λ (f : Placed). f.1.page) marks) j page ≡ page → (get_or marks j none_placed).1.page ≡ page
+  page_is j page lt is = sym (get_or-map (λ (f : Placed). f.1.page) marks j none_placed page lt) ∙ is
+
+  staged_dirty : (page : ℕ) → Contains (map (λ (f : Placed). f.1.page) marks) page → (frame : Frame) × (last_frame page (frames ++ joined rest) ≡ Some frame) × (frame.dirty ≡ true)
+  staged_dirty page listed =
+      let j : ℕ = listed.0 in
+      let many = length-map marks (λ (f : Placed). f.1.page) in
+      let low : j < length marks = let lt = listed.1 in omega (arith, lt, many) in
+      let f : Placed = get_or marks j none_placed in
+      let s = each_staged known later frames rest shown others j none_placed low in
+      let same = page_is j page low listed.2 in
+      let frame : Frame = get_or frames f.0 no_frame in
+      let none : last_frame page (joined rest) ≡ None = ap (λ (p : ℕ). last_frame p (joined rest)) (sym same) ∙ s.alone in
+      let last : last_frame page frames ≡ Some frame = ap (λ (p : ℕ). last_frame p frames) (sym same) ∙ s.last in
+      (frame, last_of_both page frames (joined rest) ∙ (λ i. option_or (none i) (last i)), s.dirty)
+
+  staged_found : (page : ℕ) (frame : Frame) → last_frame page (joined rest) ≡ None → last_frame page frames ≡ Some frame → frame.dirty ≡ true
+      → (k : ℕ) × (k < length (map (λ (f : Placed). f.1.page) marks)) × (get_or (map (λ (f : Placed). f.1.page) marks) k 0 ≡ page)
+      × (get_or (map (λ (f : Placed). (get_or frames f.0 no_frame).octets) marks) k [] ≡ frame.octets)
+  staged_found page frame none last dirty =
+      let r = found_staged known later frames rest shown others page frame none last dirty in
+      let k : ℕ = r.k in
+      let many = length-map marks (λ (f : Placed). f.1.page) in
+      let low : k < length marks = let lt = r.below in omega (arith, lt, many) in
+      let f : Placed = get_or marks k none_placed in
+      let s = each_staged known later frames rest shown others k none_placed low in
+      let same : f.1.page ≡ page = sym (get_or-map (λ (p : Placed). p.1.page) marks k none_placed 0 low) ∙ r.is in
+      let own : last_frame page frames ≡ Some (get_or frames f.0 no_frame) = ap (λ (p : ℕ). last_frame p frames) (sym same) ∙ s.last in
+      let is : get_or frames f.0 no_frame ≡ frame = some_is_some (get_or frames f.0 no_frame) frame (last_frame page frames) own last in
+      (k, r.below, r.is, get_or-map (λ (p : Placed). (get_or frames p.0 no_frame).octets) marks k none_placed [] low ∙ ap (λ (x : Frame). x.octets) is)
+
+pub are_staged : (b : Bool) (known : List (List Known)) (groups : List (List Frame)) → AllTogether (AllTogether Shows) known groups
+    → AreStaged (front_of b groups) (joined (rest_of b groups)) (map (λ f. f.1.page) (staged_of false (cond b (front_marks known) []))) (map (λ f. (get_or (get_or groups 0 []) f.0 no_frame).octets) (staged_of false (cond b (front_marks known) [])))
+are_staged false known groups shown = nothing_staged (joined groups) []
+are_staged true [] [] shown = nothing_staged [] []
+are_staged true [] (f ∷ fs) shown = absurd shown
+are_staged true (k ∷ ks) [] shown = absurd shown
+are_staged true (k ∷ ks) (f ∷ fs) shown = record { dirty = staged_dirty k ks f fs shown.0 shown.1; found = staged_found k ks f fs shown.0 shown.1 }

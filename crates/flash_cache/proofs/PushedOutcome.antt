@@ -1,0 +1,224 @@
+-- What a push keeps and gives, of each image that it leaves and of the cache.
+use Rattle.std.proofs.Common.{◌≡◌, ◌≢◌, inl, inr, ℕ, zero, suc, ◌<◌, ◌≤◌, ◌==◌, Bool, true, false, cond, List, [], ◌∷◌, ◌++◌, length, get_or, drop, Option, Some, None, arith, refl, sym, ap, subst, ◌∙◌}
+use Rattle.std.specs.List.{AllPairs, Contains}
+use Rattle.std.specs.Option.{option_or}
+use Rattle.std.proofs.lemmas.List.{get_or_default}
+use Rattle.std.proofs.lemmas.Option.{none-some, same_Some, cond_some}
+use Rattle.site.specs.declared.geometry.Geometry.{Geometry}
+use Rattle.site.specs.State.{State, Image, Snapshot}
+use Rattle.site.specs.Moments.{LeavesOnly}
+use Rattle.site.specs.Laws.{leaves_weaker}
+use Rattle.image_changes.specs.Changes.{Change, Reaches}
+use Rattle.image_changes.specs.Reached.{IsFrontOf}
+use Rattle.stage_out.specs.Staged.{HasStaged, changes_of}
+use Rattle.frame_group.specs.Groups.{Frame, group}
+use Rattle.frame_group.specs.Versions.{last_frame, version, version_by, CleanAsDisk}
+use Rattle.frame_group.proofs.LastFrames.{last_by_index, none_by_index, last_is_of_page, new_version, other_versions, push_keeps_clean}
+use Rattle.second_chance.specs.Queue.{Queue, has_frame}
+use Rattle.flash_cache.specs.declared.cache.FlashCache.{FlashCache}
+use Rattle.flash_cache.specs.Held.{HasGroups, HasFrames, Holds, AllTogether, Shows, frames_on, disk_on, IsCleanOn}
+use Rattle.flash_cache.specs.Kept.{KeepsVersions, GivesVersions, LeavesVersions, AreCleanGiven, LeavesClean}
+use Rattle.flash_cache.specs.Laws.{UnframedIsDisk}
+use Rattle.flash_cache.specs.Pushed.{no_frame, front_leaves, staged_pages, staged_contents, frames_given, known_given, pushed_groups, pushed_queue, changes_of_push, LeavesPush}
+use Rattle.flash_cache.proofs.Given.{length-given, given_at}
+use Rattle.flash_cache.proofs.Queues.{joined}
+use Rattle.flash_cache.proofs.StagedFrames.{not_in_groups}
+use Rattle.flash_cache.proofs.PushedVersions.{AreStaged, page_beside, unframed, staged_versions, staged_clean, dropped_version, dropped_clean}
+use Rattle.flash_cache.proofs.PushedImages.{Keeps, Grown, front_of, rest_of, joined_parts, joined_more, frames_are, kept_groups, grown_groups, are_staged, keeps_by, grown_by, front_only, staging_only}
+
+-- a last frame is one of the frames
+last_stands : (page : ℕ) (frames : List Frame) (frame : Frame) → last_frame page frames ≡ Some frame → (i : ℕ) × (i < length frames) × (get_or frames i no_frame ≡ frame)
+last_stands page [] frame last = absurd (none-some frame last)
+last_stands page (f ∷ fs) frame last = by (last_frame page fs) refl last (λ x is. last_stands page fs x is)
+  where
+    by : (o : Option Frame) → last_frame page fs ≡ o → option_or o (cond (f.page == page) (Some f) None) ≡ Some frame
+        → ((x : Frame) → last_frame page fs ≡ Some x → (i : ℕ) × (i < length fs) × (get_or fs i no_frame ≡ x)) → (i : ℕ) × (i < suc (length fs)) × (get_or (f ∷ fs) i no_frame ≡ frame)
+    by None none is rest = (zero, omega arith, (cond_some (f.page == page) f frame is).1)
+    by (Some x) some is rest = let r = rest x some in (suc r.0, (let lt = r.1 in omega (arith, lt)), r.2 ∙ same_Some x frame is)
+
+-- a page without a frame
+pub unframed_is_disk : UnframedIsDisk
+unframed_is_disk cache image groups page holds none =
+    ap (λ (l : List Frame). version (disk_on image) l page) (frames_are cache.geometry cache.directory.first groups image holds.has)
+    ∙ ap (λ (o : Option Frame). version_by o (disk_on image page)) (not_in_groups cache.directory.groups groups page holds.shown none)
+
+-- the pages given
+
+module _ (pages : List ℕ) (changed : List Bool) (contents : List (List ℕ)) (marks : length changed ≡ length pages) (lists : length contents ≡ length pages) (differ : AllPairs (λ a b. a ≢ b) pages) where
+  abbrev frames : List Frame
+  frames = frames_given pages changed contents
+
+  at : (k : ℕ) → k < length pages → get_or frames k no_frame ≡ record { page = get_or pages k 0; dirty = get_or changed k false; octets = get_or contents k [] }
+  at k lt = given_at pages changed contents k no_frame marks lists lt
+
+  given_last : (k : ℕ) → k < length pages → last_frame (get_or pages k 0) frames ≡ Some (get_or frames k no_frame)
+  given_last k lt =
+      let long = length-given pages changed contents marks lists in
+      last_by_index (get_or pages k 0) frames k no_frame (omega (arith, lt, long)) (ap (λ (f : Frame). f.page) (at k lt)) (λ j above below same.
+      let low : j < length pages = omega (arith, below, long) in
+      differ k j 0 above low (sym (sym (ap (λ (f : Frame). f.page) (at j low)) ∙ same)))
+
+  given_none : (page : ℕ) → (Contains pages page → ⊥) → last_frame page frames ≡ None
+  given_none page out =
+      let long = length-given pages changed contents marks lists in
+      none_by_index page frames no_frame (λ j below same.
+      let low : j < length pages = omega (arith, below, long) in
+      out (j, low, get_or_default pages j page 0 low ∙ sym (ap (λ (f : Frame). f.page) (at j low)) ∙ same))
+
+module _ (cache : FlashCache) (groups : List (List Frame)) (old : Image) (few : length cache.directory.groups < cache.geometry.groups) (room : 8 ≤ cache.geometry.groups) (holds : Holds cache old groups) where
+  abbrev g : Geometry
+  g = cache.geometry
+
+  abbrev leaves : Bool
+  leaves = front_leaves cache
+
+  abbrev front : List Frame
+  front = front_of leaves groups
+
+  abbrev rest : List Frame
+  rest = joined (rest_of leaves groups)
+
+  are : AreStaged front rest (staged_pages cache) (staged_contents cache groups)
+  are = are_staged leaves cache.directory.groups groups holds.shown
+
+  old_frames : frames_on g old ≡ front ++ rest
+  old_frames = frames_are g cache.directory.first groups old holds.has ∙ sym (joined_parts leaves groups)
+
+  -- before the append
+  module _ (new : Image) (keeps : Keeps g (staged_pages cache) old new) where
+    same : (page : ℕ) → (Contains (staged_pages cache) page → ⊥) → disk_on new page ≡ disk_on old page
+    same page out = page_beside (staged_pages cache) old.disk new.disk page keeps.beside out
+
+    has_still : HasGroups g cache.directory.first groups new
+    has_still = kept_groups g cache.directory.first groups old new holds.has keeps.units
+
+    new_frames : frames_on g new ≡ front ++ rest
+    new_frames = frames_are g cache.directory.first groups new has_still ∙ sym (joined_parts leaves groups)
+
+    pub keeps_versions : KeepsVersions g cache.directory.first groups old new
+    keeps_versions = record {
+      has = has_still;
+      versions = λ page.
+          ap (λ (l : List Frame). version (disk_on new) l page) new_frames
+          ∙ staged_versions front rest (staged_pages cache) (staged_contents cache groups) are (disk_on old) (disk_on new) same page
+          ∙ ap (λ (l : List Frame). version (disk_on old) l page) (sym old_frames);
+    }
+
+    pub keeps_clean : IsCleanOn g old → IsCleanOn g new
+    keeps_clean clean =
+        subst (CleanAsDisk (disk_on new)) (sym new_frames)
+        (staged_clean front rest (staged_pages cache) (staged_contents cache groups) are (disk_on old) (disk_on new) same (subst (CleanAsDisk (disk_on old)) old_frames clean))
+
+  -- behind it
+  module _ (pages : List ℕ) (changed : List Bool) (contents : List (List ℕ)) (marks : length changed ≡ length pages) (lists : length contents ≡ length pages) (differ : AllPairs (λ a b. a ≢ b) pages)
+      (own : HasFrames g (frames_given pages changed contents) (group (frames_given pages changed contents))) (new : Image)
+      (staged : HasStaged (staged_pages cache) (staged_contents cache groups) old.disk new.disk) (grown : Grown g (group (frames_given pages changed contents)) old new) where
+    abbrev given : List Frame
+    given = frames_given pages changed contents
+
+    same_then : (page : ℕ) → (Contains (staged_pages cache) page → ⊥) → disk_on new page ≡ disk_on old page
+    same_then page out = page_beside (staged_pages cache) old.disk new.disk page (record { size = staged.size; beside = staged.beside }) out
+
+    pub has_then : HasGroups g (pushed_queue cache (known_given pages changed)).first (pushed_groups cache groups given) new
+    has_then = grown_groups cache groups holds.shown few room (known_given pages changed) given old new leaves refl holds.has own grown
+
+    frames_then : frames_on g new ≡ rest ++ given
+    frames_then = frames_are g (pushed_queue cache (known_given pages changed)).first (pushed_groups cache groups given) new has_then ∙ joined_more (rest_of leaves groups) given
+
+    pub gives_versions : IsCleanOn g old → GivesVersions g (pushed_queue cache (known_given pages changed)).first (pushed_groups cache groups given) pages contents old new
+    gives_versions clean = record {
+      has = has_then;
+      given = λ k lt.
+          ap (λ (l : List Frame). version (disk_on new) l (get_or pages k 0)) frames_then
+          ∙ new_version (disk_on new) rest given (get_or pages k 0) (get_or given k no_frame) (given_last pages changed contents marks lists differ k lt)
+          ∙ ap (λ (f : Frame). f.octets) (given_at pages changed contents k no_frame marks lists lt);
+      others = λ page out.
+          ap (λ (l : List Frame). version (disk_on new) l page) frames_then
+          ∙ other_versions (disk_on new) rest given page (given_none pages changed contents marks lists differ page out)
+          ∙ dropped_version front rest (staged_pages cache) (staged_contents cache groups) are (disk_on old) (disk_on new) same_then staged.here (subst (CleanAsDisk (disk_on old)) old_frames clean) page
+          ∙ ap (λ (l : List Frame). version (disk_on old) l page) (sym old_frames);
+    }
+
+    given_clean : AreCleanGiven cache pages changed contents old → CleanAsDisk (disk_on new) given
+    given_clean all page frame last clean =
+        let found = last_stands page given frame last in
+        let k : ℕ = found.0 in
+        let long = length-given pages changed contents marks lists in
+        let low : k < length pages = let lt = found.1 in omega (arith, lt, long) in
+        let is = sym (given_at pages changed contents k no_frame marks lists low) ∙ found.2 in
+        let page_is : get_or pages k 0 ≡ page = ap (λ (f : Frame). f.page) is ∙ last_is_of_page page given frame last in
+        let facts = all k low (ap (λ (f : Frame). f.dirty) is ∙ clean) in
+        let none : last_frame page (front ++ rest) ≡ None =
+        ap (last_frame page) (joined_parts leaves groups) ∙ not_in_groups cache.directory.groups groups page holds.shown (ap (has_frame cache.directory) (sym page_is) ∙ facts.0) in
+        ap (λ (f : Frame). f.octets) (sym is) ∙ facts.1 ∙ ap (disk_on old) page_is
+        ∙ sym (same_then page (unframed front rest (staged_pages cache) (staged_contents cache groups) are (disk_on old) (disk_on new) same_then page none))
+
+    pub gives_clean : IsCleanOn g old → AreCleanGiven cache pages changed contents old → IsCleanOn g new
+    gives_clean clean all =
+        subst (CleanAsDisk (disk_on new)) (sym frames_then)
+        (push_keeps_clean (disk_on new) rest given
+        (dropped_clean front rest (staged_pages cache) (staged_contents cache groups) are (disk_on old) (disk_on new) same_then staged.here (subst (CleanAsDisk (disk_on old)) old_frames clean))
+        (given_clean all))
+
+-- of each snapshot, and of the cache
+module _ (cache : FlashCache) (groups : List (List Frame)) (old : State) (few : length cache.directory.groups < cache.geometry.groups) (room : 8 ≤ cache.geometry.groups) (holds : Holds cache old.image groups)
+    (pages : List ℕ) (changed : List Bool) (contents : List (List ℕ)) (marks : length changed ≡ length pages) (lists : length contents ≡ length pages) (differ : AllPairs (λ a b. a ≢ b) pages)
+    (own : HasFrames cache.geometry (frames_given pages changed contents) (group (frames_given pages changed contents))) where
+  abbrev pushed_content : List ℕ
+  pushed_content = group (frames_given pages changed contents)
+
+  abbrev Pushes : Snapshot → Type 0
+  Pushes = LeavesPush cache.geometry (staged_pages cache) (staged_contents cache groups) pushed_content old
+
+  kept_by : (s : Snapshot) (changes : List Change) → IsFrontOf (changes_of (staged_pages cache)) changes → Reaches cache.geometry changes old.image s.image → Keeps cache.geometry (staged_pages cache) old.image s.image
+  kept_by s changes front reaches = keeps_by cache.geometry (staged_pages cache) changes old.image s.image (front_only (staged_pages cache) changes front) reaches
+
+  pub made_by : (new : Image) → Reaches cache.geometry (changes_of_push (staged_pages cache) pushed_content) old.image new → Grown cache.geometry pushed_content old.image new
+  made_by new reaches = grown_by cache.geometry (staged_pages cache) pushed_content (changes_of (staged_pages cache)) old.image new (staging_only (staged_pages cache)) reaches
+
+  pub leaves_versions : (new : State) → IsCleanOn cache.geometry old.image → LeavesOnly old new Pushes → LeavesOnly old new (LeavesVersions cache groups pages changed contents old)
+  leaves_versions new clean leaves = leaves_weaker old new Pushes (LeavesVersions cache groups pages changed contents old) (λ s is. record {
+    told = is.told;
+    either = elim is.either [
+      | inl part ↦ inl (keeps_versions cache groups old.image few room holds s.image (kept_by s part.0 part.1 part.2))
+      | inr all ↦ inr (gives_versions cache groups old.image few room holds pages changed contents marks lists differ own s.image all.0 (made_by s.image all.1) clean)
+    ];
+  }) leaves
+
+  pub leaves_clean : (new : State) → IsCleanOn cache.geometry old.image → AreCleanGiven cache pages changed contents old.image → LeavesOnly old new Pushes → LeavesOnly old new (LeavesClean cache.geometry)
+  leaves_clean new clean given leaves = leaves_weaker old new Pushes (LeavesClean cache.geometry) (λ s is. elim is.either [
+    | inl part ↦ keeps_clean cache groups old.image few room holds s.image (kept_by s part.0 part.1 part.2) clean
+    | inr all ↦ gives_clean cache groups old.image few room holds pages changed contents marks lists differ own s.image all.0 (made_by s.image all.1) clean given
+  ]) leaves
+
+together_more : {A B : Type 0} (R : A → B → Type 0) (xs : List A) (ys : List B) (x : A) (y : B) → AllTogether R xs ys → R x y → AllTogether R (xs ++ x ∷ []) (ys ++ y ∷ [])
+together_more R [] [] x y all r = (r, tt)
+together_more R [] (b ∷ bs) x y all r = absurd all
+together_more R (a ∷ as') [] x y all r = absurd all
+together_more R (a ∷ as') (b ∷ bs) x y all r = (all.0, together_more R as' bs x y all.1 r)
+
+together_behind : {A B : Type 0} (R : A → B → Type 0) (b : Bool) (xs : List A) (ys : List B) → AllTogether R xs ys → AllTogether R (cond b (drop 1 xs) xs) (cond b (drop 1 ys) ys)
+together_behind R false xs ys all = all
+together_behind R true [] [] all = tt
+together_behind R true [] (y ∷ ys) all = absurd all
+together_behind R true (x ∷ xs) [] all = absurd all
+together_behind R true (x ∷ xs) (y ∷ ys) all = all.1
+
+given_shown : (pages : List ℕ) (changed : List Bool) (contents : List (List ℕ)) → length changed ≡ length pages → length contents ≡ length pages → AllTogether Shows (known_given pages changed) (frames_given pages changed contents)
+given_shown [] changed contents marks lists = tt
+given_shown (p ∷ pages) [] contents marks lists = absurd (omega (arith, marks))
+given_shown (p ∷ pages) (c ∷ changed) [] marks lists = absurd (omega (arith, lists))
+given_shown (p ∷ pages) (c ∷ changed) (o ∷ contents) marks lists = (record { page = refl; dirty = refl }, given_shown pages changed contents (omega (arith, marks)) (omega (arith, lists)))
+
+pub holds_pushed : (cache : FlashCache) (groups : List (List Frame)) (old : Image) (pages : List ℕ) (changed : List Bool) (contents : List (List ℕ)) (later : FlashCache) (new : Image) → Holds cache old groups
+    → length changed ≡ length pages → length contents ≡ length pages → later.geometry ≡ cache.geometry → later.directory ≡ pushed_queue cache (known_given pages changed)
+    → HasGroups cache.geometry (pushed_queue cache (known_given pages changed)).first (pushed_groups cache groups (frames_given pages changed contents)) new
+    → Holds later new (pushed_groups cache groups (frames_given pages changed contents))
+holds_pushed cache groups old pages changed contents later new holds marks lists geometry queue has =
+    let pushed : List (List Frame) = pushed_groups cache groups (frames_given pages changed contents) in
+    record {
+      has = subst (λ (g : Geometry). HasGroups g later.directory.first pushed new) (sym geometry)
+          (subst (λ (q : Queue). HasGroups cache.geometry q.first pushed new) (sym queue) has);
+      shown = subst (λ (q : Queue). AllTogether (AllTogether Shows) q.groups pushed) (sym queue)
+          (together_more (AllTogether Shows) _ _ _ _ (together_behind (AllTogether Shows) (front_leaves cache) cache.directory.groups groups holds.shown) (given_shown pages changed contents marks lists));
+    }

@@ -1,0 +1,137 @@
+-- The cache behind an append of a group.
+use Rattle.std.proofs.Common.{◌≡◌, ℕ, ◌+◌, ◌-◌, ◌<◌, ◌≤◌, Bool, true, false, List, [], ◌∷◌, ◌++◌, length, drop, arith, refl, sym, ap, subst, ◌∙◌}
+use Rattle.std.specs.Prelude.{IsTrue, ◌↔◌}
+use Rattle.std.specs.List.{AllByRecursion}
+use Rattle.std.proofs.lemmas.Bool.{leb-true, leb-false, le-leb}
+use Rattle.std.proofs.lemmas.List.{length-append}
+use Rattle.site.specs.declared.outside.Dev.TheVariants.{Flash}
+use Rattle.site.specs.State.{State, IsSettled}
+use Rattle.site.specs.Calls.{Goes}
+use Rattle.site.specs.Moments.{OnlyDevice}
+use Rattle.sealed_ring.specs.declared.slots.Shape.{Shape}
+use Rattle.sealed_ring.specs.declared.ring.Ring.{Ring}
+use Rattle.sealed_ring.specs.Ring.{FitsIn, IsRing, SameOutside, hi_of, appended}
+use Rattle.sealed_ring.specs.Ready.{region, units_in, IsUsable, IsReady}
+use Rattle.image_changes.specs.Rings.{Groups, group_shape}
+use Rattle.image_changes.specs.Changes.{Appends}
+use Rattle.image_changes.proofs.AppendLaws.{append_done}
+use Rattle.byte_fields.specs.declared.frame_head.FrameHead.{FrameHead}
+use Rattle.byte_fields.specs.FrameHeads.{AreGroupHeads}
+use Rattle.second_chance.specs.declared.frame.Frame.{Frame as Known}
+use Rattle.second_chance.specs.Queue.{Queue, pushed}
+use Rattle.flash_directory.specs.Heads.{frames_in}
+use Rattle.flash_directory.proofs.Opened.{size_of_heads}
+use Rattle.flash_cache.specs.declared.cache.FlashCache.{FlashCache}
+use Rattle.flash_cache.specs.Held.{MayGoOn, Fits, PagesExist}
+use Rattle.flash_cache.specs.Pushed.{front_leaves, pushed_queue}
+use Rattle.flash_cache.proofs.Given.{all_more, all_behind}
+use Rattle.flash_cache.proofs.Standing.{usable_later, exist_in}
+use Rattle.flash_cache.proofs.Fetching.{lengths_later}
+
+-- nothing but counts of the ring's device changed, as far as the cache knows
+pub goes_on_same : (cache : FlashCache) (ring : Ring) (queue : Queue) (old new : State) → MayGoOn cache old → Goes old new → ring.shape ≡ cache.ring.shape → ring.hi ≡ cache.ring.hi → queue ≡ cache.directory
+    → MayGoOn (record cache { ring = ring; directory = queue }) new
+goes_on_same cache ring queue old new going goes shape hi is =
+    let usable = usable_later cache.ring old new goes going.usable in
+    let bounded = usable.bounded in
+    let next = going.next in
+    subst (λ (q : Queue). MayGoOn (record cache { ring = ring; directory = q }) new) (sym is) (record {
+      limits = going.limits;
+      lengths = lengths_later cache.geometry old new goes going.lengths;
+      usable = record { fits = subst (λ (s : Shape). FitsIn s (length (region s new))) (sym shape) usable.fits; bounded = omega (arith, bounded, hi) };
+      shape = shape ∙ going.shape;
+      next = omega (arith, next, hi);
+      few = going.few;
+      sizes = going.sizes;
+      exist = going.exist;
+    })
+
+-- whether the front group leaves, by the number of groups
+
+pub leaves_when : (cache : FlashCache) → front_leaves cache ≡ true → cache.geometry.groups - 1 ≤ length cache.directory.groups
+leaves_when cache is = leb-true (cache.geometry.groups - 1) (length cache.directory.groups) is
+
+pub stays_when : (cache : FlashCache) → front_leaves cache ≡ false → length cache.directory.groups < cache.geometry.groups - 1
+stays_when cache is = leb-false (cache.geometry.groups - 1) (length cache.directory.groups) is
+
+pub full_is : (cache : FlashCache) (full : Bool) → length cache.directory.groups < cache.geometry.groups → (IsTrue full ↔ (length cache.directory.groups + 1 ≡ cache.geometry.groups)) → full ≡ front_leaves cache
+full_is cache true few iff = let all = iff.0 refl in sym (le-leb (cache.geometry.groups - 1) (length cache.directory.groups) (omega (arith, all)))
+full_is cache false few iff = by (front_leaves cache) refl
+  where
+    by : (b : Bool) → front_leaves cache ≡ b → false ≡ front_leaves cache
+    by true is = absurd (let all = leaves_when cache is in let full : false ≡ true = iff.1 (omega (arith, all, few)) in cc)
+    by false is = sym is
+
+-- what a push makes of the queue
+
+module _ (cache : FlashCache) (group : List Known) (few : length cache.directory.groups < cache.geometry.groups) (room : 8 ≤ cache.geometry.groups) where
+  abbrev queue : Bool → Queue
+  queue b = pushed b group cache.directory
+
+  pub pushed_next : (b : Bool) → front_leaves cache ≡ b → (queue b).first + length (queue b).groups ≡ cache.directory.first + length cache.directory.groups + 1
+  pushed_next true is = let all = leaves_when cache is in by cache.directory.groups (omega (arith, all, room))
+    where
+      by : (groups : List (List Known)) → 0 < length groups → (cache.directory.first + 1) + length (drop 1 groups ++ group ∷ []) ≡ cache.directory.first + length groups + 1
+      by [] some = absurd (omega (arith, some))
+      by (g ∷ groups) some = let long = length-append groups (group ∷ []) in omega (arith, long)
+  pushed_next false is = let long = length-append cache.directory.groups (group ∷ []) in omega (arith, long)
+
+  pub pushed_few : (b : Bool) → front_leaves cache ≡ b → length (queue b).groups < cache.geometry.groups
+  pushed_few true is = let all = leaves_when cache is in by cache.directory.groups few (omega (arith, all, room))
+    where
+      by : (groups : List (List Known)) → length groups < cache.geometry.groups → 0 < length groups → length (drop 1 groups ++ group ∷ []) < cache.geometry.groups
+      by [] few some = absurd (omega (arith, some))
+      by (g ∷ groups) few some = let long = length-append groups (group ∷ []) in omega (arith, long, few)
+  pushed_few false is = let less = stays_when cache is in let long = length-append cache.directory.groups (group ∷ []) in omega (arith, long, less)
+
+  pub pushed_all : (P : List Known → Type 0) (b : Bool) → AllByRecursion P cache.directory.groups → P group → AllByRecursion P (queue b).groups
+  pushed_all P true all own = all_more P (drop 1 cache.directory.groups) group (all_behind P cache.directory.groups all) own
+  pushed_all P false all own = all_more P cache.directory.groups group all own
+
+pub goes_on_pushed : (cache : FlashCache) (heads : List FrameHead) (ring : Ring) (queue : Queue) (old new : State) → MayGoOn cache old → Goes old new → AreGroupHeads heads → PagesExist cache.geometry.pages heads
+    → ring.shape ≡ cache.ring.shape → ring.hi ≡ cache.ring.hi + 1 → IsUsable ring new → queue ≡ pushed_queue cache (frames_in heads)
+    → MayGoOn (record cache { ring = ring; directory = queue }) new
+goes_on_pushed cache heads ring queue old new going goes are exist shape hi usable is =
+    let group = frames_in heads in
+    let room = going.limits.groups in
+    let next = going.next in
+    let then = pushed_next cache group going.few room (front_leaves cache) refl in
+    subst (λ (q : Queue). MayGoOn (record cache { ring = ring; directory = q }) new) (sym is) (record {
+      limits = going.limits;
+      lengths = lengths_later cache.geometry old new goes going.lengths;
+      usable = usable;
+      shape = shape ∙ going.shape;
+      next = omega (arith, then, next, hi);
+      few = pushed_few cache group going.few room (front_leaves cache) refl;
+      sizes = pushed_all cache group going.few room (λ frames. (1 ≤ length frames) × (length frames ≤ 8)) (front_leaves cache) going.sizes (size_of_heads heads are);
+      exist = pushed_all cache group going.few room (λ frames. AllByRecursion (λ frame. frame.page < cache.geometry.pages) frames) (front_leaves cache) going.exist (exist_in cache.geometry.pages heads exist);
+    })
+
+-- the ring of a cache that fits
+
+pub ring_ready : (cache : FlashCache) (site : State) → cache.ring.shape ≡ group_shape cache.geometry → Fits cache site → IsReady cache.ring site
+ring_ready cache site shape fits = record {
+  settled = subst (λ (s : Shape). IsSettled s.dev site) (sym shape) fits.settled;
+  form = subst (λ (s : Shape). IsRing s (region s site)) (sym shape) fits.form;
+  hi = fits.hi ∙ ap (λ (s : Shape). hi_of s (region s site)) (sym shape);
+}
+
+pub fits_again : (cache : FlashCache) (ring : Ring) (queue : Queue) (site : State) → ring.shape ≡ group_shape cache.geometry → IsTrue site.honest → IsReady ring site → Fits (record cache { ring = ring; directory = queue }) site
+fits_again cache ring queue site shape honest ready = record {
+  honest = honest;
+  settled = subst (λ (s : Shape). IsSettled s.dev site) shape ready.settled;
+  form = subst (λ (s : Shape). IsRing s (region s site)) shape ready.form;
+  hi = ready.hi ∙ ap (λ (s : Shape). hi_of s (region s site)) shape;
+}
+
+-- what an append to it has done
+pub append_is : (cache : FlashCache) (ring : Ring) (content : List ℕ) (old new : State) → MayGoOn cache old → length content ≡ 32896 → Goes old new → ring.shape ≡ cache.ring.shape → IsReady ring new
+    → SameOutside cache.ring.shape (region cache.ring.shape old) (region cache.ring.shape new) → OnlyDevice cache.ring.shape.dev old new
+    → units_in cache.ring.shape new ≡ appended cache.ring.shape (units_in cache.ring.shape old) content
+    → Appends cache.geometry Groups content old.image new.image
+append_is cache ring content old new going room goes same ready outside only more =
+    append_done cache.geometry Groups content old new going.limits going.lengths room (goes.sizes Flash)
+    (subst (λ (s : Shape). IsRing s (region s new)) (same ∙ going.shape) ready.form)
+    (subst (λ (s : Shape). SameOutside s (region s old) (region s new)) going.shape outside)
+    (subst (λ (s : Shape). OnlyDevice s.dev old new) going.shape only)
+    (subst (λ (s : Shape). units_in s new ≡ appended s (units_in s old) content) going.shape more)

@@ -1,0 +1,89 @@
+-- A push, device by device: pages are staged, and then a group is appended.
+use Rattle.std.proofs.Common.{◌≡◌, ◌≢◌, ◌⊎◌, inl, ℕ, List, [], ◌∷◌, ◌++◌, length, drop, refl, sym, ap, subst, ◌∙◌}
+use Rattle.std.specs.List.{AllByRecursion}
+use Rattle.site.specs.declared.outside.Dev.{Dev}
+use Rattle.site.specs.declared.outside.Dev.TheVariants.{Log, Flash, Disk}
+use Rattle.site.specs.State.{State, Image, Loose, Moment, Snapshot, IsQuiet}
+use Rattle.site.specs.Calls.{Goes, IsUnchanged}
+use Rattle.site.specs.Moments.{Leaves, LeavesOnly, EachMoment, ChangesOnly, SameAt, Untouched}
+use Rattle.site.specs.Laws.{others_untouched, untouched_in_sequence, stays_honest, no_call, unchanged_calm, quiet_leaves, leaves_weaker}
+use Rattle.sealed_ring.specs.Ring.{IsRing, hi_of}
+use Rattle.image_changes.specs.Rings.{Groups, group_shape}
+use Rattle.image_changes.specs.Changes.{Change, AppendsGroup, Appends, Reaches}
+use Rattle.image_changes.specs.Reached.{IsFrontOf}
+use Rattle.image_changes.proofs.Sequence.{changes_add_up, reads_itself}
+use Rattle.stage_out.specs.Staged.{HasStaged, changes_of}
+use Rattle.site.specs.declared.geometry.Geometry.{Geometry}
+use Rattle.flash_cache.specs.declared.cache.FlashCache.{FlashCache}
+use Rattle.flash_cache.specs.Held.{MayGoOn, Fits}
+use Rattle.flash_cache.specs.Pushed.{ChangesPages, LeavesPush, changes_of_push}
+use Rattle.flash_cache.proofs.Pushing.{goes_on_same}
+
+pub goes_on_later : (cache : FlashCache) (old new : State) → MayGoOn cache old → Goes old new → MayGoOn cache new
+goes_on_later cache old new going goes = goes_on_same cache cache.ring cache.directory old new going goes refl refl refl
+
+-- where only the disk changes, the cache fits on
+pub fits_on : (cache : FlashCache) (old mid : State) → Fits cache old → Goes old mid → ChangesOnly Disk old mid → Fits cache mid
+fits_on cache old mid fits goes changes =
+    let flash : mid.image.flash ≡ old.image.flash = changes.only.now.content Flash (λ h. cc) in
+    let loose : mid.loose.flash ≡ old.loose.flash = changes.only.now.loose Flash (λ h. cc) in
+    record {
+      honest = stays_honest old mid goes fits.honest;
+      settled = loose ∙ fits.settled;
+      form = subst (IsRing (group_shape cache.geometry)) (sym flash) fits.form;
+      hi = fits.hi ∙ ap (hi_of (group_shape cache.geometry)) (sym flash);
+    }
+
+-- the log's device stays as it is
+
+pub pages_changed : (dev : Dev) (old new : State) → Log ≢ dev → ChangesOnly dev old new → ChangesPages old new
+pages_changed dev old new ne changes = record { log = others_untouched dev Log old new ne changes.only; told = changes.only.now.told; left = changes.left }
+
+pub pages_in_sequence : (a b c : State) → ChangesPages a b → ChangesPages b c → ChangesPages a c
+pages_in_sequence a b c first second = record { log = untouched_in_sequence Log a b c first.log second.log; told = second.told ∙ first.told; left = second.left ∙ first.left }
+
+-- all changes of a push were made
+pub all_made : (g : Geometry) (pages : List ℕ) (group : List ℕ) (old mid new : Image) → Reaches g (changes_of pages) old mid → Appends g Groups group mid new → Reaches g (changes_of_push pages group) old new
+all_made g pages group old mid new made more = changes_add_up g (changes_of pages) (AppendsGroup group ∷ []) old mid new made (new, more, reads_itself g new)
+
+-- Calls that only read come first.
+
+pub fits_read : (cache : FlashCache) (old mid : State) → Fits cache old → Goes old mid → IsUnchanged old mid → Fits cache mid
+fits_read cache old mid fits goes same = record {
+  honest = stays_honest old mid goes fits.honest;
+  settled = ap (λ (l : Loose). l.flash) same.loose ∙ fits.settled;
+  form = subst (λ (i : Image). IsRing (group_shape cache.geometry) i.flash) (sym same.image) fits.form;
+  hi = fits.hi ∙ ap (λ (i : Image). hi_of (group_shape cache.geometry) i.flash) (sym same.image);
+}
+
+pub read_untouched : (d : Dev) (old new : State) → IsUnchanged old new → Untouched d old new
+read_untouched d old new same = unchanged_calm old old new (SameAt d old) (no_call old (SameAt d old) (record { content = refl; loose = refl })) same
+
+pub pages_read : (old new : State) → IsUnchanged old new → ChangesPages old new
+pages_read old new same = record { log = read_untouched Log old new same; told = same.told; left = same.left }
+
+behind_reads : (a b c : State) (Q : Moment → Type 0) → IsUnchanged a b → EachMoment b c Q → EachMoment a c Q
+behind_reads a b c Q same moments = record {
+  grown = moments.grown ∙ ap (λ (l : List Moment). l ++ drop (length l) c.past) same.past;
+  each = subst (λ (l : List Moment). AllByRecursion Q (drop (length l) c.past)) same.past moments.each;
+  now = moments.now;
+}
+
+module _ (g : Geometry) (pages : List ℕ) (contents : List (List ℕ)) (group : List ℕ) where
+  -- where nothing was changed yet, no group was appended
+  pub none_pushed : (old new : State) → IsQuiet old → IsUnchanged old new → LeavesOnly old new (LeavesPush g pages contents group old)
+  none_pushed old new quiet same =
+      unchanged_calm old old new (Leaves (LeavesPush g pages contents group old)) (no_call old (Leaves (LeavesPush g pages contents group old)) (λ s left.
+      subst (LeavesPush g pages contents group old) (sym (quiet_leaves old s quiet left)) (record { told = refl; either = inl ([], (changes_of pages, refl), reads_itself g old.image) }))) same
+
+  push_since : (old mid : State) (s : Snapshot) → IsUnchanged old mid → LeavesPush g pages contents group mid s → LeavesPush g pages contents group old s
+  push_since old mid s same is = record {
+    told = is.told ∙ same.told;
+    either = subst (λ (i : Image). ((changes : List Change) × IsFrontOf (changes_of pages) changes × Reaches g changes i s.image) ⊎ (HasStaged pages contents i.disk s.image.disk × Reaches g (changes_of_push pages group) i s.image))
+        same.image is.either;
+  }
+
+  pub pushed_since : (old mid new : State) → IsUnchanged old mid → LeavesOnly mid new (LeavesPush g pages contents group mid) → LeavesOnly old new (LeavesPush g pages contents group old)
+  pushed_since old mid new same leaves =
+      behind_reads old mid new (Leaves (LeavesPush g pages contents group old)) same
+      (leaves_weaker mid new (LeavesPush g pages contents group mid) (LeavesPush g pages contents group old) (λ s is. push_since old mid s same is) leaves)

@@ -1,0 +1,77 @@
+use Rattle.std.proofs.Common.{◌≡◌, sym, ap, subst}
+use Rattle.std.proofs.lemmas.Result.{on_ok_weaker}
+use Rattle.site.specs.declared.outside.Dev.TheVariants.{Flash, Disk}
+use Rattle.site.specs.State.{State}
+use Rattle.site.specs.Laws.{stays_honest, others_untouched}
+use Rattle.site.specs.Moments.{Untouched}
+use Rattle.stage_out.specs.Staged.{HasStaged}
+use Rattle.flash_cache.proofs.Queues.{on_ok}
+use Rattle.flash_cache.proofs.PushLaws.{push_leaves, stage_only}
+use Rattle.flash_cache.proofs.Fetching.{lengths_later}
+use Rattle.flash_cache.proofs.Staging.{goes_on_later, fits_on, pages_changed, pages_in_sequence, all_made}
+use Rattle.flash_cache.proofs.cache.FlashCache.write.Goals as goal
+
+pub returns-in-Err-clause-any_moment : goal.returns-in-Err-clause-any_moment
+returns-in-Err-clause-any_moment g c fits quiet =
+    let cache = c.args.self.now in
+    stage_only cache.geometry c.args.staged.now c.args.octets.now c.args.content.now (g.S.Site.state c.args.site.now) (g.S.Site.state c.stage.new.site)
+    (c.stage.ensures.front cache.geometry fits.honest c.requires.going.lengths quiet)
+
+pub returns-in-Err-clause-changes : goal.returns-in-Err-clause-changes
+returns-in-Err-clause-changes g c honest = pages_changed Disk (g.S.Site.state c.args.site.now) (g.S.Site.state c.stage.new.site) (λ h. cc) (c.stage.ensures.changes honest)
+
+pub returns-in-Err-clause-going : goal.returns-in-Err-clause-going
+returns-in-Err-clause-going g c = goes_on_later c.args.self.now (g.S.Site.state c.args.site.now) (g.S.Site.state c.stage.new.site) c.requires.going c.stage.ensures.goes
+
+pub append-requires-clause-going : goal.append-requires-clause-going
+append-requires-clause-going g c = goes_on_later c.args.self.now (g.S.Site.state c.args.site.now) (g.S.Site.state c.stage.new.site) c.requires.going c.stage.ensures.goes
+
+pub returns-clause-any_moment : goal.returns-clause-any_moment
+returns-clause-any_moment g c fits quiet =
+    let cache = c.args.self.now in
+    let old = g.S.Site.state c.args.site.now in
+    let mid = g.S.Site.state c.stage.new.site in
+    let new = g.S.Site.state c.append.new.site in
+    let fits_mid = fits_on cache old mid fits c.stage.ensures.goes (c.stage.ensures.changes fits.honest) in
+    push_leaves cache.geometry c.args.staged.now c.args.octets.now c.args.content.now old mid new c.requires.going.limits
+    (lengths_later cache.geometry old mid c.stage.ensures.goes c.requires.going.lengths) (c.in_default.ensures.quiet fits.honest quiet) c.requires.room
+    (c.stage.ensures.front cache.geometry fits.honest c.requires.going.lengths quiet) (c.in_default.ensures.reaches cache.geometry fits.honest c.requires.going.lengths)
+    (c.in_default.ensures.staged fits.honest) (c.stage.ensures.changes fits.honest).only.now.told (c.append.ensures.any_moment fits_mid) (c.append.ensures.changes fits_mid.honest).only
+
+pub returns-clause-reaches : goal.returns-clause-reaches
+returns-clause-reaches g c fits =
+    let cache = c.args.self.now in
+    let old = g.S.Site.state c.args.site.now in
+    let mid = g.S.Site.state c.stage.new.site in
+    let new = g.S.Site.state c.append.new.site in
+    let fits_mid = fits_on cache old mid fits c.stage.ensures.goes (c.stage.ensures.changes fits.honest) in
+    on_ok_weaker c.append.result (all_made cache.geometry c.args.staged.now c.args.content.now old.image mid.image new.image (c.in_default.ensures.reaches cache.geometry fits.honest c.requires.going.lengths))
+    (c.append.ensures.appends fits_mid)
+
+pub returns-clause-staged : goal.returns-clause-staged
+returns-clause-staged g c fits =
+    let old = g.S.Site.state c.args.site.now in
+    let mid = g.S.Site.state c.stage.new.site in
+    let honest_mid = stays_honest old mid c.stage.ensures.goes fits.honest in
+    on_ok c.append.result _ (subst (HasStaged c.args.staged.now c.args.octets.now old.image.disk) (sym ((c.append.ensures.changes honest_mid).only.now.content Disk (λ h. cc))) (c.in_default.ensures.staged fits.honest))
+
+pub returns-clause-changes : goal.returns-clause-changes
+returns-clause-changes g c honest =
+    let old = g.S.Site.state c.args.site.now in
+    let mid = g.S.Site.state c.stage.new.site in
+    let new = g.S.Site.state c.append.new.site in
+    pages_in_sequence old mid new (pages_changed Disk old mid (λ h. cc) (c.stage.ensures.changes honest))
+    (pages_changed Flash mid new (λ h. cc) (c.append.ensures.changes (stays_honest old mid c.stage.ensures.goes honest)))
+
+pub returns-clause-fits : goal.returns-clause-fits
+returns-clause-fits g c fits =
+    c.append.ensures.fits (fits_on c.args.self.now (g.S.Site.state c.args.site.now) (g.S.Site.state c.stage.new.site) fits c.stage.ensures.goes (c.stage.ensures.changes fits.honest))
+
+pub returns-clause-alone : goal.returns-clause-alone
+returns-clause-alone g c honest none =
+    let old = g.S.Site.state c.args.site.now in
+    let mid = g.S.Site.state c.stage.new.site in
+    let new = g.S.Site.state c.append.new.site in
+    let same : mid ≡ old = ap g.S.Site.state (c.stage.ensures.none none).0 in
+    subst (λ (s : State). Untouched Disk s new) same
+    (others_untouched Flash Disk mid new (λ h. cc) (c.append.ensures.changes (stays_honest old mid c.stage.ensures.goes honest)).only)

@@ -1,0 +1,117 @@
+// What leaves the queue with its front group and goes to the disk.
+ghost use Rattle.std.specs.Prelude.{◌≡◌, ◌≢◌, ◌⊎◌, ◌+◌, ◌<◌, ◌≤◌, length, map, slice_index_or, IsTrue, IfOk, OnErr, IfErr, IsErrOf};
+ghost use Rattle.std.specs.List.{All};
+ghost use Rattle.site.specs.declared.outside.Dev.{Dev};
+ghost use Rattle.site.specs.declared.outside.Stop.{Stop};
+ghost use Rattle.site.specs.State.{reads_of};
+ghost use Rattle.site.specs.Calls.{Goes, FaultRose, IsUnchanged};
+ghost use Rattle.sealed_ring.specs.Ring.{IsLive, unit_at};
+ghost use Rattle.sealed_ring.specs.Ready.{units_in, IsUsable, Fits as RingFits};
+ghost use Rattle.second_chance.specs.Queue.{front_marks};
+ghost use Rattle.flash_cache.specs.Leaving.{no_mark, page_at};
+
+use byte_fields::Mark;
+use flash_directory::Directory;
+use frame_group::{HEADS_LEN, PAGE_LEN};
+use sealed_ring::Ring;
+use second_chance::Places;
+use site::{Dev, Site, Stop};
+use slotted_page::Page;
+use std::alloc::Global;
+
+const NO_MARK: Mark = Mark {
+    page: 0,
+    valid: false,
+    dirty: false,
+    referenced: false,
+};
+
+/// The pages of the front group's frames at these places. The one error is want of memory.
+pub fn pages_at(alloc: Global, directory: &Directory, places: &Places) -> Result<Vec<u32>, Stop>
+    requires { All (λ place. place < length (front_marks directory.now.groups)) places.now }
+
+    ensures pages { IfOk result (λ list. list.items
+        ≡ map (λ place. (slice_index_or (front_marks directory.now.groups) place no_mark).page) places.now) }
+    ensures stops { IfErr result (λ stop. stop ≡ Stop.Memory) }
+{
+    let mut pages = Vec::new(alloc);
+    if places.is_empty() {
+        return Ok(pages);
+    }
+    let mut marks = [NO_MARK; 8];
+    directory.marks(0, &mut marks);
+    for index in 0..places.len() {
+        pages.push(marks[places.at(index) as usize].page)?;
+    }
+    Ok(pages)
+}
+
+/// What the frames of a live group have at these places, each by one read of one page.
+pub fn contents_at<S: Site>(
+    alloc: Global,
+    site: &mut S,
+    ring: &Ring,
+    group: u64,
+    places: &Places,
+) -> Result<Vec<Page>, Stop>
+    requires usable { IsUsable ring.now (S.state site.old) }
+    requires device { ring.now.shape.dev ≡ Dev.Flash }
+    requires room { ring.now.shape.room ≡ 32896 }
+    requires live { 0 < length places.now → IsLive ring.now.shape ring.now.hi group }
+    requires places { All (λ place. place < 8) places.now }
+
+    ensures contents { IsTrue (S.state site.old).honest → RingFits ring.now (S.state site.old)
+        → IfOk result (λ list. list.items ≡ map (page_at
+        (unit_at ring.now.shape (units_in ring.now.shape (S.state site.old)) group)) places.now) }
+    ensures count { IfOk result (λ list. length list.items ≡ length places.now) }
+    ensures same { IsTrue (S.state site.old).honest
+        → IsUnchanged (S.state site.old) (S.state site.new) }
+    ensures goes { Goes (S.state site.old) (S.state site.new) }
+    ensures reads { (S.state site.new).flash_reads
+        ≤ (S.state site.old).flash_reads + length places.now }
+    ensures others { (d : Dev) → d ≢ Dev.Flash
+        → reads_of d (S.state site.new) ≡ reads_of d (S.state site.old) }
+
+    // When each answer comes.
+    ensures device { IsErrOf result (Stop.Device Dev.Flash)
+        → FaultRose Dev.Flash (S.state site.old) (S.state site.new) }
+    ensures stops { IfErr result (λ stop. (stop ≡ Stop.Device Dev.Flash) ⊎ (stop ≡ Stop.Memory)) }
+{
+    let mut contents = Vec::new(alloc);
+    for index in 0..places.len() {
+        let page = match read_frame(site, ring, group, places.at(index)) {
+            Ok(page) => page,
+            Err(stop) => return Err(stop),
+        };
+        contents.push(page)?;
+    }
+    Ok(contents)
+}
+
+// The page of a live group's frame, by one read of one page.
+fn read_frame<S: Site>(site: &mut S, ring: &Ring, group: u64, place: u32) -> Result<Page, Stop>
+    requires usable { IsUsable ring.now (S.state site.old) }
+    requires device { ring.now.shape.dev ≡ Dev.Flash }
+    requires room { ring.now.shape.room ≡ 32896 }
+    requires live { IsLive ring.now.shape ring.now.hi group }
+    requires place { place < 8 }
+
+    ensures page { IsTrue (S.state site.old).honest → RingFits ring.now (S.state site.old)
+        → IfOk result (λ page. page ≡ page_at
+        (unit_at ring.now.shape (units_in ring.now.shape (S.state site.old)) group) place) }
+    ensures same { IsTrue (S.state site.old).honest
+        → IsUnchanged (S.state site.old) (S.state site.new) }
+    ensures goes { Goes (S.state site.old) (S.state site.new) }
+    ensures reads { (S.state site.new).flash_reads ≤ (S.state site.old).flash_reads + 1 }
+    ensures others { (d : Dev) → d ≢ Dev.Flash
+        → reads_of d (S.state site.new) ≡ reads_of d (S.state site.old) }
+
+    // When the error comes.
+    ensures device { OnErr result (FaultRose Dev.Flash (S.state site.old) (S.state site.new)) }
+    ensures stops { IfErr result (λ stop. stop ≡ Stop.Device Dev.Flash) }
+{
+    let mut octets = [0u8; PAGE_LEN];
+    let at = HEADS_LEN as u64 + PAGE_LEN as u64 * place as u64;
+    ring.read_part(site, group, at, &mut octets)?;
+    Ok(Page::from_bytes(&octets))
+}
