@@ -1,0 +1,5 @@
+mod Texts
+mod PairLists
+mod UnitParts
+mod Standing
+mod Saving

@@ -1,0 +1,9 @@
+use Rattle.std.proofs.Common.{◌≡◌, length, drop}
+use Rattle.checkpoint.specs.Actives.{ArePairs}
+use Rattle.checkpoint.proofs.codec.read_pairs.Given as goal
+
+abbrev pub invariant-loop-place : goal.invariant-loop-place
+invariant-loop-place l = record {
+  count : length l.active ≡ l.place;
+  spelled : ArePairs (drop 25 l.content) l.active;
+}

@@ -1,0 +1,11 @@
+use Rattle.std.proofs.Common.{take}
+use Rattle.std.specs.List.{AllByRecursion}
+use Rattle.byte_fields.specs.Writes.{Writes}
+use Rattle.checkpoint.specs.Actives.{FitsFields, spelling_of_all}
+use Rattle.checkpoint.proofs.codec.write_pairs.Given as goal
+
+abbrev pub invariant-loop-place : goal.invariant-loop-place
+invariant-loop-place l = record {
+  written : Writes l.initial.content l.content 25 (spelling_of_all (take l.place l.active));
+  fit : AllByRecursion FitsFields (take l.place l.active);
+}

@@ -1,0 +1,18 @@
+use Rattle.std.proofs.Common.{◌∙◌}
+use Rattle.site.specs.Laws.{stays_honest}
+use Rattle.checkpoint.proofs.Standing.{finds_still, ready_still}
+use Rattle.checkpoint.proofs.masters.newest.Goals as goal
+
+pub returns-clause-found : goal.returns-clause-found
+returns-clause-found g c honest form =
+    let old = g.S.Site.state c.args.site.now in
+    let mid = g.S.Site.state c.scan.new.site in
+    finds_still c.in_ok-ring.ring old mid (g.S.Site.state c.master_on.new.site) (c.in_ok-ring.ensures.shape ∙ c.shape.ensures) (c.scan.ensures.same honest)
+    (c.master_on.ensures.same (stays_honest old mid c.scan.ensures.goes honest)) form (c.in_ok-ring.ensures.fits honest)
+
+pub returns-clause-ready : goal.returns-clause-ready
+returns-clause-ready g c honest settled form =
+    let old = g.S.Site.state c.args.site.now in
+    let mid = g.S.Site.state c.scan.new.site in
+    ready_still c.in_ok-ring.ring old mid (g.S.Site.state c.master_on.new.site) (c.in_ok-ring.ensures.shape ∙ c.shape.ensures) (c.scan.ensures.same honest)
+    (c.master_on.ensures.same (stays_honest old mid c.scan.ensures.goes honest)) settled form (c.in_ok-ring.ensures.fits honest)

@@ -1,0 +1,5 @@
+pub mod Actives
+pub mod Units
+pub mod Newest
+pub mod Saved
+pub mod Laws
