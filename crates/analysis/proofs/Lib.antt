@@ -1,0 +1,12 @@
+mod Lists
+mod Tables
+mod Records
+mod Steps
+mod Starting
+mod Reading
+mod Nexts
+mod Pending
+mod Unfinished
+mod Taking
+mod Takes
+mod TakenTables

@@ -1,0 +1,259 @@
+-- The Updates that remain, among the records.
+use Rattle.std.proofs.Common.{◌≡◌, ℕ, ◌+◌, ◌<◌, ◌≤◌, ◌==◌, ◌&&◌, ◌||◌, not, Bool, true, false, cond, List, [], ◌∷◌, ◌++◌, length, map, Option, Some, None, option_map, refl, sym, ap, subst, ◌∙◌, arith, append_assoc}
+use Rattle.std.specs.Prelude.{filter}
+use Rattle.std.specs.Option.{option_or}
+use Rattle.std.specs.List.{AllByRecursion, list_any}
+use Rattle.std.proofs.lemmas.Bool.{cond-true, cond-false, eq-eqb, eqb-true, ne_eqb, and_parts}
+use Rattle.std.proofs.lemmas.Option.{none-some, same_Some}
+use Rattle.log_records.specs.declared.log_record.LogRecord.{LogRecord}
+use Rattle.log_records.specs.declared.log_record.LogRecord.TheVariants.{Begin, Update, Clr, Commit, End}
+use Rattle.log_records.specs.Log.{Entry, txn_of, is_of, is_update, is_closed, entries_of, last_where}
+use Rattle.log_records.specs.Unfinished.{left_open, open_by, open_updates, pending}
+use Rattle.log_records.specs.Sound.{Active, IsInOrder, is_known}
+use Rattle.analysis.specs.Open.{Open, found_in, IsTop, IsAtMost, IsNext}
+use Rattle.analysis.specs.Read.{is_active, open_at, IsTable}
+use Rattle.analysis.proofs.Steps.{active_some}
+use Rattle.analysis.proofs.Nexts.{remains_is}
+
+-- Lists.
+
+-- an item stands in a list
+pub record IsIn (xs : List Entry) (x : Entry) : Type 0 where
+  pub front : List Entry
+  pub back : List Entry
+  pub is : xs ≡ front ++ x ∷ back
+
+pub all_in : (all front xs : List Entry) → all ≡ front ++ xs → AllByRecursion (IsIn all) xs
+all_in all front [] is = tt
+all_in all front (x ∷ xs) is = (record { front = front; back = xs; is = is }, all_in all (front ++ x ∷ []) xs (is ∙ sym (append_assoc front (x ∷ []) xs)))
+
+pub filter_front : (test : Entry → Bool) (front ys : List Entry) → filter test (front ++ ys) ≡ filter test front ++ filter test ys
+filter_front test [] ys = refl
+filter_front test (x ∷ front) ys = by (test x) (filter_front test front ys)
+  where
+    by : (b : Bool) → filter test (front ++ ys) ≡ filter test front ++ filter test ys → cond b (x ∷ filter test (front ++ ys)) (filter test (front ++ ys)) ≡ cond b (x ∷ filter test front) (filter test front) ++ filter test ys
+    by true rest = ap (λ (l : List Entry). x ∷ l) rest
+    by false rest = rest
+
+filter_none : (test : Entry → Bool) (xs : List Entry) → AllByRecursion (λ x. test x ≡ false) xs → filter test xs ≡ []
+filter_none test [] h = refl
+filter_none test (x ∷ xs) h = cond-false (test x) (x ∷ filter test xs) (filter test xs) h.0 ∙ filter_none test xs h.1
+
+last_more : (xs : List Entry) (x : Entry) → last_where (λ e. true) (xs ++ x ∷ []) ≡ Some x
+last_more [] x = refl
+last_more (y ∷ xs) x = ap (λ (o : Option Entry). option_or o (Some y)) (last_more xs x)
+
+-- the last item that passes a test
+last_passes : (test : Entry → Bool) (front : List Entry) (x : Entry) (back : List Entry) → test x ≡ true → AllByRecursion (λ y. test y ≡ false) back → last_where (λ e. true) (filter test (front ++ x ∷ back)) ≡ Some x
+last_passes test front x back here none =
+    ap (last_where (λ e. true)) (filter_front test front (x ∷ back)
+    ∙ ap (λ (l : List Entry). filter test front ++ l) (cond-true (test x) (x ∷ filter test back) (filter test back) here ∙ ap (λ (l : List Entry). x ∷ l) (filter_none test back none)))
+    ∙ last_more (filter test front) x
+
+all_both : {X : Type 0} (P Q R : X → Type 0) → ((x : X) → P x → Q x → R x) → (xs : List X) → AllByRecursion P xs → AllByRecursion Q xs → AllByRecursion R xs
+all_both P Q R f [] p q = tt
+all_both P Q R f (x ∷ xs) p q = (f x p.0 q.0, all_both P Q R f xs p.1 q.1)
+
+all_right : {X : Type 0} (P : X → Type 0) (front : List X) (back : List X) → AllByRecursion P (front ++ back) → AllByRecursion P back
+all_right P [] back h = h
+all_right P (x ∷ front) back h = all_right P front back h.1
+
+filter_all : (P : Entry → Type 0) (test : Entry → Bool) (xs : List Entry) → AllByRecursion P xs → AllByRecursion (λ x. P x × (test x ≡ true)) (filter test xs)
+filter_all P test [] h = tt
+filter_all P test (x ∷ xs) h = by (test x) refl (filter_all P test xs h.1)
+  where
+    by : (b : Bool) → test x ≡ b → AllByRecursion (λ y. P y × (test y ≡ true)) (filter test xs) → AllByRecursion (λ y. P y × (test y ≡ true)) (cond b (x ∷ filter test xs) (filter test xs))
+    by true is rest = ((h.0, is), rest)
+    by false is rest = rest
+
+any_lsn : (n : ℕ) (us : List Entry) → list_any (λ u. u.lsn == n) us ≡ list_any (λ m. m == n) (map (λ (u : Entry). u.lsn) us)
+any_lsn n [] = refl
+any_lsn n (u ∷ us) = ap (λ b. (u.lsn == n) || b) (any_lsn n us)
+
+none_above : (top n : ℕ) → top < n → (ms : List ℕ) → AllByRecursion (λ m. m ≤ top) ms → list_any (λ m. m == n) ms ≡ false
+none_above top n less [] h = refl
+none_above top n less (m ∷ ms) h = ap (λ b. b || list_any (λ m. m == n) ms) (ne_eqb m n (λ same. omega (arith, h.0, less, same))) ∙ none_above top n less ms h.1
+
+-- Order.
+
+order_lower : (m n to : ℕ) (xs : List Entry) → m ≤ n → IsInOrder n xs to → IsInOrder m xs to
+order_lower m n to [] less order = omega (arith, less, order)
+order_lower m n to (x ∷ xs) less order = (omega (arith, less, order.0), order.1)
+
+pub order_filter : (test : Entry → Bool) (from to : ℕ) (xs : List Entry) → IsInOrder from xs to → IsInOrder from (filter test xs) to
+order_filter test from to [] order = order
+order_filter test from to (x ∷ xs) order = by (test x) (order_filter test (x.lsn + 1) to xs order.1)
+  where
+    by : (b : Bool) → IsInOrder (x.lsn + 1) (filter test xs) to → IsInOrder from (cond b (x ∷ filter test xs) (filter test xs)) to
+    by true rest = (order.0, rest)
+    by false rest = order_lower from (x.lsn + 1) to (filter test xs) (omega (arith, order.0)) rest
+
+pub order_above : (from to n : ℕ) (xs : List Entry) → n < from → IsInOrder from xs to → AllByRecursion (λ x. n < x.lsn) xs
+order_above from to n [] less order = tt
+order_above from to n (x ∷ xs) less order = (omega (arith, less, order.0), order_above (x.lsn + 1) to n xs (omega (arith, less, order.0)) order.1)
+
+order_back : (from to : ℕ) (front : List Entry) (u : Entry) (back : List Entry) → IsInOrder from (front ++ u ∷ back) to → AllByRecursion (λ x. u.lsn < x.lsn) back
+order_back from to [] u back order = order_above (u.lsn + 1) to u.lsn back (omega arith) order.1
+order_back from to (x ∷ front) u back order = order_back (x.lsn + 1) to front u back order.1
+
+-- The LSNs of Updates that remain descend.
+
+abbrev Descend : ℕ → List Entry → Type 0
+Descend n [] = Unit {0}
+Descend n (u ∷ us) = (u.lsn < n) × Descend u.lsn us
+
+descend_raise : (m n : ℕ) (us : List Entry) → m ≤ n → Descend m us → Descend n us
+descend_raise m n [] less h = tt
+descend_raise m n (u ∷ us) less h = (omega (arith, less, h.0), h.1)
+
+descend_by : (n : ℕ) (us : List Entry) (e : Entry) (rec : LogRecord) → n ≤ e.lsn → Descend n us → Descend (e.lsn + 1) (open_by us e rec)
+descend_by n us e Begin less h = descend_raise n (e.lsn + 1) us (omega (arith, less)) h
+descend_by n us e (Update txn prev page slot before after) less h = (omega arith, descend_raise n e.lsn us less h)
+descend_by n [] e (Clr txn prev undo_next page slot after) less h = tt
+descend_by n (u ∷ us) e (Clr txn prev undo_next page slot after) less h = descend_raise u.lsn (e.lsn + 1) us (omega (arith, less, h.0)) h.1
+descend_by n us e (Commit txn number) less h = descend_raise n (e.lsn + 1) us (omega (arith, less)) h
+descend_by n us e (End txn) less h = descend_raise n (e.lsn + 1) us (omega (arith, less)) h
+
+descend_open : (n to : ℕ) (us es : List Entry) → Descend n us → IsInOrder n es to → Descend to (open_updates us es)
+descend_open n to us [] h order = descend_raise n to us order h
+descend_open n to us (e ∷ es) h order = descend_open (e.lsn + 1) to (open_by us e e.rec) es (descend_by n us e e.rec order.0 h) order.1
+
+at_most_all : (top n : ℕ) (us : List Entry) → Descend n us → n ≤ top + 1 → AllByRecursion (λ m. m ≤ top) (map (λ (u : Entry). u.lsn) us)
+at_most_all top n [] h less = tt
+at_most_all top n (u ∷ us) h less = (omega (arith, h.0, less), at_most_all top u.lsn us h.1 (omega (arith, h.0, less)))
+
+all_at_most : (top n : ℕ) (us : List Entry) → Descend n us → IsAtMost top (map (λ (u : Entry). u.lsn) us) → AllByRecursion (λ m. m ≤ top) (map (λ (u : Entry). u.lsn) us)
+all_at_most top n [] h first = tt
+all_at_most top n (u ∷ us) h first = (first, at_most_all top u.lsn us h.1 (omega (arith, first)))
+
+-- What remains are Updates.
+
+module _ (P Q : Entry → Type 0) (give : (e : Entry) → P e → is_update e.rec ≡ true → Q e) where
+  open_all_by : (us : List Entry) (e : Entry) (rec : LogRecord) → e.rec ≡ rec → P e → AllByRecursion Q us → AllByRecursion Q (open_by us e rec)
+  open_all_by us e Begin is p q = q
+  open_all_by us e (Update txn prev page slot before after) is p q = (give e p (ap is_update is), q)
+  open_all_by [] e (Clr txn prev undo_next page slot after) is p q = tt
+  open_all_by (u ∷ us) e (Clr txn prev undo_next page slot after) is p q = q.1
+  open_all_by us e (Commit txn number) is p q = q
+  open_all_by us e (End txn) is p q = q
+
+  open_all : (us es : List Entry) → AllByRecursion P es → AllByRecursion Q us → AllByRecursion Q (open_updates us es)
+  open_all us [] p q = q
+  open_all us (e ∷ es) p q = open_all (open_by us e e.rec) es p.1 (open_all_by us e e.rec refl p.0 q)
+
+-- The greatest of all.
+
+abbrev pair_of : Entry → ℕ × ℕ
+pair_of u = (txn_of u, u.lsn)
+
+abbrev some_pair : ℕ → ℕ → Option (ℕ × ℕ)
+some_pair a m = Some (a, m)
+
+same_pair : (a b m n : ℕ) → a ≡ b → m ≡ n → some_pair a m ≡ some_pair b n
+same_pair a b m n first second = λ i. some_pair (first i) (second i)
+
+not_nil : (x : Entry) (xs : List Entry) → x ∷ xs ≡ [] → ⊥
+not_nil x xs is = omega (arith, ap length is)
+
+-- of each record the transaction is known
+known_of : (named : List Active) (records xs : List Entry) → ((t : ℕ) → is_known named records t ≡ false → filter (is_of t) xs ≡ []) → AllByRecursion (λ e. is_known named records (txn_of e) ≡ true) xs
+known_of named records [] h = tt
+known_of named records (x ∷ xs) h = (here (is_known named records (txn_of x)) refl, known_of named records xs (λ t unknown. rest t (h t unknown) (is_of t x) refl))
+  where
+    here : (b : Bool) → is_known named records (txn_of x) ≡ b → is_known named records (txn_of x) ≡ true
+    here true is = is
+    here false is = absurd (not_nil x (filter (is_of (txn_of x)) xs) (sym (cond-true (is_of (txn_of x) x) (x ∷ filter (is_of (txn_of x)) xs) (filter (is_of (txn_of x)) xs) (eq-eqb (txn_of x) (txn_of x) refl)) ∙ h (txn_of x) is))
+
+    rest : (t : ℕ) → filter (is_of t) (x ∷ xs) ≡ [] → (b : Bool) → is_of t x ≡ b → filter (is_of t) xs ≡ []
+    rest t none true is = absurd (not_nil x (filter (is_of t) xs) (sym (cond-true (is_of t x) (x ∷ filter (is_of t) xs) (filter (is_of t) xs) is) ∙ none))
+    rest t none false is = sym (cond-false (is_of t x) (x ∷ filter (is_of t) xs) (filter (is_of t) xs) is) ∙ none
+
+all_found : (P : Open → Type 0) (table : List Open) (t : ℕ) (x : Open) → AllByRecursion P table → found_in table t ≡ Some x → P x
+all_found P [] t x h is = absurd (none-some x is)
+all_found P (y ∷ table) t x h is = by (y.txn == t) is (all_found P table t x h.1)
+  where
+    by : (b : Bool) → cond b (Some y) (found_in table t) ≡ Some x → (found_in table t ≡ Some x → P x) → P x
+    by true e rest = subst P (same_Some y x e) h.0
+    by false e rest = rest e
+
+module _ (named : List Active) (records : List Entry) (table : List Open) (is : IsTable named records table) (known : (t : ℕ) → is_known named records t ≡ false → entries_of t records ≡ []) where
+  abbrev remains : Entry → Bool
+  remains e = is_update e.rec && not (is_closed records (txn_of e)) && list_any (λ u. u.lsn == e.lsn) (left_open records (txn_of e))
+
+  -- what is said of an active transaction
+  said : (s : ℕ) → is_known named records s ≡ true → is_closed records s ≡ false → found_in table s ≡ Some (open_at named records s)
+  said s knows open_still = is.says s ∙ cond-true (is_active named records s) (Some (open_at named records s)) None (ap (λ b. b && not (is_closed records s)) knows ∙ ap not open_still)
+
+  -- nothing of a record remains where its transaction is closed, or no Update of it stands there
+  not_remains : (P : Open → Type 0) → AllByRecursion P table → (e : Entry) → is_known named records (txn_of e) ≡ true →
+      (P (open_at named records (txn_of e)) → list_any (λ m. m == e.lsn) (map (λ (u : Entry). u.lsn) (left_open records (txn_of e))) ≡ false) → remains e ≡ false
+  not_remains P all e knows none = by (is_closed records (txn_of e)) refl
+    where
+      and_false : (b : Bool) → (b && false) ≡ false
+      and_false true = refl
+      and_false false = refl
+
+      by : (b : Bool) → is_closed records (txn_of e) ≡ b → remains e ≡ false
+      by true closed = ap (λ b. is_update e.rec && not b && list_any (λ u. u.lsn == e.lsn) (left_open records (txn_of e))) closed ∙ ap (λ b. b && list_any (λ u. u.lsn == e.lsn) (left_open records (txn_of e))) (and_false (is_update e.rec))
+      by false open_still =
+          ap (λ b. is_update e.rec && not (is_closed records (txn_of e)) && b)
+          (any_lsn e.lsn (left_open records (txn_of e)) ∙ none (all_found P table (txn_of e) (open_at named records (txn_of e)) all (said (txn_of e) knows open_still)))
+          ∙ and_false (is_update e.rec && not (is_closed records (txn_of e)))
+
+  all_known : AllByRecursion (λ e. is_known named records (txn_of e) ≡ true) records
+  all_known = known_of named records records known
+
+  pub none_pending : AllByRecursion (λ x. x.updates ≡ []) table → last_where (λ u. true) (pending records) ≡ None
+  none_pending none =
+      ap (last_where (λ u. true)) (filter_none remains records (all_both (λ e. is_known named records (txn_of e) ≡ true) (λ e. is_known named records (txn_of e) ≡ true) (λ e. remains e ≡ false)
+      (λ e knows again. not_remains (λ x. x.updates ≡ []) none e knows (λ empty. ap (list_any (λ m. m == e.lsn)) empty)) records all_known all_known))
+
+  module _ (from to : ℕ) (order : IsInOrder from records to) where
+    descends : (s : ℕ) → Descend to (left_open records s)
+    descends s = descend_open from to [] (entries_of s records) tt (order_filter (is_of s) from to records order)
+
+    -- the Update of which all else is known
+    record IsLeft (t lsn : ℕ) : Type 0 where
+      u : Entry
+      rest : List Entry
+      left : left_open records t ≡ u ∷ rest
+      at : u.lsn ≡ lsn
+      stands : IsIn records u
+      own : txn_of u ≡ t
+      update : is_update u.rec ≡ true
+
+    first_left : (t lsn : ℕ) → IsTop lsn (map (λ (u : Entry). u.lsn) (left_open records t)) → IsLeft t lsn
+    first_left t lsn top = by (left_open records t) refl top
+        (open_all (λ e. IsIn records e × (is_of t e ≡ true)) (λ e. IsIn records e × (is_of t e ≡ true) × (is_update e.rec ≡ true)) (λ e p update. (p.0, p.1, update)) [] (entries_of t records)
+        (filter_all (IsIn records) (is_of t) records (all_in records [] records refl)) tt)
+      where
+        by : (us : List Entry) → left_open records t ≡ us → IsTop lsn (map (λ (u : Entry). u.lsn) us) → AllByRecursion (λ e. IsIn records e × (is_of t e ≡ true) × (is_update e.rec ≡ true)) us → IsLeft t lsn
+        by [] left top all = absurd top
+        by (u ∷ us) left top all = record { u = u; rest = us; left = left; at = top; stands = all.0.0; own = eqb-true (txn_of u) t all.0.1; update = all.0.2 }
+
+    pub one_pending : (t lsn : ℕ) (x : Open) → found_in table t ≡ Some x → IsTop lsn x.updates → AllByRecursion (λ x. IsAtMost lsn x.updates) table →
+        option_map pair_of (last_where (λ u. true) (pending records)) ≡ some_pair t lsn
+    one_pending t lsn x there top most =
+        let some = active_some named records t x (sym (is.says t) ∙ there) in
+        let parts = and_parts (is_known named records t) (not (is_closed records t)) some.0 in
+        let left = first_left t lsn (subst (λ (o : Open). IsTop lsn o.updates) (sym some.1) top) in
+        let u = left.u in
+        let here : remains u ≡ true =
+        ap (λ b. b && not (is_closed records (txn_of u)) && list_any (λ v. v.lsn == u.lsn) (left_open records (txn_of u))) left.update
+        ∙ ap (λ b. b && list_any (λ v. v.lsn == u.lsn) (left_open records (txn_of u))) (ap (λ s. not (is_closed records s)) left.own ∙ parts.1)
+        ∙ ap (λ s. list_any (λ v. v.lsn == u.lsn) (left_open records s)) left.own ∙ ap (list_any (λ v. v.lsn == u.lsn)) left.left ∙ ap (λ b. b || list_any (λ v. v.lsn == u.lsn) left.rest) (eq-eqb u.lsn u.lsn refl) in
+        let later = order_back from to left.stands.front u left.stands.back (subst (λ (l : List Entry). IsInOrder from l to) left.stands.is order) in
+        let knows = (all_right (λ e. is_known named records (txn_of e) ≡ true) left.stands.front (u ∷ left.stands.back) (subst (AllByRecursion (λ e. is_known named records (txn_of e) ≡ true)) left.stands.is all_known)).1 in
+        let none = all_both (λ e. u.lsn < e.lsn) (λ e. is_known named records (txn_of e) ≡ true) (λ e. remains e ≡ false)
+        (λ e less knows. not_remains (λ x. IsAtMost lsn x.updates) most e knows (λ first.
+        none_above lsn e.lsn (let at = left.at in omega (arith, less, at)) (map (λ (v : Entry). v.lsn) (left_open records (txn_of e))) (all_at_most lsn to (left_open records (txn_of e)) (descends (txn_of e)) first)))
+        left.stands.back later knows in
+        ap (λ (l : List Entry). option_map pair_of (last_where (λ v. true) (filter remains l))) left.stands.is
+        ∙ ap (option_map pair_of) (last_passes remains left.stands.front u left.stands.back here none)
+        ∙ same_pair (txn_of u) t u.lsn lsn left.own left.at
+
+    pub next_is : (next : Option (ℕ × ℕ)) → IsNext table next → next ≡ option_map pair_of (last_where (λ u. true) (pending records))
+    next_is None none = sym (ap (option_map pair_of) (none_pending none))
+    next_is (Some n) next =
+        let remains = remains_is table n.0 n.1 is.ascend next.0 in
+        sym (one_pending n.0 n.1 remains.x remains.there remains.top next.1)

@@ -1,0 +1,181 @@
+-- The table by the log alone, and what remains to be undone.
+use Rattle.std.proofs.Common.{◌≡◌, ◌⊎◌, inl, inr, ℕ, ◌*◌, ◌<◌, ◌≤◌, ◌==◌, ◌&&◌, not, Bool, true, false, cond, nat_le, List, [], ◌∷◌, ◌++◌, map, Some, None, refl, sym, ap, subst, ◌∙◌, arith, true≢false}
+use Rattle.std.specs.Prelude.{filter}
+use Rattle.std.specs.List.{list_any, AllByRecursion}
+use Rattle.std.proofs.lemmas.Bool.{cond-true, cond-false, eqb-true, eq-eqb, and_parts, le-leb, leb-true}
+use Rattle.log_records.specs.declared.log_record.LogRecord.{LogRecord}
+use Rattle.log_records.specs.declared.log_record.LogRecord.TheVariants.{Begin, Update, Clr, Commit, End}
+use Rattle.log_records.specs.Log.{Entry, txn_of, is_of, is_update, is_closing, is_closed, is_loser}
+use Rattle.log_records.specs.Unfinished.{is_begin, left_open, open_updates}
+use Rattle.log_records.specs.Sound.{Picture, IsSound, is_known, last_number, from_block}
+use Rattle.analysis.specs.Open.{Open}
+use Rattle.analysis.specs.Read.{is_active, last_named, open_at, open_in}
+use Rattle.analysis.specs.Laws.{has_begun}
+use Rattle.analysis.specs.Taken.{is_named, is_taken, taken, HaveBegunBefore, TakenTable, TakenPending, AllAreTaken}
+use Rattle.analysis.proofs.Unfinished.{begins_as, table_of_unfinished}
+use Rattle.analysis.proofs.Pending.{IsIn, all_in, filter_front}
+use Rattle.analysis.proofs.Taking.{no_true, and_both, or_left, or_right, or_case, any_chosen, any_left, one_of, named_parts, in_front, open_there, active_new, begin_of}
+use Rattle.analysis.proofs.Takes.{all_map, own_any, chain, begun, open_still, all_taken, entries_taken, taken_is_loser}
+
+-- by the log alone the active transactions are the losers
+active_by_log : (p : Picture) (sound : IsSound p) (t : ℕ) → is_active [] p.log t ≡ is_loser p.log t
+active_by_log p sound t = by (is_active [] p.log t) (is_loser p.log t) refl refl
+  where
+    by : (a b : Bool) → is_active [] p.log t ≡ a → is_loser p.log t ≡ b → is_active [] p.log t ≡ is_loser p.log t
+    by true true is loser = is ∙ sym loser
+    by true false is loser =
+        let parts = and_parts (is_known [] p.log t) (not (is_closed p.log t)) is in
+        absurd (true≢false (sym (and_both (list_any (is_of t) p.log) (not (is_closed p.log t)) (own_any t p.log parts.0) parts.1) ∙ loser))
+    by false true is loser = absurd (true≢false (sym (and_both (is_known [] p.log t) (not (is_closed p.log t)) (begun p sound t loser) (ap not (open_still p sound t loser))) ∙ is))
+    by false false is loser = is ∙ sym loser
+
+-- of a loser the log says what is taken of it
+same_open : (p : Picture) (sound : IsSound p) (t : ℕ) → is_loser p.log t ≡ true → open_at [] p.log t ≡ open_at p.master.active (taken p) t
+same_open p sound t loser =
+    let same = chain p sound t loser in
+    ap (λ (es : List Entry). by_entries 0 es) same.begins ∙ sym (ap (λ (es : List Entry). by_entries (last_named p.master.active t) es) (entries_taken p sound t loser ∙ same.begins))
+  where
+    by_entries : ℕ → List Entry → Open
+    by_entries d es = record { txn = t; last = last_number d (map (λ e. e.lsn) es); updates = map (λ u. u.lsn) (open_updates [] es) }
+
+pub taken_table : TakenTable
+taken_table p sound before =
+    let whole = table_of_unfinished [] p.log (512 * p.master.kept) (512 * p.hi) tt sound.in_order in
+    record { ascend = whole.ascend; says = λ t. whole.says t ∙ says t (is_loser p.log t) refl }
+  where
+    says : (t : ℕ) (b : Bool) → is_loser p.log t ≡ b → open_in [] p.log t ≡ open_in p.master.active (taken p) t
+    says t true loser =
+        cond-true (is_active [] p.log t) (Some (open_at [] p.log t)) None (active_by_log p sound t ∙ loser) ∙ ap Some (same_open p sound t loser)
+        ∙ sym (cond-true (is_active p.master.active (taken p) t) (Some (open_at p.master.active (taken p) t)) None (taken_is_loser p t sound before ∙ loser))
+    says t false loser =
+        cond-false (is_active [] p.log t) (Some (open_at [] p.log t)) None (active_by_log p sound t ∙ loser)
+        ∙ sym (cond-false (is_active p.master.active (taken p) t) (Some (open_at p.master.active (taken p) t)) None (taken_is_loser p t sound before ∙ loser))
+
+-- Where redo begins with the first block.
+
+filter_all_pass : (test : Entry → Bool) (xs : List Entry) → ((x : Entry) → test x ≡ true) → filter test xs ≡ xs
+filter_all_pass test [] h = refl
+filter_all_pass test (x ∷ xs) h = cond-true (test x) (x ∷ filter test xs) (filter test xs) (h x) ∙ ap (λ (l : List Entry). x ∷ l) (filter_all_pass test xs h)
+
+pub all_are_taken : AllAreTaken
+all_are_taken p sound first = (
+  filter_all_pass (is_taken p.master) p.log (λ x. or_left (nat_le (512 * p.master.redo) x.lsn) (is_named p.master.active (txn_of x)) (le-leb (512 * p.master.redo) x.lsn (omega (arith, first)))),
+  all_map (IsIn p.log) (λ x. txn_of x ≤ x.lsn) (λ x at. low x at (is_begin x.rec) refl) p.log (all_in p.log [] p.log refl),
+)
+  where
+    low_named : (t : ℕ) → is_named p.master.active t ≡ true → ⊥
+    low_named t named = let below = (named_parts p sound t named).low in omega (arith, below, first)
+
+    low : (x : Entry) → IsIn p.log x → (b : Bool) → is_begin x.rec ≡ b → txn_of x ≤ x.lsn
+    low x at true begins = let own = begin_of x.rec x.lsn begins in omega (arith, own)
+    low x at false other =
+        let lives = open_there p sound at.front x at.back at.is (omega (arith, first)) other in
+        elim (or_case (is_named p.master.active (txn_of x)) (has_begun (from_block p.master.redo at.front) (txn_of x)) lives.known) [
+          | inl named ↦ absurd (low_named (txn_of x) named)
+          | inr begins ↦
+              let one = one_of (λ y. y.lsn < x.lsn) (begins_as (txn_of x)) at.front (in_front p sound at.front x at.back at.is)
+              (any_chosen (begins_as (txn_of x)) (λ y. nat_le (512 * p.master.redo) y.lsn) at.front begins) in
+              let same = eqb-true one.x.lsn (txn_of x) (and_parts (is_begin one.x.rec) (one.x.lsn == txn_of x) one.passes).1 in
+              let less = one.holds in omega (arith, same, less)
+        ]
+
+-- What remains to be undone.
+
+abbrev remains_in : List Entry → Entry → Bool
+remains_in records e = is_update e.rec && not (is_closed records (txn_of e)) && list_any (λ u. u.lsn == e.lsn) (left_open records (txn_of e))
+
+filter_same : (test a b : Entry → Bool) (xs : List Entry) → AllByRecursion (λ x. (test x ≡ true → a x ≡ b x) × (test x ≡ false → b x ≡ false)) xs → filter a (filter test xs) ≡ filter b xs
+filter_same test a b [] h = refl
+filter_same test a b (x ∷ xs) h = by (test x) refl (filter_same test a b xs h.1)
+  where
+    by : (c : Bool) → test x ≡ c → filter a (filter test xs) ≡ filter b xs → filter a (cond c (x ∷ filter test xs) (filter test xs)) ≡ cond (b x) (x ∷ filter b xs) (filter b xs)
+    by true is rest = ap (λ c. cond c (x ∷ filter a (filter test xs)) (filter a (filter test xs))) (h.0.0 is) ∙ ap (λ (l : List Entry). cond (b x) (x ∷ l) l) rest
+    by false is rest = rest ∙ sym (cond-false (b x) (x ∷ filter b xs) (filter b xs) (h.0.1 is))
+
+at_one : (P : Entry → Type 0) (front : List Entry) (x : Entry) (back : List Entry) → AllByRecursion P (front ++ x ∷ back) → P x
+at_one P [] x back h = h.0
+at_one P (y ∷ front) x back h = at_one P front x back h.1
+
+any_here : (q : Entry → Bool) (front : List Entry) (x : Entry) (back : List Entry) → q x ≡ true → list_any q (front ++ x ∷ back) ≡ true
+any_here q [] x back h = or_left (q x) (list_any q back) h
+any_here q (y ∷ front) x back h = or_right (q y) (list_any q (front ++ x ∷ back)) (any_here q front x back h)
+
+update_is_no_begin : (rec : LogRecord) → is_update rec ≡ true → is_begin rec ≡ false
+update_is_no_begin Begin h = absurd (true≢false (sym h))
+update_is_no_begin (Update txn prev page slot before after) h = refl
+update_is_no_begin (Clr txn prev undo_next page slot after) h = refl
+update_is_no_begin (Commit txn number) h = refl
+update_is_no_begin (End txn) h = refl
+
+-- a conjunction that fails where its first part holds
+second_fails : (a c : Bool) → a ≡ true → (a && not c) ≡ false → c ≡ true
+second_fails true true is h = refl
+second_fails true false is h = absurd (true≢false h)
+second_fails false c is h = absurd (true≢false (sym is))
+
+and_false : (b : Bool) → (b && false) ≡ false
+and_false true = refl
+and_false false = refl
+
+-- nothing of a closed transaction remains
+none_of_closed : (records : List Entry) (x : Entry) → is_closed records (txn_of x) ≡ true → remains_in records x ≡ false
+none_of_closed records x closed =
+    ap (λ b. is_update x.rec && not b && list_any (λ u. u.lsn == x.lsn) (left_open records (txn_of x))) closed
+    ∙ ap (λ b. b && list_any (λ u. u.lsn == x.lsn) (left_open records (txn_of x))) (and_false (is_update x.rec))
+
+module _ (p : Picture) (sound : IsSound p) (before : HaveBegunBefore p.log) (x : Entry) (at : IsIn p.log x) where
+  -- of a loser
+  module _ (loser : is_loser p.log (txn_of x) ≡ true) where
+    is_there : is_taken p.master x ≡ true
+    is_there = at_one (λ y. is_of (txn_of x) y ≡ true → is_taken p.master y ≡ true) at.front x at.back (subst (AllByRecursion (λ y. is_of (txn_of x) y ≡ true → is_taken p.master y ≡ true)) at.is (all_taken p sound (txn_of x) loser)) (eq-eqb (txn_of x) (txn_of x) refl)
+
+    open_there_too : is_closed (taken p) (txn_of x) ≡ false
+    open_there_too = no_true (is_closed (taken p) (txn_of x)) (λ h. true≢false (sym (any_chosen (λ y. is_of (txn_of x) y && is_closing y.rec) (is_taken p.master) p.log h) ∙ open_still p sound (txn_of x) loser))
+
+    remains_same : remains_in (taken p) x ≡ remains_in p.log x
+    remains_same =
+        ap (λ b. is_update x.rec && not b && list_any (λ u. u.lsn == x.lsn) (left_open (taken p) (txn_of x))) (open_there_too ∙ sym (open_still p sound (txn_of x) loser))
+        ∙ ap (λ (es : List Entry). is_update x.rec && not (is_closed p.log (txn_of x)) && list_any (λ u. u.lsn == x.lsn) (open_updates [] es)) (entries_taken p sound (txn_of x) loser)
+
+  -- of another transaction
+  module _ (none : is_loser p.log (txn_of x) ≡ false) where
+    closed_in_log : is_closed p.log (txn_of x) ≡ true
+    closed_in_log = second_fails (list_any (is_of (txn_of x)) p.log) (is_closed p.log (txn_of x))
+        (ap (list_any (is_of (txn_of x))) at.is ∙ any_here (is_of (txn_of x)) at.front x at.back (eq-eqb (txn_of x) (txn_of x) refl)) none
+
+    known_taken : is_taken p.master x ≡ true → is_update x.rec ≡ true → is_known p.master.active (taken p) (txn_of x) ≡ true
+    known_taken here update = by (or_case (nat_le (512 * p.master.redo) x.lsn) (is_named p.master.active (txn_of x)) here)
+      where
+        front_taken : has_begun (filter (is_taken p.master) at.front) (txn_of x) ≡ true → has_begun (taken p) (txn_of x) ≡ true
+        front_taken begins =
+            ap (λ (l : List Entry). has_begun (filter (is_taken p.master) l) (txn_of x)) at.is ∙ ap (λ (l : List Entry). has_begun l (txn_of x)) (filter_front (is_taken p.master) at.front (x ∷ at.back))
+            ∙ any_left (begins_as (txn_of x)) (filter (is_taken p.master) at.front) (filter (is_taken p.master) (x ∷ at.back)) begins
+
+        known_front : (is_named p.master.active (txn_of x) ≡ true) ⊎ (has_begun (filter (is_taken p.master) at.front) (txn_of x) ≡ true) → is_known p.master.active (taken p) (txn_of x) ≡ true
+        known_front (inl named) = or_left (is_named p.master.active (txn_of x)) (has_begun (taken p) (txn_of x)) named
+        known_front (inr begins) = or_right (is_named p.master.active (txn_of x)) (has_begun (taken p) (txn_of x)) (front_taken begins)
+
+        by : (nat_le (512 * p.master.redo) x.lsn ≡ true) ⊎ (is_named p.master.active (txn_of x) ≡ true) → is_known p.master.active (taken p) (txn_of x) ≡ true
+        by (inl late) =
+            let active = active_new p sound at.front x at.back at.is (leb-true (512 * p.master.redo) x.lsn late) (update_is_no_begin x.rec update) in
+            known_front (or_case (is_named p.master.active (txn_of x)) (has_begun (filter (is_taken p.master) at.front) (txn_of x))
+            (and_parts (is_known p.master.active (filter (is_taken p.master) at.front) (txn_of x)) (not (is_closed (filter (is_taken p.master) at.front) (txn_of x))) active).0)
+        by (inr named) = or_left (is_named p.master.active (txn_of x)) (has_begun (taken p) (txn_of x)) named
+
+    none_taken : is_taken p.master x ≡ true → remains_in (taken p) x ≡ false
+    none_taken here = by (is_update x.rec) refl
+      where
+        by : (b : Bool) → is_update x.rec ≡ b → remains_in (taken p) x ≡ false
+        by true update =
+            none_of_closed (taken p) x (second_fails (is_known p.master.active (taken p) (txn_of x)) (is_closed (taken p) (txn_of x)) (known_taken here update) (taken_is_loser p (txn_of x) sound before ∙ none))
+        by false update = ap (λ b. b && not (is_closed (taken p) (txn_of x)) && list_any (λ u. u.lsn == x.lsn) (left_open (taken p) (txn_of x))) update
+
+  each_remains : (b : Bool) → is_loser p.log (txn_of x) ≡ b → (is_taken p.master x ≡ true → remains_in (taken p) x ≡ remains_in p.log x) × (is_taken p.master x ≡ false → remains_in p.log x ≡ false)
+  each_remains true loser = ((λ here. remains_same loser), (λ gone. absurd (true≢false (sym (is_there loser) ∙ gone))))
+  each_remains false none = ((λ here. none_taken none here ∙ sym (none_of_closed p.log x (closed_in_log none))), (λ gone. none_of_closed p.log x (closed_in_log none)))
+
+pub taken_pending : TakenPending
+taken_pending p sound before =
+    filter_same (is_taken p.master) (remains_in (taken p)) (remains_in p.log) p.log
+    (all_map (IsIn p.log) (λ x. (is_taken p.master x ≡ true → remains_in (taken p) x ≡ remains_in p.log x) × (is_taken p.master x ≡ false → remains_in p.log x ≡ false))
+    (λ x at. each_remains p sound before x at (is_loser p.log (txn_of x)) refl) p.log (all_in p.log [] p.log refl))

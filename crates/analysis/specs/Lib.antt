@@ -1,0 +1,5 @@
+pub mod Open
+pub mod Table
+pub mod Read
+pub mod Laws
+pub mod Taken
