@@ -1,0 +1,4 @@
+pub mod Words
+pub mod FirstLines
+pub mod Stops
+pub mod Cutting

@@ -1,0 +1,4 @@
+pub mod Generator
+pub mod Scripts
+pub mod Laws
+pub mod Rows

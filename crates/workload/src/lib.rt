@@ -1,0 +1,16 @@
+//! What stated workloads are made of: the generator of their numbers, and the lives that a script of a trial is cut into.
+#![tactic(auto)]
+
+mod generator;
+mod laws;
+mod lives;
+mod rows;
+mod scripts;
+#[cfg(test)]
+mod tests;
+
+pub use generator::{load_set, next};
+pub use laws::{scripts_are_cut, stop_lines_are_read};
+pub use lives::{STOPS_MAX, life};
+pub use rows::{rows_of_generated_numbers, rows_of_scripts};
+pub use scripts::Life;
