@@ -1,0 +1,160 @@
+-- A group is appended.
+use Rattle.std.proofs.Common.{◌≡◌, ℕ, zero, suc, ◌-◌, ◌<◌, ◌≤◌, List, [], ◌∷◌, ◌++◌, length, take, drop, Some, None, refl, sym, ap, subst, ◌∙◌, arith, take-append-drop}
+use Rattle.std.specs.Prelude.{Option, ◌==◌, if◌then◌else◌}
+use Rattle.std.specs.Option.{option_or}
+use Rattle.std.specs.List.{AllByRecursion}
+use Rattle.std.proofs.lemmas.List.{length-append, drop-append-le}
+use Rattle.std.proofs.lemmas.Grind.{flat_map-append}
+use Rattle.std.proofs.lemmas.Option.{none-some, cond_some}
+use Rattle.site.specs.declared.geometry.Geometry.{Geometry}
+use Rattle.site.specs.State.{Image}
+use Rattle.sealed_ring.specs.Ring.{Units}
+use Rattle.record_model.specs.State.{Content}
+use Rattle.log_records.specs.declared.log_record.LogRecord.{LogRecord}
+use Rattle.log_records.specs.Log.{version_at}
+use Rattle.log_records.specs.Sound.{Means}
+use Rattle.log_laws.specs.NewImage.{Replaces}
+use Rattle.slotted_page.specs.Layout as page
+use Rattle.frame_group.specs.Groups.{Frame, IsGroup, frames_in}
+use Rattle.frame_group.specs.Versions.{frames_of, last_frame, version, CleanAsDisk}
+use Rattle.frame_group.proofs.Contents.{frames_are_in, frames_more}
+use Rattle.image_changes.specs.Rings.{Masters, Blocks, Segments, group_shape, units_on}
+use Rattle.image_changes.specs.Changes.{AppendsGroup, Makes}
+use Rattle.log_store.proofs.BlockLaws.{blocks_stay}
+use Rattle.flash_cache.specs.Held.{frames_on, disk_on, version_on, IsCleanOn}
+use Rattle.image_meaning.specs.Meaning.{IsFrameOf, AreGroups, IsSound, picture, versions_on, version_in}
+use Rattle.image_meaning.specs.Pictures.{ReplaceAll}
+use Rattle.image_meaning.specs.Changes.{leaving, front_on, rest_on, MayAppend}
+use Rattle.image_meaning.specs.Laws.{PushedIsSound, PushedMeans}
+use Rattle.image_meaning.proofs.Versions.{length-versions, version_is, disk_stays}
+use Rattle.image_meaning.proofs.OtherVersions.{versions_are_sound, versions_mean, version_replaces_itself}
+use Rattle.image_meaning.proofs.Pushes.{pushed_clean, pushed_version, others_keep_versions}
+use Rattle.image_meaning.proofs.Sames.{lengths_stay, unused_stays}
+
+all_append : {X : Type 0} (P : X → Type 0) (xs ys : List X) → AllByRecursion P xs → AllByRecursion P ys → AllByRecursion P (xs ++ ys)
+all_append P [] ys front rest = rest
+all_append P (x ∷ xs) ys front rest = (front.0, all_append P xs ys front.1 rest)
+
+all_right : {X : Type 0} (P : X → Type 0) (xs ys : List X) → AllByRecursion P (xs ++ ys) → AllByRecursion P ys
+all_right P [] ys all = all
+all_right P (x ∷ xs) ys all = all_right P xs ys all.1
+
+all_drop : {X : Type 0} (P : X → Type 0) (n : ℕ) (xs : List X) → AllByRecursion P xs → AllByRecursion P (drop n xs)
+all_drop P zero xs all = all
+all_drop P (suc n) [] all = tt
+all_drop P (suc n) (x ∷ xs) all = all_drop P n xs all.1
+
+-- the last frame of a page is one of the frames
+last_among : (P : Frame → Type 0) (number : ℕ) (frames : List Frame) (frame : Frame) → AllByRecursion P frames → last_frame number frames ≡ Some frame → P frame
+last_among P number [] frame all last = absurd (none-some frame last)
+last_among P number (first ∷ frames) frame all last = by (last_frame number frames) refl last (λ rest. last_among P number frames frame all.1 rest)
+  where
+    by : (o : Option Frame) → last_frame number frames ≡ o → option_or o (if first.page == number then Some first else None) ≡ Some frame → (last_frame number frames ≡ Some frame → P frame) → P frame
+    by (Some later) is same rest = rest (is ∙ same)
+    by None is same rest = subst P (cond_some (first.page == number) first frame same).1 all.0
+
+-- the frames that leave, and those that stay
+pub frames_before : (g : Geometry) (image : Image) → frames_on g image ≡ front_on g image ++ rest_on g image
+frames_before g image =
+    let live = (units_on (group_shape g) image).live in
+    ap frames_of (sym (take-append-drop (leaving g image) live)) ∙ flat_map-append frames_in (take (leaving g image) live) (drop (leaving g image) live)
+
+module _ (g : Geometry) (old new : Image) (blocks : List (List LogRecord)) (content : List ℕ) (frames : List Frame) (sound : IsSound g old blocks) (is_group : IsGroup content frames)
+    (may : MayAppend g old blocks frames) (made : Makes g (AppendsGroup content) old new) where
+  abbrev live : List (List ℕ)
+  live = (units_on (group_shape g) old).live
+
+  few : leaving g old ≤ length live
+  few = let many = sound.octets.limits.groups in omega (arith, many)
+
+  -- the groups that are live then
+  live_now : (units_on (group_shape g) new).live ≡ drop (leaving g old) live ++ content ∷ []
+  live_now =
+      ap (λ (u : Units). u.live) made.units
+      ∙ ap (λ (n : ℕ). drop (n - (g.groups - 1)) (live ++ content ∷ [])) (length-append live (content ∷ []))
+      ∙ drop-append-le (leaving g old) live (content ∷ []) few
+
+  frames_now : frames_on g new ≡ rest_on g old ++ frames
+  frames_now = ap frames_of live_now ∙ frames_more (drop (leaving g old) live) content frames is_group
+
+  disk_now : disk_on new ≡ disk_on old
+  disk_now = disk_stays old new made.disk
+
+  clean_before : CleanAsDisk (disk_on old) (front_on g old ++ rest_on g old)
+  clean_before = subst (CleanAsDisk (disk_on old)) (frames_before g old) sound.octets.clean
+
+  clean_now : IsCleanOn g new
+  clean_now =
+      subst (λ (d : ℕ → List ℕ). CleanAsDisk d (frames_on g new)) (sym disk_now)
+      (subst (CleanAsDisk (disk_on old)) (sym frames_now) (pushed_clean (disk_on old) (front_on g old) (rest_on g old) frames clean_before may.pushed))
+
+  groups_now : AreGroups g new
+  groups_now = record {
+    form = made.form;
+    each = subst (AllByRecursion (λ c. IsGroup c (frames_in c))) (sym live_now)
+        (all_append (λ c. IsGroup c (frames_in c)) (drop (leaving g old) live) (content ∷ [])
+        (all_drop (λ c. IsGroup c (frames_in c)) (leaving g old) live sound.octets.groups.each)
+        (subst (IsGroup content) (sym (frames_are_in content frames is_group)) is_group, tt));
+    frames = subst (AllByRecursion (IsFrameOf g)) (sym frames_now)
+        (all_append (IsFrameOf g) (rest_on g old) frames
+        (all_right (IsFrameOf g) (front_on g old) (rest_on g old) (subst (AllByRecursion (IsFrameOf g)) (frames_before g old) sound.octets.groups.frames)) may.are_frames);
+  }
+
+  -- the versions after
+  version_now : (number : ℕ) → version_on g new number ≡ version (disk_on old) (rest_on g old ++ frames) number
+  version_now number = λ i. version (disk_now i) (frames_now i) number
+
+  version_of_frame : (number : ℕ) (frame : Frame) → last_frame number frames ≡ Some frame → version_on g new number ≡ frame.octets
+  version_of_frame number frame last = version_now number ∙ pushed_version (disk_on old) (rest_on g old) frames number frame last
+
+  version_kept : (number : ℕ) → last_frame number frames ≡ None → version_on g new number ≡ version_on g old number
+  version_kept number none =
+      version_now number ∙ others_keep_versions (disk_on old) (front_on g old) (rest_on g old) frames number clean_before may.pushed none
+      ∙ ap (λ (fs : List Frame). version (disk_on old) fs number) (sym (frames_before g old))
+
+  pages_sound : (number : ℕ) → number < g.pages → page.IsSound (version_on g new number)
+  pages_sound number within = by (last_frame number frames) refl
+    where
+      by : (o : Option Frame) → last_frame number frames ≡ o → page.IsSound (version_on g new number)
+      by None last = subst page.IsSound (sym (version_kept number last)) (sound.octets.versions number within)
+      by (Some frame) last = subst page.IsSound (sym (version_of_frame number frame last)) (last_among (IsFrameOf g) number frames frame may.are_frames last).sound
+
+  replace : ReplaceAll (picture g old blocks) (versions_on g new)
+  replace = record {
+    count = length-versions g new ∙ sym (length-versions g old);
+    each = λ number within. each number (omega (arith, within, length-versions g old));
+  }
+    where
+      each : (number : ℕ) → number < g.pages → Replaces (picture g old blocks) number (version_at (versions_on g new) number)
+      each number within = by (last_frame number frames) refl
+        where
+          by : (o : Option Frame) → last_frame number frames ≡ o → Replaces (picture g old blocks) number (version_at (versions_on g new) number)
+          by None last =
+              subst (Replaces (picture g old blocks) number) (version_is g old number within ∙ ap version_in (sym (version_kept number last)) ∙ sym (version_is g new number within))
+              (version_replaces_itself (picture g old blocks) number sound.records (omega (arith, within, length-versions g old)))
+          by (Some frame) last =
+              subst (Replaces (picture g old blocks) number) (ap version_in (sym (version_of_frame number frame last)) ∙ sym (version_is g new number within)) (may.replace number frame last)
+
+  pub sound_pushed : IsSound g new blocks
+  sound_pushed = record {
+    octets = record {
+      limits = sound.octets.limits;
+      lengths = lengths_stay g old new made.sizes sound.octets.lengths;
+      masters = unused_stays g Masters old new (made.others Masters (λ h. cc)) sound.octets.masters;
+      segments = unused_stays g Segments old new (made.others Segments (λ h. cc)) sound.octets.segments;
+      groups = groups_now;
+      versions = pages_sound;
+      clean = clean_now;
+    };
+    held = blocks_stay g _ blocks old new sound.held (made.others Blocks (λ h. cc));
+    records = versions_are_sound (picture g old blocks) (versions_on g new) sound.records replace;
+  }
+
+  pub means_pushed : (table : List Content) (count : ℕ) → Means (picture g old blocks) table count → Means (picture g new blocks) table count
+  means_pushed = versions_mean (picture g old blocks) (versions_on g new) sound.records replace
+
+pub pushed_is_sound : PushedIsSound
+pushed_is_sound g old new blocks content frames sound is_group may made = sound_pushed g old new blocks content frames sound is_group may made
+
+pub pushed_means : PushedMeans
+pushed_means g old new blocks content frames sound is_group may made = means_pushed g old new blocks content frames sound is_group may made

@@ -1,0 +1,119 @@
+-- Images that are reached by pushes alone.
+use Rattle.flash_cache.specs.Pushed.{changes_of_push}
+use Rattle.stage_out.specs.Staged.{HasStaged, changes_of}
+use Rattle.image_changes.specs.Reached.{IsFrontOf}
+use Rattle.std.proofs.Common.{◌⊎◌, ◌≢◌, inl, inr, ℕ, ◌<◌, List, [], ◌∷◌, Some, sym, subst, ◌∙◌, ◌++◌}
+use Rattle.std.specs.List.{AllByRecursion}
+use Rattle.site.specs.declared.geometry.Geometry.{Geometry}
+use Rattle.site.specs.State.{Image}
+use Rattle.site.specs.Laws.{leaves_weaker}
+use Rattle.log_records.specs.declared.log_record.LogRecord.{LogRecord}
+use Rattle.log_laws.specs.NewImage.{Replaces}
+use Rattle.slotted_page.specs.Layout as page
+use Rattle.image_changes.specs.Rings.{RingName, Masters, Blocks, Groups, Segments, KeepsUnits, shape_of}
+use Rattle.image_changes.specs.Changes.{Change, SealsBlock, RewritesPages, AppendsGroup, AppendsSegment, AppendsMaster, ring_of, SameSizes, Makes, Reaches}
+use Rattle.image_changes.proofs.Sequence.{ring_kept}
+use Rattle.log_store.proofs.BlockLaws.{blocks_stay}
+use Rattle.flash_cache.specs.Held.{version_on}
+use Rattle.image_meaning.specs.Meaning.{AreOctetsSound, IsSound, picture, version_in}
+use Rattle.image_meaning.specs.Moments.{LeavesTable}
+use Rattle.image_meaning.specs.Reached.{ChangesPages, IsKeptOrReplaced, IsPushed, LeavesPushed, ReachedIsSound, ReachedMeans, PushedStands, PushChangesPages}
+use Rattle.image_meaning.proofs.Sames.{lengths_stay, unused_stays}
+use Rattle.image_meaning.proofs.Reading.{groups_are_read}
+use Rattle.image_meaning.proofs.Replacing.{version_replaces, replaced_is_sound, replaced_means}
+
+-- no change changes a length
+sizes_made : (g : Geometry) (change : Change) (a b : Image) → Makes g change a b → SameSizes a b
+sizes_made g (SealsBlock records) a b made = made.1.sizes
+sizes_made g (RewritesPages pages) a b made = made.sizes
+sizes_made g (AppendsGroup content) a b made = made.sizes
+sizes_made g (AppendsSegment content) a b made = made.sizes
+sizes_made g (AppendsMaster content) a b made = made.sizes
+
+sizes_reached : (g : Geometry) (changes : List Change) (a b : Image) → Reaches g changes a b → SameSizes a b
+sizes_reached g [] a b reads = reads.sizes
+sizes_reached g (change ∷ changes) a b reached = λ dev. sizes_reached g changes reached.0 b reached.2 dev ∙ sizes_made g change a reached.0 reached.1 dev
+
+-- such a change appends to no ring but that of the groups
+not_to : (ring : RingName) → Groups ≢ ring → (change : Change) → ChangesPages change → ring_of change ≢ Some ring
+not_to ring ne (SealsBlock records) of_pages = absurd of_pages
+not_to ring ne (RewritesPages pages) of_pages = λ is. cc
+not_to ring ne (AppendsGroup content) of_pages = λ is. ne cc
+not_to ring ne (AppendsSegment content) of_pages = absurd of_pages
+not_to ring ne (AppendsMaster content) of_pages = absurd of_pages
+
+all_not_to : (ring : RingName) → Groups ≢ ring → (changes : List Change) → AllByRecursion ChangesPages changes → AllByRecursion (λ change. ring_of change ≢ Some ring) changes
+all_not_to ring ne [] of_pages = tt
+all_not_to ring ne (change ∷ changes) of_pages = (not_to ring ne change of_pages.0, all_not_to ring ne changes of_pages.1)
+
+module _ (g : Geometry) (old new : Image) (blocks : List (List LogRecord)) (sound : IsSound g old blocks) (p : IsPushed g old new blocks) where
+  kept : (ring : RingName) → Groups ≢ ring → KeepsUnits (shape_of g ring) old new
+  kept ring ne = ring_kept g ring p.changes old new (all_not_to ring ne p.changes p.of_pages) p.reaches
+
+  version_sound : (number : ℕ) → number < g.pages → page.IsSound (version_on g new number)
+  version_sound number within = by (p.versions number within)
+    where
+      by : IsKeptOrReplaced g old new blocks number → page.IsSound (version_on g new number)
+      by (inl same) = subst page.IsSound (sym same) (sound.octets.versions number within)
+      by (inr replaced) = replaced.0
+
+  pub replaces : (number : ℕ) → number < g.pages → Replaces (picture g old blocks) number (version_in (version_on g new number))
+  replaces number within = by (p.versions number within)
+    where
+      by : IsKeptOrReplaced g old new blocks number → Replaces (picture g old blocks) number (version_in (version_on g new number))
+      by (inl same) = subst (λ (octets : List ℕ). Replaces (picture g old blocks) number (version_in octets)) (sym same) (version_replaces g old blocks number sound within)
+      by (inr replaced) = replaced.1
+
+  all_octets : AreOctetsSound g new
+  all_octets = record {
+    limits = sound.octets.limits;
+    lengths = lengths_stay g old new (sizes_reached g p.changes old new p.reaches) sound.octets.lengths;
+    masters = unused_stays g Masters old new (kept Masters (λ h. cc)) sound.octets.masters;
+    segments = unused_stays g Segments old new (kept Segments (λ h. cc)) sound.octets.segments;
+    groups = (groups_are_read g p.first p.groups new p.has p.sound).0;
+    versions = version_sound;
+    clean = p.clean;
+  }
+
+  pub sound_there : IsSound g new blocks
+  sound_there = replaced_is_sound g old new blocks sound all_octets (blocks_stay g _ blocks old new sound.held (kept Blocks (λ h. cc))) replaces
+
+pub reached_is_sound : ReachedIsSound
+reached_is_sound g old new blocks sound p = sound_there g old new blocks sound p
+
+pub reached_means : ReachedMeans
+reached_means g old new blocks sound p table count means = replaced_means g old new blocks sound (replaces g old new blocks sound p) table count means
+
+pub pushed_stands : PushedStands
+pushed_stands g old new blocks table count sound means leaves =
+    leaves_weaker old new (LeavesPushed g blocks old) (LeavesTable g table count old.told) (λ snapshot is. record {
+      told = is.told;
+      stands = record {
+        blocks = blocks;
+        sound = reached_is_sound g old.image snapshot.image blocks sound is.pushed;
+        means = reached_means g old.image snapshot.image blocks sound is.pushed table count means;
+      };
+    }) leaves
+
+-- A push changes groups and disk pages alone.
+
+staging_of_pages : (pages : List ℕ) → AllByRecursion ChangesPages (changes_of pages)
+staging_of_pages [] = tt
+staging_of_pages (page ∷ pages) = (tt, tt)
+
+all_front : (front left : List Change) → AllByRecursion ChangesPages (front ++ left) → AllByRecursion ChangesPages front
+all_front [] left all = tt
+all_front (change ∷ front) left all = (all.0, all_front front left all.1)
+
+all_more : (changes : List Change) (change : Change) → AllByRecursion ChangesPages changes → ChangesPages change → AllByRecursion ChangesPages (changes ++ change ∷ [])
+all_more [] change all own = (own, tt)
+all_more (first ∷ changes) change all own = (all.0, all_more changes change all.1 own)
+
+pub push_changes_pages : PushChangesPages
+push_changes_pages g pages contents group old snapshot leaves = by leaves.either
+  where
+    by : ((changes : List Change) × IsFrontOf (changes_of pages) changes × Reaches g changes old.image snapshot.image)
+        ⊎ (HasStaged pages contents old.image.disk snapshot.image.disk × Reaches g (changes_of_push pages group) old.image snapshot.image) →
+        (changes : List Change) × AllByRecursion ChangesPages changes × Reaches g changes old.image snapshot.image
+    by (inl part) = (part.0, all_front part.0 part.1.0 (subst (AllByRecursion ChangesPages) part.1.1 (staging_of_pages pages)), part.2)
+    by (inr whole) = (changes_of_push pages group, all_more (changes_of pages) (AppendsGroup group) (staging_of_pages pages) tt, whole.1)

@@ -1,0 +1,153 @@
+-- Versions of pages, and records that aren't sealed yet.
+use Rattle.std.proofs.Common.{◌≡◌, ℕ, ◌+◌, ◌*◌, ◌/◌, ◌<◌, ◌≤◌, ◌==◌, ◌||◌, false, List, [], ◌∷◌, ◌++◌, length, Some, None, refl, sym, ap, ◌∙◌, arith, inl, inr}
+use Rattle.std.specs.Prelude.{Option, IsTrue, nat_lt}
+use Rattle.std.specs.List.{AllByRecursion}
+use Rattle.std.specs.Option.{option_or}
+use Rattle.std.proofs.lemmas.Bool.{cases_Bool}
+use Rattle.std.proofs.lemmas.Bool.Decides.{nat_tests}
+use Rattle.record_model.specs.State.{content_at}
+use Rattle.log_records.specs.declared.log_record.LogRecord.{LogRecord}
+use Rattle.log_records.specs.Log.{Entry, Version, slot_at, number_of, is_on, last_on, value_after, value_of}
+use Rattle.log_records.specs.Sound.{Picture, InTurn}
+use Rattle.log_laws.specs.Follow.{Follows, next_entries, shown_by, shown}
+use Rattle.log_laws.proofs.Lists.{last_where-append, or_is_none}
+use Rattle.log_laws.proofs.Orders.{all_from, none_passes, entries_in_order}
+use Rattle.log_laws.proofs.Seals.{numbered_with}
+use Rattle.log_laws.proofs.Versions.{table_same}
+use Rattle.log_laws.specs.Tail.{whole}
+use Rattle.image_meaning.specs.Pictures.{ReplaceAll}
+use Rattle.image_meaning.specs.Redone.{IsLogged, AreKnown, IsCurrent}
+use Rattle.image_meaning.specs.Ahead.{SealedPageReplaces, ShownStays, TableStays, ShowsStill, CarriesStill, GoesOnStill, TailGoesOn}
+use Rattle.image_meaning.proofs.OtherVersions.{slot_same, sound_with}
+use Rattle.image_meaning.proofs.Redos.{on_number, page_of_number, current_replaces}
+
+all_left : {X : Type 0} (P : X → Type 0) (xs ys : List X) → AllByRecursion P (xs ++ ys) → AllByRecursion P xs
+all_left P [] ys all = tt
+all_left P (x ∷ xs) ys all = (all.0, all_left P xs ys all.1)
+
+all_right : {X : Type 0} (P : X → Type 0) (xs ys : List X) → AllByRecursion P (xs ++ ys) → AllByRecursion P ys
+all_right P [] ys all = all
+all_right P (x ∷ xs) ys all = all_right P xs ys all.1
+
+all_both : {X : Type 0} (P Q R : X → Type 0) → ((x : X) → P x → Q x → R x) → (xs : List X) → AllByRecursion P xs → AllByRecursion Q xs → AllByRecursion R xs
+all_both P Q R both [] p q = tt
+all_both P Q R both (x ∷ xs) p q = (both x p.0 q.0, all_both P Q R both xs p.1 q.1)
+
+-- The tail.
+
+low : (lsn hi : ℕ) → IsTrue ((lsn == 0) || nat_lt lsn (512 * hi)) → lsn < 512 * hi + 2
+low lsn hi logged = grind (arith, nat_tests)
+
+module _ (p : Picture) (tail : List LogRecord) (page : ℕ) (v : Version) (logged : IsLogged p v) (known : AreKnown (whole p tail) page v.lsn) where
+  behind : AllByRecursion (λ e. 512 * p.hi + 2 ≤ e.lsn) (next_entries p tail)
+  behind = all_from (512 * p.hi + 2) (next_entries p tail) _ (entries_in_order (512 * p.hi + 2) tail)
+
+  -- none of the tail's records is on the page
+  off : (slot : ℕ) → slot < 32 → AllByRecursion (λ e. is_on (32 * page + slot) e ≡ false) (next_entries p tail)
+  off slot less =
+      all_both (λ e. 512 * p.hi + 2 ≤ e.lsn) (λ e. (n : ℕ) → number_of e.rec ≡ Some n → n / 32 ≡ page → e.lsn ≤ v.lsn) (λ e. is_on (32 * page + slot) e ≡ false)
+      (λ e late own. elim (cases_Bool (is_on (32 * page + slot) e)) [
+        | inl here ↦
+            let early = own (32 * page + slot) (on_number (32 * page + slot) (number_of e.rec) here) (page_of_number page slot less) in
+            let bound = low v.lsn p.hi logged in
+            absurd (omega (arith, late, early, bound))
+        | inr elsewhere ↦ elsewhere
+      ])
+      (next_entries p tail) behind (all_right (λ e. (n : ℕ) → number_of e.rec ≡ Some n → n / 32 ≡ page → e.lsn ≤ v.lsn) p.log (next_entries p tail) known)
+
+  last_sealed : (slot : ℕ) → slot < 32 → last_on (whole p tail) (32 * page + slot) ≡ last_on p.log (32 * page + slot)
+  last_sealed slot less =
+      last_where-append (is_on (32 * page + slot)) p.log (next_entries p tail)
+      ∙ ap (λ (o : Option Entry). option_or o (last_on p.log (32 * page + slot))) (none_passes (is_on (32 * page + slot)) (next_entries p tail) (off slot less))
+
+  pub current : ((slot : ℕ) → slot < 32 → content_at v.slots slot ≡ shown (whole p tail) p.pages (32 * page + slot)) → IsCurrent p page v
+  current slots = record {
+    logged = logged;
+    all = record {
+      known = all_left (λ e. (n : ℕ) → number_of e.rec ≡ Some n → n / 32 ≡ page → e.lsn ≤ v.lsn) p.log (next_entries p tail) known;
+      slots = λ slot less. slots slot less ∙ ap (shown_by (slot_at p.pages (32 * page + slot))) (last_sealed slot less);
+    };
+  }
+
+pub sealed_page_replaces : SealedPageReplaces
+sealed_page_replaces p tail page v logged all = current_replaces p page v (current p tail page v logged all.known all.slots)
+
+pub tail_goes_on : TailGoesOn
+tail_goes_on p tail carries block room commits = record { are_block = block; follow = carries.follow; numbered = numbered_with p tail carries.sound block commits; room = room }
+
+-- New versions.
+
+-- a log that has all records of the sealed one, and maybe more
+Extends : Picture → List Entry → Type 0
+Extends p log = (number : ℕ) → last_on log number ≡ None → last_on p.log number ≡ None
+
+extends_more : (p : Picture) (log more : List Entry) → Extends p log → Extends p (log ++ more)
+unfolding Extends
+extends_more p log more extends number none =
+    extends number (or_is_none (last_on more number) (last_on log number) (sym (last_where-append (is_on number) log more) ∙ none)).1
+
+extends_all : (p : Picture) → Extends p p.log
+unfolding Extends
+extends_all p number none = none
+
+module _ (p : Picture) (versions : List Version) (r : ReplaceAll p versions) where
+  shown_by_last : (log : List Entry) → Extends p log → (number : ℕ) → number < 32 * length p.pages → shown log versions number ≡ shown log p.pages number
+  unfolding Extends
+  shown_by_last log extends number within = by (last_on log number) refl
+    where
+      by : (o : Option Entry) → last_on log number ≡ o → shown log versions number ≡ shown log p.pages number
+      by None last =
+          ap (shown_by (slot_at versions number)) last ∙ slot_same p versions r number within (extends number last) ∙ sym (ap (shown_by (slot_at p.pages number)) last)
+      by (Some e) last = ap (shown_by (slot_at versions number)) last ∙ sym (ap (shown_by (slot_at p.pages number)) last)
+
+  value_by_last : (log : List Entry) → Extends p log → (number : ℕ) → number < 32 * length p.pages → value_of log versions number ≡ value_of log p.pages number
+  unfolding Extends
+  value_by_last log extends number within = by (last_on log number) refl
+    where
+      by : (o : Option Entry) → last_on log number ≡ o → value_of log versions number ≡ value_of log p.pages number
+      by None last =
+          ap (value_after log number (slot_at versions number)) last ∙ slot_same p versions r number within (extends number last)
+          ∙ sym (ap (value_after log number (slot_at p.pages number)) last)
+      by (Some e) last = ap (value_after log number (slot_at versions number)) last ∙ sym (ap (value_after log number (slot_at p.pages number)) last)
+
+  follows_still : (log : List Entry) → Extends p log → (e : Entry) → Follows p.master p.pages log e → Follows p.master versions log e
+  follows_still log extends e f = record {
+    in_table = λ number is. let within = f.in_table number is in let count = r.count in omega (arith, within, count);
+    of_open = f.of_open;
+    can_be_undone = f.can_be_undone;
+    held_off = f.held_off;
+    from_shown = λ number update is. f.from_shown number update is ∙ sym (shown_by_last log extends number (f.in_table number is));
+    ends_undone = f.ends_undone;
+  }
+
+  all_follow : (log entries : List Entry) → Extends p log → InTurn (Follows p.master p.pages) log entries → InTurn (Follows p.master versions) log entries
+  all_follow log [] extends follow = tt
+  all_follow log (e ∷ entries) extends follow =
+      (follows_still log extends e follow.0, all_follow (log ++ e ∷ []) entries (extends_more p log (e ∷ []) extends) follow.1)
+
+pub shown_stays : ShownStays
+shown_stays p versions more number r within = shown_by_last p versions r (p.log ++ more) (extends_more p p.log more (extends_all p)) number within
+
+pub table_stays : TableStays
+table_stays p versions more r =
+    table_same (p.log ++ more) (p.log ++ more) p.pages versions r.count (λ number within. value_by_last p versions r (p.log ++ more) (extends_more p p.log more (extends_all p)) number within)
+
+pub carries_still : CarriesStill
+carries_still p versions tail r carries = record {
+  sound = sound_with p versions carries.sound r;
+  follow = all_follow p versions r p.log (next_entries p tail) (extends_all p) carries.follow;
+}
+
+pub goes_on_still : GoesOnStill
+goes_on_still p versions records r goes = record {
+  are_block = goes.are_block;
+  follow = all_follow p versions r p.log (next_entries p records) (extends_all p) goes.follow;
+  numbered = record { before_redo = goes.numbered.before_redo; run_on = goes.numbered.run_on; fit = goes.numbered.fit };
+  room = goes.room;
+}
+
+pub shows_still : ShowsStill
+shows_still p versions more page v r within all = record {
+  known = all.known;
+  slots = λ slot less. all.slots slot less ∙ sym (shown_stays p versions more (32 * page + slot) r (omega (arith, within, less)));
+}

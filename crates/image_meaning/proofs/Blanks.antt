@@ -1,0 +1,144 @@
+-- Blank devices.
+use Rattle.std.proofs.Common.{◌≡◌, ℕ, zero, suc, ◌-◌, ◌*◌, ◌/◌, ◌%◌, ◌<◌, ◌==◌, ◌||◌, List, [], get_or, take, drop, replicate, None, refl, sym, ap, subst, ◌∙◌, arith}
+use Rattle.std.specs.Prelude.{slice_index, nat_lt}
+use Rattle.std.specs.List.{AllByRecursion}
+use Rattle.std.proofs.lemmas.List.{ext_get_or, length-replicate, get_or-replicate, take-replicate, drop-replicate}
+use Rattle.std.proofs.lemmas.Nat.{mod_below}
+use Rattle.site.specs.declared.geometry.Geometry.{Geometry}
+use Rattle.site.specs.Geometry.{HasLimits, HasLengths, log_length, flash_length, disk_length, blank_image}
+use Rattle.site.specs.State.{Image}
+use Rattle.sealed_ring.specs.Ring.{IsRing, Units}
+use Rattle.sealed_ring.specs.Laws.{BlankIsRing}
+use Rattle.record_model.specs.State.{Content, content_at}
+use Rattle.log_records.specs.Log.{Version, version_at, slot_at, table_of}
+use Rattle.log_records.specs.Sound.{FitsLog, Means}
+use Rattle.log_records.specs.Sound as lists
+use Rattle.log_laws.specs.ShownLaws.{TableAt}
+use Rattle.log_laws.proofs.Tables.{length_table_of}
+use Rattle.log_laws.proofs.Versions.{page_and_slot}
+use Rattle.slotted_page.specs.Laws.{IsBlank}
+use Rattle.slotted_page.proofs.Blank.{blank}
+use Rattle.frame_group.specs.Groups.{Frame, IsGroup, frames_in}
+use Rattle.frame_group.specs.Versions.{frames_of, version, CleanAsDisk}
+use Rattle.image_changes.specs.Rings.{RingName, Masters, Blocks, Groups, Segments, shape_of, octets_of, group_shape, units_on}
+use Rattle.image_changes.proofs.AppendLaws.{ring_fits}
+use Rattle.log_store.specs.Laws.{BlankHasNoBlocks}
+use Rattle.flash_cache.specs.Held.{frames_on, disk_on, version_on}
+use Rattle.image_meaning.specs.Meaning.{IsUnused, IsFrameOf, AreOctetsSound, IsSound, picture, versions_on}
+use Rattle.image_meaning.specs.Laws.{BlankStands}
+use Rattle.image_meaning.proofs.Versions.{length-versions, version_is}
+
+pub zero_at : (n p : ℕ) → slice_index (replicate n 0) p ≡ 0
+zero_at zero p = refl
+zero_at (suc n) zero = refl
+zero_at (suc n) (suc p) = zero_at n p
+
+abbrev zeros : ℕ → List ℕ
+zeros n = replicate n 0
+
+-- a page of zeros
+page_of_zeros : (len number pages : ℕ) → len ≡ 4096 → number < pages → IsBlank (take len (drop (len * number) (zeros (len * pages))))
+page_of_zeros len number pages size within =
+    let before : len * number ≡ 4096 * number = ap (λ (n : ℕ). n * number) size in
+    let all : len * pages ≡ 4096 * pages = ap (λ (n : ℕ). n * pages) size in
+    let part : take len (drop (len * number) (zeros (len * pages))) ≡ zeros len =
+    ap (take {A = ℕ} len) (drop-replicate (len * number) (len * pages) 0) ∙ take-replicate len (len * pages - len * number) 0 (omega (arith, before, all, size, within)) in
+    subst IsBlank (sym part) (blank len size)
+
+module _ (ring_of_zeros : BlankIsRing) (g : Geometry) (limits : HasLimits g) where
+  image : Image
+  image = blank_image g
+
+  pub lengths : HasLengths g (blank_image g)
+  lengths = record { log = length-replicate (log_length g) 0; flash = length-replicate (flash_length g) 0; disk = length-replicate (disk_length g) 0 }
+
+  octets_zero : (ring : RingName) (p : ℕ) → slice_index (octets_of (shape_of g ring) (blank_image g)) p ≡ 0
+  octets_zero Masters p = zero_at (log_length g) p
+  octets_zero Blocks p = zero_at (log_length g) p
+  octets_zero Groups p = zero_at (flash_length g) p
+  octets_zero Segments p = zero_at (flash_length g) p
+
+  ring_blank : (ring : RingName) → IsRing (shape_of g ring) (octets_of (shape_of g ring) (blank_image g)) × (units_on (shape_of g ring) (blank_image g) ≡ record { hi = 0; live = [] })
+  ring_blank ring = ring_of_zeros (shape_of g ring) (octets_of (shape_of g ring) (blank_image g)) (ring_fits g (blank_image g) ring limits lengths) (octets_zero ring)
+
+  unused : (ring : RingName) → IsUnused g ring (blank_image g)
+  unused ring = record { form = (ring_blank ring).0; none = ap (λ (u : Units). u.hi) (ring_blank ring).1 }
+
+  pub no_live : (units_on (group_shape g) (blank_image g)).live ≡ []
+  no_live = ap (λ (u : Units). u.live) (ring_blank Groups).1
+
+  no_frames : frames_on g (blank_image g) ≡ []
+  no_frames = ap frames_of no_live
+
+  pub blank_page : (number : ℕ) → number < g.pages → IsBlank (version_on g (blank_image g) number)
+  blank_page number within =
+      let there : version_on g (blank_image g) number ≡ disk_on (blank_image g) number = ap (λ (fs : List Frame). version (disk_on (blank_image g)) fs number) no_frames in
+      subst IsBlank (sym there) (page_of_zeros 4096 number g.pages refl within)
+
+  pub octets : AreOctetsSound g (blank_image g)
+  octets = record {
+    limits = limits;
+    lengths = lengths;
+    masters = unused Masters;
+    segments = unused Segments;
+    groups = record {
+      form = (ring_blank Groups).0;
+      each = subst (AllByRecursion (λ content. IsGroup content (frames_in content))) (sym no_live) tt;
+      frames = subst (AllByRecursion (IsFrameOf g)) (sym no_frames) tt;
+    };
+    versions = λ number within. (blank_page number within).sound;
+    clean = subst (CleanAsDisk (disk_on (blank_image g))) (sym no_frames) (λ number frame last. cc);
+  }
+
+  fits : (number : ℕ) → number < g.pages → FitsLog (picture g (blank_image g) []) number (version_at (versions_on g (blank_image g)) number)
+  fits number within =
+      subst (FitsLog (picture g (blank_image g) []) number) (sym (version_is g (blank_image g) number within))
+      (record {
+        logged = ap (λ (n : ℕ). (n == 0) || nat_lt n 0) (blank_page number within).lsn;
+        shows = λ slot low. tt;
+        knows = tt;
+      })
+
+  records : lists.IsSound (picture g (blank_image g) [])
+  records = record {
+    kept_before_redo = omega arith;
+    redo_before_end = omega arith;
+    kept_is_live = omega arith;
+    in_order = omega arith;
+    in_table = tt;
+    open_transactions = tt;
+    losers_can_be_undone = λ t h. cc;
+    losers_hold_others_off = tt;
+    versions_fit = λ number within. fits number (omega (arith, within, length-versions g (blank_image g)));
+    room_for_undo = omega arith;
+    master_names_the_active = refl;
+    commits = record { before_redo = omega arith; run_on = refl; fit = omega arith };
+  }
+
+  pub sound_blank : BlankHasNoBlocks → IsSound g (blank_image g) []
+  sound_blank no_blocks = record { octets = octets; held = no_blocks g limits; records = records }
+
+  -- no slot has a value
+  pub slot_blank : (number : ℕ) → number < 32 * g.pages → slot_at (versions_on g (blank_image g)) number ≡ None
+  slot_blank number within =
+      let here : number / 32 < g.pages = omega (arith, within, page_and_slot number) in
+      ap (λ (v : Version). content_at v.slots (number % 32)) (version_is g (blank_image g) (number / 32) here)
+      ∙ ap (λ (slots : List Content). content_at slots (number % 32)) (blank_page (number / 32) here).slots
+      ∙ get_or-replicate 32 (number % 32) None None (mod_below number 32 (omega arith))
+
+  pub means_blank : TableAt → Means (picture g (blank_image g) []) (replicate (32 * g.pages) None) 0
+  means_blank at = record {
+    table_is =
+        ext_get_or None (replicate (32 * g.pages) None) (table_of [] (versions_on g (blank_image g)))
+        (length-replicate (32 * g.pages) None ∙ ap (λ (n : ℕ). 32 * n) (sym (length-versions g (blank_image g))) ∙ sym (length_table_of [] (versions_on g (blank_image g))))
+        (λ number within. each number (omega (arith, within, length-replicate {A = Content} (32 * g.pages) None)));
+    count_is = refl;
+  }
+    where
+      each : (number : ℕ) → number < 32 * g.pages → get_or (replicate {A = Content} (32 * g.pages) None) number None ≡ content_at (table_of [] (versions_on g (blank_image g))) number
+      each number within =
+          get_or-replicate (32 * g.pages) number None None within
+          ∙ sym (at [] (versions_on g (blank_image g)) number (omega (arith, within, length-versions g (blank_image g))) ∙ slot_blank number within)
+
+pub blank_stands : BlankIsRing → BlankHasNoBlocks → TableAt → BlankStands
+blank_stands ring_of_zeros no_blocks at g limits = record { blocks = []; sound = sound_blank ring_of_zeros g limits no_blocks; means = means_blank ring_of_zeros g limits at }

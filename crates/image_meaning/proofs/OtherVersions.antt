@@ -1,0 +1,73 @@
+-- Other versions of the pages keep a picture sound, and what it stands for.
+use Rattle.std.proofs.Common.{◌+◌, ◌≡◌, ℕ, ◌*◌, ◌/◌, ◌%◌, ◌<◌, List, length, Some, None, refl, sym, ap, ◌∙◌, arith, ◌≤◌, ◌==◌, ◌||◌, subst}
+use Rattle.std.specs.Prelude.{Option, IsTrue, nat_lt}
+use Rattle.std.specs.List.{AllByRecursion}
+use Rattle.std.proofs.lemmas.Nat.{mod_below}
+use Rattle.record_model.specs.State.{Content, content_at}
+use Rattle.log_records.specs.Log.{Entry, Version, version_at, slot_at, number_of, last_on, value_after, value_of}
+use Rattle.log_records.specs.Sound.{Picture, IsSound, Means, FitsLog, IsInTable, ShowsLast, last_known, before_block}
+use Rattle.log_laws.specs.NewImage.{Replaces}
+use Rattle.log_laws.proofs.Lists.{all_weaker}
+use Rattle.log_laws.proofs.Versions.{table_same, page_and_slot}
+use Rattle.image_meaning.specs.Pictures.{with_versions, ReplaceAll, VersionsAreSound, VersionsMean, VersionReplacesItself}
+
+-- a slot without records is as it was
+pub slot_same : (p : Picture) (versions : List Version) → ReplaceAll p versions → (number : ℕ) → number < 32 * length p.pages → last_on p.log number ≡ None → slot_at versions number ≡ slot_at p.pages number
+slot_same p versions r number within none =
+    (r.each (number / 32) (omega (arith, within, page_and_slot number))).as_before (number % 32) (mod_below number 32 (omega arith)) (ap (last_on p.log) (page_and_slot number) ∙ none)
+
+module _ (p : Picture) (versions : List Version) (sound : IsSound p) (r : ReplaceAll p versions) where
+  fits_still : (page : ℕ) (v : Version) → FitsLog p page v → FitsLog (with_versions p versions) page v
+  fits_still page v f = record { logged = f.logged; shows = f.shows; knows = f.knows }
+
+  pub sound_with : IsSound (with_versions p versions)
+  sound_with = record {
+    kept_before_redo = sound.kept_before_redo;
+    redo_before_end = sound.redo_before_end;
+    kept_is_live = sound.kept_is_live;
+    in_order = sound.in_order;
+    in_table = all_weaker (IsInTable p.pages) (IsInTable versions) (λ e h number n. let b = h number n in let count = r.count in omega (arith, b, count)) p.log sound.in_table;
+    open_transactions = sound.open_transactions;
+    losers_can_be_undone = sound.losers_can_be_undone;
+    losers_hold_others_off = sound.losers_hold_others_off;
+    versions_fit = λ page h. let count = r.count in fits_still page (version_at versions page) (r.each page (omega (arith, h, count))).fits;
+    room_for_undo = sound.room_for_undo;
+    master_names_the_active = sound.master_names_the_active;
+    commits = record { before_redo = sound.commits.before_redo; run_on = sound.commits.run_on; fit = sound.commits.fit };
+  }
+
+  pub means_with : (table : List Content) (count : ℕ) → Means p table count → Means (with_versions p versions) table count
+  means_with table count means = record {
+    table_is = means.table_is ∙ sym (table_same p.log p.log p.pages versions r.count (λ number within. by_last number within (last_on p.log number) refl));
+    count_is = means.count_is;
+  }
+    where
+      by_last : (number : ℕ) → number < 32 * length p.pages → (o : Option Entry) → last_on p.log number ≡ o → value_of p.log versions number ≡ value_of p.log p.pages number
+      by_last number within None last = ap (value_after p.log number (slot_at versions number)) last ∙ slot_same p versions r number within last ∙ sym (ap (value_after p.log number (slot_at p.pages number)) last)
+      by_last number within (Some x) last = ap (value_after p.log number (slot_at versions number)) last ∙ sym (ap (value_after p.log number (slot_at p.pages number)) last)
+
+pub versions_are_sound : VersionsAreSound
+versions_are_sound p versions sound r = sound_with p versions sound r
+
+pub versions_mean : VersionsMean
+versions_mean p versions sound r table count means = means_with p versions sound r table count means
+
+pub version_replaces_itself : VersionReplacesItself
+version_replaces_itself p page sound within = record { fits = sound.versions_fit page within; as_before = λ slot less none. refl }
+
+-- a version with the same LSN and the same slots as the page's replaces it
+fits_alike : (p : Picture) (page : ℕ) (v w : Version) → FitsLog p page v → w.lsn ≡ v.lsn → ((slot : ℕ) → slot < 32 → content_at w.slots slot ≡ content_at v.slots slot) → FitsLog p page w
+fits_alike p page v w fits lsn same = record {
+  logged = subst (λ (n : ℕ). IsTrue ((n == 0) || nat_lt n (512 * p.hi))) (sym lsn) fits.logged;
+  shows = λ slot less.
+      subst (λ (c : Content). ShowsLast c (last_known p.log w.lsn (32 * page + slot))) (sym (same slot less))
+      (subst (λ (n : ℕ). ShowsLast (content_at v.slots slot) (last_known p.log n (32 * page + slot))) (sym lsn) (fits.shows slot less));
+  knows = subst (λ (l : ℕ). AllByRecursion (λ e. (n : ℕ) → number_of e.rec ≡ Some n → n / 32 ≡ page → e.lsn ≤ l) (before_block p.master.redo p.log)) (sym lsn) fits.knows;
+}
+
+pub alike_replaces : (p : Picture) (page : ℕ) (w : Version) → IsSound p → page < length p.pages → w.lsn ≡ (version_at p.pages page).lsn →
+    ((slot : ℕ) → slot < 32 → content_at w.slots slot ≡ content_at (version_at p.pages page).slots slot) → Replaces p page w
+alike_replaces p page w sound within lsn same = record {
+  fits = fits_alike p page (version_at p.pages page) w (sound.versions_fit page within) lsn same;
+  as_before = λ slot less none. same slot less;
+}

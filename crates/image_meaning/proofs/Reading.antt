@@ -1,0 +1,91 @@
+-- The groups that a cache knows of.
+use Rattle.image_meaning.specs.Reached.{GroupsAreSound}
+use Rattle.site.specs.State.{Image}
+use Rattle.std.proofs.Common.{◌≡◌, ℕ, refl, arith, ◌++◌, List, [], ◌∷◌, map, sym, ap, subst, ◌∙◌}
+use Rattle.std.specs.Prelude.{flat_map, ◌<◌}
+use Rattle.std.specs.List.{AllByRecursion}
+use Rattle.std.proofs.lemmas.List.{length-map}
+use Rattle.sealed_ring.proofs.Units.{live_count}
+use Rattle.image_changes.specs.Rings.{group_shape, units_on}
+use Rattle.site.specs.declared.geometry.Geometry.{Geometry}
+use Rattle.slotted_page.specs.Layout as page
+use Rattle.frame_group.specs.Groups.{Frame, IsGroup, group, frames_in}
+use Rattle.frame_group.specs.Versions.{frames_of}
+use Rattle.frame_group.proofs.Contents.{frames_are_in, frames_of_groups}
+use Rattle.log_laws.proofs.Lists.{all_append, all_weaker}
+use Rattle.flash_cache.specs.Held.{HasFrames, frames_on, HasGroups}
+use Rattle.image_meaning.specs.Meaning.{IsFrameOf}
+use Rattle.image_meaning.specs.PushLaws.{GroupsAreRead, GroupsAreThere}
+
+each_group : (g : Geometry) (groups : List (List Frame)) → AllByRecursion (λ frames. HasFrames g frames (group frames)) groups → AllByRecursion (λ content. IsGroup content (frames_in content)) (map group groups)
+each_group g [] all = tt
+each_group g (frames ∷ groups) all = (subst (IsGroup (group frames)) (sym (frames_are_in (group frames) frames all.0.is_group)) all.0.is_group, each_group g groups all.1)
+
+frames_of_one : (g : Geometry) (frames : List Frame) → AllByRecursion (λ frame. frame.page < g.pages) frames → AllByRecursion (λ frame. page.IsSound frame.octets) frames → AllByRecursion (IsFrameOf g) frames
+frames_of_one g [] exist sound = tt
+frames_of_one g (frame ∷ frames) exist sound = (record { exists = exist.0; sound = sound.0 }, frames_of_one g frames exist.1 sound.1)
+
+all_frames : (g : Geometry) (groups : List (List Frame)) → AllByRecursion (λ frames. HasFrames g frames (group frames)) groups → AllByRecursion (λ frames. AllByRecursion (λ frame. page.IsSound frame.octets) frames) groups →
+    AllByRecursion (IsFrameOf g) (flat_map (λ frames. frames) groups)
+all_frames g [] all sound = tt
+all_frames g (frames ∷ groups) all sound = all_append (IsFrameOf g) frames (flat_map (λ fs. fs) groups) (frames_of_one g frames all.0.exist sound.0) (all_frames g groups all.1 sound.1)
+
+pub groups_are_read : GroupsAreRead
+groups_are_read g first groups image has sound =
+    let frames : frames_on g image ≡ flat_map (λ fs. fs) groups =
+    ap frames_of has.live ∙ frames_of_groups groups (all_weaker (λ fs. HasFrames g fs (group fs)) (λ fs. IsGroup (group fs) fs) (λ fs h. h.is_group) groups has.are_groups) in (
+      record {
+        form = has.form;
+        each = subst (AllByRecursion (λ content. IsGroup content (frames_in content))) (sym has.live) (each_group g groups has.are_groups);
+        frames = subst (AllByRecursion (IsFrameOf g)) (sym frames) (all_frames g groups has.are_groups sound);
+      },
+      frames,
+    )
+
+all_left : {X : Type 0} (P : X → Type 0) (xs ys : List X) → AllByRecursion P (xs ++ ys) → AllByRecursion P xs
+all_left P [] ys all = tt
+all_left P (x ∷ xs) ys all = (all.0, all_left P xs ys all.1)
+
+all_right : {X : Type 0} (P : X → Type 0) (xs ys : List X) → AllByRecursion P (xs ++ ys) → AllByRecursion P ys
+all_right P [] ys all = all
+all_right P (x ∷ xs) ys all = all_right P xs ys all.1
+
+spelled_again : (contents : List (List ℕ)) → AllByRecursion (λ content. IsGroup content (frames_in content)) contents → contents ≡ map group (map frames_in contents)
+spelled_again [] all = refl
+spelled_again (content ∷ contents) all = λ i. all.0.spelled i ∷ spelled_again contents all.1 i
+
+each_has : (g : Geometry) (contents : List (List ℕ)) → AllByRecursion (λ content. IsGroup content (frames_in content)) contents → AllByRecursion (IsFrameOf g) (frames_of contents) →
+    AllByRecursion (λ frames. HasFrames g frames (group frames)) (map frames_in contents)
+each_has g [] all frames = tt
+each_has g (content ∷ contents) all frames = (
+  record {
+    is_group = subst (λ (c : List ℕ). IsGroup c (frames_in content)) all.0.spelled all.0;
+    exist = all_weaker (IsFrameOf g) (λ frame. frame.page < g.pages) (λ frame is. is.exists) (frames_in content) (all_left (IsFrameOf g) (frames_in content) (frames_of contents) frames);
+  },
+  each_has g contents all.1 (all_right (IsFrameOf g) (frames_in content) (frames_of contents) frames),
+)
+
+pub groups_are_there : GroupsAreThere
+groups_are_there g image groups =
+    let live = (units_on (group_shape g) image).live in
+    let count = live_count (group_shape g) image.flash in
+    let long = length-map live frames_in in record {
+      form = groups.form;
+      next = omega (arith, count, long);
+      are_groups = each_has g live groups.each groups.frames;
+      live = spelled_again live groups.each;
+    }
+
+frames_of_has : (g : Geometry) (first : ℕ) (groups : List (List Frame)) (image : Image) → HasGroups g first groups image → frames_on g image ≡ flat_map (λ frames. frames) groups
+frames_of_has g first groups image has =
+    ap frames_of has.live ∙ frames_of_groups groups (all_weaker (λ fs. HasFrames g fs (group fs)) (λ fs. IsGroup (group fs) fs) (λ fs h. h.is_group) groups has.are_groups)
+
+sound_each : (g : Geometry) (groups : List (List Frame)) → AllByRecursion (IsFrameOf g) (flat_map (λ frames. frames) groups) → AllByRecursion (λ frames. AllByRecursion (λ frame. page.IsSound frame.octets) frames) groups
+sound_each g [] all = tt
+sound_each g (frames ∷ groups) all = (
+  all_weaker (IsFrameOf g) (λ frame. page.IsSound frame.octets) (λ frame is. is.sound) frames (all_left (IsFrameOf g) frames (flat_map (λ fs. fs) groups) all),
+  sound_each g groups (all_right (IsFrameOf g) frames (flat_map (λ fs. fs) groups) all),
+)
+
+pub groups_are_sound : GroupsAreSound
+groups_are_sound g first groups image are has = sound_each g groups (subst (AllByRecursion (IsFrameOf g)) (frames_of_has g first groups image has) are.frames)

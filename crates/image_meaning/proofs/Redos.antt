@@ -1,0 +1,254 @@
+-- Versions of a page that know of the log up to an LSN.
+use Rattle.std.proofs.Common.{◌≡◌, ℕ, ◌+◌, ◌*◌, ◌/◌, ◌%◌, ◌<◌, ◌≤◌, ◌==◌, ◌&&◌, ◌||◌, Bool, true, false, true≢false, List, [], ◌∷◌, ◌++◌, Some, None, refl, sym, ap, subst, ◌∙◌, arith, inl, inr}
+use Rattle.std.specs.Prelude.{Option, filter, nat_lt, nat_le, IsTrue, if◌then◌else◌}
+use Rattle.std.specs.List.{AllByRecursion}
+use Rattle.std.specs.Option.{option_or}
+use Rattle.std.proofs.lemmas.Bool.{cases_Bool, eqb-true, le-leb, lt-leb, and_right}
+use Rattle.std.proofs.lemmas.Bool.Decides.{nat_tests}
+use Rattle.std.proofs.lemmas.Option.{none-some}
+use Rattle.std.proofs.lemmas.Nat.{div-mul-add, mod-mul-add}
+use Rattle.record_model.specs.State.{Content, content_at}
+use Rattle.log_records.specs.Log.{Entry, Version, version_at, slot_at, number_of, is_number, is_on, after_of, last_where, last_on}
+use Rattle.log_records.specs.Sound.{Picture, IsSound, IsInOrder, ShowsLast, last_known, before_block}
+use Rattle.log_laws.specs.Follow.{shown_by, shown}
+use Rattle.log_laws.proofs.Lists.{all_weaker, last_where-append, or_is_none}
+use Rattle.log_laws.proofs.Orders.{all_from, none_passes}
+use Rattle.image_meaning.specs.Redone.{AreKnown, redone, IsRedone, Redoes, RedoneReplaces, CurrentReplaces, VersionIsRedone, NextIsRedone, RedoneIsCurrent, ShowsMore, ShowsElsewhere}
+
+-- Numbers.
+
+pub page_of_number : (page slot : ℕ) → slot < 32 → (32 * page + slot) / 32 ≡ page
+page_of_number page slot less = ap (λ (n : ℕ). n / 32) (omega arith) ∙ div-mul-add page 32 slot less
+
+slot_of_number : (page slot : ℕ) → slot < 32 → (32 * page + slot) % 32 ≡ slot
+slot_of_number page slot less = ap (λ (n : ℕ). n % 32) (omega arith) ∙ mod-mul-add page 32 slot less
+
+pub slot_of_page : (pages : List Version) (page slot : ℕ) → slot < 32 → slot_at pages (32 * page + slot) ≡ content_at (version_at pages page).slots slot
+slot_of_page pages page slot less = λ i. content_at (version_at pages (page_of_number page slot less i)).slots (slot_of_number page slot less i)
+
+-- The last of a list, by another test.
+
+one_is : {X : Type 0} (b : Bool) (x : X) → (if b then Some x else None) ≡ None → b ≡ false
+one_is true x none = absurd (none-some x (sym none))
+one_is false x none = refl
+
+last_weaker : {X : Type 0} (test other : X → Bool) → ((x : X) → test x ≡ false → other x ≡ false) → (xs : List X) → last_where test xs ≡ None → last_where other xs ≡ None
+last_weaker test other weaker [] none = refl
+last_weaker test other weaker (x ∷ xs) none =
+    let parts = or_is_none (last_where test xs) (if test x then Some x else None) none in
+    λ i. option_or (last_weaker test other weaker xs parts.0 i) (if weaker x (one_is (test x) x parts.1) i then Some x else None)
+
+last_same : {X : Type 0} (test other : X → Bool) (xs : List X) → AllByRecursion (λ x. test x ≡ other x) xs → last_where test xs ≡ last_where other xs
+last_same test other [] same = refl
+last_same test other (x ∷ xs) same = λ i. option_or (last_same test other xs same.1 i) (if same.0 i then Some x else None)
+
+all_filter : {X : Type 0} (P : X → Type 0) (test : X → Bool) (xs : List X) → AllByRecursion P xs → AllByRecursion P (filter test xs)
+all_filter P test [] all = tt
+all_filter P test (x ∷ xs) all = by (test x) (all_filter P test xs all.1)
+  where
+    by : (b : Bool) → AllByRecursion P (filter test xs) → AllByRecursion P (if b then x ∷ filter test xs else filter test xs)
+    by true rest = (all.0, rest)
+    by false rest = rest
+
+-- Records on a number.
+
+pub on_number : (number : ℕ) (o : Option ℕ) → is_number number o ≡ true → o ≡ Some number
+on_number number None is = absurd (true≢false (sym is))
+on_number number (Some m) is = ap (λ (n : ℕ). Some n) (eqb-true m number is)
+
+-- of known records a test of the LSN says nothing
+known_by_number : (number lsn : ℕ) (e : Entry) → ((n : ℕ) → number_of e.rec ≡ Some n → n / 32 ≡ number / 32 → e.lsn ≤ lsn) → (is_on number e && nat_le e.lsn lsn) ≡ is_on number e
+known_by_number number lsn e known =
+    elim (cases_Bool (is_on number e)) [
+      | inl here ↦
+          let le = le-leb e.lsn lsn (known number (on_number number (number_of e.rec) here) refl) in
+          (λ i. here i && le i) ∙ sym here
+      | inr elsewhere ↦ (λ i. elsewhere i && nat_le e.lsn lsn) ∙ sym elsewhere
+    ]
+
+-- so the last of them is the last that is known
+last_of_known : (log : List Entry) (number lsn : ℕ) → AreKnown log (number / 32) lsn → last_known log lsn number ≡ last_on log number
+last_of_known log number lsn known =
+    last_same (λ e. is_on number e && nat_le e.lsn lsn) (λ e. is_on number e) log
+    (all_weaker (λ e. (n : ℕ) → number_of e.rec ≡ Some n → n / 32 ≡ number / 32 → e.lsn ≤ lsn) (λ e. (is_on number e && nat_le e.lsn lsn) ≡ is_on number e)
+    (λ e is. known_by_number number lsn e is) log known)
+
+none_known : (log : List Entry) (number lsn : ℕ) → last_on log number ≡ None → last_known log lsn number ≡ None
+none_known log number lsn none = last_weaker (λ e. is_on number e) (λ e. is_on number e && nat_le e.lsn lsn) (λ e off. ap (λ (b : Bool). b && nat_le e.lsn lsn) off) log none
+
+known_on_page : (log : List Entry) (page slot lsn : ℕ) → slot < 32 → AreKnown log page lsn → AreKnown log ((32 * page + slot) / 32) lsn
+known_on_page log page slot lsn less known = subst (λ (q : ℕ). AreKnown log q lsn) (sym (page_of_number page slot less)) known
+
+-- what is shown by the last record is what that one has written
+shows_last : (slot content : Content) (o : Option Entry) → content ≡ shown_by slot o → ShowsLast content o
+shows_last slot content None is = tt
+shows_last slot content (Some e) is = is
+
+shown_last : (slot content : Content) (o : Option Entry) → ShowsLast content o → (o ≡ None → content ≡ slot) → content ≡ shown_by slot o
+shown_last slot content None shows none = none refl
+shown_last slot content (Some e) shows none = shows
+
+-- Versions.
+
+pub redone_replaces : RedoneReplaces
+redone_replaces p page v sound within r = record {
+  fits = record {
+    logged = r.logged;
+    shows = λ slot less. shows_last (slot_at p.pages (32 * page + slot)) (content_at v.slots slot) (last_known p.log v.lsn (32 * page + slot)) (r.slots slot less);
+    knows = all_weaker (λ e. (n : ℕ) → number_of e.rec ≡ Some n → n / 32 ≡ page → e.lsn ≤ (version_at p.pages page).lsn) (λ e. (n : ℕ) → number_of e.rec ≡ Some n → n / 32 ≡ page → e.lsn ≤ v.lsn)
+        (λ e known n on here. let low = known n on here in let later = r.later in omega (arith, low, later)) (before_block p.master.redo p.log) (sound.versions_fit page within).knows;
+  };
+  as_before = λ slot less none.
+      r.slots slot less ∙ ap (shown_by (slot_at p.pages (32 * page + slot))) (none_known p.log (32 * page + slot) v.lsn none) ∙ slot_of_page p.pages page slot less;
+}
+
+pub current_replaces : CurrentReplaces
+current_replaces p page v c = record {
+  fits = record {
+    logged = c.logged;
+    shows = λ slot less.
+        shows_last (slot_at p.pages (32 * page + slot)) (content_at v.slots slot) (last_known p.log v.lsn (32 * page + slot))
+        (c.all.slots slot less ∙ ap (shown_by (slot_at p.pages (32 * page + slot))) (sym (last_of_known p.log (32 * page + slot) v.lsn (known_on_page p.log page slot v.lsn less c.all.known))));
+    knows = all_filter (λ e. (n : ℕ) → number_of e.rec ≡ Some n → n / 32 ≡ page → e.lsn ≤ v.lsn) (λ e. nat_lt e.lsn (512 * p.master.redo)) p.log c.all.known;
+  };
+  as_before = λ slot less none. c.all.slots slot less ∙ ap (shown_by (slot_at p.pages (32 * page + slot))) none ∙ slot_of_page p.pages page slot less;
+}
+
+pub version_is_redone : VersionIsRedone
+version_is_redone p page sound within =
+    let fits = sound.versions_fit page within in
+    let v = version_at p.pages page in
+    record {
+      logged = fits.logged;
+      later = omega arith;
+      slots = λ slot less.
+          shown_last (slot_at p.pages (32 * page + slot)) (content_at v.slots slot) (last_known p.log v.lsn (32 * page + slot)) (fits.shows slot less)
+          (λ none. sym (slot_of_page p.pages page slot less));
+    }
+
+pub redone_is_current : RedoneIsCurrent
+redone_is_current p page v r known = record {
+  logged = r.logged;
+  all = record {
+    known = known;
+    slots = λ slot less. r.slots slot less ∙ ap (shown_by (slot_at p.pages (32 * page + slot))) (last_of_known p.log (32 * page + slot) v.lsn (known_on_page p.log page slot v.lsn less known));
+  };
+}
+
+-- One record more.
+
+all_push : {X : Type 0} (P : X → Type 0) (xs : List X) (x : X) → AllByRecursion P xs → P x → AllByRecursion P (xs ++ x ∷ [])
+all_push P [] x all own = (own, tt)
+all_push P (y ∷ xs) x all own = (all.0, all_push P xs x all.1 own)
+
+shown_with : (log : List Entry) (e : Entry) (pages : List Version) (number : ℕ) → shown (log ++ e ∷ []) pages number ≡ (if is_on number e then after_of e.rec else shown log pages number)
+shown_with log e pages number =
+    ap (shown_by (slot_at pages number)) (last_where-append (is_on number) log (e ∷ [])) ∙ by (is_on number e)
+  where
+    by : (b : Bool) → shown_by (slot_at pages number) (option_or (if b then Some e else None) (last_on log number)) ≡ (if b then after_of e.rec else shown log pages number)
+    by true = refl
+    by false = refl
+
+pub shows_more : ShowsMore
+shows_more log pages page v w e number all on here late redoes = record {
+  known =
+      let lsn = redoes.lsn in
+      all_push (λ d. (n : ℕ) → number_of d.rec ≡ Some n → n / 32 ≡ page → d.lsn ≤ w.lsn) log e
+      (all_weaker (λ d. (n : ℕ) → number_of d.rec ≡ Some n → n / 32 ≡ page → d.lsn ≤ v.lsn) (λ d. (n : ℕ) → number_of d.rec ≡ Some n → n / 32 ≡ page → d.lsn ≤ w.lsn)
+      (λ d is n there same. let low = is n there same in omega (arith, low, late, lsn)) log all.known)
+      (λ n there same. omega (arith, lsn));
+  slots = λ slot less.
+      redoes.slots slot less ∙ (λ i. if sym (own (32 * page + slot)) i then after_of e.rec else all.slots slot less i)
+      ∙ sym (shown_with log e pages (32 * page + slot));
+}
+  where
+    own : (n : ℕ) → is_on n e ≡ (n == number)
+    own n = ap (is_number n) on ∙ turned where
+      turned : (number == n) ≡ (n == number)
+      turned = grind (arith, nat_tests)
+
+pub shows_elsewhere : ShowsElsewhere
+shows_elsewhere log pages page v e all elsewhere = record {
+  known = all_push (λ d. (n : ℕ) → number_of d.rec ≡ Some n → n / 32 ≡ page → d.lsn ≤ v.lsn) log e all.known (λ n there same. absurd (elsewhere n there same));
+  slots = λ slot less.
+      all.slots slot less ∙ sym (shown_with log e pages (32 * page + slot) ∙ by slot less (is_on (32 * page + slot) e) refl);
+}
+  where
+    by : (slot : ℕ) → slot < 32 → (b : Bool) → is_on (32 * page + slot) e ≡ b → (if b then after_of e.rec else shown log pages (32 * page + slot)) ≡ shown log pages (32 * page + slot)
+    by slot less true here = absurd (elsewhere (32 * page + slot) (on_number (32 * page + slot) (number_of e.rec) here) (page_of_number page slot less))
+    by slot less false here = refl
+
+-- The next record.
+
+order_behind : (from : ℕ) (front : List Entry) (e : Entry) (rest : List Entry) (to : ℕ) → IsInOrder from (front ++ e ∷ rest) to → IsInOrder (e.lsn + 1) rest to
+order_behind from [] e rest to order = order.1
+order_behind from (d ∷ front) e rest to order = order_behind (d.lsn + 1) front e rest to order.1
+
+order_bound : (from : ℕ) (log : List Entry) (to : ℕ) → IsInOrder from log to → from ≤ to
+order_bound from [] to order = order
+order_bound from (e ∷ log) to order = let low = order.0 in let high = order_bound (e.lsn + 1) log to order.1 in omega (arith, low, high)
+
+logged_below : (lsn hi : ℕ) → lsn < 512 * hi → IsTrue ((lsn == 0) || nat_lt lsn (512 * hi))
+logged_below lsn hi less = grind (arith, nat_tests)
+
+module _ (p : Picture) (page : ℕ) (v w : Version) (front rest : List Entry) (e : Entry) (number : ℕ) (sound : IsSound p) (split : p.log ≡ front ++ e ∷ rest)
+    (on : number_of e.rec ≡ Some number) (here : number / 32 ≡ page) (next : v.lsn < e.lsn) (known : AreKnown front page v.lsn) (r : IsRedone p page v) (redoes : Redoes page e number v w) where
+  behind : IsInOrder (e.lsn + 1) rest (512 * p.hi)
+  behind = order_behind (512 * p.master.kept) front e rest (512 * p.hi) (subst (λ (log : List Entry). IsInOrder (512 * p.master.kept) log (512 * p.hi)) split sound.in_order)
+
+  -- up to an LSN not above the record's, none of the records behind it is known
+  none_behind : (n lsn : ℕ) → lsn ≤ e.lsn → last_known rest lsn n ≡ None
+  none_behind n lsn le =
+      none_passes (λ d. is_on n d && nat_le d.lsn lsn) rest
+      (all_weaker (λ d. e.lsn + 1 ≤ d.lsn) (λ d. (is_on n d && nat_le d.lsn lsn) ≡ false) (λ d low. and_right (is_on n d) (nat_le d.lsn lsn) (lt-leb d.lsn lsn (omega (arith, low, le)))) rest (all_from (e.lsn + 1) rest (512 * p.hi) behind))
+
+  parts : (n lsn : ℕ) → lsn ≤ e.lsn → last_known p.log lsn n ≡ option_or (if is_on n e && nat_le e.lsn lsn then Some e else None) (last_known front lsn n)
+  parts n lsn le =
+      ap (λ (log : List Entry). last_known log lsn n) split
+      ∙ last_where-append (λ d. is_on n d && nat_le d.lsn lsn) front (e ∷ rest)
+      ∙ ap (λ (o : Option Entry). option_or (option_or o (if is_on n e && nat_le e.lsn lsn then Some e else None)) (last_known front lsn n)) (none_behind n lsn le)
+
+  -- before it
+  before : (n : ℕ) → last_known p.log v.lsn n ≡ last_known front v.lsn n
+  before n =
+      parts n v.lsn (omega (arith, next))
+      ∙ ap (λ (b : Bool). option_or (if b then Some e else None) (last_known front v.lsn n)) (and_right (is_on n e) (nat_le e.lsn v.lsn) (lt-leb e.lsn v.lsn next))
+
+  -- of those in front of it the same ones are known
+  front_same : (slot : ℕ) → slot < 32 → last_known front e.lsn (32 * page + slot) ≡ last_known front v.lsn (32 * page + slot)
+  front_same slot less =
+      last_of_known front (32 * page + slot) e.lsn (known_on_page front page slot e.lsn less
+      (all_weaker (λ d. (n : ℕ) → number_of d.rec ≡ Some n → n / 32 ≡ page → d.lsn ≤ v.lsn) (λ d. (n : ℕ) → number_of d.rec ≡ Some n → n / 32 ≡ page → d.lsn ≤ e.lsn)
+      (λ d is n there same. let low = is n there same in omega (arith, low, next)) front known))
+      ∙ sym (last_of_known front (32 * page + slot) v.lsn (known_on_page front page slot v.lsn less known))
+
+  after : (slot : ℕ) → slot < 32 → last_known p.log e.lsn (32 * page + slot) ≡ option_or (if 32 * page + slot == number then Some e else None) (last_known p.log v.lsn (32 * page + slot))
+  after slot less =
+      parts (32 * page + slot) e.lsn (omega arith)
+      ∙ (λ i. option_or (if own i then Some e else None) (front_same slot less i))
+      ∙ ap (λ (o : Option Entry). option_or (if 32 * page + slot == number then Some e else None) o) (sym (before (32 * page + slot))) where
+        own : (is_on (32 * page + slot) e && nat_le e.lsn e.lsn) ≡ (32 * page + slot == number)
+        own = (λ i. is_number (32 * page + slot) (on i) && le-leb e.lsn e.lsn (omega arith) i) ∙ turned (32 * page + slot) where
+          turned : (n : ℕ) → ((number == n) && true) ≡ (n == number)
+          turned n = grind (arith, nat_tests)
+
+  slots : (slot : ℕ) → slot < 32 → content_at w.slots slot ≡ redone p e.lsn (32 * page + slot)
+  slots slot less =
+      redoes.slots slot less ∙ by (32 * page + slot == number) ∙ sym (ap (shown_by (slot_at p.pages (32 * page + slot))) (after slot less)) where
+        by : (b : Bool) → (if b then after_of e.rec else content_at v.slots slot) ≡ shown_by (slot_at p.pages (32 * page + slot)) (option_or (if b then Some e else None) (last_known p.log v.lsn (32 * page + slot)))
+        by true = refl
+        by false = r.slots slot less
+
+  pub next_redone : IsRedone p page w
+  next_redone =
+      let lsn = redoes.lsn in
+      let later = r.later in
+      let bound = order_bound (e.lsn + 1) rest (512 * p.hi) behind in
+      record {
+        logged = logged_below w.lsn p.hi (omega (arith, lsn, bound));
+        later = omega (arith, lsn, later, next);
+        slots = λ slot less. slots slot less ∙ ap (λ (n : ℕ). redone p n (32 * page + slot)) (sym lsn);
+      }
+
+pub next_is_redone : NextIsRedone
+next_is_redone p page v w front rest e number sound split on here next known r redoes = next_redone p page v w front rest e number sound split on here next known r redoes

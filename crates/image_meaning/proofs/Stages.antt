@@ -1,0 +1,109 @@
+-- Valid dirty frames are staged.
+use Rattle.std.proofs.Common.{◌≡◌, inl, inr, ℕ, ◌+◌, ◌*◌, ◌<◌, ◌≤◌, false, true≢false, List, [], take, Some, None, sym, ap, subst, ◌∙◌, arith}
+use Rattle.std.specs.Prelude.{Contains}
+use Rattle.std.proofs.lemmas.Bool.{cases_lt, cases_order}
+use Rattle.std.proofs.Math.ListN.{drop_of_length-le}
+use Rattle.site.specs.declared.geometry.Geometry.{Geometry}
+use Rattle.site.specs.declared.outside.Dev.TheVariants.{Disk}
+use Rattle.site.specs.State.{Image}
+use Rattle.sealed_ring.specs.Ring.{IsBeside}
+use Rattle.record_model.specs.State.{Content}
+use Rattle.log_records.specs.declared.log_record.LogRecord.{LogRecord}
+use Rattle.log_records.specs.Sound.{Picture, Means}
+use Rattle.log_records.specs.Sound as lists
+use Rattle.slotted_page.specs.Layout as page
+use Rattle.frame_group.specs.Groups.{Frame}
+use Rattle.frame_group.specs.Versions.{last_frame, version, CleanAsDisk}
+use Rattle.frame_group.specs.Laws.{StagingKeepsVersions, StagingKeepsClean}
+use Rattle.disk_pages.specs.Pages.{page_on}
+use Rattle.disk_pages.proofs.PageLaws.{page_stays}
+use Rattle.image_changes.specs.Rings.{Masters, Blocks, Groups, Segments}
+use Rattle.image_changes.specs.Changes.{RewritesPages, Makes}
+use Rattle.log_store.proofs.BlockLaws.{blocks_stay}
+use Rattle.flash_cache.specs.Held.{frames_on, disk_on, version_on, IsCleanOn}
+use Rattle.image_meaning.specs.Meaning.{IsSound, picture, versions_on}
+use Rattle.image_meaning.specs.Changes.{MayStage}
+use Rattle.image_meaning.specs.Laws.{StagedIsSound, StagedMeans}
+use Rattle.image_meaning.proofs.Versions.{versions_same, frames_stay}
+use Rattle.image_meaning.proofs.Sames.{lengths_stay, unused_stays, groups_stay, same_picture}
+
+-- no octet of a page is one of another page
+apart : (number other place : ℕ) → (number ≡ other → ⊥) → 4096 * number ≤ place → place < 4096 * number + 4096 → IsBeside (4096 * other) 4096 place
+apart number other place ne from below =
+    elim (cases_order number other) [
+      | inl same ↦ absurd (ne same)
+      | inr rest ↦ elim rest [
+        | inl less ↦ inl (omega (arith, below, less))
+        | inr more ↦ inr (omega (arith, from, more))
+      ]
+    ]
+
+module _ (versions_kept : StagingKeepsVersions) (clean_kept : StagingKeepsClean) (g : Geometry) (old new : Image) (blocks : List (List LogRecord)) (pages : List ℕ) (sound : IsSound g old blocks)
+    (may : MayStage g old pages) (made : Makes g (RewritesPages pages) old new) where
+  frames : List Frame
+  frames = frames_on g old
+
+  -- a page that isn't rewritten is as it was
+  pub page_kept : (number : ℕ) → (Contains pages number → ⊥) → disk_on new number ≡ disk_on old number
+  page_kept number none =
+      let long = sound.octets.lengths.disk in
+      let size = made.sizes Disk in
+      elim (cases_lt number g.pages) [
+        | inl within ↦ page_stays number old.disk new.disk (omega (arith, within, long)) size
+            (λ place from below. made.others place (λ other listed. apart number other place (λ same. none (subst (Contains pages) (sym same) listed)) from below))
+        | inr past ↦
+            let before : page_on number old.disk ≡ take 4096 [] = ap (take {A = ℕ} 4096) (drop_of_length-le old.disk {i = 4096 * number} (omega (arith, past, long))) in
+            let after : page_on number new.disk ≡ take 4096 [] = ap (take {A = ℕ} 4096) (drop_of_length-le new.disk {i = 4096 * number} (omega (arith, past, long, size))) in
+            after ∙ sym before
+      ]
+
+  -- none is rewritten that has no frame, or a clean one
+  unlisted : (number : ℕ) → last_frame number (frames_on g old) ≡ None → Contains pages number → ⊥
+  unlisted number none listed = let found = may number listed in cc (sym none ∙ found.1)
+
+  dirty_of : (a b : Frame) → Some a ≡ Some b → a.dirty ≡ b.dirty
+  dirty_of a b same = cc
+
+  clean_unlisted : (number : ℕ) (frame : Frame) → last_frame number (frames_on g old) ≡ Some frame → frame.dirty ≡ false → Contains pages number → ⊥
+  clean_unlisted number frame last clean listed =
+      let found = may number listed in true≢false (sym found.2 ∙ dirty_of found.0 frame (sym found.1 ∙ last) ∙ clean)
+
+  same_frames : frames_on g new ≡ frames_on g old
+  same_frames = frames_stay g old new (made.rings Groups)
+
+  pub version_kept : (number : ℕ) → version_on g new number ≡ version_on g old number
+  version_kept number =
+      ap (λ (fs : List Frame). version (disk_on new) fs number) same_frames
+      ∙ versions_kept (disk_on old) (disk_on new) (frames_on g old) (λ other none. page_kept other (unlisted other none)) number
+
+  clean : IsCleanOn g new
+  clean =
+      subst (CleanAsDisk (disk_on new)) (sym same_frames)
+      (clean_kept (disk_on old) (disk_on new) (frames_on g old) (λ other frame last not_dirty. page_kept other (clean_unlisted other frame last not_dirty)) sound.octets.clean)
+
+  pub same_versions : versions_on g new ≡ versions_on g old
+  same_versions = versions_same g old new version_kept
+
+  pub sound_staged : IsSound g new blocks
+  sound_staged = record {
+    octets = record {
+      limits = sound.octets.limits;
+      lengths = lengths_stay g old new made.sizes sound.octets.lengths;
+      masters = unused_stays g Masters old new (made.rings Masters) sound.octets.masters;
+      segments = unused_stays g Segments old new (made.rings Segments) sound.octets.segments;
+      groups = groups_stay g old new (made.rings Groups) sound.octets.groups;
+      versions = λ number within. subst page.IsSound (sym (version_kept number)) (sound.octets.versions number within);
+      clean = clean;
+    };
+    held = blocks_stay g _ blocks old new sound.held (made.rings Blocks);
+    records = subst lists.IsSound (sym (same_picture g old new blocks same_versions)) sound.records;
+  }
+
+  pub means_staged : (table : List Content) (count : ℕ) → Means (picture g old blocks) table count → Means (picture g new blocks) table count
+  means_staged table count means = subst (λ (p : Picture). Means p table count) (sym (same_picture g old new blocks same_versions)) means
+
+pub staged_is_sound : StagingKeepsVersions → StagingKeepsClean → StagedIsSound
+staged_is_sound versions_kept clean_kept g old new blocks pages sound may made = sound_staged versions_kept clean_kept g old new blocks pages sound may made
+
+pub staged_means : StagingKeepsVersions → StagingKeepsClean → StagedMeans
+staged_means versions_kept clean_kept g old new blocks pages sound may made table count means = means_staged versions_kept clean_kept g old new blocks pages sound may made table count means

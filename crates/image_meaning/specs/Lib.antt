@@ -1,0 +1,12 @@
+pub mod Meaning
+pub mod Pictures
+pub mod Redone
+pub mod Ahead
+pub mod Pushes
+pub mod Changes
+pub mod Laws
+pub mod PushLaws
+pub mod Moments
+pub mod Reached
+pub mod PictureLaws
+pub mod Plain

@@ -1,0 +1,84 @@
+-- Laws on the picture of an image.
+use Rattle.std.specs.Prelude.{◌≡◌, ◌≢◌, ℕ, ◌+◌, ◌-◌, ◌*◌, ◌/◌, ◌==◌, ◌<◌, ◌≤◌, true, List, [], ◌∷◌, ◌++◌, length, replicate, map, slice_set, None, if◌then◌else◌, ⊤}
+use Rattle.site.specs.declared.geometry.Geometry.{Geometry}
+use Rattle.site.specs.Geometry.{HasLimits, blank_image}
+use Rattle.site.specs.State.{Image}
+use Rattle.record_model.specs.State.{Content, content_at}
+use Rattle.log_records.specs.declared.log_record.LogRecord.{LogRecord}
+use Rattle.log_records.specs.Spelling.{IsShort}
+use Rattle.log_records.specs.Log.{version_at, log_from}
+use Rattle.log_records.specs.Sound.{Picture, HasRoom, commit_count, commit_numbers}
+use Rattle.log_records.specs.Unfinished.{owed}
+use Rattle.log_laws.specs.Follow.{GoesOn, sealed}
+use Rattle.log_laws.specs.NewImage.{Replaces}
+use Rattle.log_laws.specs.SetLaws.{set_records}
+use Rattle.log_laws.specs.Tail.{whole}
+use Rattle.slotted_page.specs.Layout.{lsn_of, slots_of}
+use Rattle.slotted_page.specs.Layout as page
+use Rattle.frame_group.specs.Groups.{IsGroup}
+use Rattle.image_changes.specs.Changes.{SealsBlock, RewritesPages, AppendsGroup, Makes}
+use Rattle.flash_cache.specs.Held.{version_on}
+use Rattle.image_meaning.specs.Meaning.{picture, versions_on, version_in, IsSound, Stands}
+use Rattle.image_meaning.specs.Pictures.{ReplaceAll}
+use Rattle.image_meaning.specs.Changes.{MayStage, MayMakeAll, blocks_after_all}
+
+-- a sealed block is the picture's next one
+abbrev pub PictureSealed : Type 0
+PictureSealed =
+    (g : Geometry) (old new : Image) (blocks : List (List LogRecord)) (records : List LogRecord) → Makes g (SealsBlock records) old new →
+    picture g new (blocks ++ records ∷ []) ≡ sealed (picture g old blocks) records
+
+-- where each page has the same version the picture is the same
+abbrev pub PictureStays : Type 0
+PictureStays =
+    (g : Geometry) (old new : Image) (blocks : List (List LogRecord)) → ((number : ℕ) → version_on g new number ≡ version_on g old number) → picture g new blocks ≡ picture g old blocks
+
+-- as while pages are staged
+abbrev pub StagedVersions : Type 0
+StagedVersions =
+    (g : Geometry) (old new : Image) (blocks : List (List LogRecord)) (pages : List ℕ) → IsSound g old blocks → MayStage g old pages → Makes g (RewritesPages pages) old new →
+    (number : ℕ) → version_on g new number ≡ version_on g old number
+
+-- where each page's version replaces the one before, all of them do
+abbrev pub EachReplaces : Type 0
+EachReplaces =
+    (g : Geometry) (old new : Image) (blocks : List (List LogRecord)) → ((number : ℕ) → number < g.pages → Replaces (picture g old blocks) number (version_in (version_on g new number))) →
+    ReplaceAll (picture g old blocks) (versions_on g new)
+
+-- There is room for a tail as long as all records and what is owed have room.
+abbrev pub RoomForTail : Type 0
+RoomForTail =
+    (g : Geometry) (image : Image) (blocks : List (List LogRecord)) (tail : List LogRecord) → IsSound g image blocks → tail ≢ [] →
+    length (whole (picture g image blocks) tail) + owed (whole (picture g image blocks) tail) ≤ g.blocks - 1 → HasRoom (sealed (picture g image blocks) tail)
+
+-- All commits of the log count.
+abbrev pub AllCommitsCount : Type 0
+AllCommitsCount = (g : Geometry) (image : Image) (blocks : List (List LogRecord)) → commit_count (picture g image blocks) ≡ length (commit_numbers (log_from 0 blocks))
+
+-- Blocks of which each goes on behind the ones before it may be sealed one after the other, whatever else changes of the octets.
+abbrev pub GoOn : Picture → List (List LogRecord) → Type 0
+GoOn p [] = ⊤
+GoOn p (records ∷ later) = GoesOn p records × GoOn (sealed p records) later
+
+abbrev pub SealsMayBeMade : Type 0
+SealsMayBeMade = (g : Geometry) (image : Image) (blocks later : List (List LogRecord)) → GoOn (picture g image blocks) later → MayMakeAll g image blocks (map SealsBlock later)
+
+abbrev pub BlocksAfterSeals : Type 0
+BlocksAfterSeals = (blocks later : List (List LogRecord)) → blocks_after_all blocks (map SealsBlock later) ≡ blocks ++ later
+
+-- The first set on blank devices: its block makes an image that stands for the table with its record, and for one commit.
+abbrev pub FirstSetStands : Type 0
+FirstSetStands =
+    (g : Geometry) (number : ℕ) (value : Content) (new : Image) → HasLimits g → number < 32 * g.pages → IsShort value →
+    Makes g (SealsBlock (set_records (picture g (blank_image g) []) number value)) (blank_image g) new →
+    Stands g new (slice_set (replicate (32 * g.pages) None) number value) 1
+
+-- And when its page, with the record in its slot and the Update's LSN, is pushed as a dirty frame, the image stands for the same.
+abbrev pub FirstPushStands : Type 0
+FirstPushStands =
+    (g : Geometry) (number : ℕ) (value : Content) (mid new : Image) (octets content : List ℕ) → HasLimits g → number < 32 * g.pages → IsShort value →
+    Makes g (SealsBlock (set_records (picture g (blank_image g) []) number value)) (blank_image g) mid →
+    page.IsSound octets → lsn_of octets ≡ 3 →
+    ((slot : ℕ) → slot < 32 → content_at (slots_of octets) slot ≡ (if 32 * (number / 32) + slot == number then value else content_at (version_at (versions_on g mid) (number / 32)).slots slot)) →
+    IsGroup content (record { page = number / 32; dirty = true; octets = octets } ∷ []) → Makes g (AppendsGroup content) mid new →
+    Stands g new (slice_set (replicate (32 * g.pages) None) number value) 1

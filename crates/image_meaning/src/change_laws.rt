@@ -1,0 +1,28 @@
+// Laws on changes of images, one after the other.
+ghost use Rattle.image_meaning.specs.Laws.{ChangeKeepsSound, FrontKeepsSound, FrontKeepsMeaning};
+ghost use Rattle.image_meaning.specs.PushLaws.{PushKeepsSound, PushKeepsMeaning, GroupsAreRead, GroupsAreThere};
+
+/// Each change that may be made keeps an image sound, and so do the first ones of a list. Where none of them seals a
+/// Commit the image stands for the same.
+pub fn changes_kept()
+    ensures one { ChangeKeepsSound }
+    ensures sound { FrontKeepsSound }
+    ensures means { FrontKeepsMeaning }
+{
+    frame_group::staged();
+}
+
+/// Whatever a crash leaves of a push is sound, and stands for the same.
+pub fn push_kept()
+    ensures sound { PushKeepsSound }
+    ensures means { PushKeepsMeaning }
+{
+    frame_group::staged();
+}
+
+/// Groups that a cache knows of are of the form, and their frames those of the image; and groups of the form are there
+/// for a cache to find.
+pub fn groups_are_read()
+    ensures read { GroupsAreRead }
+    ensures there { GroupsAreThere }
+{}

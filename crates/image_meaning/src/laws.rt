@@ -1,0 +1,72 @@
+// Laws on images.
+ghost use Rattle.image_meaning.specs.Laws.{BlankStands, OneMeaning, SameIsSound, SameMeans, SealedIsSound, SealedWithoutCommit, SealedWithCommit, StagedIsSound, StagedMeans, PushedIsSound, PushedMeans, ReplacedIsSound, ReplacedMeans, VersionReplaces};
+ghost use Rattle.image_meaning.specs.Plain.{LogAloneIsSound, LogAloneMeans};
+
+use log_laws::table_at;
+use log_store::{blank_log, one_log};
+use sealed_ring::{blank_is_ring, leaves_others};
+
+/// Blank devices are sound and stand for the table without values, and for no commit.
+pub fn blank_stands()
+    ensures { BlankStands }
+{
+    blank_is_ring();
+    blank_log();
+    table_at();
+}
+
+/// Devices on which no page was ever written, with sound records in their log, are sound, and stand for what the log stands
+/// for.
+pub fn log_alone()
+    ensures sound { LogAloneIsSound }
+    ensures means { LogAloneMeans }
+{
+    blank_is_ring();
+    leaves_others();
+}
+
+/// An image stands for one table and one number of commits at most.
+pub fn one_meaning()
+    ensures { OneMeaning }
+{
+    one_log();
+}
+
+/// What reads the same as a sound image is sound, and stands for the same.
+pub fn reads_the_same()
+    ensures sound { SameIsSound }
+    ensures means { SameMeans }
+{}
+
+/// Sealing a log block that goes on keeps an image sound. Without a Commit in the block it stands for the same; with
+/// one, the writes of its transaction enter the table, which is one commit more.
+pub fn sealed()
+    ensures sound { SealedIsSound }
+    ensures without { SealedWithoutCommit }
+    ensures with { SealedWithCommit }
+{}
+
+/// Rewriting disk pages that have valid dirty frames keeps an image sound, and what it stands for, whatever octets these
+/// pages have meanwhile.
+pub fn staged()
+    ensures sound { StagedIsSound }
+    ensures means { StagedMeans }
+{
+    frame_group::staged();
+}
+
+/// Appending a group keeps an image sound, and what it stands for, where each version that it brings fits the log and
+/// is as the one before in each slot that no record stands on, its clean frames equal the disk, and the disk has what
+/// the group that leaves alone has.
+pub fn pushed()
+    ensures sound { PushedIsSound }
+    ensures means { PushedMeans }
+{}
+
+/// New versions of any pages keep an image sound, and what it stands for, where the octets are sound with them. The version
+/// that a page has is one.
+pub fn replaced()
+    ensures sound { ReplacedIsSound }
+    ensures means { ReplacedMeans }
+    ensures itself { VersionReplaces }
+{}

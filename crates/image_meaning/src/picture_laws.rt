@@ -1,0 +1,46 @@
+// Laws on the picture of an image.
+ghost use Rattle.image_meaning.specs.PictureLaws.{PictureSealed, PictureStays, StagedVersions, EachReplaces, RoomForTail, AllCommitsCount, SealsMayBeMade, BlocksAfterSeals, FirstSetStands, FirstPushStands};
+
+use log_laws::table_at;
+use log_store::blank_log;
+use sealed_ring::blank_is_ring;
+
+/// What changes make of an image's picture: a sealed block is its next one, staging leaves it, and a push replaces versions.
+pub fn pictures()
+    ensures sealed { PictureSealed }
+    ensures stays { PictureStays }
+    ensures staged { StagedVersions }
+    ensures replaced { EachReplaces }
+{
+    frame_group::staged();
+}
+
+/// There is room for a tail as long as all records and what is owed have room, and all commits of the log count.
+pub fn room_and_count()
+    ensures room { RoomForTail }
+    ensures count { AllCommitsCount }
+{}
+
+/// Blocks of which each goes on behind the ones before it may be sealed one after the other.
+pub fn sealed_in_turn()
+    ensures made { SealsMayBeMade }
+    ensures blocks { BlocksAfterSeals }
+{}
+
+/// The block of the first set on blank devices makes an image that stands for the table with its record.
+pub fn first_set_stands()
+    ensures { FirstSetStands }
+{
+    blank_is_ring();
+    blank_log();
+    table_at();
+}
+
+/// And with its page pushed to flash the image stands for the same.
+pub fn first_push_stands()
+    ensures { FirstPushStands }
+{
+    blank_is_ring();
+    blank_log();
+    table_at();
+}
