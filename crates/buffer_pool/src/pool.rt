@@ -68,6 +68,7 @@ impl Pool {
     pub fn touch(&mut self, page: u32) -> bool
         ensures found { result ≡ is_some (frame_of self.old.frames page) }
         ensures after { self.new ≡ record self.old { frames = touched self.old.frames page } }
+        ensures pool { IsPool self.new }
         ensures front { IsTrue result → frame_of self.old.frames page ≡ Some (front_of self.new.frames) }
         ensures there { IsTrue result → 0 < length self.new.frames }
         ensures absent { result ≡ false → frame_of self.old.frames page ≡ None }
@@ -154,7 +155,8 @@ impl Pool {
     /// A page that is there is no longer marked as changed. The order stays.
     pub fn clear_changed(&mut self, page: u32)
         requires { IsSome (frame_of self.old.frames page) }
-        ensures { self.new ≡ record self.old { frames = cleared self.old.frames page } }
+        ensures after { self.new ≡ record self.old { frames = cleared self.old.frames page } }
+        ensures pool { IsPool self.new }
     {
         let place = place_of(&self.frames, page);
         let frame = &mut self.frames[place];

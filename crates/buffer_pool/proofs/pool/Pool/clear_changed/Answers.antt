@@ -15,5 +15,8 @@ invariant_of-self c = rw (written c) (record {
   distinct = distinct-cleared c.self.inside.frames.items c.args.page c.self.invariant.distinct;
 })
 
-pub returns : goal.returns
-returns c = rw (← c.self.view_is) (ap (λ (ys : List Frame). let p : State = record { size = c.self.inside.size; frames = ys } in p) (written c))
+pub returns-clause-after : goal.returns-clause-after
+returns-clause-after c = rw (← c.self.view_is) (ap (λ (ys : List Frame). let p : State = record { size = c.self.inside.size; frames = ys } in p) (written c))
+
+pub returns-clause-pool : goal.returns-clause-pool
+returns-clause-pool c = invariant_of-self c

@@ -70,3 +70,6 @@ returns-clause-front c =
     all_touched xs c.deref_mut.result.now c.bring_forward.new.frames c.args.page c.place_of-place.result c.self.inside.frames.len d c.self.invariant.distinct at less
     c.deref_mut.ensures.value c.bring_forward.ensures (omega (arith, c.deref.ensures.len, ap length c.deref.ensures.value)) in
     λ _. rw (← c.self.view_is) (front_touched xs _ c.args.page c.place_of-place.result d c.self.invariant.distinct at less now)
+
+pub returns-clause-pool : goal.returns-clause-pool
+returns-clause-pool c = invariant_of-self c

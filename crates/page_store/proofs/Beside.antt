@@ -1,0 +1,75 @@
+-- Stores beside calls of others.
+use Rattle.std.proofs.Common.{◌≡◌, ◌≢◌, ◌==◌, ℕ, ◌*◌, ◌≤◌, Bool, true, false, ◌||◌, cond, List, [], ◌∷◌, arith, refl, sym, ap, subst, ◌∙◌}
+use Rattle.site.specs.declared.outside.Dev.TheVariants.{Log, Flash, Disk}
+use Rattle.site.specs.declared.geometry.Geometry.{Geometry}
+use Rattle.site.specs.Laws.{stays_honest}
+use Rattle.slotted_page.specs.Layout.{IsSound}
+use Rattle.flash_cache.specs.Held.{version_on}
+use Rattle.buffer_pool.specs.declared.frame.Frame.{Frame}
+use Rattle.buffer_pool.specs.Frames.{frame_of}
+use Rattle.second_chance.specs.Machine.{Cache, is_changed, without, holds, with_room}
+use Rattle.second_chance.specs.Queue.{with_read}
+use Rattle.page_store.specs.Held.{content_by}
+use Rattle.page_store.specs.Ahead.{IsLogged, AreLogged, sealed_end, end_forced}
+use Rattle.page_store.specs.Laws.{TouchThenChange, GoesOnBeside, FitsBeside, CurrentBeside, AheadBeside}
+use Rattle.page_store.proofs.PushLaws.{version_same, clean_same, flash_fits_same, flash_holds_same, logged_more}
+use Rattle.page_store.proofs.Versions.{pages_later}
+
+pub touch_then_change : TouchThenChange
+touch_then_change r page cache =
+    let room : Cache = with_room r page cache in
+    λ i. let c : Cache = record {
+      pool = record { page = page; changed = or_true (is_changed room.pool page) i } ∷ without (λ other. other == page) room.pool;
+      queue = cond (holds room.pool page) room.queue (with_read page room.queue);
+    } in c
+  where
+    or_true : (b : Bool) → (b || true) ≡ true
+    or_true true = refl
+    or_true false = refl
+
+pub goes_on_beside : GoesOnBeside
+goes_on_beside store old new goes going = pages_later store old new goes going
+
+flash_other : Flash ≢ Log
+flash_other same = cc
+
+disk_other : Disk ≢ Log
+disk_other same = cc
+
+pub fits_beside : FitsBeside
+fits_beside store old new changes goes fits =
+    let flash = changes.only.now.content Flash flash_other in
+    let disk = changes.only.now.content Disk disk_other in
+    let g = store.flash.geometry in
+    record {
+      flash = flash_fits_same store.flash old new flash (changes.only.now.loose Flash flash_other) (stays_honest old new goes fits.flash.honest) fits.flash;
+      disk = changes.only.now.loose Disk disk_other ∙ fits.disk;
+      groups = fits.groups;
+      holds = flash_holds_same store.flash old.image new.image fits.groups flash fits.holds;
+      clean = clean_same g old.image new.image flash disk fits.clean;
+      sound = λ page exists. subst IsSound (sym (version_same g old.image new.image page flash disk)) (fits.sound page exists);
+      unchanged = λ page frame found unchanged. fits.unchanged page frame found unchanged ∙ sym (version_same g old.image new.image page flash disk);
+    }
+
+pub current_beside : CurrentBeside
+current_beside store old new page changes =
+    ap (content_by (frame_of store.pool.frames page))
+    (version_same store.flash.geometry old.image new.image page (changes.only.now.content Flash flash_other) (changes.only.now.content Disk disk_other))
+
+all_more : (end end' : ℕ) → end ≤ end' → (frames : List Frame) → AreLogged end frames → AreLogged end' frames
+all_more end end' more [] all = tt
+all_more end end' more (f ∷ fs) all = (logged_more end end' f.content more all.0, all_more end end' more fs all.1)
+
+pub ahead_beside : AheadBeside
+ahead_beside store log log' old new geometry geometry' fits fits' hi end changes ahead =
+    let g = store.flash.geometry in
+    let before : 512 * log.ring.hi ≡ sealed_end g old.image = ap (λ (n : ℕ). 512 * n) fits.hi ∙ ap (λ (h : Geometry). sealed_end h old.image) geometry in
+    let after : 512 * log'.ring.hi ≡ sealed_end g new.image = ap (λ (n : ℕ). 512 * n) fits'.hi ∙ ap (λ (h : Geometry). sealed_end h new.image) (geometry' ∙ geometry) in
+    record {
+      pool = all_more (end_forced log) (end_forced log') end store.pool.frames ahead.pool;
+      versions = record {
+        each = λ page exists. logged_more (sealed_end g old.image) (sealed_end g new.image) (version_on g new.image page) (omega (arith, before, after, hi))
+            (subst (IsLogged (sealed_end g old.image)) (sym (version_same g old.image new.image page (changes.only.now.content Flash flash_other) (changes.only.now.content Disk disk_other)))
+            (ahead.versions.each page exists));
+      };
+    }

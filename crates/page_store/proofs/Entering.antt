@@ -1,0 +1,51 @@
+-- A page enters the pool.
+use Rattle.std.proofs.Common.{◌≡◌, ℕ, ◌<◌, ◌==◌, Bool, true, false, cond, List, ◌∷◌, length, Some, None, arith, refl, sym, ap, subst, ◌∙◌}
+use Rattle.std.specs.Prelude.{Result, Ok, Err, OnOk, OnErr}
+use Rattle.std.proofs.lemmas.Bool.{eqb-true}
+use Rattle.site.specs.State.{State}
+use Rattle.flash_cache.specs.Held.{version_on}
+use Rattle.buffer_pool.specs.declared.frame.Frame.{Frame}
+use Rattle.buffer_pool.specs.Frames.{State as Pool, frame_of}
+use Rattle.page_store.specs.declared.store.PageStore.{PageStore}
+use Rattle.page_store.specs.Held.{IsPage, MayGoOn, Fits}
+use Rattle.page_store.proofs.Pools.{absent}
+
+pub put_fits : (store : PageStore) (pool : Pool) (frame : Frame) (site : State) → pool.frames ≡ frame ∷ store.pool.frames → frame.content ≡ version_on store.flash.geometry site.image frame.page
+    → Fits store site → Fits (record store { pool = pool }) site
+put_fits store pool frame site is version fits = record {
+  flash = fits.flash;
+  disk = fits.disk;
+  groups = fits.groups;
+  holds = fits.holds;
+  clean = fits.clean;
+  sound = fits.sound;
+  unchanged = λ page other found unchanged. by page other (frame.page == page) refl (sym (ap (λ (l : List Frame). frame_of l page) is) ∙ found) unchanged;
+}
+  where
+    by : (page : ℕ) (other : Frame) (b : Bool) → (frame.page == page) ≡ b → cond b (Some frame) (frame_of store.pool.frames page) ≡ Some other → other.changed ≡ false
+        → other.content ≡ version_on store.flash.geometry site.image page
+    by page other true same found unchanged =
+        let is : frame ≡ other = cc in
+        sym (ap (λ (f : Frame). f.content) is) ∙ version ∙ ap (version_on store.flash.geometry site.image) (eqb-true _ _ same)
+    by page other false same found unchanged = fits.unchanged page other found unchanged
+
+entered : (store : PageStore) (pool : Pool) (frame : Frame) (site : State) → pool ≡ record store.pool { frames = frame ∷ store.pool.frames } → frame_of store.pool.frames frame.page ≡ None
+    → length store.pool.frames < store.pool.size → IsPage store.flash.geometry.pages frame → MayGoOn store site → MayGoOn (record store { pool = pool }) site
+entered store pool frame site is none room page going =
+    subst (λ (p : Pool). MayGoOn (record store { pool = p }) site) (sym is) (record {
+      flash = going.flash;
+      own = record {
+        least = going.own.least;
+        most = going.own.most;
+        pool = record { few = omega (arith, room); distinct = (absent store.pool.frames frame.page none, going.own.pool.distinct) };
+        pages = (page, going.own.pages);
+      };
+    })
+
+pub put_going : {A E : Type 0} (r : Result A E) (store : PageStore) (pool : Pool) (frame : Frame) (site : State) → OnOk r (pool ≡ record store.pool { frames = frame ∷ store.pool.frames }) → OnErr r (pool ≡ store.pool)
+    → frame_of store.pool.frames frame.page ≡ None → length store.pool.frames < store.pool.size → IsPage store.flash.geometry.pages frame → MayGoOn store site → MayGoOn (record store { pool = pool }) site
+put_going (Ok x) store pool frame site put kept none room page going = entered store pool frame site put none room page going
+put_going (Err e) store pool frame site put kept none room page going = subst (λ (p : Pool). MayGoOn (record store { pool = p }) site) (sym kept) (record {
+  flash = going.flash;
+  own = record { least = going.own.least; most = going.own.most; pool = going.own.pool; pages = going.own.pages };
+})

@@ -1,0 +1,72 @@
+-- A store that fits its site, at its start and after a change.
+use Rattle.std.proofs.Common.{◌≡◌, ◌≢◌, ℕ, ◌<◌, true, false, List, [], ◌∷◌, length, drop, Option, Some, arith, sym, ap, subst, ◌∙◌, ◌⊎◌, inl, inr}
+use Rattle.std.specs.Prelude.{Result, Err, IsErrOf}
+use Rattle.std.specs.List.{AllByRecursion}
+use Rattle.std.proofs.lemmas.Option.{none-some}
+use Rattle.std.proofs.lemmas.Bool.{cases_eq}
+use Rattle.site.specs.declared.outside.Dev.TheVariants.{Disk}
+use Rattle.site.specs.declared.geometry.Geometry.{Geometry}
+use Rattle.site.specs.State.{State, Image, Loose, IsSettled}
+use Rattle.slotted_page.specs.Layout.{IsSound}
+use Rattle.frame_group.specs.Groups.{Frame as Stored}
+use Rattle.flash_cache.specs.Held as held
+use Rattle.flash_cache.specs.Held.{version_on, IsCleanOn}
+use Rattle.buffer_pool.specs.declared.frame.Frame.{Frame}
+use Rattle.buffer_pool.specs.Frames.{State as Pool, frame_of, front_of, ChangesFront}
+use Rattle.buffer_pool.specs.Laws.{ChangesOne}
+use Rattle.page_store.specs.declared.store.PageStore.{PageStore}
+use Rattle.page_store.specs.Held.{Fits}
+
+-- an error is that error, of whatever it was the result
+pub err_again : {T U E : Type 0} (a b : E) → IsErrOf {T = T} (Err a) b → IsErrOf {T = U} (Err a) b
+err_again {T} {U} {E} a b is = let same : a ≡ b = cc in ap {A = E} {B = Result U E} (λ (e : E). Err e) same
+
+pub fits_at_start : (store : PageStore) (g : Geometry) (old new : State) (groups : List (List Stored)) → store.flash.geometry ≡ g → store.pool.frames ≡ []
+    → new.image ≡ old.image → new.loose ≡ old.loose → IsSettled Disk old → held.Fits store.flash new → held.Holds store.flash new.image groups → IsCleanOn g old.image
+    → ((page : ℕ) → page < g.pages → IsSound (version_on g old.image page)) → Fits store new
+fits_at_start store g old new groups geometry empty image loose disk fits holds clean sound = record {
+  flash = fits;
+  disk = ap (λ (l : Loose). l.disk) loose ∙ disk;
+  groups = groups;
+  holds = holds;
+  clean = subst (λ (i : Image). IsCleanOn store.flash.geometry i) (sym image) (subst (λ (h : Geometry). IsCleanOn h old.image) (sym geometry) clean);
+  sound = λ page exists. subst (λ (i : Image). IsSound (version_on store.flash.geometry i page)) (sym image)
+      (subst (λ (h : Geometry). IsSound (version_on h old.image page)) (sym geometry) (sound page (subst (λ (h : Geometry). page < h.pages) geometry exists)));
+  unchanged = λ page frame found unchanged. absurd (none-some frame (sym (ap (λ (frames : List Frame). frame_of frames page) empty) ∙ found));
+}
+
+-- A change of the front.
+
+pub change_fits : (store : PageStore) (pool : Pool) (site : State) → ChangesOne store.pool.frames pool.frames → (front_of pool.frames).changed ≡ true
+    → Fits store site → Fits (record store { pool = pool }) site
+change_fits store pool site one changed fits = record {
+  flash = fits.flash;
+  disk = fits.disk;
+  groups = fits.groups;
+  holds = fits.holds;
+  clean = fits.clean;
+  sound = fits.sound;
+  unchanged = λ page frame found unchanged. by page frame found unchanged (cases_eq page (front_of store.pool.frames).page);
+}
+  where
+    by : (page : ℕ) (frame : Frame) → frame_of pool.frames page ≡ Some frame → frame.changed ≡ false
+        → (page ≡ (front_of store.pool.frames).page) ⊎ (page ≢ (front_of store.pool.frames).page) → frame.content ≡ version_on store.flash.geometry site.image page
+    by page frame found unchanged (inl same) =
+        let own : Some (front_of pool.frames) ≡ Some frame = sym one.own ∙ ap (frame_of pool.frames) (sym same) ∙ found in
+        let is : front_of pool.frames ≡ frame = cc in
+        let marks = ap (λ (f : Frame). f.changed) is in
+        absurd cc
+    by page frame found unchanged (inr other) = fits.unchanged page frame (sym (one.others page other) ∙ found) unchanged
+
+all_drop : (P : Frame → Type 0) (frames : List Frame) → AllByRecursion P frames → AllByRecursion P (drop 1 frames)
+all_drop P [] all = tt
+all_drop P (frame ∷ frames) all = all.1
+
+all_again : (P : Frame → Type 0) (frames : List Frame) → 0 < length frames → P (front_of frames) → AllByRecursion P (drop 1 frames) → AllByRecursion P frames
+all_again P [] some own rest = tt
+all_again P (frame ∷ frames) some own rest = (own, rest)
+
+pub all_changed : (P : Frame → Type 0) (old new : List Frame) (slot : ℕ) (content : Option (List ℕ)) (lsn : ℕ) → 0 < length old → ChangesFront old new slot content lsn
+    → P (front_of new) → AllByRecursion P old → AllByRecursion P new
+all_changed P old new slot content lsn some is own all =
+    all_again P new (let count = is.count in omega (arith, count, some)) own (subst (AllByRecursion P) (sym is.others) (all_drop P old all))

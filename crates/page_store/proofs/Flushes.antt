@@ -1,0 +1,173 @@
+-- Behind a push of changed pages.
+use Rattle.std.proofs.Common.{◌≡◌, inl, inr, ℕ, zero, suc, ◌<◌, ◌==◌, Bool, true, false, true≢false, not, ◌&&◌, ◌||◌, cond, List, [], ◌∷◌, ◌++◌, length, get_or, take, map, filter, reverse, Option, Some, None, option_map, is_some, arith, refl, sym, ap, subst, ◌∙◌}
+use Rattle.std.specs.Prelude.{IsSome, Contains}
+use Rattle.std.specs.List.{All, AllByRecursion}
+use Rattle.std.proofs.lemmas.Option.{none-some}
+use Rattle.std.proofs.lemmas.Bool.{eqb-true}
+use Rattle.std.proofs.lemmas.List.{get_or_default, reverse-append, map-append}
+use Rattle.site.specs.declared.geometry.Geometry.{Geometry}
+use Rattle.site.specs.State.{State}
+use Rattle.flash_cache.specs.Held.{version_on}
+use Rattle.buffer_pool.specs.declared.frame.Frame.{Frame}
+use Rattle.buffer_pool.specs.Frames.{State as Pool, frame_of}
+use Rattle.buffer_pool.specs.Laws.{ClearedKeepsFrames}
+use Rattle.second_chance.specs.declared.plan.PoolMark.{PoolMark}
+use Rattle.second_chance.specs.Queue.{Queue, pushed, frame_of as known_of}
+use Rattle.second_chance.specs.Machine.{Cache, pool_mark, pool_frame, is_pulled, saved, push_changed, is_full}
+use Rattle.page_store.specs.declared.store.PageStore.{PageStore}
+use Rattle.page_store.specs.Held.{IsPage, Fits, content_by, current}
+use Rattle.page_store.specs.Caching.{pool_page, cache_of, rules}
+use Rattle.page_store.specs.Leaves.{Gives, KeepsCurrent}
+use Rattle.page_store.specs.Flushing.{changed_frames, chosen, mark_for, content_in, cleared_all}
+use Rattle.page_store.proofs.PushLaws.{or_listed}
+use Rattle.page_store.proofs.Pools.{page_is}
+use Rattle.page_store.proofs.Choosing.{chosen_changed}
+use Rattle.page_store.proofs.Clearing.{frames_cleared, cleared_by, by_content, by_mark, is_among, pages_saved, all_pages}
+use Rattle.page_store.proofs.Saving.{all_weaker}
+use Rattle.slotted_page.specs.Layout.{IsSound}
+
+-- Which pages are listed.
+
+pub among_listed : (pages : List ℕ) (n : ℕ) → is_among pages n ≡ true → Contains pages n
+among_listed [] n is = absurd cc
+among_listed (p ∷ pages) n is = by (p == n) refl is (among_listed pages n)
+  where
+    by : (b : Bool) → (p == n) ≡ b → (b || is_among pages n) ≡ true → (is_among pages n ≡ true → Contains pages n) → Contains (p ∷ pages) n
+    by true same is rest = (0, omega arith, eqb-true _ _ same)
+    by false other is rest = let there = rest is in (suc there.0, let less = there.1 in omega (arith, less), there.2)
+
+not_among : (pages : List ℕ) (n : ℕ) → (Contains pages n → ⊥) → is_among pages n ≡ false
+not_among pages n none = by (is_among pages n) refl
+  where
+    by : (b : Bool) → is_among pages n ≡ b → is_among pages n ≡ false
+    by true is = absurd (none (among_listed pages n is))
+    by false is = is
+
+-- The store.
+
+module _ (law : ClearedKeepsFrames) (store after : PageStore) (pages : List ℕ) (contents : List (List ℕ)) (old new : State) (pool : after.pool ≡ store.pool) (geometry : after.flash.geometry ≡ store.flash.geometry)
+    (gives : Gives store.flash.geometry pages contents old.image new.image) (given : (k : ℕ) → k < length pages → get_or contents k [] ≡ content_in store.pool.frames (get_or pages k 0)) where
+  abbrev frames : List Frame
+  frames = after.pool.frames
+
+  same_frame : (n : ℕ) → frame_of frames n ≡ frame_of store.pool.frames n
+  same_frame n = ap (λ (p : Pool). frame_of p.frames n) pool
+
+  saved_frame : (n : ℕ) (frame f : Frame) → Fits after new → frame ≡ cleared_by pages f → frame_of frames n ≡ Some f → frame.changed ≡ false → frame.content ≡ version_on after.flash.geometry new.image n
+  saved_frame n frame f fits is own unchanged = elim (or_listed pages n) [
+    | inl there ↦
+        ap (λ (x : Frame). x.content) is ∙ by_content pages f
+        ∙ sym (ap (λ o. content_by o []) (sym (same_frame n) ∙ own))
+        ∙ sym (ap (content_in store.pool.frames) there.2)
+        ∙ sym (given there.0 there.1)
+        ∙ sym (gives.given there.0 there.1)
+        ∙ (λ i. version_on (sym geometry i) new.image (there.2 i))
+    | inr none ↦
+        ap (λ (x : Frame). x.content) is ∙ by_content pages f
+        ∙ fits.unchanged n f own (was_unchanged none)
+  ]
+    where
+      kept : (b : Bool) → (b && true) ≡ b
+      kept true = refl
+      kept false = refl
+
+      was_unchanged : (Contains pages n → ⊥) → f.changed ≡ false
+      was_unchanged none =
+          let among : is_among pages f.page ≡ false = ap (is_among pages) (page_is frames n f own) ∙ not_among pages n none in
+          sym (kept f.changed) ∙ sym (ap (λ b. f.changed && not b) among) ∙ sym (by_mark pages f) ∙ sym (ap (λ (x : Frame). x.changed) is) ∙ unchanged
+
+  pub saved_fits : Fits after new → Fits (record after { pool = record after.pool { frames = cleared_all pages frames } }) new
+  saved_fits fits = record {
+    flash = fits.flash;
+    disk = fits.disk;
+    groups = fits.groups;
+    holds = fits.holds;
+    clean = fits.clean;
+    sound = fits.sound;
+    unchanged = λ n frame found unchanged. by n frame (frame_of frames n) refl (sym (frames_cleared law pages frames n) ∙ found) unchanged;
+  }
+    where
+      by : (n : ℕ) (frame : Frame) (o : Option Frame) → frame_of frames n ≡ o → option_map (cleared_by pages) o ≡ Some frame → frame.changed ≡ false → frame.content ≡ version_on after.flash.geometry new.image n
+      by n frame None own found unchanged = absurd (none-some frame found)
+      by n frame (Some f) own found unchanged = let is : frame ≡ cleared_by pages f = cc in saved_frame n frame f fits is own unchanged
+
+  pub saved_current : All (λ (page : ℕ). IsSome (frame_of store.pool.frames page)) pages → KeepsCurrent store old.image (record after { pool = record after.pool { frames = cleared_all pages frames } }) new.image
+  saved_current there = record { each = λ n exists. ap (λ o. content_by o (version_on after.flash.geometry new.image n)) (frames_cleared law pages frames n) ∙ by n (frame_of store.pool.frames n) refl }
+    where
+      not_listed : (n : ℕ) → frame_of store.pool.frames n ≡ None → Contains pages n → ⊥
+      not_listed n none listed =
+          let is : get_or pages listed.0 0 ≡ n = get_or_default pages listed.0 0 n listed.1 ∙ listed.2 in
+          let some : is_some (frame_of store.pool.frames n) ≡ true = subst (λ p. IsSome (frame_of store.pool.frames p)) is (there listed.0 0 listed.1) in
+          true≢false (sym some ∙ ap is_some none)
+
+      by : (n : ℕ) (o : Option Frame) → frame_of store.pool.frames n ≡ o
+          → content_by (option_map (cleared_by pages) (frame_of frames n)) (version_on after.flash.geometry new.image n) ≡ current store old.image n
+      by n None own =
+          ap (λ p. content_by (option_map (cleared_by pages) p) (version_on after.flash.geometry new.image n)) (same_frame n ∙ own)
+          ∙ ap (λ (g : Geometry). version_on g new.image n) geometry
+          ∙ gives.others n (not_listed n own)
+          ∙ sym (ap (λ p. content_by p (version_on store.flash.geometry old.image n)) own)
+      by n (Some f) own =
+          ap (λ p. content_by (option_map (cleared_by pages) p) (version_on after.flash.geometry new.image n)) (same_frame n ∙ own)
+          ∙ by_content pages f
+          ∙ sym (ap (λ p. content_by p (version_on store.flash.geometry old.image n)) own)
+
+-- The machine.
+
+filter_marked : (queue : Queue) (xs : List Frame) → filter (λ (m : PoolMark). m.changed) (map (mark_for queue) xs) ≡ map (mark_for queue) (filter (λ (f : Frame). f.changed) xs)
+filter_marked queue [] = refl
+filter_marked queue (x ∷ xs) = by x.changed (filter_marked queue xs)
+  where
+    by : (b : Bool) → filter (λ (m : PoolMark). m.changed) (map (mark_for queue) xs) ≡ map (mark_for queue) (filter (λ (f : Frame). f.changed) xs)
+        → cond b (mark_for queue x ∷ filter (λ (m : PoolMark). m.changed) (map (mark_for queue) xs)) (filter (λ (m : PoolMark). m.changed) (map (mark_for queue) xs))
+        ≡ map (mark_for queue) (cond b (x ∷ filter (λ (f : Frame). f.changed) xs) (filter (λ (f : Frame). f.changed) xs))
+    by true rest = ap (λ (l : List PoolMark). mark_for queue x ∷ l) rest
+    by false rest = rest
+
+take_marked : (queue : Queue) (n : ℕ) (xs : List Frame) → take n (map (mark_for queue) xs) ≡ map (mark_for queue) (take n xs)
+take_marked queue zero xs = refl
+take_marked queue (suc n) [] = refl
+take_marked queue (suc n) (x ∷ xs) = ap (λ (l : List PoolMark). mark_for queue x ∷ l) (take_marked queue n xs)
+
+marks_turned : (queue : Queue) (xs : List Frame) → map (pool_mark queue) (reverse (map pool_page xs)) ≡ map (mark_for queue) (reverse xs)
+marks_turned queue [] = refl
+marks_turned queue (x ∷ xs) =
+    ap (map (pool_mark queue)) (reverse-append (pool_page x ∷ []) (map pool_page xs))
+    ∙ map-append (pool_mark queue) (reverse (map pool_page xs)) (pool_page x ∷ [])
+    ∙ ap (λ (l : List PoolMark). l ++ mark_for queue x ∷ []) (marks_turned queue xs)
+    ∙ sym (map-append (mark_for queue) (reverse xs) (x ∷ []))
+    ∙ sym (ap (map (mark_for queue)) (reverse-append (x ∷ []) xs))
+
+pulled_marks : (queue : Queue) (frames : List Frame) → take 8 (filter (λ (m : PoolMark). m.changed) (map (pool_mark queue) (reverse (map pool_page frames)))) ≡ map (mark_for queue) (chosen frames)
+pulled_marks queue frames =
+    ap (λ (l : List PoolMark). take 8 (filter (λ (m : PoolMark). m.changed) l)) (marks_turned queue frames)
+    ∙ ap (take 8) (filter_marked queue (reverse frames))
+    ∙ take_marked queue 8 (changed_frames frames)
+
+pulled_pages : (queue : Queue) (xs : List Frame) (n : ℕ) → is_pulled (map (mark_for queue) xs) n ≡ is_among (map (λ (f : Frame). f.page) xs) n
+pulled_pages queue [] n = refl
+pulled_pages queue (x ∷ xs) n = ap (λ b. (x.page == n) || b) (pulled_pages queue xs n)
+
+pulled_frames : (queue : Queue) (xs : List Frame) → AllByRecursion (λ (f : Frame). f.changed ≡ true) xs → map pool_frame (map (mark_for queue) xs) ≡ map (λ page. known_of page true) (map (λ (f : Frame). f.page) xs)
+pulled_frames queue [] all = refl
+pulled_frames queue (x ∷ xs) all = λ i. known_of x.page (all.0 i) ∷ pulled_frames queue xs all.1 i
+
+pub machine_saved : (store : PageStore) (queue : Queue) → queue ≡ pushed (is_full (rules store) store.flash.directory) (map (λ page. known_of page true) (map (λ (f : Frame). f.page) (chosen store.pool.frames))) store.flash.directory
+    → ◌≡◌ {A = Cache} (record { pool = map pool_page (cleared_all (map (λ (f : Frame). f.page) (chosen store.pool.frames)) store.pool.frames); queue = queue }) (push_changed (rules store) (cache_of store))
+machine_saved store queue is =
+    let before = store.flash.directory in
+    let frames = store.pool.frames in
+    let pages = map (λ (f : Frame). f.page) (chosen frames) in
+    let pulled = pulled_marks before frames in
+    let names : is_among pages ≡ is_pulled (map (mark_for before) (chosen frames)) = λ i n. sym (pulled_pages before (chosen frames) n) i in
+    let full : Bool = is_full (rules store) before in
+    (λ i. let k : Cache = record { pool = pages_saved pages frames i; queue = is i } in k)
+    ∙ (λ i. let k : Cache = record { pool = saved (names i) (map pool_page frames); queue = pushed full (sym (pulled_frames before (chosen frames) (chosen_changed frames)) i) before } in k)
+    ∙ (λ i. let k : Cache = record { pool = saved (is_pulled (sym pulled i)) (map pool_page frames); queue = pushed full (map pool_frame (sym pulled i)) before } in k)
+
+-- The pages of the pool are sound and exist still.
+pub pages_cleared : (most : ℕ) (ps : List ℕ) (frames : List Frame) → AllByRecursion (IsPage most) frames → AllByRecursion (IsPage most) (cleared_all ps frames)
+pages_cleared most ps frames all =
+    all_weaker (λ (f : Frame). IsSound f.content × (f.page < most)) (IsPage most) (λ f p. record { sound = p.0; exists = p.1 }) (cleared_all ps frames)
+    (all_pages (λ page content. IsSound content × (page < most)) ps frames
+    (all_weaker (IsPage most) (λ (f : Frame). IsSound f.content × (f.page < most)) (λ f p. (p.sound, p.exists)) frames all))

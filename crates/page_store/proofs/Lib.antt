@@ -1,0 +1,16 @@
+pub mod Fitting
+pub mod Pools
+pub mod Sealing
+pub mod PushLaws
+pub mod Evictions
+pub mod Versions
+pub mod Entering
+pub mod Bringing
+pub mod Touching
+pub mod Choosing
+pub mod Clearing
+pub mod Saving
+pub mod Flushes
+pub mod Rounds
+pub mod Beside
+pub mod Unsealed

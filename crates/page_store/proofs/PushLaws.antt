@@ -1,0 +1,357 @@
+-- A force of the log, and a push behind it.
+use Rattle.std.proofs.Common.{◌≡◌, ◌≢◌, ◌⊎◌, inl, inr, IsTrue, ℕ, zero, suc, ◌*◌, ◌<◌, ◌≤◌, Bool, true, false, List, [], ◌∷◌, ◌++◌, length, get_or, Some, arith, refl, sym, ap, subst, ◌∙◌, length-append}
+use Rattle.std.specs.Prelude.{Result, Ok, Err, OnOk, OnErr, IsErrOf, slice_index, Contains}
+use Rattle.std.specs.List.{AllByRecursion}
+use Rattle.std.proofs.lemmas.Bool.{cases_eq, true≢false}
+use Rattle.std.proofs.lemmas.List.{get_or_default}
+use Rattle.site.specs.declared.outside.Dev.{Dev}
+use Rattle.site.specs.declared.outside.Dev.TheVariants.{Log, Flash, Disk}
+use Rattle.site.specs.declared.geometry.Geometry.{Geometry}
+use Rattle.site.specs.State.{State, Image, Snapshot, MayStand, content_of, loose_of, IsSettled, IsQuiet}
+use Rattle.site.specs.Calls.{Goes}
+use Rattle.site.specs.Moments.{Leaves, LeavesOnly, ChangesOnly, Untouched}
+use Rattle.site.specs.Laws.{leaves_weaker, leaves_others_too, untouched_leaves, each_both, each_weaker, settled_is, quiet_settled, stays_honest}
+use Rattle.sealed_ring.specs.Ring.{IsRing, hi_of, units_of}
+use Rattle.sealed_ring.specs.declared.slots.Shape.{Shape}
+use Rattle.image_changes.specs.Rings.{RingName, Blocks, Groups, log_shape, group_shape, shape_of, KeepsUnits}
+use Rattle.image_changes.specs.Changes.{Change, ring_of}
+use Rattle.image_changes.specs.Reached.{IsReached, IsFrontOf, LeavesFront}
+use Rattle.image_changes.specs.Laws.{RingKept}
+use Rattle.flash_cache.specs.Pushed.{changes_of_push, pushed_queue, pushed_groups, known_given, frames_given}
+use Rattle.frame_group.specs.Groups.{Frame as Stored}
+use Rattle.frame_group.specs.Versions.{frames_of, version, CleanAsDisk}
+use Rattle.disk_pages.specs.Pages.{page_on}
+use Rattle.slotted_page.specs.Layout.{IsSound}
+use Rattle.flash_cache.specs.declared.cache.FlashCache.{FlashCache}
+use Rattle.flash_cache.specs.Held as held
+use Rattle.flash_cache.specs.Held.{version_on, disk_on, IsCleanOn, HasGroups}
+use Rattle.flash_cache.specs.Kept as kept
+use Rattle.flash_cache.specs.Kept.{KeepsVersions, GivesVersions, AreCleanGiven, LeavesClean}
+use Rattle.buffer_pool.specs.declared.frame.Frame.{Frame}
+use Rattle.buffer_pool.specs.Frames.{frame_of}
+use Rattle.log_store.specs.declared.store.LogStore.{LogStore}
+use Rattle.log_store.specs.LogList.{LogList, sealed_if, changes_if}
+use Rattle.log_store.specs.Held as log_held
+use Rattle.log_store.specs.Held.{HasBlocks, LeavesLog}
+use Rattle.page_store.specs.declared.store.PageStore.{PageStore}
+use Rattle.page_store.specs.Held.{Fits}
+use Rattle.page_store.specs.Ahead.{IsLogged, AreSealed, LeavesSealed, sealed_end}
+use Rattle.page_store.specs.Leaves.{HasQueue, AreReady, LeavesPages, AreGiven, Gives, AreChanged}
+use Rattle.page_store.proofs.Sealing.{blocks_same}
+
+-- The same flash and disk.
+
+pub version_same : (g : Geometry) (old new : Image) (page : ℕ) → new.flash ≡ old.flash → new.disk ≡ old.disk → version_on g new page ≡ version_on g old page
+version_same g old new page flash disk = λ i. version (λ p. page_on p (disk i)) (frames_of (units_of (group_shape g) (flash i)).live) page
+
+pub clean_same : (g : Geometry) (old new : Image) → new.flash ≡ old.flash → new.disk ≡ old.disk → IsCleanOn g old → IsCleanOn g new
+clean_same g old new flash disk clean =
+    subst (λ (f : List ℕ). CleanAsDisk (λ p. page_on p new.disk) (frames_of (units_of (group_shape g) f).live)) (sym flash)
+    (subst (λ (d : List ℕ). CleanAsDisk (λ p. page_on p d) (frames_of (units_of (group_shape g) old.flash).live)) (sym disk) clean)
+
+pub groups_same : (g : Geometry) (first : ℕ) (groups : List (List Stored)) (old new : Image) → new.flash ≡ old.flash → HasGroups g first groups old → HasGroups g first groups new
+groups_same g first groups old new flash has = record {
+  form = subst (IsRing (group_shape g)) (sym flash) has.form;
+  next = has.next ∙ ap (hi_of (group_shape g)) (sym flash);
+  are_groups = has.are_groups;
+  live = ap (λ (f : List ℕ). (units_of (group_shape g) f).live) flash ∙ has.live;
+}
+
+pub flash_fits_same : (cache : FlashCache) (old new : State) → new.image.flash ≡ old.image.flash → loose_of Flash new.loose ≡ loose_of Flash old.loose → IsTrue new.honest → held.Fits cache old → held.Fits cache new
+flash_fits_same cache old new flash loose honest fits = record {
+  honest = honest;
+  settled = loose ∙ fits.settled;
+  form = subst (IsRing (group_shape cache.geometry)) (sym flash) fits.form;
+  hi = fits.hi ∙ ap (hi_of (group_shape cache.geometry)) (sym flash);
+}
+
+pub flash_holds_same : (cache : FlashCache) (old new : Image) (groups : List (List Stored)) → new.flash ≡ old.flash → held.Holds cache old groups → held.Holds cache new groups
+flash_holds_same cache old new groups flash holds = record { has = groups_same cache.geometry cache.directory.first groups old new flash holds.has; shown = holds.shown }
+
+-- An LSN that is logged stays so.
+pub logged_more : (end end' : ℕ) (content : List ℕ) → end ≤ end' → IsLogged end content → IsLogged end' content
+logged_more end end' content more logged = record { below = λ some. let below = logged.below some in omega (arith, below, more) }
+
+pub logged_at : (end : ℕ) (contents : List (List ℕ)) (k : ℕ) (d : List ℕ) → AllByRecursion (IsLogged end) contents → k < length contents → IsLogged end (get_or contents k d)
+logged_at end [] k d all less = absurd (omega (arith, less))
+logged_at end (content ∷ contents) zero d all less = all.0
+logged_at end (content ∷ contents) (suc k) d all less = logged_at end contents k d all.1 (omega (arith, less))
+
+pub sound_at : (contents : List (List ℕ)) (k : ℕ) (d : List ℕ) → AllByRecursion IsSound contents → k < length contents → IsSound (get_or contents k d)
+sound_at [] k d all less = absurd (omega (arith, less))
+sound_at (content ∷ contents) zero d all less = all.0
+sound_at (content ∷ contents) (suc k) d all less = sound_at contents k d all.1 (omega (arith, less))
+
+-- A page is given, at a place, or it isn't.
+abbrev IsListed : List ℕ → ℕ → Type 0
+IsListed pages page = (k : ℕ) × (k < length pages) × (get_or pages k 0 ≡ page)
+
+listed : (pages : List ℕ) (page : ℕ) → IsListed pages page ⊎ (IsListed pages page → ⊥)
+listed [] page = inr (λ is. omega (arith, is.1))
+listed (first ∷ pages) page = by (cases_eq first page) (listed pages page)
+  where
+    by : (first ≡ page) ⊎ (first ≢ page) → IsListed pages page ⊎ (IsListed pages page → ⊥) → IsListed (first ∷ pages) page ⊎ (IsListed (first ∷ pages) page → ⊥)
+    by (inl same) rest = inl (0, omega arith, same)
+    by (inr other) (inl there) = inl (suc there.0, let less = there.1 in omega (arith, less), there.2)
+    by (inr other) (inr none) = inr (λ is. at is.0 is.1 is.2)
+      where
+        at : (k : ℕ) → k < length (first ∷ pages) → get_or (first ∷ pages) k 0 ≡ page → ⊥
+        at zero less is = other is
+        at (suc k) less is = none (k, omega (arith, less), is)
+
+pub or_listed : (pages : List ℕ) (page : ℕ) → IsListed pages page ⊎ (Contains pages page → ⊥)
+or_listed pages page = elim (listed pages page) [
+  | inl there ↦ inl there
+  | inr none ↦ inr (λ is. none (is.0, is.1, get_or_default pages is.0 0 page is.1 ∙ is.2))
+]
+
+-- Rings that no change appends to.
+
+abbrev pub IsOther : RingName → Type 0
+IsOther ring = (ring ≢ Blocks) × (ring ≢ Groups)
+
+-- none of these changes appends to another ring than those of blocks and groups
+abbrev pub AreOwn : List Change → Type 0
+AreOwn changes = (ring : RingName) → IsOther ring → AllByRecursion (λ change. ring_of change ≢ Some ring) changes
+
+same_ring : (a b : RingName) → Some a ≡ Some b → a ≡ b
+same_ring a b same = cc
+
+pub own_sealing : (sealing : Bool) (list : LogList) → AreOwn (changes_if sealing list)
+own_sealing true list ring other = ((λ same. other.0 (sym (same_ring Blocks ring same))), tt)
+own_sealing false list ring other = tt
+
+pub own_push : (pages group : List ℕ) → AreOwn (changes_of_push pages group)
+own_push [] group ring other = ((λ same. other.1 (sym (same_ring Groups ring same))), tt)
+own_push (page ∷ pages) group ring other = ((λ same. absurd cc), ((λ same. other.1 (sym (same_ring Groups ring same))), tt))
+
+all_before : {X : Type 0} (P : X → Type 0) (xs ys : List X) → AllByRecursion P (xs ++ ys) → AllByRecursion P xs
+all_before P [] ys all = tt
+all_before P (x ∷ xs) ys all = (all.0, all_before P xs ys all.1)
+
+pub rings_kept : RingKept → (g : Geometry) (all : List Change) (old : State) (s : Snapshot) → AreOwn all → IsReached g (IsFrontOf all) old s
+    → (ring : RingName) → ring ≢ Blocks → ring ≢ Groups → KeepsUnits (shape_of g ring) old.image s.image
+rings_kept law g all old s own is ring log flash =
+    law g ring is.changes old.image s.image (all_before (λ change. ring_of change ≢ Some ring) is.changes is.made.0 (subst (AllByRecursion (λ change. ring_of change ≢ Some ring)) is.made.1 (own ring (log, flash)))) is.reaches
+
+pub units_then : (s : Shape) (a b c : Image) → KeepsUnits s a b → KeepsUnits s b c → KeepsUnits s a c
+units_then s a b c first second = record { units = second.units ∙ first.units; form = λ form. second.form (first.form form) }
+
+-- The force.
+
+module _ (g : Geometry) (sealing : Bool) (list : LogList) (old mid : State) (leaves : LeavesOnly old mid (LeavesLog g sealing list old.told)) (changes : ChangesOnly Log old mid) (quiet : IsQuiet old) where
+  record Forced (s : Snapshot) : Type 0 where
+    blocks : LeavesLog g sealing list old.told s
+    flash : s.image.flash ≡ old.image.flash
+    disk : s.image.disk ≡ old.image.disk
+
+  none_loose : (d : Dev) (s : Snapshot) → MayStand (loose_of d old.loose) (content_of d old.image) (content_of d s.image) → content_of d s.image ≡ content_of d old.image
+  none_loose d s stands = settled_is (content_of d old.image) (content_of d s.image) (subst (λ rs. MayStand rs (content_of d old.image) (content_of d s.image)) (quiet_settled d old quiet) stands)
+
+  flash_other : Flash ≢ Log
+  flash_other same = cc
+
+  disk_other : Disk ≢ Log
+  disk_other same = cc
+
+  forced : LeavesOnly old mid Forced
+  forced = leaves_weaker old mid _ Forced (λ s p. record { blocks = p.0; flash = none_loose Flash s (p.2 Flash flash_other); disk = none_loose Disk s (p.2 Disk disk_other) })
+      (leaves_others_too Log old mid (LeavesLog g sealing list old.told) leaves changes.only)
+
+  pub force_leaves : RingKept → LeavesFront g (changes_if sealing list) old mid → HasQueue g old.image → (given : ℕ → List ℕ) → IsCleanOn g old.image → LeavesOnly old mid (LeavesPages g given sealing list old)
+  force_leaves law front queue given clean =
+      each_weaker old mid (λ m. Leaves Forced m × Leaves (IsReached g (IsFrontOf (changes_if sealing list)) old) m) (Leaves (LeavesPages g given sealing list old)) (λ m p s left.
+      let is = p.0 s left in record {
+        log = is.blocks;
+        rings = rings_kept law g (changes_if sealing list) old s (own_sealing sealing list) (p.1 s left);
+        queue = record { first = queue.first; groups = queue.groups; has = groups_same g queue.first queue.groups old.image s.image is.flash queue.has };
+        clean = clean_same g old.image s.image is.flash is.disk clean;
+        versions = λ page exists. inl (version_same g old.image s.image page is.flash is.disk);
+      }) (each_both old mid _ _ forced front)
+
+  rises : (s : Snapshot) → HasBlocks g list.first list.blocks old.image → LeavesLog g sealing list old.told s → sealed_end g old.image ≤ sealed_end g s.image
+  rises s has blocks = elim blocks.blocks [
+    | inl same ↦ let a = has.next in let b = same.next in omega (arith, a, b)
+    | inr more ↦ let a = has.next in let b = more.1.next in omega (arith, a, b, length-append list.blocks (list.tail ∷ []))
+  ]
+
+  pub force_sealed : HasBlocks g list.first list.blocks old.image → AreSealed g old.image → LeavesOnly old mid (LeavesSealed g)
+  force_sealed has sealed = leaves_weaker old mid Forced (LeavesSealed g) (λ s p. record {
+    each = λ page exists. logged_more (sealed_end g old.image) (sealed_end g s.image) (version_on g s.image page) (rises s has p.blocks)
+        (subst (IsLogged (sealed_end g old.image)) (sym (version_same g old.image s.image page p.flash p.disk)) (sealed.each page exists));
+  }) forced
+
+  pub same_flash : mid.image.flash ≡ old.image.flash
+  same_flash = changes.only.now.content Flash flash_other
+
+  pub same_disk : mid.image.disk ≡ old.image.disk
+  same_disk = changes.only.now.content Disk disk_other
+
+  pub same_loose : loose_of Flash mid.loose ≡ loose_of Flash old.loose
+  same_loose = changes.only.now.loose Flash flash_other
+
+  pub same_told : mid.told ≡ old.told
+  same_told = changes.only.now.told
+
+-- The push.
+
+module _ (cache : FlashCache) (groups : List (List Stored)) (pages : List ℕ) (changed : List Bool) (contents : List (List ℕ)) (old mid new : State)
+    (flash : mid.image.flash ≡ old.image.flash) (disk : mid.image.disk ≡ old.image.disk) (told : mid.told ≡ old.told) (settled : IsSettled Log mid)
+    (versions : LeavesOnly mid new (kept.LeavesVersions cache groups pages changed contents mid)) (untouched : Untouched Log mid new) where
+  abbrev g : Geometry
+  g = cache.geometry
+
+  log_stands : (s : Snapshot) → MayStand (loose_of Log mid.loose) mid.image.log s.image.log → s.image.log ≡ mid.image.log
+  log_stands s stands = settled_is mid.image.log s.image.log (subst (λ rs. MayStand rs mid.image.log s.image.log) settled stands)
+
+  record Pushed (s : Snapshot) : Type 0 where
+    log : s.image.log ≡ mid.image.log
+    pages_are : kept.LeavesVersions cache groups pages changed contents mid s
+
+  pushed : LeavesOnly mid new Pushed
+  pushed = each_weaker mid new (λ m. Leaves (λ s. MayStand (loose_of Log mid.loose) mid.image.log s.image.log) m × Leaves (kept.LeavesVersions cache groups pages changed contents mid) m) (Leaves Pushed)
+      (λ m p s left. record { log = log_stands s (p.0 s left); pages_are = p.1 s left })
+      (each_both mid new _ _ (untouched_leaves Log mid new untouched) versions)
+
+  -- the version of each page
+  module _ (P : ℕ → List ℕ → Type 0) (before : (page : ℕ) → page < g.pages → P page (version_on g old.image page)) (own : (k : ℕ) → k < length pages → P (get_or pages k 0) (get_or contents k [])) where
+    kept_version : (s : Image) (page : ℕ) → page < g.pages → version_on g s page ≡ version_on g mid.image page → P page (version_on g s page)
+    kept_version s page exists same = subst (P page) (sym (same ∙ version_same g old.image mid.image page flash disk)) (before page exists)
+
+    given_version : (s : Image) (page : ℕ) → page < g.pages → Gives g pages contents mid.image s → P page (version_on g s page)
+    given_version s page exists gives = elim (or_listed pages page) [
+      | inl there ↦ subst (λ n. P n (version_on g s n)) there.2 (subst (P (get_or pages there.0 0)) (sym (gives.given there.0 there.1)) (own there.0 there.1))
+      | inr none ↦ kept_version s page exists (gives.others page none)
+    ]
+
+    each_version : (s : Snapshot) → kept.LeavesVersions cache groups pages changed contents mid s → (page : ℕ) → page < g.pages → P page (version_on g s.image page)
+    each_version s is page exists = elim is.either [
+      | inl keeps ↦ kept_version s.image page exists (keeps.versions page)
+      | inr gives ↦ given_version s.image page exists (record { given = gives.given; others = gives.others })
+    ]
+
+  -- the queue
+  queue_left : (s : Snapshot) → kept.LeavesVersions cache groups pages changed contents mid s → HasQueue g s.image
+  queue_left s is = elim is.either [
+    | inl keeps ↦ record { first = cache.directory.first; groups = groups; has = keeps.has }
+    | inr gives ↦ record { first = (pushed_queue cache (known_given pages changed)).first; groups = pushed_groups cache groups (frames_given pages changed contents); has = gives.has }
+  ]
+
+  pub push_leaves : RingKept → (staged group : List ℕ) → LeavesFront g (changes_of_push staged group) mid new
+      → ((ring : RingName) → ring ≢ Blocks → ring ≢ Groups → KeepsUnits (shape_of g ring) old.image mid.image)
+      → (given : ℕ → List ℕ) (sealing : Bool) (list : LogList) → AreGiven given pages contents → HasBlocks g (sealed_if sealing list).first (sealed_if sealing list).blocks mid.image
+      → LeavesOnly mid new (LeavesClean g) → LeavesOnly mid new (LeavesPages g given sealing list old)
+  push_leaves law staged group front before given sealing list are has clean =
+      each_weaker mid new (λ m. Leaves Pushed m × Leaves (λ s. LeavesClean g s × IsReached g (IsFrontOf (changes_of_push staged group)) mid s) m) (Leaves (LeavesPages g given sealing list old)) (λ m p s left.
+      let is = p.0 s left in let more = p.1 s left in record {
+        log = blocks_left s is.log is.pages_are sealing list refl has;
+        rings = λ ring log flash. units_then (shape_of g ring) old.image mid.image s.image (before ring log flash) (rings_kept law g (changes_of_push staged group) mid s (own_push staged group) more.1 ring log flash);
+        queue = queue_left s is.pages_are;
+        clean = more.0;
+        versions = each_version (λ page content. (content ≡ version_on g old.image page) ⊎ (content ≡ given page)) (λ page exists. inl refl) (λ k less. inr (are.each k less)) s is.pages_are;
+      }) (each_both mid new _ _ pushed (each_weaker mid new (λ m. Leaves (LeavesClean g) m × Leaves (IsReached g (IsFrontOf (changes_of_push staged group)) mid) m)
+      (Leaves (λ s. LeavesClean g s × IsReached g (IsFrontOf (changes_of_push staged group)) mid s)) (λ m q s left. (q.0 s left, q.1 s left)) (each_both mid new _ _ clean front)))
+    where
+      blocks_left : (s : Snapshot) → s.image.log ≡ mid.image.log → kept.LeavesVersions cache groups pages changed contents mid s → (b : Bool) (l : LogList) → b ≡ b
+          → HasBlocks g (sealed_if b l).first (sealed_if b l).blocks mid.image → LeavesLog g b l old.told s
+      blocks_left s log is true l same has = record { told = is.told ∙ told; blocks = inr (refl, blocks_same g l.first (l.blocks ++ l.tail ∷ []) mid.image s.image log has) }
+      blocks_left s log is false l same has = record { told = is.told ∙ told; blocks = inl (blocks_same g l.first l.blocks mid.image s.image log has) }
+
+  pub push_sealed : (end : ℕ) → end ≡ sealed_end g mid.image → sealed_end g old.image ≤ end → length contents ≡ length pages → AllByRecursion (IsLogged end) contents → AreSealed g old.image
+      → LeavesOnly mid new (LeavesSealed g)
+  push_sealed end is rises lists logged sealed =
+      leaves_weaker mid new Pushed (LeavesSealed g) (λ s p. record {
+        each = λ page exists. subst (λ e. IsLogged e (version_on g s.image page)) (is ∙ ap (λ l. 512 * hi_of (log_shape g) l) (sym p.log))
+            (each_version (λ n content. IsLogged end content) (λ n there. logged_more (sealed_end g old.image) end (version_on g old.image n) rises (sealed.each n there))
+            (λ k less. logged_at end contents k [] logged (omega (arith, lists, less))) s p.pages_are page exists);
+      }) pushed
+
+pub gives_since : (g : Geometry) (pages : List ℕ) (contents : List (List ℕ)) (old mid new : Image) → mid.flash ≡ old.flash → mid.disk ≡ old.disk → Gives g pages contents mid new → Gives g pages contents old new
+gives_since g pages contents old mid new flash disk gives = record { given = gives.given; others = λ page none. gives.others page none ∙ version_same g old mid page flash disk }
+
+-- Between the force and the push.
+
+pub record IsBetween (store : PageStore) (log log' : LogStore) (sealing : Bool) (list : LogList) (old mid : State) (ready : AreReady store log list old) : Type 0 where
+  pub flash : mid.image.flash ≡ old.image.flash
+  pub disk : mid.image.disk ≡ old.image.disk
+  pub told : mid.told ≡ old.told
+  pub honest : IsTrue mid.honest
+  pub quiet : IsQuiet mid
+  pub fits : held.Fits store.flash mid
+  pub holds : held.Holds store.flash mid.image ready.pages.groups
+  pub clean : IsCleanOn store.flash.geometry mid.image
+  pub log_fits : log_held.Fits log' mid
+  pub log_holds : log_held.Holds log' mid.image (sealed_if sealing list)
+
+pub between : (store : PageStore) (log log' : LogStore) (sealing : Bool) (list : LogList) (old mid : State) (ready : AreReady store log list old) → ChangesOnly Log old mid → Goes old mid → IsQuiet mid
+    → log_held.Fits log' mid → log_held.Holds log' mid.image (sealed_if sealing list) → IsBetween store log log' sealing list old mid ready
+between store log log' sealing list old mid ready changes goes quiet fits holds =
+    let flash_other : Flash ≢ Log = λ same. cc in
+    let disk_other : Disk ≢ Log = λ same. cc in
+    let flash : mid.image.flash ≡ old.image.flash = changes.only.now.content Flash flash_other in
+    let disk : mid.image.disk ≡ old.image.disk = changes.only.now.content Disk disk_other in
+    let honest = stays_honest old mid goes ready.blocks.honest in
+    record {
+      flash = flash;
+      disk = disk;
+      told = changes.only.now.told;
+      honest = honest;
+      quiet = quiet;
+      fits = flash_fits_same store.flash old mid flash (changes.only.now.loose Flash flash_other) honest ready.pages.flash;
+      holds = flash_holds_same store.flash old.image mid.image ready.pages.groups flash ready.pages.holds;
+      clean = clean_same store.flash.geometry old.image mid.image flash disk ready.pages.clean;
+      log_fits = fits;
+      log_holds = holds;
+    }
+
+pub clean_given_same : (cache : FlashCache) (pages : List ℕ) (changed : List Bool) (contents : List (List ℕ)) (old new : Image) → new.disk ≡ old.disk
+    → AreCleanGiven cache pages changed contents old → AreCleanGiven cache pages changed contents new
+clean_given_same cache pages changed contents old new disk are k less unchanged =
+    let own = are k less unchanged in (own.0, own.1 ∙ ap (λ d. page_on (slice_index pages k) d) (sym disk))
+
+pub ok_then : {A E : Type 0} (r : Result A E) (P Q : Type 0) → (P → Q) → OnOk r P → OnOk r Q
+ok_then (Ok x) P Q f p = f p
+ok_then (Err e) P Q f p = tt
+
+pub ok_five : {A E : Type 0} (r : Result A E) (P Q R S T Z : Type 0) → (P → Q → R → S → T → Z) → OnOk r P → OnOk r Q → OnOk r R → OnOk r S → OnOk r T → OnOk r Z
+ok_five (Ok x) P Q R S T Z f p q r s t = f p q r s t
+ok_five (Err e) P Q R S T Z f p q r s t = tt
+
+-- Behind the push.
+
+module _ (store : PageStore) (flash' : FlashCache) (log : LogStore) (list : LogList) (old : State) (ready : AreReady store log list old) (geometry : flash'.geometry ≡ store.flash.geometry) where
+  abbrev h : Geometry
+  h = store.flash.geometry
+
+  pub fits_behind : (pages : List ℕ) (contents : List (List ℕ)) (new : State) (groups' : List (List Stored)) → held.Fits flash' new → IsQuiet new → held.Holds flash' new.image groups' → IsCleanOn h new.image
+      → Gives h pages contents old.image new.image → length contents ≡ length pages → AllByRecursion IsSound contents → AreChanged store pages → Fits (record store { flash = flash' }) new
+  fits_behind pages contents new groups' fits quiet holds clean gives lists sound changed = record {
+    flash = fits;
+    disk = quiet_settled Disk new quiet;
+    groups = groups';
+    holds = holds;
+    clean = subst (λ (k : Geometry). IsCleanOn k new.image) (sym geometry) clean;
+    sound = λ page exists. subst (λ (k : Geometry). IsSound (version_on k new.image page)) (sym geometry) (sound_version page (subst (λ (k : Geometry). page < k.pages) geometry exists));
+    unchanged = λ page frame found unchanged. subst (λ (k : Geometry). frame.content ≡ version_on k new.image page) (sym geometry) (kept page frame found unchanged (or_listed pages page));
+  }
+    where
+      sound_version : (page : ℕ) → page < h.pages → IsSound (version_on h new.image page)
+      sound_version page exists = elim (or_listed pages page) [
+        | inl there ↦ subst (λ n. IsSound (version_on h new.image n)) there.2 (subst IsSound (sym (gives.given there.0 there.1)) (sound_at contents there.0 [] sound (omega (arith, lists, there.1))))
+        | inr none ↦ subst IsSound (sym (gives.others page none)) (ready.pages.sound page exists)
+      ]
+
+      kept : (page : ℕ) (frame : Frame) → frame_of store.pool.frames page ≡ Some frame → frame.changed ≡ false → IsListed pages page ⊎ (Contains pages page → ⊥) → frame.content ≡ version_on h new.image page
+      kept page frame found unchanged (inl there) =
+          absurd (true≢false (sym (changed.each there.0 frame there.1 (ap (frame_of store.pool.frames) there.2 ∙ found)) ∙ unchanged))
+      kept page frame found unchanged (inr none) = ready.pages.unchanged page frame found unchanged ∙ sym (gives.others page none)
+
+-- The log behind a push.
+
+pub log_units_same : (g : Geometry) (old new : Image) → new.log ≡ old.log → KeepsUnits (log_shape g) old new
+log_units_same g old new same = record { units = ap (units_of (log_shape g)) same; form = λ form. subst (IsRing (log_shape g)) (sym same) form }
+
+-- what holds where there was an error holds of each error
+pub kept_where : {A E : Type 0} (r : Result A E) (e : E) (P : Type 0) → IsErrOf r e → OnErr r P → P
+kept_where (Ok x) e P says p = absurd cc
+kept_where (Err x) e P says p = p

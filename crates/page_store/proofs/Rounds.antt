@@ -1,0 +1,99 @@
+-- A flush, push by push.
+use Rattle.std.proofs.Common.{◌≡◌, ◌⊎◌, inl, inr, ℕ, ◌+◌, ◌*◌, ◌<◌, ◌≤◌, Bool, true, false, true≢false, ◌&&◌, ◌||◌, cond, List, [], ◌∷◌, ◌++◌, arith, refl, sym, ap, subst, ◌∙◌}
+use Rattle.std.specs.Prelude.{nat_lt}
+use Rattle.std.proofs.lemmas.Bool.Decides.{nat_tests}
+use Rattle.site.specs.declared.geometry.Geometry.{Geometry}
+use Rattle.site.specs.State.{State, Snapshot, snapshot_of}
+use Rattle.site.specs.Moments.{Leaves, LeavesOnly}
+use Rattle.site.specs.Laws.{in_sequence, leaves_weaker, holds_now}
+use Rattle.image_changes.specs.Rings.{shape_of}
+use Rattle.log_store.specs.LogList.{LogList, sealed_if}
+use Rattle.log_store.specs.Held.{HasBlocks, LeavesLog}
+use Rattle.page_store.specs.Leaves.{LeavesPages}
+use Rattle.page_store.proofs.PushLaws.{units_then}
+
+-- Blocks and tail: where there is one block more, there was a tail and is none.
+
+pub had_tail : (h0 h1 : ℕ) (t0 t1 : Bool) → 512 * (h1 + cond t1 1 0) ≡ 512 * (h0 + cond t0 1 0) → nat_lt h0 h1 ≡ true → t0 ≡ true
+had_tail h0 h1 true t1 end more = refl
+had_tail h0 h1 false true end more = absurd (grind (arith, nat_tests))
+had_tail h0 h1 false false end more = absurd (grind (arith, nat_tests))
+
+pub no_tail : (h0 h1 : ℕ) (t0 t1 : Bool) → 512 * (h1 + cond t1 1 0) ≡ 512 * (h0 + cond t0 1 0) → nat_lt h0 h1 ≡ true → t1 ≡ false
+no_tail h0 h1 t0 false end more = refl
+no_tail h0 h1 true true end more = absurd (grind (arith, nat_tests))
+no_tail h0 h1 false true end more = absurd (grind (arith, nat_tests))
+
+pub still_tail : (h0 h1 : ℕ) (t0 t1 : Bool) → 512 * (h1 + cond t1 1 0) ≡ 512 * (h0 + cond t0 1 0) → h0 ≤ h1 → t1 ≡ true → t0 ≡ true
+still_tail h0 h1 true t1 end rises is = refl
+still_tail h0 h1 false true end rises is = absurd (omega (arith, end, rises))
+still_tail h0 h1 false false end rises is = absurd cc
+
+pub risen : (h0 h1 h2 : ℕ) (forced : Bool) → h0 ≤ h1 → h2 ≡ cond forced (h1 + 1) h1 → nat_lt h0 h2 ≡ (nat_lt h0 h1 || forced)
+risen h0 h1 h2 true rises is = ap (nat_lt h0) is ∙ more ∙ sym (or_true (nat_lt h0 h1))
+  where
+    more : nat_lt h0 (h1 + 1) ≡ true
+    more = grind (arith, nat_tests)
+
+    or_true : (b : Bool) → (b || true) ≡ true
+    or_true true = refl
+    or_true false = refl
+risen h0 h1 h2 false rises is = ap (nat_lt h0) is ∙ sym (or_false (nat_lt h0 h1))
+  where
+    or_false : (b : Bool) → (b || false) ≡ b
+    or_false true = refl
+    or_false false = refl
+
+pub sealed_again : (list : LogList) (b forced : Bool) → (b ≡ true → forced ≡ false) → sealed_if forced (sealed_if b list) ≡ sealed_if (b || forced) list
+sealed_again list true true one = absurd (true≢false (one refl))
+sealed_again list true false one = refl
+sealed_again list false forced one = refl
+
+pub and_left : (a b : Bool) → (a && b) ≡ true → a ≡ true
+and_left true b is = refl
+and_left false b is = is
+
+pub not_forced : (a b : Bool) → a ≡ false → (a && b) ≡ false
+not_forced a b is = ap (λ t. t && b) is
+
+-- One push more.
+pub one_more_push : (g : Geometry) (given given' : ℕ → List ℕ) (wanted b forced : Bool) (list : LogList) (old mid new : State) → (b ≡ true → wanted ≡ true) → (forced ≡ true → wanted ≡ true) → (b ≡ true → forced ≡ false)
+    → ((page : ℕ) → page < g.pages → given' page ≡ given page) → LeavesOnly old mid (LeavesPages g given wanted list old) → LeavesOnly mid new (LeavesPages g given' forced (sealed_if b list) mid)
+    → LeavesOnly old new (LeavesPages g given wanted list old)
+one_more_push g given given' wanted b forced list old mid new had also once same first second =
+    in_sequence old mid new (Leaves (LeavesPages g given wanted list old)) first
+    (leaves_weaker mid new (LeavesPages g given' forced (sealed_if b list) mid) (LeavesPages g given wanted list old) (λ s p. record {
+      log = blocks s b refl p.log;
+      rings = λ ring is_log is_flash. units_then (shape_of g ring) old.image mid.image s.image (there.rings ring is_log is_flash) (p.rings ring is_log is_flash);
+      queue = p.queue;
+      clean = p.clean;
+      versions = λ page exists. elim (p.versions page exists) [
+        | inl kept ↦ elim (there.versions page exists) [
+          | inl before ↦ inl (kept ∙ before)
+          | inr own ↦ inr (kept ∙ own)
+        ]
+        | inr own ↦ inr (own ∙ same page exists)
+      ];
+    }) second)
+  where
+    there : LeavesPages g given wanted list old (snapshot_of mid)
+    there = holds_now old mid (LeavesPages g given wanted list old) first
+
+    blocks : (s : Snapshot) (c : Bool) → b ≡ c → LeavesLog g forced (sealed_if b list) mid.told s → LeavesLog g wanted list old.told s
+    blocks s c is log = record { told = log.told ∙ there.log.told; blocks = at c is (subst (λ (d : Bool). LeavesLog g forced (sealed_if d list) mid.told s) is log) }
+      where
+        at : (d : Bool) → b ≡ d → LeavesLog g forced (sealed_if d list) mid.told s → HasBlocks g list.first list.blocks s.image ⊎ ((wanted ≡ true) × HasBlocks g list.first (list.blocks ++ list.tail ∷ []) s.image)
+        at true is left = elim left.blocks [
+          | inl has ↦ inr (had is, has)
+          | inr both ↦ absurd (true≢false (sym both.0 ∙ once is))
+        ]
+        at false is left = elim left.blocks [
+          | inl has ↦ inl has
+          | inr both ↦ inr (also both.0, both.1)
+        ]
+
+-- where there is a tail, there is no block more
+pub kept_block : (h0 h1 : ℕ) (t0 t1 : Bool) → 512 * (h1 + cond t1 1 0) ≡ 512 * (h0 + cond t0 1 0) → h0 ≤ h1 → t1 ≡ true → h0 ≡ h1
+kept_block h0 h1 true true end rises is = omega (arith, end, rises)
+kept_block h0 h1 false true end rises is = absurd (omega (arith, end, rises))
+kept_block h0 h1 t0 false end rises is = absurd cc

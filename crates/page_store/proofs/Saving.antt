@@ -1,0 +1,225 @@
+-- The coldest changed pages are saved.
+use Rattle.std.proofs.Common.{◌≡◌, ◌≢◌, ℕ, zero, suc, ◌<◌, ◌≤◌, Bool, true, false, true≢false, ◌||◌, cond, List, [], ◌∷◌, ◌++◌, length, get_or, take, map, filter, reverse, replicate, Option, Some, None, is_some, arith, refl, sym, ap, subst, ◌∙◌, length-append}
+use Rattle.std.specs.Prelude.{IsSome, AllPairs}
+use Rattle.std.specs.List.{All, AllByRecursion, list_any}
+use Rattle.std.proofs.lemmas.Bool.{eq-eqb, ne_eqb}
+use Rattle.std.proofs.lemmas.List.{reverse-append, length-take}
+use Rattle.site.specs.State.{Image}
+use Rattle.flash_cache.specs.Held.{version_on}
+use Rattle.flash_cache.specs.Pushed.{known_given}
+use Rattle.flash_cache.specs.Kept.{AreCleanGiven}
+use Rattle.flash_cache.specs.declared.cache.FlashCache.{FlashCache}
+use Rattle.buffer_pool.specs.declared.frame.Frame.{Frame}
+use Rattle.buffer_pool.specs.Frames.{AreDistinct, frame_of}
+use Rattle.second_chance.specs.Queue.{frame_of as known_of}
+use Rattle.page_store.specs.declared.store.PageStore.{PageStore}
+use Rattle.page_store.specs.Held.{IsPage, content_by, current}
+use Rattle.page_store.specs.Caching.{pool_page}
+use Rattle.page_store.specs.Leaves.{AreGiven, AreChanged}
+use Rattle.page_store.specs.Flushing.{changed_frames, chosen, content_in, flushed_first}
+use Rattle.page_store.proofs.Choosing.{all_take, if_changed, changed_more, chosen_changed}
+
+-- lists
+
+pub all_index : {X : Type 0} (P : X → Type 0) (xs : List X) (k : ℕ) (d : X) → AllByRecursion P xs → k < length xs → P (get_or xs k d)
+all_index P [] k d all less = absurd (omega (arith, less))
+all_index P (x ∷ xs) zero d all less = all.0
+all_index P (x ∷ xs) (suc k) d all less = all_index P xs k d all.1 (omega (arith, less))
+
+pub all_both : {X : Type 0} (P Q R : X → Type 0) → ((x : X) → P x → Q x → R x) → (xs : List X) → AllByRecursion P xs → AllByRecursion Q xs → AllByRecursion R xs
+all_both P Q R join [] ps qs = tt
+all_both P Q R join (x ∷ xs) ps qs = (join x ps.0 qs.0, all_both P Q R join xs ps.1 qs.1)
+
+pub all_weaker : {X : Type 0} (P R : X → Type 0) → ((x : X) → P x → R x) → (xs : List X) → AllByRecursion P xs → AllByRecursion R xs
+all_weaker P R f [] ps = tt
+all_weaker P R f (x ∷ xs) ps = (f x ps.0, all_weaker P R f xs ps.1)
+
+pub all_map : {X Y : Type 0} (P : Y → Type 0) (f : X → Y) (xs : List X) → AllByRecursion (λ x. P (f x)) xs → AllByRecursion P (map f xs)
+all_map P f [] all = tt
+all_map P f (x ∷ xs) all = (all.0, all_map P f xs all.1)
+
+all_append : {X : Type 0} (P : X → Type 0) (xs ys : List X) → AllByRecursion P xs → AllByRecursion P ys → AllByRecursion P (xs ++ ys)
+all_append P [] ys all others = others
+all_append P (x ∷ xs) ys all others = (all.0, all_append P xs ys all.1 others)
+
+turned : {X : Type 0} (x : X) (xs : List X) → reverse (x ∷ xs) ≡ reverse xs ++ x ∷ []
+turned x xs = reverse-append (x ∷ []) xs
+
+all_reverse : {X : Type 0} (P : X → Type 0) (xs : List X) → AllByRecursion P xs → AllByRecursion P (reverse xs)
+all_reverse P [] all = tt
+all_reverse P (x ∷ xs) all = subst (AllByRecursion P) (sym (turned x xs)) (all_append P (reverse xs) (x ∷ []) (all_reverse P xs all.1) (all.0, tt))
+
+all_filter : {X : Type 0} (P : X → Type 0) (test : X → Bool) (xs : List X) → AllByRecursion P xs → AllByRecursion P (filter test xs)
+all_filter P test [] all = tt
+all_filter P test (x ∷ xs) all = by (test x) (all_filter P test xs all.1)
+  where
+    by : (b : Bool) → AllByRecursion P (filter test xs) → AllByRecursion P (cond b (x ∷ filter test xs) (filter test xs))
+    by true rest = (all.0, rest)
+    by false rest = rest
+
+pub all_chosen : (P : Frame → Type 0) (frames : List Frame) → AllByRecursion P frames → AllByRecursion P (chosen frames)
+all_chosen P frames all = all_take P 8 (changed_frames frames) (all_filter P (λ f. f.changed) (reverse frames) (all_reverse P frames all))
+
+-- each page once
+
+abbrev Others : Frame → List Frame → Type 0
+Others f fs = AllByRecursion (λ (other : Frame). f.page ≢ other.page) fs
+
+distinct_append : (xs : List Frame) (y : Frame) → AreDistinct xs → AllByRecursion (λ (x : Frame). x.page ≢ y.page) xs → AreDistinct (xs ++ y ∷ [])
+distinct_append [] y apart others = (tt, tt)
+distinct_append (x ∷ xs) y apart others = (all_append (λ (other : Frame). x.page ≢ other.page) xs (y ∷ []) apart.0 (others.0, tt), distinct_append xs y apart.1 others.1)
+
+distinct_reverse : (xs : List Frame) → AreDistinct xs → AreDistinct (reverse xs)
+distinct_reverse [] apart = tt
+distinct_reverse (x ∷ xs) apart =
+    subst AreDistinct (sym (turned x xs)) (distinct_append (reverse xs) x (distinct_reverse xs apart.1)
+    (all_reverse (λ (other : Frame). other.page ≢ x.page) xs (all_weaker (λ (other : Frame). x.page ≢ other.page) (λ (other : Frame). other.page ≢ x.page) (λ other ne same. ne (sym same)) xs apart.0)))
+
+distinct_filter : (test : Frame → Bool) (xs : List Frame) → AreDistinct xs → AreDistinct (filter test xs)
+distinct_filter test [] apart = tt
+distinct_filter test (x ∷ xs) apart = by (test x) (distinct_filter test xs apart.1)
+  where
+    by : (b : Bool) → AreDistinct (filter test xs) → AreDistinct (cond b (x ∷ filter test xs) (filter test xs))
+    by true rest = (all_filter (λ (other : Frame). x.page ≢ other.page) test xs apart.0, rest)
+    by false rest = rest
+
+distinct_take : (n : ℕ) (xs : List Frame) → AreDistinct xs → AreDistinct (take n xs)
+distinct_take zero xs apart = tt
+distinct_take (suc n) [] apart = tt
+distinct_take (suc n) (x ∷ xs) apart = (all_take (λ (other : Frame). x.page ≢ other.page) n xs apart.0, distinct_take n xs apart.1)
+
+pub distinct_chosen : (frames : List Frame) → AreDistinct frames → AreDistinct (chosen frames)
+distinct_chosen frames apart = distinct_take 8 (changed_frames frames) (distinct_filter (λ (f : Frame). f.changed) (reverse frames) (distinct_reverse frames apart))
+
+pub pages_apart : (xs : List Frame) → AreDistinct xs → AllPairs (λ (a b : ℕ). a ≢ b) (map (λ (f : Frame). f.page) xs)
+pages_apart [] apart i j d before within = absurd (omega (arith, within))
+pages_apart (x ∷ xs) apart zero zero d before within = absurd (omega (arith, before))
+pages_apart (x ∷ xs) apart zero (suc j) d before within =
+    all_index (λ (page : ℕ). x.page ≢ page) (map (λ (f : Frame). f.page) xs) j d (all_map (λ (page : ℕ). x.page ≢ page) (λ (f : Frame). f.page) xs apart.0) (omega (arith, within))
+pages_apart (x ∷ xs) apart (suc i) zero d before within = absurd (omega (arith, before))
+pages_apart (x ∷ xs) apart (suc i) (suc j) d before within = pages_apart xs apart.1 i j d (omega (arith, before)) (omega (arith, within))
+
+-- each frame is its page's
+
+pub found_all : (frames : List Frame) → AreDistinct frames → AllByRecursion (λ (f : Frame). frame_of frames f.page ≡ Some f) frames
+found_all [] apart = tt
+found_all (f ∷ fs) apart = (
+  ap (λ b. cond b (Some f) (frame_of fs f.page)) (eq-eqb f.page f.page refl),
+  all_both (λ (other : Frame). f.page ≢ other.page) (λ (other : Frame). frame_of fs other.page ≡ Some other) (λ (other : Frame). frame_of (f ∷ fs) other.page ≡ Some other)
+      (λ other ne found. ap (λ b. cond b (Some f) (frame_of fs other.page)) (ne_eqb f.page other.page ne) ∙ found) fs apart.0 (found_all fs apart.1),
+)
+
+pub found_chosen : (frames : List Frame) → AreDistinct frames → AllByRecursion (λ (f : Frame). frame_of frames f.page ≡ Some f) (chosen frames)
+found_chosen frames apart = all_chosen (λ (f : Frame). frame_of frames f.page ≡ Some f) frames (found_all frames apart)
+
+pub some_chosen : (frames : List Frame) → list_any (λ p. p.changed) (map pool_page frames) ≡ true → 1 ≤ length (chosen frames)
+some_chosen frames some = omega (arith, length-take 8 (changed_frames frames), some_changed frames some)
+  where
+    some_changed : (fs : List Frame) → list_any (λ p. p.changed) (map pool_page fs) ≡ true → 1 ≤ length (changed_frames fs)
+    some_changed [] some = absurd cc
+    some_changed (f ∷ fs) some = by f.changed refl some (some_changed fs)
+      where
+        by : (b : Bool) → f.changed ≡ b → (b || list_any (λ p. p.changed) (map pool_page fs)) ≡ true → (list_any (λ p. p.changed) (map pool_page fs) ≡ true → 1 ≤ length (changed_frames fs))
+            → 1 ≤ length (changed_frames (f ∷ fs))
+        by true is some rest = omega (arith, ap length (changed_more f fs ∙ ap (λ b. changed_frames fs ++ cond b (f ∷ []) []) is), length-append (changed_frames fs) (f ∷ []))
+        by false is some rest = omega (arith, rest some, ap length (changed_more f fs), length-append (changed_frames fs) (if_changed f))
+
+-- The pages of chosen frames, and what they have.
+
+module _ (frames : List Frame) (apart : AreDistinct frames) where
+  abbrev pages : List ℕ
+  pages = map (λ (f : Frame). f.page) (chosen frames)
+
+  pub pages_there : All (λ (page : ℕ). IsSome (frame_of frames page)) pages
+  pages_there k d less = all_index (λ (page : ℕ). IsSome (frame_of frames page)) pages k d
+      (all_map (λ (page : ℕ). IsSome (frame_of frames page)) (λ (f : Frame). f.page) (chosen frames)
+      (all_weaker (λ (f : Frame). frame_of frames f.page ≡ Some f) (λ (f : Frame). IsSome (frame_of frames f.page)) (λ f found. ap is_some found) (chosen frames) (found_chosen frames apart))) less
+
+  pub pages_exist : (most : ℕ) → AllByRecursion (IsPage most) frames → All (λ (page : ℕ). page < most) pages
+  pages_exist most all k d less = all_index (λ (page : ℕ). page < most) pages k d
+      (all_map (λ (page : ℕ). page < most) (λ (f : Frame). f.page) (chosen frames) (all_weaker (IsPage most) (λ (f : Frame). f.page < most) (λ f p. p.exists) (chosen frames) (all_chosen (IsPage most) frames all))) less
+
+  contents_each : (xs : List Frame) → AllByRecursion (λ (f : Frame). frame_of frames f.page ≡ Some f) xs → map (content_in frames) (map (λ (f : Frame). f.page) xs) ≡ map (λ (f : Frame). f.content) xs
+  contents_each [] all = refl
+  contents_each (x ∷ xs) all = λ i. content_by (all.0 i) [] ∷ contents_each xs all.1 i
+
+  pub contents_are : map (content_in frames) pages ≡ map (λ (f : Frame). f.content) (chosen frames)
+  contents_are = contents_each (chosen frames) (found_chosen frames apart)
+
+  pub contents_all : (P : List ℕ → Type 0) → AllByRecursion (λ (f : Frame). P f.content) frames → AllByRecursion P (map (content_in frames) pages)
+  contents_all P all = subst (AllByRecursion P) (sym contents_are) (all_map P (λ (f : Frame). f.content) (chosen frames) (all_chosen (λ (f : Frame). P f.content) frames all))
+
+  content_at : (xs : List ℕ) (k : ℕ) → k < length xs → get_or (map (content_in frames) xs) k [] ≡ content_in frames (get_or xs k 0)
+  content_at [] k less = absurd (omega (arith, less))
+  content_at (x ∷ xs) zero less = refl
+  content_at (x ∷ xs) (suc k) less = content_at xs k (omega (arith, less))
+
+  pub content_there : (k : ℕ) → k < length pages → get_or (map (content_in frames) pages) k [] ≡ content_in frames (get_or pages k 0)
+  content_there k less = content_at pages k less
+
+  pub changed_there : (k : ℕ) (frame : Frame) → k < length pages → frame_of frames (get_or pages k 0) ≡ Some frame → frame.changed ≡ true
+  changed_there k frame less found = all_index (λ (page : ℕ). (f : Frame) → frame_of frames page ≡ Some f → f.changed ≡ true) pages k 0
+      (all_map (λ (page : ℕ). (f : Frame) → frame_of frames page ≡ Some f → f.changed ≡ true) (λ (f : Frame). f.page) (chosen frames)
+      (all_both (λ (f : Frame). frame_of frames f.page ≡ Some f) (λ (f : Frame). f.changed ≡ true) (λ (f : Frame). (other : Frame) → frame_of frames f.page ≡ Some other → other.changed ≡ true)
+      (λ f own is other found. let same : f ≡ other = one f other (sym own ∙ found) in ap (λ (g : Frame). g.changed) (sym same) ∙ is) (chosen frames) (found_chosen frames apart) (chosen_changed frames)))
+      less frame found
+    where
+      one : (f other : Frame) → Some f ≡ Some other → f ≡ other
+      one f other same = cc
+
+pub given_there : (store : PageStore) (image : Image) (apart : AreDistinct store.pool.frames) → AreGiven (current store image) (pages store.pool.frames apart) (map (content_in store.pool.frames) (pages store.pool.frames apart))
+given_there store image apart = record {
+  each = λ k less. content_there store.pool.frames apart k less ∙ by (frame_of store.pool.frames (get_or (pages store.pool.frames apart) k 0)) (version_on store.flash.geometry image (get_or (pages store.pool.frames apart) k 0)) (pages_there store.pool.frames apart k 0 less);
+}
+  where
+    by : (o : Option Frame) (version : List ℕ) → IsSome o → content_by o [] ≡ content_by o version
+    by None version there = absurd cc
+    by (Some f) version there = refl
+
+-- all of them are changed
+
+pub all_true : (n : ℕ) → AllByRecursion (λ (b : Bool). b ≡ true) (take n (replicate 8 true))
+all_true n = all_take (λ (b : Bool). b ≡ true) n (replicate 8 true) (refl, (refl, (refl, (refl, (refl, (refl, (refl, (refl, tt))))))))
+
+pub clean_none : (cache : FlashCache) (pages : List ℕ) (changed : List Bool) (contents : List (List ℕ)) (image : Image) → length changed ≡ length pages → AllByRecursion (λ (b : Bool). b ≡ true) changed
+    → AreCleanGiven cache pages changed contents image
+clean_none cache pages changed contents image lists all k less unchanged = absurd (true≢false (sym (all_index (λ (b : Bool). b ≡ true) changed k false all (omega (arith, lists, less))) ∙ unchanged))
+
+pub known_changed : (pages : List ℕ) (changed : List Bool) → length changed ≡ length pages → AllByRecursion (λ (b : Bool). b ≡ true) changed → known_given pages changed ≡ map (λ page. known_of page true) pages
+known_changed [] [] lists all = refl
+known_changed [] (b ∷ bs) lists all = absurd (omega (arith, lists))
+known_changed (p ∷ ps) [] lists all = absurd (omega (arith, lists))
+known_changed (p ∷ ps) (b ∷ bs) lists all = λ i. known_of p (all.0 i) ∷ known_changed ps bs (omega (arith, lists)) all.1 i
+
+-- All that a push of them asks.
+
+pub record HasChosen (store : PageStore) (pages : List ℕ) (changed : List Bool) (contents : List (List ℕ)) : Type 0 where
+  pub given : (image : Image) → AreGiven (current store image) pages contents
+  pub clean : (image : Image) → AreCleanGiven store.flash pages changed contents image
+  pub are_changed : AreChanged store pages
+  pub there : All (λ (page : ℕ). IsSome (frame_of store.pool.frames page)) pages
+  pub each : (k : ℕ) → k < length pages → get_or contents k [] ≡ content_in store.pool.frames (get_or pages k 0)
+  pub first : contents ≡ flushed_first store
+
+pub has_chosen : (store : PageStore) (ps : List ℕ) (changed : List Bool) (contents : List (List ℕ)) → AreDistinct store.pool.frames → ps ≡ map (λ (f : Frame). f.page) (chosen store.pool.frames)
+    → contents ≡ map (content_in store.pool.frames) ps → length changed ≡ length ps → AllByRecursion (λ (b : Bool). b ≡ true) changed → HasChosen store ps changed contents
+has_chosen store ps changed contents apart is has lists all =
+    let own : List ℕ = pages store.pool.frames apart in
+    let frames = store.pool.frames in
+    subst (HasChosen store ps changed) (sym has) (record {
+      given = λ image. subst (λ l. AreGiven (current store image) l (map (content_in frames) l)) (sym is) (given_there store image apart);
+      clean = λ image. clean_none store.flash ps changed (map (content_in frames) ps) image lists all;
+      are_changed = subst (AreChanged store) (sym is) (record { each = λ k frame less found. changed_there frames apart k frame less found });
+      there = subst (All (λ (page : ℕ). IsSome (frame_of frames page))) (sym is) (pages_there frames apart);
+      each = λ k less. content_at_place frames ps k less;
+      first = ap (map (content_in frames)) is ∙ contents_are frames apart;
+    })
+  where
+    content_at_place : (frames : List Frame) (xs : List ℕ) (k : ℕ) → k < length xs → get_or (map (content_in frames) xs) k [] ≡ content_in frames (get_or xs k 0)
+    content_at_place frames [] k less = absurd (omega (arith, less))
+    content_at_place frames (x ∷ xs) zero less = refl
+    content_at_place frames (x ∷ xs) (suc k) less = content_at_place frames xs k (omega (arith, less))
+
+pub chosen_contents : (P : List ℕ → Type 0) (frames : List Frame) (ps : List ℕ) (contents : List (List ℕ)) → AreDistinct frames → ps ≡ map (λ (f : Frame). f.page) (chosen frames) → contents ≡ map (content_in frames) ps
+    → AllByRecursion (λ (f : Frame). P f.content) frames → AllByRecursion P contents
+chosen_contents P frames ps contents apart is has all = subst (AllByRecursion P) (sym (has ∙ ap (map (content_in frames)) is)) (contents_all frames apart P all)

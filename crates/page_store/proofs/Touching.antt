@@ -1,0 +1,114 @@
+-- A touch, of a page that is in the pool and of one that isn't.
+use Rattle.std.proofs.Common.{◌≡◌, ℕ, ◌≤◌, ◌==◌, Bool, true, false, not, ◌&&◌, cond, IsTrue, is_some, List, [], ◌∷◌, length, Some, None, refl, sym, ap, subst, ◌∙◌}
+use Rattle.std.specs.Prelude.{nat_le}
+use Rattle.std.specs.List.{AllByRecursion}
+use Rattle.std.proofs.lemmas.Option.{none-some}
+use Rattle.std.proofs.lemmas.List.{length-map}
+use Rattle.site.specs.State.{State}
+use Rattle.buffer_pool.specs.declared.frame.Frame.{Frame}
+use Rattle.buffer_pool.specs.Frames as pool
+use Rattle.buffer_pool.specs.Frames.{State as Pool, IsPool, frame_of}
+use Rattle.second_chance.specs.Queue.{has_frame}
+use Rattle.second_chance.specs.Machine.{Cache, holds, lacks_room, with_room, evict_coldest, finds, misses}
+use Rattle.log_store.specs.declared.store.LogStore.{LogStore}
+use Rattle.page_store.specs.declared.store.PageStore.{PageStore}
+use Rattle.page_store.specs.Held.{IsPage, MayGoOn, Fits}
+use Rattle.page_store.specs.Caching.{pool_page, cache_of, rules, is_full, is_pushed, with_way, pushes}
+use Rattle.page_store.specs.Ahead.{forces, evicted, pushed_for_room, pushed_by_touch}
+use Rattle.page_store.proofs.Pools.{is_held, not_held}
+use Rattle.page_store.proofs.Evictions.{not_forced}
+
+-- A page that isn't in the pool.
+module _ (store : PageStore) (page : ℕ) (none : frame_of store.pool.frames page ≡ None) where
+  unheld : holds (cache_of store).pool page ≡ false
+  unheld = not_held store.pool.frames page none
+
+  lacks : lacks_room (rules store) page (cache_of store) ≡ is_full store
+  lacks = ap (λ b. not b && nat_le store.pool.size (length (cache_of store).pool)) unheld ∙ ap (λ n. nat_le store.pool.size n) (length-map store.pool.frames pool_page)
+
+  pub way : with_way store ≡ with_room (rules store) page (cache_of store)
+  way = sym (ap (λ b. cond b (evict_coldest (rules store) (cache_of store)) (cache_of store)) lacks)
+
+  pub pushed_same : pushed_for_room store ≡ pushed_by_touch store page
+  pushed_same = sym (ap (λ b. cond b (evicted store) []) lacks)
+
+  pub pushes_same : (is_full store && is_pushed (cache_of store)) ≡ pushes (rules store) page (cache_of store)
+  pushes_same = ap (λ b. b && is_pushed (cache_of store)) (sym lacks)
+
+  pub finds_same : has_frame (with_way store).queue page ≡ finds (rules store) page (cache_of store)
+  finds_same = ap (λ (k : Cache). has_frame k.queue page) way ∙ sym (ap (λ b. not b && has_frame (with_room (rules store) page (cache_of store)).queue page) unheld)
+
+  pub misses_same : not (has_frame (with_way store).queue page) ≡ misses (rules store) page (cache_of store)
+  misses_same = ap (λ (k : Cache). not (has_frame k.queue page)) way ∙ sym (ap (λ b. not b && not (has_frame (with_room (rules store) page (cache_of store)).queue page)) unheld)
+
+  pub not_there : IsTrue (holds (cache_of store).pool page) → ⊥
+  not_there there = let is = sym there ∙ unheld in absurd cc
+
+abbrev pub count_if : Bool → ℕ
+count_if b = cond b 1 0
+
+abbrev pub count_unless : Bool → ℕ
+count_unless b = cond b 0 1
+
+pub other_count : (b : Bool) → count_unless b ≡ count_if (not b)
+other_count true = refl
+other_count false = refl
+
+-- One that is.
+module _ (store : PageStore) (page : ℕ) (frame : Frame) (found : frame_of store.pool.frames page ≡ Some frame) where
+  held : holds (cache_of store).pool page ≡ true
+  held = is_held store.pool.frames page ∙ ap is_some found
+
+  no_lack : lacks_room (rules store) page (cache_of store) ≡ false
+  no_lack = ap (λ b. not b && nat_le store.pool.size (length (cache_of store).pool)) held
+
+  pub nothing_forced : (log : LogStore) → forces log (pushed_by_touch store page) ≡ false
+  nothing_forced log = ap (forces log) (ap (λ b. cond b (evicted store) []) no_lack) ∙ not_forced log
+
+  pub nothing_pushed : pushes (rules store) page (cache_of store) ≡ false
+  nothing_pushed = ap (λ b. b && is_pushed (cache_of store)) no_lack
+
+-- The same frames in another order.
+
+all_without : (P : Frame → Type 0) (frames : List Frame) (page : ℕ) → AllByRecursion P frames → AllByRecursion P (pool.without frames page)
+all_without P [] page all = tt
+all_without P (frame ∷ frames) page all = by (frame.page == page) (all_without P frames page all.1)
+  where
+    by : (b : Bool) → AllByRecursion P (pool.without frames page) → AllByRecursion P (cond (not b) (frame ∷ pool.without frames page) (pool.without frames page))
+    by true rest = rest
+    by false rest = (all.0, rest)
+
+all_found : (P : Frame → Type 0) (frames : List Frame) (page : ℕ) (frame : Frame) → AllByRecursion P frames → frame_of frames page ≡ Some frame → P frame
+all_found P [] page frame all found = absurd (none-some frame found)
+all_found P (first ∷ frames) page frame all found = by (first.page == page) found (all_found P frames page frame all.1)
+  where
+    by : (b : Bool) → cond b (Some first) (frame_of frames page) ≡ Some frame → (frame_of frames page ≡ Some frame → P frame) → P frame
+    by true found rest = let is : first ≡ frame = cc in subst P is all.0
+    by false found rest = rest found
+
+pub all_touched : (P : Frame → Type 0) (frames : List Frame) (page : ℕ) (frame : Frame) → frame_of frames page ≡ Some frame → AllByRecursion P frames → AllByRecursion P (pool.touched frames page)
+all_touched P frames page frame found all =
+    subst (λ o. AllByRecursion P (pool.in_front o (pool.without frames page))) (sym found) (all_found P frames page frame all found, all_without P frames page all)
+
+pub order_fits : (store : PageStore) (pool : Pool) (site : State) → ((n : ℕ) → frame_of pool.frames n ≡ frame_of store.pool.frames n) → Fits store site → Fits (record store { pool = pool }) site
+order_fits store pool site same fits = record {
+  flash = fits.flash;
+  disk = fits.disk;
+  groups = fits.groups;
+  holds = fits.holds;
+  clean = fits.clean;
+  sound = fits.sound;
+  unchanged = λ page frame found unchanged. fits.unchanged page frame (sym (same page) ∙ found) unchanged;
+}
+
+pub pool_going : (store : PageStore) (pool : Pool) (site : State) → pool.size ≡ store.pool.size → IsPool pool → AllByRecursion (IsPage store.flash.geometry.pages) pool.frames → MayGoOn store site
+    → MayGoOn (record store { pool = pool }) site
+pool_going store pool site size is pages going = record {
+  flash = going.flash;
+  own = record {
+    least = subst (λ n. 1 ≤ n) (sym size) going.own.least;
+    most = subst (λ n. n ≤ 4096) (sym size) going.own.most;
+    pool = is;
+    pages = pages;
+  };
+}

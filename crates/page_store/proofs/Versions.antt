@@ -1,0 +1,84 @@
+-- The version of a page is read.
+use Rattle.std.proofs.Common.{◌≡◌, ℕ, ◌<◌, ◌==◌, Bool, true, false, ◌&&◌, ◌||◌, List, [], ◌∷◌, refl, sym, ap, subst, ◌∙◌}
+use Rattle.std.specs.List.{AllByRecursion}
+use Rattle.site.specs.declared.outside.Dev.TheVariants.{Log, Flash, Disk}
+use Rattle.site.specs.declared.geometry.Geometry.{Geometry}
+use Rattle.site.specs.State.{State, Image, Loose}
+use Rattle.site.specs.Calls.{Goes, IsUnchanged}
+use Rattle.sealed_ring.specs.Ring.{FitsIn}
+use Rattle.slotted_page.specs.Layout.{IsSound}
+use Rattle.second_chance.specs.declared.frame.Frame.{Frame as Known}
+use Rattle.second_chance.specs.Queue.{Queue, in_group, in_groups, has_frame, is_last, group_read, groups_read, with_read}
+use Rattle.flash_cache.specs.declared.cache.FlashCache.{FlashCache}
+use Rattle.flash_cache.specs.Held as held
+use Rattle.flash_cache.specs.Held.{version_on, IsCleanOn}
+use Rattle.page_store.specs.declared.store.PageStore.{PageStore}
+use Rattle.page_store.specs.Held.{IsPage, MayGoOn, Fits}
+
+-- a page without a frame leaves no mark
+group_same : (page : ℕ) (group : List Known) (later : List (List Known)) → in_group group page ≡ false → group_read page group later ≡ group
+group_same page [] later none = refl
+group_same page (frame ∷ behind) later none = by (frame.page == page) refl none (group_same page behind later)
+  where
+    or_false : (b : Bool) → (b || false) ≡ b
+    or_false true = refl
+    or_false false = refl
+
+    by : (b : Bool) → (frame.page == page) ≡ b → (b || in_group behind page) ≡ false → (in_group behind page ≡ false → group_read page behind later ≡ behind) → group_read page (frame ∷ behind) later ≡ frame ∷ behind
+    by true is none rest = absurd cc
+    by false is none rest =
+        let mark : (frame.referenced || (frame.page == page && is_last behind later frame)) ≡ frame.referenced = ap (λ b. frame.referenced || (b && is_last behind later frame)) is ∙ or_false frame.referenced in
+        λ i. (let f : Known = record frame { referenced = mark i } in f) ∷ rest none i
+
+groups_same : (page : ℕ) (groups : List (List Known)) → in_groups groups page ≡ false → groups_read page groups ≡ groups
+groups_same page [] none = refl
+groups_same page (group ∷ later) none = by (in_group group page) refl none (groups_same page later)
+  where
+    by : (b : Bool) → in_group group page ≡ b → (b || in_groups later page) ≡ false → (in_groups later page ≡ false → groups_read page later ≡ later) → groups_read page (group ∷ later) ≡ group ∷ later
+    by true is none rest = absurd cc
+    by false is none rest = λ i. group_same page group later is i ∷ rest none i
+
+pub read_same : (page : ℕ) (queue : Queue) → has_frame queue page ≡ false → with_read page queue ≡ queue
+read_same page queue none = λ i. record { first = queue.first; groups = groups_same page queue.groups none i }
+
+-- the cache goes on after any call
+pub flash_later : (cache : FlashCache) (old new : State) → Goes old new → held.MayGoOn cache old → held.MayGoOn cache new
+flash_later cache old new goes going = record {
+  limits = going.limits;
+  lengths = record { log = goes.sizes Log ∙ going.lengths.log; flash = goes.sizes Flash ∙ going.lengths.flash; disk = goes.sizes Disk ∙ going.lengths.disk };
+  usable = record { fits = subst (FitsIn cache.ring.shape) (sym (goes.sizes cache.ring.shape.dev)) going.usable.fits; bounded = going.usable.bounded };
+  shape = going.shape;
+  next = going.next;
+  few = going.few;
+  sizes = going.sizes;
+  exist = going.exist;
+}
+
+-- the store with another cache
+pub store_with : (store : PageStore) (cache : FlashCache) (old new : State) → cache.geometry ≡ store.flash.geometry → held.MayGoOn cache new → MayGoOn store old → MayGoOn (record store { flash = cache }) new
+store_with store cache old new geometry flash_going going = record {
+  flash = flash_going;
+  own = record {
+    least = going.own.least;
+    most = going.own.most;
+    pool = going.own.pool;
+    pages = subst (λ (h : Geometry). AllByRecursion (IsPage h.pages) store.pool.frames) (sym geometry) going.own.pages;
+  };
+}
+
+pub fits_with : (store : PageStore) (cache : FlashCache) (old new : State) (fits : Fits store old) → cache.geometry ≡ store.flash.geometry → IsUnchanged old new → held.Fits cache new → held.Holds cache new.image fits.groups
+    → Fits (record store { flash = cache }) new
+fits_with store cache old new fits geometry same flash holds = record {
+  flash = flash;
+  disk = ap (λ (l : Loose). l.disk) same.loose ∙ fits.disk;
+  groups = fits.groups;
+  holds = holds;
+  clean = subst (λ (h : Geometry). IsCleanOn h new.image) (sym geometry) (subst (IsCleanOn store.flash.geometry) (sym same.image) fits.clean);
+  sound = λ page exists. subst (λ (h : Geometry). IsSound (version_on h new.image page)) (sym geometry)
+      (subst (λ (i : Image). IsSound (version_on store.flash.geometry i page)) (sym same.image) (fits.sound page (subst (λ (h : Geometry). page < h.pages) geometry exists)));
+  unchanged = λ page frame found unchanged. fits.unchanged page frame found unchanged ∙ (λ i. version_on (sym geometry i) (sym same.image i) page);
+}
+
+-- the store goes on after any call on the site
+pub pages_later : (store : PageStore) (old new : State) → Goes old new → MayGoOn store old → MayGoOn store new
+pages_later store old new goes going = record { flash = flash_later store.flash old new goes going.flash; own = going.own }

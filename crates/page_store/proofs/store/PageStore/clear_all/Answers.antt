@@ -1,0 +1,34 @@
+use Rattle.std.proofs.Common.{◌≡◌, ℕ, ◌+◌, List, take, get_or, sym, ap, subst, ◌∙◌}
+use Rattle.std.specs.Prelude.{IsSome}
+use Rattle.std.proofs.lemmas.List.{take_more}
+use Rattle.buffer_pool.specs.declared.frame.Frame.{Frame}
+use Rattle.buffer_pool.specs.Frames.{State as Pool, frame_of, cleared}
+use Rattle.page_store.specs.declared.store.PageStore.{PageStore}
+use Rattle.page_store.specs.Flushing.{cleared_all}
+use Rattle.page_store.proofs.Clearing.{still_there, cleared_push}
+use Rattle.page_store.proofs.store.PageStore.clear_all.Goals as goal
+
+pub clear_changed-requires : goal.clear_changed-requires
+clear_changed-requires c =
+    let page = get_or c.args.pages.now c.loop-page.page-index 0 in
+    let frames = ap (λ (s : PageStore). s.pool.frames) c.loop-page.invariant.cleared in
+    subst (λ (l : List Frame). IsSome (frame_of l page)) (sym frames)
+    (still_there c.frames_of_pages.ensures.cleared (take c.loop-page.page-index c.args.pages.now) c.args.self.now.pool.frames page (c.requires.there c.loop-page.page-index 0 c.loop-page-test.true))
+
+pub loop-page-preserved : goal.loop-page-preserved
+loop-page-preserved c =
+    let pages = c.args.pages.now in
+    let k = c.loop-page.page-index in
+    let page = get_or pages k 0 in
+    let first = c.args.self.now in
+    let frames = first.pool.frames in
+    let so_far = c.loop-page.invariant.cleared in
+    let all : cleared (cleared_all (take k pages) frames) page ≡ cleared_all (take (k + 1) pages) frames =
+    sym (cleared_push (take k pages) page frames) ∙ ap (λ (ps : List ℕ). cleared_all ps frames) (sym (take_more pages k 0 c.loop-page-test.true)) in
+    let pool : c.clear_changed.new.self ≡ record first.pool { frames = cleared_all (take (k + 1) pages) frames } =
+    c.clear_changed.ensures.after ∙ ap (λ (s : PageStore). let p : Pool = record s.pool { frames = cleared s.pool.frames page } in p) so_far
+    ∙ ap (λ (l : List Frame). let p : Pool = record first.pool { frames = l } in p) all in
+    record {
+      cleared = λ i. let s : PageStore = record { alloc = (so_far i).alloc; pool = pool i; flash = (so_far i).flash; ended = (so_far i).ended } in s;
+      pool = c.clear_changed.ensures.pool;
+    }

@@ -1,0 +1,153 @@
+use Rattle.std.proofs.Common.{◌≡◌, true, false, ℕ, zero, suc, List, [], ◌∷◌, ◌++◌, map, sym, subst, ◌∙◌, ap, arith}
+use Rattle.std.specs.List.{AllByRecursion}
+use Rattle.site.specs.Moments.{LeavesOnly}
+use Rattle.buffer_pool.specs.declared.frame.Frame.{Frame}
+use Rattle.buffer_pool.specs.Frames.{State as Pool, AreDistinct}
+use Rattle.second_chance.specs.Machine.{Cache, must_be_pushed, evict_coldest}
+use Rattle.log_store.specs.LogList.{sealed_if}
+use Rattle.page_store.specs.Held.{current}
+use Rattle.page_store.specs.Caching.{pool_page, cache_of, rules as rules_for}
+use Rattle.page_store.specs.Ahead.{IsLogged, end_forced, forces, evicted}
+use Rattle.page_store.specs.Leaves.{AreReady, LeavesPages, KeepsCurrent}
+use Rattle.page_store.proofs.PushLaws.{ok_then}
+use Rattle.page_store.proofs.Evictions.{stays_pages, stays_sealed, rest_kept, rest_ready, rest_going, last_page, one_evicted, last_given, last_clean, last_changed, last_current, rest_logged, last_logged, evicts_pushed}
+use Rattle.page_store.proofs.store.PageStore.evict.Goals as goal
+
+pub returns-in_default-clause-any_moment : goal.returns-in_default-clause-any_moment
+returns-in_default-clause-any_moment g c list ready = stays_pages c.args.self.now c.args.log.now _ _ list (g.S.Site.state c.args.site.now) c.requires.sizes ready
+
+pub returns-in_default-clause-ahead_moment : goal.returns-in_default-clause-ahead_moment
+returns-in_default-clause-ahead_moment g c list ready ahead = stays_sealed _ (g.S.Site.state c.args.site.now) ready.quiet ahead.versions
+
+pub returns-then-not-must_be_pushed-clause-any_moment : goal.returns-then-not-must_be_pushed-clause-any_moment
+returns-then-not-must_be_pushed-clause-any_moment g c list ready = stays_pages c.args.self.now c.args.log.now _ _ list (g.S.Site.state c.args.site.now) c.requires.sizes ready
+
+pub returns-then-not-must_be_pushed-clause-ahead_moment : goal.returns-then-not-must_be_pushed-clause-ahead_moment
+returns-then-not-must_be_pushed-clause-ahead_moment g c list ready ahead = stays_sealed _ (g.S.Site.state c.args.site.now) ready.quiet ahead.versions
+
+pub returns-then-not-must_be_pushed-clause-ready : goal.returns-then-not-must_be_pushed-clause-ready
+returns-then-not-must_be_pushed-clause-ready g c list ready =
+    let store = c.args.self.now in
+    let rest : Pool = c.take_coldest.new.self in
+    let last : Frame = record { page = c.in-Some.page; changed = c.in-Some.changed; content = c.in-Some.content } in
+    let is : store.pool.frames ≡ rest.frames ++ last ∷ [] = c.in-Some.ensures.some in
+    let one = c.frames_of_pages.ensures.last rest.frames last (subst AreDistinct is c.requires.going.own.pool.distinct) in
+    let must : must_be_pushed store.flash.directory (pool_page last) ≡ false = sym c.must_be_pushed.ensures ∙ c.if-not-must_be_pushed.true in
+    rest_kept store rest last is one c.args.log.now list (g.S.Site.state c.args.site.now) must ready
+
+pub returns-then-not-must_be_pushed-clause-ahead : goal.returns-then-not-must_be_pushed-clause-ahead
+returns-then-not-must_be_pushed-clause-ahead g c ahead =
+    let store = c.args.self.now in
+    let rest : Pool = c.take_coldest.new.self in
+    let last : Frame = record { page = c.in-Some.page; changed = c.in-Some.changed; content = c.in-Some.content } in
+    let is : store.pool.frames ≡ rest.frames ++ last ∷ [] = c.in-Some.ensures.some in
+    let one = c.frames_of_pages.ensures.last rest.frames last (subst AreDistinct is c.requires.going.own.pool.distinct) in
+    rest_logged store rest last is one (end_forced c.args.log.now) ahead.pool
+
+pub returns-then-not-must_be_pushed-clause-going : goal.returns-then-not-must_be_pushed-clause-going
+returns-then-not-must_be_pushed-clause-going g c =
+    let store = c.args.self.now in
+    let rest : Pool = c.take_coldest.new.self in
+    let last : Frame = record { page = c.in-Some.page; changed = c.in-Some.changed; content = c.in-Some.content } in
+    let is : store.pool.frames ≡ rest.frames ++ last ∷ [] = c.in-Some.ensures.some in
+    let one = c.frames_of_pages.ensures.last rest.frames last (subst AreDistinct is c.requires.going.own.pool.distinct) in
+    rest_going store rest last is one (g.S.Site.state c.args.site.now) c.take_coldest.ensures.size c.requires.going
+
+pub push-requires-clause-going : goal.push-requires-clause-going
+push-requires-clause-going g c =
+    let store = c.args.self.now in
+    let rest : Pool = c.take_coldest.new.self in
+    let last : Frame = record { page = c.in-Some.page; changed = c.in-Some.changed; content = c.in-Some.content } in
+    let is : store.pool.frames ≡ rest.frames ++ last ∷ [] = c.in-Some.ensures.some in
+    let one = c.frames_of_pages.ensures.last rest.frames last (subst AreDistinct is c.requires.going.own.pool.distinct) in
+    rest_going store rest last is one (g.S.Site.state c.args.site.now) c.take_coldest.ensures.size c.requires.going
+
+pub push-requires-clause-exist : goal.push-requires-clause-exist
+push-requires-clause-exist g c zero d less =
+    let store = c.args.self.now in
+    let rest : Pool = c.take_coldest.new.self in
+    let last : Frame = record { page = c.in-Some.page; changed = c.in-Some.changed; content = c.in-Some.content } in
+    let is : store.pool.frames ≡ rest.frames ++ last ∷ [] = c.in-Some.ensures.some in
+    let one = c.frames_of_pages.ensures.last rest.frames last (subst AreDistinct is c.requires.going.own.pool.distinct) in
+    (last_page store rest last is one c.requires.going.own).exists
+push-requires-clause-exist g c (suc k) d less = absurd (omega (arith, less))
+
+pub returns-clause-any_moment : goal.returns-clause-any_moment
+returns-clause-any_moment g c list ready =
+    let store = c.args.self.now in
+    let log = c.args.log.now in
+    let old = g.S.Site.state c.args.site.now in
+    let new = g.S.Site.state c.push.new.site in
+    let rest : Pool = c.take_coldest.new.self in
+    let last : Frame = record { page = c.in-Some.page; changed = c.in-Some.changed; content = c.in-Some.content } in
+    let is : store.pool.frames ≡ rest.frames ++ last ∷ [] = c.in-Some.ensures.some in
+    let one = c.frames_of_pages.ensures.last rest.frames last (subst AreDistinct is c.requires.going.own.pool.distinct) in
+    let must : must_be_pushed store.flash.directory (pool_page last) ≡ true = sym c.must_be_pushed.ensures ∙ c.if-not-must_be_pushed.false in
+    subst (λ (contents : List (List ℕ)). LeavesOnly old new (LeavesPages store.flash.geometry (current store old.image) (forces log contents) list old)) (one_evicted store rest last is one must)
+    (c.push.ensures.any_moment list (current store old.image) (rest_ready store rest last is one log list old ready) (last_given store rest last is one old.image)
+    (last_clean store rest last is one c.unframed_is_disk.ensures old ready.pages must))
+
+pub returns-clause-ahead_moment : goal.returns-clause-ahead_moment
+returns-clause-ahead_moment g c list ready ahead =
+    let store = c.args.self.now in
+    let log = c.args.log.now in
+    let old = g.S.Site.state c.args.site.now in
+    let rest : Pool = c.take_coldest.new.self in
+    let last : Frame = record { page = c.in-Some.page; changed = c.in-Some.changed; content = c.in-Some.content } in
+    let is : store.pool.frames ≡ rest.frames ++ last ∷ [] = c.in-Some.ensures.some in
+    let one = c.frames_of_pages.ensures.last rest.frames last (subst AreDistinct is c.requires.going.own.pool.distinct) in
+    c.push.ensures.ahead_moment list (rest_ready store rest last is one log list old ready) ahead.versions (last_logged store rest last is one (end_forced log) ahead.pool, tt)
+
+pub returns-clause-ready : goal.returns-clause-ready
+returns-clause-ready g c list ready =
+    let store = c.args.self.now in
+    let log = c.args.log.now in
+    let old = g.S.Site.state c.args.site.now in
+    let new = g.S.Site.state c.push.new.site in
+    let rest : Pool = c.take_coldest.new.self in
+    let last : Frame = record { page = c.in-Some.page; changed = c.in-Some.changed; content = c.in-Some.content } in
+    let is : store.pool.frames ≡ rest.frames ++ last ∷ [] = c.in-Some.ensures.some in
+    let one = c.frames_of_pages.ensures.last rest.frames last (subst AreDistinct is c.requires.going.own.pool.distinct) in
+    let must : must_be_pushed store.flash.directory (pool_page last) ≡ true = sym c.must_be_pushed.ensures ∙ c.if-not-must_be_pushed.false in
+    ok_then c.push.result _ (AreReady c.push.new.self c.push.new.log (sealed_if (forces log (evicted store)) list) new)
+    (λ ready'. subst (λ (contents : List (List ℕ)). AreReady c.push.new.self c.push.new.log (sealed_if (forces log contents) list) new) (one_evicted store rest last is one must) ready')
+    (c.push.ensures.ready list (rest_ready store rest last is one log list old ready) (last_clean store rest last is one c.unframed_is_disk.ensures old ready.pages must)
+    ((last_page store rest last is one c.requires.going.own).sound, tt) (last_changed store rest last is one))
+
+pub returns-clause-current : goal.returns-clause-current
+returns-clause-current g c list ready =
+    let store = c.args.self.now in
+    let log = c.args.log.now in
+    let old = g.S.Site.state c.args.site.now in
+    let new = g.S.Site.state c.push.new.site in
+    let rest : Pool = c.take_coldest.new.self in
+    let last : Frame = record { page = c.in-Some.page; changed = c.in-Some.changed; content = c.in-Some.content } in
+    let is : store.pool.frames ≡ rest.frames ++ last ∷ [] = c.in-Some.ensures.some in
+    let one = c.frames_of_pages.ensures.last rest.frames last (subst AreDistinct is c.requires.going.own.pool.distinct) in
+    ok_then c.push.result _ (KeepsCurrent store old.image c.push.new.self new.image)
+    (λ gives. last_current store rest last is one c.push.new.self old.image new.image c.push.ensures.pool c.push.ensures.geometry gives)
+    (c.push.ensures.gives list (rest_ready store rest last is one log list old ready))
+
+pub returns-clause-ahead : goal.returns-clause-ahead
+returns-clause-ahead g c ahead =
+    let store = c.args.self.now in
+    let rest : Pool = c.take_coldest.new.self in
+    let last : Frame = record { page = c.in-Some.page; changed = c.in-Some.changed; content = c.in-Some.content } in
+    let is : store.pool.frames ≡ rest.frames ++ last ∷ [] = c.in-Some.ensures.some in
+    let one = c.frames_of_pages.ensures.last rest.frames last (subst AreDistinct is c.requires.going.own.pool.distinct) in
+    ok_then c.push.result _ (AllByRecursion (λ (frame : Frame). IsLogged (end_forced c.push.new.log) frame.content) c.push.new.self.pool.frames)
+    (λ end. subst (λ (p : Pool). AllByRecursion (λ (frame : Frame). IsLogged (end_forced c.push.new.log) frame.content) p.frames) (sym c.push.ensures.pool)
+    (subst (λ (e : ℕ). AllByRecursion (λ (frame : Frame). IsLogged e frame.content) rest.frames) (sym end) (rest_logged store rest last is one (end_forced c.args.log.now) ahead.pool)))
+    c.push.ensures.end
+
+pub returns-clause-machine : goal.returns-clause-machine
+returns-clause-machine g c =
+    let store = c.args.self.now in
+    let rest : Pool = c.take_coldest.new.self in
+    let last : Frame = record { page = c.in-Some.page; changed = c.in-Some.changed; content = c.in-Some.content } in
+    let is : store.pool.frames ≡ rest.frames ++ last ∷ [] = c.in-Some.ensures.some in
+    let must : must_be_pushed store.flash.directory (pool_page last) ≡ true = sym c.must_be_pushed.ensures ∙ c.if-not-must_be_pushed.false in
+    let queue = c.push.new.self.flash.directory in
+    ok_then c.push.result _ (cache_of c.push.new.self ≡ evict_coldest (rules_for store) (cache_of store))
+    (λ after. ap (λ (p : Pool). let k : Cache = record { pool = map pool_page p.frames; queue = queue } in k) c.push.ensures.pool ∙ evicts_pushed store rest.frames last queue is must after)
+    c.push.ensures.directory

@@ -1,0 +1,204 @@
+use Rattle.std.proofs.Common.{◌≡◌, ℕ, Bool, ◌+◌, true, false, refl, sym, ap, subst, ◌∙◌, arith}
+use Rattle.std.specs.Prelude.{nat_lt, map, ◌||◌, if◌then◌else◌}
+use Rattle.std.proofs.lemmas.Bool.{true≢false}
+use Rattle.std.proofs.lemmas.Bool.Decides.{nat_tests}
+use Rattle.site.specs.declared.geometry.Geometry.{Geometry}
+use Rattle.site.specs.Moments.{Leaves, LeavesOnly}
+use Rattle.site.specs.Laws.{in_sequence, holds_now, goes_in_sequence, goes_nowhere}
+use Rattle.second_chance.specs.Machine.{Rules, rules_of, Cache, push_changed, flushed, wants_flush}
+use Rattle.second_chance.specs.Laws.{changed_count}
+use Rattle.log_store.specs.LogList.{LogList, sealed_if}
+use Rattle.log_store.specs.Held.{has_tail}
+use Rattle.page_store.specs.declared.store.PageStore.{PageStore}
+use Rattle.page_store.specs.Held.{current}
+use Rattle.page_store.specs.Caching.{cache_of, rules as rules_for}
+use Rattle.page_store.specs.Ahead.{IsAhead, AreSealed, LeavesSealed, forces, is_unsealed, end_now}
+use Rattle.page_store.specs.Leaves.{AreReady, LeavesPages}
+use Rattle.buffer_pool.specs.declared.frame.Frame.{Frame}
+use Rattle.page_store.specs.Flushing.{flushed_first, flushed_contents, changed_frames}
+use Rattle.page_store.proofs.Unsealed.{next_round, nothing_forced, risen_to, forced_by_first, or_first, or_second}
+use Rattle.page_store.proofs.Evictions.{stays_pages, stays_sealed}
+use Rattle.page_store.proofs.Bringing.{current_again}
+use Rattle.page_store.proofs.Rounds.{kept_block, no_tail, risen, sealed_again, and_left, not_forced, one_more_push}
+use Rattle.page_store.proofs.store.PageStore.push_all_changed.Goals as goal
+
+pub loop-self-init : goal.loop-self-init
+loop-self-init g c =
+    let site = g.S.Site.state c.args.site.now in
+    let store = c.args.self.now in
+    let log = c.args.log.now in
+    let none : nat_lt log.ring.hi log.ring.hi ≡ false = grind (arith, nat_tests) in
+    record {
+      moment = λ list ready. stays_pages store log (current store site.image) (forces log (flushed_contents store)) list site c.requires.sizes ready;
+      ahead_moment = λ list ready ahead. stays_sealed store.flash.geometry site ready.quiet ahead.versions;
+      ready = λ list ready. subst (λ (b : Bool). AreReady store log (sealed_if b list) site) (sym none) ready;
+      current = λ list ready. record { each = λ page exists. refl };
+      ahead = λ ahead. ahead;
+      forced = sym (ap (λ (t : Bool). t || forces log (flushed_contents store)) none);
+      untouched = λ wants past. refl;
+      machine = refl;
+      size = refl;
+      geometry = refl;
+      ended = refl;
+      going = c.requires.going;
+      log_going = c.requires.log_going;
+      log_geometry = refl;
+      kept = refl;
+      room = c.requires.room;
+      end = refl;
+      rises = omega arith;
+      goes = goes_nowhere site;
+      reads = omega arith;
+      others = λ d ne. refl;
+    }
+
+pub returns-in-Err-clause-any_moment : goal.returns-in-Err-clause-any_moment
+returns-in-Err-clause-any_moment g c list ready =
+    let old = g.S.Site.state c.args.site.now in
+    let mid = g.S.Site.state c.loop-self.site in
+    let new = g.S.Site.state c.push_changed.new.site in
+    let first = c.args.self.now in
+    let store = c.loop-self.self in
+    let log0 = c.args.log.now in
+    let log = c.loop-self.log in
+    let inv = c.loop-self.invariant in
+    let h = first.flash.geometry in
+    let b : Bool = nat_lt log0.ring.hi log.ring.hi in
+    let forced : Bool = forces log (flushed_first store) in
+    let list' = sealed_if b list in
+    let there = inv.ready list ready in
+    let once = λ (is : b ≡ true). not_forced (has_tail log) _ (no_tail log0.ring.hi log.ring.hi (has_tail log0) (has_tail log) inv.end is) in
+    let had = λ (is : b ≡ true). inv.forced ∙ or_first b _ is in
+    let also = λ (is : forced ≡ true). inv.forced ∙ or_second b _ (forced_by_first (has_tail log) (is_unsealed (end_now log)) store.pool.frames is) in
+    one_more_push h (current first old.image) (current store mid.image) (forces log0 (flushed_contents first)) b forced list old mid new had also once (inv.current list ready).each (inv.moment list ready)
+    (subst (λ (k : Geometry). LeavesOnly mid new (LeavesPages k (current store mid.image) forced list' mid)) inv.geometry (c.push_changed.ensures.any_moment list' there))
+
+pub returns-in-Err-clause-ahead_moment : goal.returns-in-Err-clause-ahead_moment
+returns-in-Err-clause-ahead_moment g c list ready ahead =
+    let old = g.S.Site.state c.args.site.now in
+    let mid = g.S.Site.state c.loop-self.site in
+    let new = g.S.Site.state c.push_changed.new.site in
+    let first = c.args.self.now in
+    let store = c.loop-self.self in
+    let log0 = c.args.log.now in
+    let log = c.loop-self.log in
+    let inv = c.loop-self.invariant in
+    let h = first.flash.geometry in
+    let b : Bool = nat_lt log0.ring.hi log.ring.hi in
+    let forced : Bool = forces log (flushed_first store) in
+    let sealed = inv.ahead_moment list ready ahead in
+    let here : IsAhead log store mid.image = record { pool = inv.ahead ahead.pool; versions = subst (λ (k : Geometry). AreSealed k mid.image) (sym inv.geometry) (holds_now old mid (LeavesSealed h) sealed) } in
+    in_sequence old mid new (Leaves (LeavesSealed h)) sealed
+    (subst (λ (k : Geometry). LeavesOnly mid new (LeavesSealed k)) inv.geometry (c.push_changed.ensures.ahead_moment (sealed_if b list) (inv.ready list ready) here))
+
+pub returns-in-Err-clause-reads : goal.returns-in-Err-clause-reads
+returns-in-Err-clause-reads g c =
+    let store = c.loop-self.self in
+    let wants : wants_flush (cache_of store) ≡ true = sym c.has_changed.ensures ∙ c.loop-self-test.true in
+    let saves = c.flushes_save_all.ensures.saves_a_page (rules_for store) (cache_of store) wants in
+    omega (arith, c.loop-self.invariant.reads, c.push_changed.ensures.reads, saves)
+
+pub loop-self-smaller : goal.loop-self-smaller
+loop-self-smaller g c =
+    let store = c.loop-self.self in
+    let wants : wants_flush (cache_of store) ≡ true = sym c.has_changed.ensures ∙ c.loop-self-test.true in
+    let saves = c.flushes_save_all.ensures.saves_a_page (rules_for store) (cache_of store) wants in
+    let count = ap (λ (k : Cache). changed_count k.pool) c.in_default.ensures.machine in
+    omega (arith, saves, count)
+
+pub returns-clause-machine : goal.returns-clause-machine
+returns-clause-machine g c =
+    let store = c.loop-self.self in
+    let none : wants_flush (cache_of store) ≡ false = sym c.has_changed.ensures ∙ c.loop-self-test.false in
+    sym (c.loop-self.invariant.machine ∙ (c.flushes_save_all.ensures.ends (rules_for c.args.self.now) (cache_of store) none).0)
+
+pub loop-self-preserved : goal.loop-self-preserved
+loop-self-preserved g c =
+    let old = g.S.Site.state c.args.site.now in
+    let mid = g.S.Site.state c.loop-self.site in
+    let new = g.S.Site.state c.push_changed.new.site in
+    let first = c.args.self.now in
+    let store = c.loop-self.self in
+    let log0 = c.args.log.now in
+    let log = c.loop-self.log in
+    let inv = c.loop-self.invariant in
+    let h = first.flash.geometry in
+    let b : Bool = nat_lt log0.ring.hi log.ring.hi in
+    let forced : Bool = forces log (flushed_first store) in
+    let wants : wants_flush (cache_of store) ≡ true = sym c.has_changed.ensures ∙ c.loop-self-test.true in
+    let saves = c.flushes_save_all.ensures.saves_a_page (rules_for store) (cache_of store) wants in
+    let count = ap (λ (k : Cache). changed_count k.pool) c.in_default.ensures.machine in
+    let same : rules_for store ≡ rules_for first = λ i. rules_of (inv.size i) (inv.geometry i).groups in
+    let once = λ (is : b ≡ true). not_forced (has_tail log) _ (no_tail log0.ring.hi log.ring.hi (has_tail log0) (has_tail log) inv.end is) in
+    let now : nat_lt log0.ring.hi c.push_changed.new.log.ring.hi ≡ (b || forced) = risen log0.ring.hi log.ring.hi c.push_changed.new.log.ring.hi forced inv.rises c.in_default.ensures.next in
+    record {
+      moment = λ list ready.
+          let list' = sealed_if b list in
+          let there = inv.ready list ready in
+          let once = λ (is : b ≡ true). not_forced (has_tail log) _ (no_tail log0.ring.hi log.ring.hi (has_tail log0) (has_tail log) inv.end is) in
+          let had = λ (is : b ≡ true). inv.forced ∙ or_first b _ is in
+          let also = λ (is : forced ≡ true). inv.forced ∙ or_second b _ (forced_by_first (has_tail log) (is_unsealed (end_now log)) store.pool.frames is) in
+          one_more_push h (current first old.image) (current store mid.image) (forces log0 (flushed_contents first)) b forced list old mid new had also once (inv.current list ready).each (inv.moment list ready)
+          (subst (λ (k : Geometry). LeavesOnly mid new (LeavesPages k (current store mid.image) forced list' mid)) inv.geometry (c.push_changed.ensures.any_moment list' there));
+      ahead_moment = λ list ready ahead.
+          let sealed = inv.ahead_moment list ready ahead in
+          let here : IsAhead log store mid.image = record { pool = inv.ahead ahead.pool; versions = subst (λ (k : Geometry). AreSealed k mid.image) (sym inv.geometry) (holds_now old mid (LeavesSealed h) sealed) } in
+          in_sequence old mid new (Leaves (LeavesSealed h)) sealed
+          (subst (λ (k : Geometry). LeavesOnly mid new (LeavesSealed k)) inv.geometry (c.push_changed.ensures.ahead_moment (sealed_if b list) (inv.ready list ready) here));
+      ready = λ list ready.
+          subst (λ (l : LogList). AreReady c.push_changed.new.self c.push_changed.new.log l new) (sealed_again list b forced once ∙ ap (λ (t : Bool). sealed_if t list) (sym now))
+          (c.in_default.ensures.ready (sealed_if b list) (inv.ready list ready));
+      current = λ list ready. current_again first store c.push_changed.new.self old.image mid.image new.image inv.geometry (inv.current list ready) (c.in_default.ensures.current (sealed_if b list) (inv.ready list ready));
+      ahead = λ ahead. c.in_default.ensures.ahead (inv.ahead ahead);
+      forced = inv.forced
+          ∙ next_round is_unsealed store.pool.frames inv.going.own.pool.distinct b (has_tail log) (has_tail c.push_changed.new.log) log.ring.hi c.push_changed.new.log.ring.hi c.in_default.ensures.next c.in_default.ensures.end
+          ∙ (λ i. sym now i || forces c.push_changed.new.log (map (λ (f : Frame). f.content) (changed_frames (sym c.in_default.ensures.frames i))));
+      untouched = λ some past. absurd (c.in_default.ensures.never_past (ap (λ (s : PageStore). s.flash.ring.hi) (inv.untouched some past) ∙ past));
+      machine = inv.machine ∙ (c.flushes_save_all.ensures.goes_on (rules_for first) (cache_of store) wants).0
+          ∙ ap (flushed (rules_for first)) (ap (λ (r : Rules). push_changed r (cache_of store)) (sym same) ∙ sym c.in_default.ensures.machine);
+      size = c.push_changed.ensures.size ∙ inv.size;
+      geometry = c.push_changed.ensures.geometry ∙ inv.geometry;
+      ended = c.push_changed.ensures.ended ∙ inv.ended;
+      going = c.push_changed.ensures.going;
+      log_going = c.push_changed.ensures.log_going;
+      log_geometry = c.push_changed.ensures.log_geometry ∙ inv.log_geometry;
+      kept = c.push_changed.ensures.kept ∙ inv.kept;
+      room = c.in_default.ensures.room;
+      end = c.in_default.ensures.end ∙ inv.end;
+      rises = omega (arith, inv.rises, c.push_changed.ensures.rises);
+      goes = goes_in_sequence old mid new inv.goes c.push_changed.ensures.goes;
+      reads = omega (arith, inv.reads, c.push_changed.ensures.reads, saves, count);
+      others = λ d ne. c.push_changed.ensures.others d ne ∙ inv.others d ne;
+    }
+
+pub returns-clause-never_past : goal.returns-clause-never_past
+returns-clause-never_past g c some past =
+    let none : wants_flush (cache_of c.loop-self.self) ≡ false = sym c.has_changed.ensures ∙ c.loop-self-test.false in
+    true≢false (sym some ∙ sym (ap (λ (s : PageStore). wants_flush (cache_of s)) (c.loop-self.invariant.untouched some past)) ∙ none)
+
+pub returns-clause-next : goal.returns-clause-next
+returns-clause-next g c =
+    let store = c.loop-self.self in
+    let log0 = c.args.log.now in
+    let log = c.loop-self.log in
+    let inv = c.loop-self.invariant in
+    let none : wants_flush (cache_of store) ≡ false = sym c.has_changed.ensures ∙ c.loop-self-test.false in
+    let b : Bool = nat_lt log0.ring.hi log.ring.hi in
+    let is : forces log0 (flushed_contents c.args.self.now) ≡ b = inv.forced ∙ ap (λ (t : Bool). b || t) (nothing_forced (has_tail log) (is_unsealed (end_now log)) store.pool.frames none) ∙ or_false b in
+    risen_to log0.ring.hi log.ring.hi (has_tail log0) (has_tail log) inv.end inv.rises ∙ ap {B = ℕ} (λ (t : Bool). if t then log0.ring.hi + 1 else log0.ring.hi) (sym is)
+  where
+    or_false : (t : Bool) → (t || false) ≡ t
+    or_false true = refl
+    or_false false = refl
+
+pub returns-in-Err-clause-worn_log : goal.returns-in-Err-clause-worn_log
+returns-in-Err-clause-worn_log g c says =
+    let store = c.loop-self.self in
+    let log0 = c.args.log.now in
+    let log = c.loop-self.log in
+    let inv = c.loop-self.invariant in
+    let b : Bool = nat_lt log0.ring.hi log.ring.hi in
+    let both = c.in-Err.ensures.worn_log says in
+    let tail = and_left (has_tail log) _ both.0 in
+    let kept : log0.ring.hi ≡ log.ring.hi = kept_block log0.ring.hi log.ring.hi (has_tail log0) (has_tail log) inv.end inv.rises tail in
+    (inv.forced ∙ or_second b _ (forced_by_first (has_tail log) (is_unsealed (end_now log)) store.pool.frames both.0), kept ∙ both.1)

@@ -1,0 +1,51 @@
+use Rattle.std.proofs.Common.{◌≡◌, ◌≢◌, ◌+◌, ◌*◌, ◌≤◌, true}
+use Rattle.std.specs.Prelude.{◌||◌, ◌^◌}
+use Rattle.std.specs.Prelude.{nat_lt}
+use Rattle.site.specs.declared.outside.Dev.{Dev}
+use Rattle.site.specs.declared.outside.Dev.TheVariants.{Flash}
+use Rattle.site.specs.State.{reads_of}
+use Rattle.site.specs.Calls.{Goes}
+use Rattle.site.specs.Moments.{LeavesOnly}
+use Rattle.second_chance.specs.Machine.{flushed, wants_flush}
+use Rattle.second_chance.specs.Laws.{changed_count}
+use Rattle.log_store.specs.LogList.{LogList, sealed_if}
+use Rattle.log_store.specs.Held as log_held
+use Rattle.log_store.specs.Held.{has_tail, HasRoom}
+use Rattle.page_store.specs.Held.{MayGoOn, current}
+use Rattle.page_store.specs.Caching.{cache_of, rules}
+use Rattle.page_store.specs.Ahead.{IsAhead, AreLogged, LeavesSealed, end_forced, forces}
+use Rattle.page_store.specs.Flushing.{flushed_contents}
+use Rattle.page_store.specs.Leaves.{AreReady, LeavesPages, KeepsCurrent}
+use Rattle.page_store.proofs.store.PageStore.push_all_changed.Given as goal
+
+abbrev pub invariant-loop-self : goal.invariant-loop-self
+invariant-loop-self g l =
+    let old = g.S.Site.state l.fn.site in
+    let now = g.S.Site.state l.site in
+    let first = l.fn.self in
+    record {
+      moment : (list : LogList) → AreReady first l.fn.log list old → LeavesOnly old now (LeavesPages first.flash.geometry (current first old.image) (forces l.fn.log (flushed_contents first)) list old);
+      ahead_moment : (list : LogList) → AreReady first l.fn.log list old → IsAhead l.fn.log first old.image → LeavesOnly old now (LeavesSealed first.flash.geometry);
+      ready : (list : LogList) → AreReady first l.fn.log list old → AreReady l.self l.log (sealed_if (nat_lt l.fn.log.ring.hi l.log.ring.hi) list) now;
+      current : (list : LogList) → AreReady first l.fn.log list old → KeepsCurrent first old.image l.self now.image;
+      ahead : AreLogged (end_forced l.fn.log) first.pool.frames → AreLogged (end_forced l.log) l.self.pool.frames;
+      forced : forces l.fn.log (flushed_contents first) ≡ (nat_lt l.fn.log.ring.hi l.log.ring.hi || forces l.log (flushed_contents l.self));
+      untouched : wants_flush (cache_of first) ≡ true → first.flash.ring.hi ≡ 2 ^ 40 → l.self ≡ first;
+      machine : flushed (rules first) (cache_of first) ≡ flushed (rules first) (cache_of l.self);
+      size : l.self.pool.size ≡ first.pool.size;
+      geometry : l.self.flash.geometry ≡ first.flash.geometry;
+      ended : l.self.ended ≡ first.ended;
+      going : MayGoOn l.self now;
+      log_going : log_held.MayGoOn l.log now;
+      log_geometry : l.log.geometry ≡ l.fn.log.geometry;
+      kept : l.log.kept ≡ l.fn.log.kept;
+      room : has_tail l.log ≡ true → HasRoom l.log;
+      end : end_forced l.log ≡ end_forced l.fn.log;
+      rises : l.fn.log.ring.hi ≤ l.log.ring.hi;
+      goes : Goes old now;
+      reads : now.flash_reads + 8 * changed_count (cache_of l.self).pool ≤ old.flash_reads + 8 * changed_count (cache_of first).pool;
+      others : (d : Dev) → d ≢ Flash → reads_of d now ≡ reads_of d old;
+    }
+
+abbrev pub decreases-loop-self : goal.decreases-loop-self
+decreases-loop-self g l = changed_count (cache_of l.self).pool

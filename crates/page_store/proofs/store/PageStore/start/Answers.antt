@@ -1,0 +1,24 @@
+use Rattle.std.proofs.Common.{ap, map, false}
+use Rattle.buffer_pool.specs.Frames.{State as Pool}
+use Rattle.second_chance.specs.Machine.{Cache}
+use Rattle.page_store.specs.declared.store.PageStore.{PageStore}
+use Rattle.page_store.specs.Caching.{pool_page}
+use Rattle.page_store.proofs.Fitting.{err_again, fits_at_start}
+use Rattle.page_store.proofs.store.PageStore.start.Goals as goal
+
+pub returns-in-Err-clause-foreign : goal.returns-in-Err-clause-foreign
+returns-in-Err-clause-foreign g c says honest first groups has = c.in-Err.ensures.foreign (err_again _ _ says) honest first groups has
+
+pub returns-clause-machine : goal.returns-clause-machine
+returns-clause-machine g c honest first groups has = λ i. let cache : Cache = record {
+  pool = map pool_page (c.in_ok-pool.ensures.empty i).frames;
+  queue = c.in-Ok.ensures.queue honest first groups has i;
+} in cache
+
+pub returns-clause-fits : goal.returns-clause-fits
+returns-clause-fits g c honest flash disk first groups has clean sound =
+    let old = g.S.Site.state c.args.site.now in
+    let new = g.S.Site.state c.start.new.site in
+    let store : PageStore = record { alloc = c.args.alloc; pool = c.in_ok-pool.pool; flash = c.in-Ok.flash; ended = false } in
+    fits_at_start store c.args.geometry.now old new groups c.in-Ok.ensures.geometry (ap (λ (p : Pool). p.frames) c.in_ok-pool.ensures.empty) (c.start.ensures.same honest).image
+    (c.start.ensures.same honest).loose disk (c.in-Ok.ensures.fits honest flash has.form) (c.in-Ok.ensures.holds honest first groups has) clean sound

@@ -1,0 +1,70 @@
+-- The log is ahead of the pages: no version of a page has an LSN that isn't sealed.
+use Rattle.std.specs.Prelude.{ℕ, ◌+◌, ◌*◌, ◌<◌, nat_le, nat_lt, Bool, ◌&&◌, List, [], ◌∷◌, reverse, if◌then◌else◌}
+use Rattle.std.specs.List.{AllByRecursion, list_any}
+use Rattle.site.specs.declared.geometry.Geometry.{Geometry}
+use Rattle.site.specs.State.{Image, Snapshot}
+use Rattle.sealed_ring.specs.Ring.{hi_of}
+use Rattle.image_changes.specs.Rings.{log_shape}
+use Rattle.slotted_page.specs.Layout.{lsn_of}
+use Rattle.flash_cache.specs.Held.{version_on}
+use Rattle.log_store.specs.declared.store.LogStore.{LogStore}
+use Rattle.log_store.specs.Held.{has_tail}
+use Rattle.buffer_pool.specs.declared.frame.Frame.{Frame}
+use Rattle.second_chance.specs.Queue.{Queue}
+use Rattle.second_chance.specs.Machine.{must_be_pushed, lacks_room}
+use Rattle.page_store.specs.declared.store.PageStore.{PageStore}
+use Rattle.page_store.specs.Caching.{pool_page, cache_of, rules, is_full}
+
+-- a page was never changed, or its LSN lies below the end of the log's blocks
+pub record IsLogged (end : ℕ) (content : List ℕ) : Type 0 where
+  pub below : 0 < lsn_of content → lsn_of content < end
+
+-- where the sealed blocks of an image end
+abbrev pub sealed_end : Geometry → Image → ℕ
+sealed_end g image = 512 * hi_of (log_shape g) image.log
+
+-- where a log's sealed blocks end, and where its blocks end once its tail is sealed
+abbrev pub end_now : LogStore → ℕ
+end_now log = 512 * log.ring.hi
+
+abbrev pub end_forced : LogStore → ℕ
+end_forced log = 512 * (log.ring.hi + (if has_tail log then 1 else 0))
+
+-- the LSN of each page's version is sealed
+pub record AreSealed (g : Geometry) (image : Image) : Type 0 where
+  pub each : (page : ℕ) → page < g.pages → IsLogged (sealed_end g image) (version_on g image page)
+
+abbrev pub LeavesSealed : Geometry → Snapshot → Type 0
+LeavesSealed g snapshot = AreSealed g snapshot.image
+
+-- the LSN of each of these pages lies below this end
+abbrev pub AreLogged : ℕ → List Frame → Type 0
+AreLogged end frames = AllByRecursion (λ frame. IsLogged end frame.content) frames
+
+-- the log has the LSN of each page in the pool, and has sealed that of each version
+pub record IsAhead (log : LogStore) (store : PageStore) (image : Image) : Type 0 where
+  pub pool : AreLogged (end_forced log) store.pool.frames
+  pub versions : AreSealed store.flash.geometry image
+
+-- an LSN isn't sealed where the sealed blocks end here
+abbrev pub is_unsealed : ℕ → List ℕ → Bool
+is_unsealed end content = nat_lt 0 (lsn_of content) && nat_le end (lsn_of content)
+
+-- whether the log is forced before these contents are pushed: one of them has an LSN in the tail
+abbrev pub forces : LogStore → List (List ℕ) → Bool
+forces log contents = has_tail log && list_any (is_unsealed (end_now log)) contents
+
+-- what an eviction pushes: the content of the coldest page, where that was changed or has no frame in the queue
+abbrev pub evicted_first : Queue → List Frame → List (List ℕ)
+evicted_first queue [] = []
+evicted_first queue (coldest ∷ warmer) = if must_be_pushed queue (pool_page coldest) then coldest.content ∷ [] else []
+
+abbrev pub evicted : PageStore → List (List ℕ)
+evicted store = evicted_first store.flash.directory (reverse store.pool.frames)
+
+-- what is pushed where room is made for a page, and by a touch
+abbrev pub pushed_for_room : PageStore → List (List ℕ)
+pushed_for_room store = if is_full store then evicted store else []
+
+abbrev pub pushed_by_touch : PageStore → ℕ → List (List ℕ)
+pushed_by_touch store page = if lacks_room (rules store) page (cache_of store) then evicted store else []

@@ -1,0 +1,35 @@
+-- What follows for those who build on page stores.
+use Rattle.std.specs.Prelude.{◌≡◌, ℕ, ◌≤◌, true, false}
+use Rattle.site.specs.declared.outside.Dev.TheVariants.{Log}
+use Rattle.site.specs.State.{State}
+use Rattle.site.specs.Calls.{Goes}
+use Rattle.site.specs.Moments.{ChangesOnly}
+use Rattle.second_chance.specs.Machine.{Rules, Cache, touched}
+use Rattle.log_store.specs.declared.store.LogStore.{LogStore}
+use Rattle.log_store.specs.Held as log_held
+use Rattle.page_store.specs.declared.store.PageStore.{PageStore}
+use Rattle.page_store.specs.Held.{MayGoOn, Fits, current}
+use Rattle.page_store.specs.Caching.{with_change}
+use Rattle.page_store.specs.Ahead.{IsAhead, end_forced}
+
+-- a touch and then a change of the page in front are the machine's touch with a change
+abbrev pub TouchThenChange : Type 0
+TouchThenChange = (r : Rules) (page : ℕ) (cache : Cache) → touched r page true cache ≡ with_change (touched r page false cache)
+
+-- a store may go on after any calls on its site
+abbrev pub GoesOnBeside : Type 0
+GoesOnBeside = (store : PageStore) (old new : State) → Goes old new → MayGoOn store old → MayGoOn store new
+
+-- a store fits after calls that change the log's device alone, and each page has the content that it had
+abbrev pub FitsBeside : Type 0
+FitsBeside = (store : PageStore) (old new : State) → ChangesOnly Log old new → Goes old new → Fits store old → Fits store new
+
+abbrev pub CurrentBeside : Type 0
+CurrentBeside = (store : PageStore) (old new : State) (page : ℕ) → ChangesOnly Log old new → current store new.image page ≡ current store old.image page
+
+-- and the log, where it grew, is ahead of the pages still
+abbrev pub AheadBeside : Type 0
+AheadBeside =
+    (store : PageStore) (log log' : LogStore) (old new : State) → log.geometry ≡ store.flash.geometry → log'.geometry ≡ log.geometry →
+    log_held.Fits log old → log_held.Fits log' new → log.ring.hi ≤ log'.ring.hi → end_forced log ≤ end_forced log' →
+    ChangesOnly Log old new → IsAhead log store old.image → IsAhead log' store new.image

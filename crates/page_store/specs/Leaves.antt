@@ -1,0 +1,61 @@
+-- What a call on pages leaves.
+use Rattle.std.specs.Prelude.{◌≡◌, ◌≢◌, ◌⊎◌, ℕ, ◌<◌, Bool, true, false, List, length, [], ◌∷◌, Some, slice_index, slice_index_or, Contains}
+use Rattle.site.specs.declared.geometry.Geometry.{Geometry}
+use Rattle.site.specs.State.{State, Image, Snapshot, IsQuiet}
+use Rattle.image_changes.specs.Rings.{RingName, Blocks, Groups, shape_of, KeepsUnits}
+use Rattle.frame_group.specs.Groups.{Frame as Stored}
+use Rattle.flash_cache.specs.Held.{HasGroups, version_on, IsCleanOn}
+use Rattle.buffer_pool.specs.declared.frame.Frame.{Frame}
+use Rattle.buffer_pool.specs.Frames.{frame_of, front_of}
+use Rattle.log_store.specs.declared.store.LogStore.{LogStore}
+use Rattle.log_store.specs.LogList.{LogList}
+use Rattle.log_store.specs.Held as log_held
+use Rattle.log_store.specs.Held.{LeavesLog}
+use Rattle.page_store.specs.declared.store.PageStore.{PageStore}
+use Rattle.page_store.specs.Held.{Fits, current}
+
+-- Of an honest site: the store fits it, the log fits it and has these records, and nothing is loose.
+pub record AreReady (store : PageStore) (log : LogStore) (list : LogList) (site : State) : Type 0 where
+  pub pages : Fits store site
+  pub blocks : log_held.Fits log site
+  pub records : log_held.Holds log site.image list
+  pub quiet : IsQuiet site
+
+-- the queue on the flash of an image is of the form
+pub record HasQueue (g : Geometry) (image : Image) : Type 0 where
+  pub first : ℕ
+  pub groups : List (List Stored)
+  pub has : HasGroups g first groups image
+
+-- Nothing was told. The log has its sealed blocks, or its tail as one more where that is to be sealed, and the rings of masters and
+-- segments are as before. The queue is of the form, clean frames are as on the disk, and each page's version is the one from before,
+-- or has this content.
+pub record LeavesPages (g : Geometry) (contents : ℕ → List ℕ) (sealing : Bool) (list : LogList) (old : State) (snapshot : Snapshot) : Type 0 where
+  pub log : LeavesLog g sealing list old.told snapshot
+  pub rings : (ring : RingName) → ring ≢ Blocks → ring ≢ Groups → KeepsUnits (shape_of g ring) old.image snapshot.image
+  pub queue : HasQueue g snapshot.image
+  pub clean : IsCleanOn g snapshot.image
+  pub versions : (page : ℕ) → page < g.pages → (version_on g snapshot.image page ≡ version_on g old.image page) ⊎ (version_on g snapshot.image page ≡ contents page)
+
+-- the pages given have these contents
+pub record AreGiven (given : ℕ → List ℕ) (pages : List ℕ) (contents : List (List ℕ)) : Type 0 where
+  pub each : (k : ℕ) → k < length pages → slice_index_or contents k [] ≡ given (slice_index pages k)
+
+-- each page given has the content given as its version, and each other page has the version that it had
+pub record Gives (g : Geometry) (pages : List ℕ) (contents : List (List ℕ)) (old new : Image) : Type 0 where
+  pub given : (k : ℕ) → k < length pages → version_on g new (slice_index pages k) ≡ slice_index_or contents k []
+  pub others : (page : ℕ) → (Contains pages page → ⊥) → version_on g new page ≡ version_on g old page
+
+-- the pages given aren't in the pool, or are marked as changed there
+pub record AreChanged (store : PageStore) (pages : List ℕ) : Type 0 where
+  pub each : (k : ℕ) (frame : Frame) → k < length pages → frame_of store.pool.frames (slice_index pages k) ≡ Some frame → frame.changed ≡ true
+
+-- each page has the content that it had
+pub record KeepsCurrent (store : PageStore) (old : Image) (store' : PageStore) (new : Image) : Type 0 where
+  pub each : (page : ℕ) → page < store.flash.geometry.pages → current store' new page ≡ current store old page
+
+-- an unchanged page more is in front
+pub record PutsIn (page : ℕ) (old new : List Frame) : Type 0 where
+  pub frames : new ≡ front_of new ∷ old
+  pub page_is : (front_of new).page ≡ page
+  pub unchanged : (front_of new).changed ≡ false

@@ -1,0 +1,102 @@
+// The log is sealed before pages leave for the devices.
+ghost use Rattle.std.specs.Prelude.{◌≡◌, ◌⊎◌, ◌↔◌, ◌+◌, ◌*◌, ◌^◌, ◌≤◌, Bool, true, false, if◌then◌else◌, IsTrue, OnOk, OnErr, IfErr, IsErrOf};
+ghost use Rattle.std.specs.List.{AllByRecursion, list_any};
+ghost use Rattle.site.specs.declared.outside.Dev.{Dev};
+ghost use Rattle.site.specs.declared.outside.Stop.{Stop};
+ghost use Rattle.site.specs.State.{State, IsQuiet};
+ghost use Rattle.site.specs.Calls.{Goes, SameReads, FaultRose};
+ghost use Rattle.site.specs.Moments.{LeavesOnly, ChangesOnly};
+ghost use Rattle.image_changes.specs.Changes.{Reaches};
+ghost use Rattle.image_changes.specs.Reached.{LeavesFront};
+ghost use Rattle.log_store.specs.LogList.{LogList, sealed_if, changes_if};
+ghost use Rattle.log_store.specs.Held.{MayGoOn, HasRoom, has_tail, Fits, Holds, LeavesLog};
+ghost use Rattle.page_store.specs.Ahead.{IsLogged, end_now, end_forced, is_unsealed, forces};
+
+use log_store::LogStore;
+use site::{Site, Stop};
+use slotted_page::Page;
+
+// Whether the last change of a page isn't sealed, where the sealed blocks end at this LSN.
+fn is_unsealed(end: u64, content: &Page) -> bool
+    ensures { result ≡ is_unsealed end content.now }
+{
+    let lsn = content.lsn();
+    0 < lsn && end <= lsn
+}
+
+// Whether the log's tail has the last change of one of these pages.
+fn wants_force(log: &LogStore, contents: &[Page]) -> bool
+    requires low { 2 ≤ log.now.used }
+    requires bounded { log.now.ring.hi ≤ 2 ^ 40 }
+    ensures { result ≡ forces log.now contents.now }
+{
+    if log.tail_empty() {
+        return false;
+    }
+    let end = log.sealed_end();
+    for content in contents {
+        if is_unsealed(end, content) {
+            return true;
+        }
+    }
+    false
+}
+
+/// Seals the log's tail where it has the last change of one of these pages.
+pub fn force_for<S: Site>(site: &mut S, log: &mut LogStore, contents: &[Page]) -> Result<(), Stop>
+    requires going { MayGoOn log.old (S.state site.old) }
+    requires room { has_tail log.old ≡ true → HasRoom log.old }
+
+    // Of an honest site that the log fits.
+    ensures holds { (list : LogList)
+        → Fits log.old (S.state site.old) → Holds log.old (S.state site.old).image list
+        → OnOk result (Holds log.new (S.state site.new).image (sealed_if (forces log.old contents.now) list)) }
+    ensures any_moment { (list : LogList)
+        → Fits log.old (S.state site.old) → Holds log.old (S.state site.old).image list
+        → LeavesOnly (S.state site.old) (S.state site.new)
+        (LeavesLog log.old.geometry (forces log.old contents.now) list (S.state site.old).told) }
+    ensures front { (list : LogList)
+        → Fits log.old (S.state site.old) → Holds log.old (S.state site.old).image list
+        → IsQuiet (S.state site.old) → LeavesFront log.old.geometry
+        (changes_if (forces log.old contents.now) list) (S.state site.old) (S.state site.new) }
+    ensures reaches { (list : LogList)
+        → Fits log.old (S.state site.old) → Holds log.old (S.state site.old).image list
+        → OnOk result (Reaches log.old.geometry (changes_if (forces log.old contents.now) list)
+        (S.state site.old).image (S.state site.new).image) }
+    ensures fits { Fits log.old (S.state site.old) → OnOk result (Fits log.new (S.state site.new)) }
+    ensures changes { IsTrue (S.state site.old).honest
+        → ChangesOnly Dev.Log (S.state site.old) (S.state site.new) }
+    ensures quiet { IsTrue (S.state site.old).honest → IsQuiet (S.state site.old)
+        → OnOk result (IsQuiet (S.state site.new)) }
+
+    // Of every site.
+    ensures sealed { AllByRecursion (IsLogged (end_forced log.old)) contents.now
+        → OnOk result (AllByRecursion (IsLogged (end_now log.new)) contents.now) }
+    ensures next { OnOk result (log.new.ring.hi
+        ≡ (if forces log.old contents.now then log.old.ring.hi + 1 else log.old.ring.hi)) }
+    ensures end { OnOk result (end_forced log.new ≡ end_forced log.old) }
+    ensures rises { log.old.ring.hi ≤ log.new.ring.hi }
+    ensures ended { OnOk result (log.new.ring.ended ≡ log.old.ring.ended) }
+    ensures err { OnErr result (log.new.ring.ended ≡ true) }
+    ensures going { MayGoOn log.new (S.state site.new) }
+    ensures room { OnOk result (has_tail log.new ≡ true → HasRoom log.new) }
+    ensures kept { log.new.kept ≡ log.old.kept }
+    ensures geometry { log.new.geometry ≡ log.old.geometry }
+    ensures goes { Goes (S.state site.old) (S.state site.new) }
+    ensures reads { SameReads (S.state site.old) (S.state site.new) }
+
+    // When each answer comes.
+    ensures worn { IsErrOf result (Stop.Worn Dev.Log)
+        ↔ ((forces log.old contents.now ≡ true) × (log.old.ring.hi ≡ 2 ^ 40)) }
+    ensures unchanged { forces log.old contents.now ≡ false
+        → (site.new ≡ site.old) × (log.new ≡ log.old) }
+    ensures device { IsErrOf result (Stop.Device Dev.Log)
+        → FaultRose Dev.Log (S.state site.old) (S.state site.new) }
+    ensures stops { IfErr result (λ stop. (stop ≡ Stop.Device Dev.Log)
+        ⊎ (stop ≡ Stop.Worn Dev.Log)) }
+{
+    if !wants_force(log, contents) {
+        return Ok(());
+    }
+    log.force(site)
+}

@@ -1,0 +1,16 @@
+// Laws of page stores, for the proofs of code above. They do nothing when called.
+ghost use Rattle.page_store.specs.Laws.{TouchThenChange, GoesOnBeside, FitsBeside, CurrentBeside, AheadBeside};
+
+/// Law: a touch and then a change of the page in front are the machine's touch with a change.
+pub fn touch_then_change()
+    ensures { TouchThenChange }
+{}
+
+/// Law: calls that change the log's device alone leave a store fit, and each page's content; a log that grew is ahead of the pages
+/// still. A store may go on after any calls.
+pub fn stays_beside()
+    ensures going { GoesOnBeside }
+    ensures fits { FitsBeside }
+    ensures current { CurrentBeside }
+    ensures ahead { AheadBeside }
+{}

@@ -1,0 +1,15 @@
+//! The pages of the database: a pool in memory over the queue on flash and the disk. The log is sealed up to a page's last change
+//! before the page leaves the pool.
+#![tactic(auto)]
+
+mod flushing;
+mod forcing;
+mod laws;
+mod pushing;
+mod reading;
+mod store;
+#[cfg(test)]
+mod tests;
+
+pub use laws::{stays_beside, touch_then_change};
+pub use store::PageStore;

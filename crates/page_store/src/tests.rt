@@ -1,0 +1,364 @@
+// Pages of a site in memory. The mixed script's pool, queue and counts were worked out by another program.
+ghost use Rattle.std.specs.Prelude.{◌≡◌, ◌<◌, ◌≤◌, length, IfOk};
+ghost use Rattle.site.specs.State.{State};
+ghost use Rattle.site.specs.Geometry.{HasLengths};
+ghost use Rattle.site.specs.MemState.{state_of};
+ghost use Rattle.site.specs.Calls.{Goes};
+ghost use Rattle.log_records.specs.Spelling.{HasForm};
+ghost use Rattle.log_store.specs.Held as log_held;
+ghost use Rattle.page_store.specs.Held.{IsStore, MayGoOn};
+ghost use Rattle.page_store.specs.Trying.{small, AreGoing};
+
+use crate::PageStore;
+use byte_fields::Mark;
+use flash_cache::FlashCache;
+use log_records::LogRecord;
+use log_store::LogStore;
+use record_model::Octets;
+use site::{Call, Dev, Geometry, MemSite, Stop};
+use std::alloc::Global;
+use std::test::Fail;
+
+const SMALL: Geometry = Geometry {
+    pages: 16,
+    groups: 8,
+    blocks: 16,
+};
+
+const NO_MARK: Mark = Mark {
+    page: 0,
+    valid: false,
+    dirty: false,
+    referenced: false,
+};
+
+// What a script does with a page.
+#[derive(Clone, Copy)]
+enum Work {
+    Touch,
+    Change,
+    Flush,
+}
+
+// A log record of 25 octets.
+fn update() -> LogRecord
+    ensures { HasForm result }
+{
+    LogRecord::Update {
+        txn: 2,
+        prev: 2,
+        page: 0,
+        slot: 5,
+        before: None,
+        after: Octets::from_slice(&[1]),
+    }
+}
+
+// A store and a log on a site.
+fn opened(alloc: Global, site: &mut MemSite, pool: u32) -> Result<(PageStore, LogStore), Stop>
+    requires lengths { HasLengths small (state_of site.old).image }
+    requires least { 1 ≤ pool }
+    requires most { pool ≤ 4096 }
+    ensures going { IfOk result (λ both. AreGoing both.0 both.1 (state_of site.new)) }
+{
+    let log = LogStore::start(site, &SMALL)?;
+    let pages = PageStore::start(alloc, site, &SMALL, pool)?;
+    Ok((pages, log))
+}
+
+// Appends a record, once the blocks before the next one may be overwritten.
+fn append(log: &mut LogStore, site: &mut MemSite) -> Result<u64, Stop>
+    requires going { log_held.MayGoOn log.old (state_of site.old) }
+    requires sizes { log.old.geometry ≡ small }
+    ensures going { log_held.MayGoOn log.new (state_of site.new) }
+    ensures sizes { log.new.geometry ≡ small }
+    ensures goes { Goes (state_of site.old) (state_of site.new) }
+{
+    log.keep(log.sealed_end() / 512);
+    log.append(site, &update())
+}
+
+// Gives slot 5 of the page in front this octet, once it is known that it may have it.
+fn change_front(pages: &mut PageStore, octet: u8, lsn: u64) -> bool
+    requires store { IsStore pages.old }
+    requires there { 0 < length pages.old.pool.frames }
+    ensures going { (site : State) → MayGoOn pages.old site → MayGoOn pages.new site }
+    ensures sizes { pages.new.flash.geometry ≡ pages.old.flash.geometry }
+{
+    if !pages.fits(5, Some(&[octet])) {
+        return false;
+    }
+    if pages.front_lsn() >= lsn {
+        return false;
+    }
+    pages.change(5, Some(&[octet]), lsn);
+    true
+}
+
+// Touches a page, and gives it this octet where it is to be changed; or flushes.
+fn carry_out(
+    pages: &mut PageStore,
+    log: &mut LogStore,
+    site: &mut MemSite,
+    page: u32,
+    what: Work,
+    octet: u8,
+) -> Result<bool, Stop>
+    requires going { AreGoing pages.old log.old (state_of site.old) }
+    requires page { page < 16 }
+    ensures going { AreGoing pages.new log.new (state_of site.new) }
+{
+    log.keep(log.sealed_end() / 512);
+    match what {
+        Work::Flush => {
+            pages.flush_all(site, log)?;
+            Ok(true)
+        }
+        Work::Touch => {
+            pages.touch(site, log, page)?;
+            Ok(true)
+        }
+        Work::Change => {
+            pages.touch(site, log, page)?;
+            let lsn = append(log, site)?;
+            Ok(change_front(pages, octet, lsn))
+        }
+    }
+}
+
+// Plays a script, in which the octet of a change is its place.
+fn play(
+    pages: &mut PageStore,
+    log: &mut LogStore,
+    site: &mut MemSite,
+    script: &[(u32, Work)],
+) -> Result<bool, Stop>
+    requires going { AreGoing pages.old log.old (state_of site.old) }
+    ensures going { AreGoing pages.new log.new (state_of site.new) }
+{
+    for (place, (page, what)) in script.iter().enumerate() {
+        if *page >= 16 {
+            return Ok(false);
+        }
+        if !carry_out(pages, log, site, *page, *what, (place % 256) as u8)? {
+            return Ok(false);
+        }
+    }
+    Ok(true)
+}
+
+// Whether the pool has these pages, the front first, changed as said.
+fn has_pool(pages: &PageStore, wanted: &[(u32, bool)]) -> bool {
+    if pages.pool.len() != wanted.len() {
+        return false;
+    }
+    for (place, mark) in wanted.iter().enumerate() {
+        if place >= pages.pool.len() || pages.pool.mark(place) != *mark {
+            return false;
+        }
+    }
+    true
+}
+
+// Whether the frame at a place of a group, named by its place in the queue, is this one.
+fn has_frame(pages: &PageStore, group: usize, index: usize, wanted: Mark) -> bool {
+    if group >= pages.flash.groups() || index >= 8 {
+        return false;
+    }
+    let mut marks = [NO_MARK; 8];
+    index < pages.flash.marks(group, &mut marks) && marks[index] == wanted
+}
+
+// Sixty pieces of work on a pool of three pages.
+const MIXED: [(u32, Work); 60] = [
+    (8, Work::Change),
+    (8, Work::Touch),
+    (0, Work::Change),
+    (5, Work::Touch),
+    (1, Work::Change),
+    (8, Work::Touch),
+    (1, Work::Change),
+    (0, Work::Touch),
+    (4, Work::Touch),
+    (7, Work::Touch),
+    (4, Work::Change),
+    (3, Work::Change),
+    (2, Work::Touch),
+    (2, Work::Change),
+    (6, Work::Touch),
+    (4, Work::Touch),
+    (0, Work::Change),
+    (3, Work::Touch),
+    (6, Work::Touch),
+    (2, Work::Touch),
+    (7, Work::Change),
+    (7, Work::Flush),
+    (7, Work::Touch),
+    (0, Work::Touch),
+    (2, Work::Change),
+    (3, Work::Change),
+    (8, Work::Change),
+    (8, Work::Flush),
+    (6, Work::Touch),
+    (1, Work::Change),
+    (7, Work::Change),
+    (4, Work::Change),
+    (8, Work::Touch),
+    (7, Work::Touch),
+    (8, Work::Change),
+    (8, Work::Touch),
+    (6, Work::Touch),
+    (4, Work::Touch),
+    (1, Work::Change),
+    (6, Work::Flush),
+    (4, Work::Change),
+    (8, Work::Touch),
+    (1, Work::Touch),
+    (5, Work::Touch),
+    (8, Work::Change),
+    (8, Work::Change),
+    (6, Work::Change),
+    (8, Work::Change),
+    (5, Work::Touch),
+    (6, Work::Change),
+    (8, Work::Change),
+    (3, Work::Change),
+    (5, Work::Touch),
+    (2, Work::Change),
+    (5, Work::Change),
+    (7, Work::Change),
+    (4, Work::Change),
+    (3, Work::Touch),
+    (3, Work::Change),
+    (7, Work::Flush),
+];
+
+// The frames that are in the queue then: the place of the group, the frame's own in it, its page, and whether it is valid, dirty
+// and referenced.
+const FRAMES: [(usize, usize, u32, bool, bool, bool); 9] = [
+    (0, 0, 5, false, false, true),
+    (1, 0, 6, true, true, false),
+    (2, 0, 8, true, true, false),
+    (3, 0, 3, false, true, true),
+    (4, 0, 2, true, true, false),
+    (5, 0, 5, true, true, false),
+    (6, 0, 7, true, true, false),
+    (6, 1, 4, true, true, false),
+    (6, 2, 3, true, true, false),
+];
+
+#[test]
+fn a_mixed_script(rt: HostRuntime) -> Result<(), Fail> {
+    let mut site = MemSite::new(rt.alloc(), &SMALL)?;
+    let (mut pages, mut log) = opened(rt.alloc(), &mut site, 3)?;
+    let reads = site.reads(Dev::Flash);
+    assert!(rt; play(&mut pages, &mut log, &mut site, &MIXED)?);
+    assert!(rt; has_pool(&pages, &[(3, false), (4, false), (7, false)]));
+    assert_eq!(rt; pages.flash.first(), 19);
+    assert_eq!(rt; pages.flash.groups(), 7);
+    for (group, index, page, valid, dirty, referenced) in &FRAMES {
+        let wanted = Mark {
+            page: *page,
+            valid: *valid,
+            dirty: *dirty,
+            referenced: *referenced,
+        };
+        assert!(rt; has_frame(&pages, *group, *index, wanted));
+    }
+    assert_eq!(rt; site.changes(), 214);
+    assert_eq!(rt; site.reads(Dev::Disk), 15);
+    assert_eq!(rt; site.reads(Dev::Flash).saturating_sub(reads), 32);
+    assert_eq!(rt; log.sealed_end(), 6656);
+    Ok(())
+}
+
+// Whether slot 5 of a page has this octet.
+fn has_octet(
+    pages: &mut PageStore,
+    log: &mut LogStore,
+    site: &mut MemSite,
+    page: u32,
+    octet: u8,
+) -> Result<bool, Stop>
+    requires going { AreGoing pages.old log.old (state_of site.old) }
+    requires page { page < 16 }
+    ensures going { AreGoing pages.new log.new (state_of site.new) }
+{
+    log.keep(log.sealed_end() / 512);
+    pages.touch(site, log, page)?;
+    Ok(pages.get(5) == Some(&[octet]))
+}
+
+#[test]
+fn changed_pages_come_back(rt: HostRuntime) -> Result<(), Fail> {
+    let mut site = MemSite::new(rt.alloc(), &SMALL)?;
+    let (mut pages, mut log) = opened(rt.alloc(), &mut site, 1)?;
+    let script = [(0, Work::Change), (7, Work::Change), (2, Work::Change)];
+    assert!(rt; play(&mut pages, &mut log, &mut site, &script)?);
+    assert!(rt; has_octet(&mut pages, &mut log, &mut site, 7, 1)?);
+    assert!(rt; has_octet(&mut pages, &mut log, &mut site, 0, 0)?);
+    assert!(rt; has_octet(&mut pages, &mut log, &mut site, 2, 2)?);
+    Ok(())
+}
+
+// A touch of a page that is in the pool makes no device call.
+#[test]
+fn a_hit_makes_no_call(rt: HostRuntime) -> Result<(), Fail> {
+    let mut site = MemSite::new(rt.alloc(), &SMALL)?;
+    let (mut pages, mut log) = opened(rt.alloc(), &mut site, 2)?;
+    let script = [(3, Work::Touch), (4, Work::Touch)];
+    assert!(rt; play(&mut pages, &mut log, &mut site, &script)?);
+    assert_eq!(rt; site.reads(Dev::Disk), 2);
+    let reads = site.reads(Dev::Flash);
+    let again = [(3, Work::Touch), (3, Work::Touch), (4, Work::Touch)];
+    assert!(rt; play(&mut pages, &mut log, &mut site, &again)?);
+    assert_eq!(rt; site.reads(Dev::Disk), 2);
+    assert_eq!(rt; site.reads(Dev::Flash), reads);
+    assert_eq!(rt; site.changes(), 0);
+    Ok(())
+}
+
+// Two pages change in turn in a pool of one page, and only so many changes of the devices pass. Answers whether the log's block
+// and page 0's frame are there after a crash.
+fn stopped_at(alloc: Global, changes: u64, seed: u64) -> Result<(bool, bool), Stop> {
+    let mut site = MemSite::new(alloc, &SMALL)?;
+    site.fuse(changes);
+    let (mut pages, mut log) = opened(alloc, &mut site, 1)?;
+    let script = [(0, Work::Change), (1, Work::Change)];
+    let _stopped = play(&mut pages, &mut log, &mut site, &script);
+    let mut site = crashed(site, seed);
+    let log = LogStore::start(&mut site, &SMALL)?;
+    let flash = FlashCache::start(alloc, &mut site, &SMALL)?;
+    Ok((log.sealed_end() == 512, flash.holds(0)))
+}
+
+// What a crash leaves.
+fn crashed(site: MemSite, seed: u64) -> MemSite
+    requires { HasLengths small (state_of site).image }
+    ensures { HasLengths small (state_of result).image }
+{
+    site.crash(seed)
+}
+
+// The log is sealed, by five changes, before the first of the five changes that append page 0.
+#[test]
+fn the_log_is_sealed_before_a_page_leaves(rt: HostRuntime) -> Result<(), Fail> {
+    assert_eq!(rt; stopped_at(rt.alloc(), 3, 1)?, (false, false));
+    assert_eq!(rt; stopped_at(rt.alloc(), 5, 1)?, (true, false));
+    assert_eq!(rt; stopped_at(rt.alloc(), 8, 1)?, (true, false));
+    assert_eq!(rt; stopped_at(rt.alloc(), 10, 1)?, (true, true));
+    Ok(())
+}
+
+#[test]
+fn a_fault_ends_the_store(rt: HostRuntime) -> Result<(), Fail> {
+    let mut site = MemSite::new(rt.alloc(), &SMALL)?;
+    site.fail(Call::Read(Dev::Disk), 2)?;
+    let (mut pages, mut log) = opened(rt.alloc(), &mut site, 2)?;
+    assert!(rt; play(&mut pages, &mut log, &mut site, &[(3, Work::Touch)])?);
+    assert!(rt; !pages.ended());
+    let stopped = play(&mut pages, &mut log, &mut site, &[(4, Work::Touch)]);
+    assert!(rt; matches!(stopped, Err(Stop::Device(Dev::Disk))));
+    assert!(rt; pages.ended());
+    Ok(())
+}
