@@ -265,7 +265,7 @@ impl PageStore {
             → IsAhead log.old self.old (S.state site.old).image
             → LeavesOnly (S.state site.old) (S.state site.new) (LeavesSealed self.old.flash.geometry) }
         ensures ready { (list : LogList) → AreReady self.old log.old list (S.state site.old)
-            → OnOk result (AreReady self.new log.new (sealed_if (nat_lt log.old.ring.hi log.new.ring.hi) list) (S.state site.new)) }
+            → OnOk result (AreReady self.new log.new (sealed_if (forces log.old (flushed_contents self.old)) list) (S.state site.new)) }
         ensures current { (list : LogList) → AreReady self.old log.old list (S.state site.old)
             → OnOk result (KeepsCurrent self.old (S.state site.old).image self.new (S.state site.new).image) }
         ensures ahead { (list : LogList) → AreReady self.old log.old list (S.state site.old)
