@@ -1,15 +1,17 @@
 -- Laws on logs.
-use Rattle.std.specs.Prelude.{◌≡◌, Bool, List, [], ◌∷◌, ◌++◌}
+use Rattle.std.specs.Prelude.{◌≡◌, true, Bool, List, [], ◌∷◌, ◌++◌}
 use Rattle.site.specs.declared.outside.Dev.TheVariants.{Log}
 use Rattle.site.specs.declared.geometry.Geometry.{Geometry}
 use Rattle.site.specs.Geometry.{HasLimits, blank_image}
 use Rattle.site.specs.State.{State, Image, IsSettled}
 use Rattle.site.specs.Calls.{Goes}
+use Rattle.log_records.specs.declared.log_record.LogRecord.{LogRecord}
+use Rattle.log_records.specs.Spelling.{HasForm}
 use Rattle.log_records.specs.Log.{Entry}
 use Rattle.image_changes.specs.Rings.{log_shape, KeepsUnits}
 use Rattle.log_store.specs.declared.store.LogStore.{LogStore}
 use Rattle.log_store.specs.LogList.{LogList, sealed, entries, sealed_if}
-use Rattle.log_store.specs.Held.{Fits, HasBlocks, Holds}
+use Rattle.log_store.specs.Held.{Fits, HasBlocks, Holds, has_tail, overflows}
 
 -- sealing the tail changes no record and no LSN
 abbrev pub SealingKeeps : Type 0
@@ -38,3 +40,7 @@ BlankHasNoBlocks = (g : Geometry) → HasLimits g → HasBlocks g 0 [] (blank_im
 -- what stands there and the octets of the tail tell the log, from its first block on
 abbrev pub OneLog : Type 0
 OneLog = (store : LogStore) (image : Image) (a b : LogList) → Holds store image a → Holds store image b → a.first ≡ b.first → a ≡ b
+
+-- a tail that a record doesn't fit has records
+abbrev pub FullTail : Type 0
+FullTail = (store : LogStore) (rec : LogRecord) → HasForm rec → overflows store rec ≡ true → has_tail store ≡ true

@@ -1,5 +1,5 @@
 // Laws on logs, for the proofs of code above; their lemmas stand in proofs/. They do nothing when called.
-ghost use Rattle.log_store.specs.Laws.{SealingKeeps, FitsBeside, HoldsBeside, BlankHasNoBlocks, BlocksAreThere, OneLog};
+ghost use Rattle.log_store.specs.Laws.{SealingKeeps, FitsBeside, HoldsBeside, BlankHasNoBlocks, BlocksAreThere, OneLog, FullTail};
 
 /// Law: sealing the tail changes no record and no LSN, and a snapshot's blocks begin the log.
 pub fn list_kept()
@@ -21,4 +21,9 @@ pub fn blank_log()
 /// Law: a store holds one log from a block on.
 pub fn one_log()
     ensures { OneLog }
+{}
+
+/// Law: a tail that a record doesn't fit has records.
+pub fn full_tail()
+    ensures { FullTail }
 {}

@@ -7,7 +7,7 @@ mod store;
 #[cfg(test)]
 mod tests;
 
-pub use laws::{blank_log, list_kept, one_log, stays_beside};
+pub use laws::{blank_log, full_tail, list_kept, one_log, stays_beside};
 pub use store::LogStore;
 
 // Where the records of a block begin: behind the offset of their end.

@@ -363,6 +363,13 @@ impl LogStore {
         512 * self.ring.hi()
     }
 
+    /// How large the site's devices are.
+    pub fn geometry(&self) -> Geometry
+        ensures { result ≡ self.now.geometry }
+    {
+        self.geometry
+    }
+
     /// Whether each record is sealed.
     pub fn tail_empty(&self) -> bool
         requires { 2 ≤ self.now.used }

@@ -4,7 +4,7 @@ use Rattle.sealed_ring.specs.declared.slots.Shape.{Shape}
 use Rattle.sealed_ring.specs.Ring.{SameOutside}
 use Rattle.sealed_ring.specs.Ready.{region}
 use Rattle.log_store.proofs.GoingOn.{goes_on}
-use Rattle.log_store.proofs.SealLaws.{none_left, none_front, none_beside, seal_beside, ring_ready, ring_finds, fits_again, finds_again, seal_left, seal_front, seal_reaches, seal_holds}
+use Rattle.log_store.proofs.SealLaws.{none_left, none_front, none_beside, seal_beside, ring_ready, ring_finds, seal_left, seal_front, seal_reaches, seal_holds}
 use Rattle.log_store.proofs.Standing.{finds}
 use Rattle.log_store.proofs.store.LogStore.seal_if.Goals as goal
 
