@@ -358,6 +358,8 @@ impl FlashCache {
             → OnOk result (IsQuiet (S.state site.new)) }
 
         // Of every site.
+        ensures frames { let frames = frames_given pages.now changed.now contents.now in
+            HasFrames self.old.geometry frames (group frames) }
         ensures going { MayGoOn self.new (S.state site.new) }
         ensures geometry { self.new.geometry ≡ self.old.geometry }
         ensures ended { OnOk result (self.new.ended ≡ self.old.ended) }
