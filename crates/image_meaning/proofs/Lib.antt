@@ -19,3 +19,4 @@ pub mod FirstSets
 pub mod LogsAlone
 pub mod FirstPushes
 pub mod Arrivals
+pub mod Beside

@@ -10,3 +10,4 @@ pub mod Moments
 pub mod Reached
 pub mod PictureLaws
 pub mod Plain
+pub mod Beside

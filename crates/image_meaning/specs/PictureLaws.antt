@@ -82,3 +82,10 @@ FirstPushStands =
     ((slot : ℕ) → slot < 32 → content_at (slots_of octets) slot ≡ (if 32 * (number / 32) + slot == number then value else content_at (version_at (versions_on g mid) (number / 32)).slots slot)) →
     IsGroup content (record { page = number / 32; dirty = true; octets = octets } ∷ []) → Makes g (AppendsGroup content) mid new →
     Stands g new (slice_set (replicate (32 * g.pages) None) number value) 1
+
+-- the versions of an image by their pages
+abbrev pub VersionOfPage : Type 0
+VersionOfPage = (g : Geometry) (image : Image) (number : ℕ) → number < g.pages → version_at (versions_on g image) number ≡ version_in (version_on g image number)
+
+abbrev pub CountOfVersions : Type 0
+CountOfVersions = (g : Geometry) (image : Image) → length (versions_on g image) ≡ g.pages

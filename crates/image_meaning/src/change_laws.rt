@@ -1,5 +1,6 @@
 // Laws on changes of images, one after the other.
 ghost use Rattle.image_meaning.specs.Laws.{ChangeKeepsSound, FrontKeepsSound, FrontKeepsMeaning};
+ghost use Rattle.image_meaning.specs.Beside.{RingsKept};
 ghost use Rattle.image_meaning.specs.PushLaws.{PushKeepsSound, PushKeepsMeaning, GroupsAreRead, GroupsAreThere};
 
 /// Each change that may be made keeps an image sound, and so do the first ones of a list. Where none of them seals a
@@ -25,4 +26,9 @@ pub fn push_kept()
 pub fn groups_are_read()
     ensures read { GroupsAreRead }
     ensures there { GroupsAreThere }
+{}
+
+/// Sealed blocks, rewritten disk pages and groups of sound pages keep the rings sound.
+pub fn rings_kept()
+    ensures { RingsKept }
 {}

@@ -1,5 +1,5 @@
 // Laws on the picture of an image.
-ghost use Rattle.image_meaning.specs.PictureLaws.{PictureSealed, PictureStays, StagedVersions, EachReplaces, RoomForTail, AllCommitsCount, SealsMayBeMade, BlocksAfterSeals, FirstSetStands, FirstPushStands};
+ghost use Rattle.image_meaning.specs.PictureLaws.{PictureSealed, PictureStays, StagedVersions, EachReplaces, RoomForTail, AllCommitsCount, SealsMayBeMade, BlocksAfterSeals, FirstSetStands, FirstPushStands, VersionOfPage, CountOfVersions};
 
 use log_laws::table_at;
 use log_store::blank_log;
@@ -44,3 +44,9 @@ pub fn first_push_stands()
     blank_log();
     table_at();
 }
+
+/// The versions of an image by their pages, and their number.
+pub fn versions_by_page()
+    ensures at { VersionOfPage }
+    ensures count { CountOfVersions }
+{}

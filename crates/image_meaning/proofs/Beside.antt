@@ -1,0 +1,78 @@
+-- Changes that keep the rings sound.
+use Rattle.std.proofs.Common.{◌≡◌, ℕ, ◌-◌, ◌≤◌, List, [], ◌∷◌, ◌++◌, length, drop, sym, ap, subst, ◌∙◌, arith}
+use Rattle.std.specs.List.{AllByRecursion}
+use Rattle.std.proofs.lemmas.List.{length-append, drop-append-le}
+use Rattle.site.specs.declared.geometry.Geometry.{Geometry}
+use Rattle.site.specs.State.{Image}
+use Rattle.sealed_ring.specs.Ring.{Units}
+use Rattle.frame_group.specs.Groups.{Frame, IsGroup, frames_in}
+use Rattle.frame_group.specs.Versions.{frames_of}
+use Rattle.frame_group.proofs.Contents.{frames_are_in, frames_more}
+use Rattle.log_laws.proofs.Lists.{all_append}
+use Rattle.image_changes.specs.Rings.{Masters, Segments, Groups, shape_of, group_shape, units_on, KeepsUnits}
+use Rattle.image_changes.specs.Changes.{Change, SealsBlock, RewritesPages, AppendsGroup, AppendsSegment, AppendsMaster, SameSizes, Makes}
+use Rattle.flash_cache.specs.Held.{frames_on}
+use Rattle.image_meaning.specs.Meaning.{IsFrameOf, AreGroups}
+use Rattle.image_meaning.specs.Beside.{AreRingsSound, KeepsRings, RingsKept}
+use Rattle.image_meaning.specs.Changes.{leaving, front_on, rest_on}
+use Rattle.image_meaning.proofs.Sames.{lengths_stay, unused_stays, groups_stay}
+use Rattle.image_meaning.proofs.Appends.{all_right, all_drop, frames_before}
+
+-- rings that keep their units
+rings_stay : (g : Geometry) (old new : Image) → SameSizes old new → KeepsUnits (shape_of g Masters) old new → KeepsUnits (shape_of g Segments) old new → KeepsUnits (group_shape g) old new →
+    AreRingsSound g old → AreRingsSound g new
+rings_stay g old new sizes masters segments groups sound = record {
+  limits = sound.limits;
+  lengths = lengths_stay g old new sizes sound.lengths;
+  masters = unused_stays g Masters old new masters sound.masters;
+  segments = unused_stays g Segments old new segments sound.segments;
+  groups = groups_stay g old new groups sound.groups;
+}
+
+-- a group more
+module _ (g : Geometry) (old new : Image) (content : List ℕ) (frames : List Frame) (sound : AreRingsSound g old) (is_group : IsGroup content frames) (are_frames : AllByRecursion (IsFrameOf g) frames)
+    (made : Makes g (AppendsGroup content) old new) where
+  abbrev live : List (List ℕ)
+  live = (units_on (group_shape g) old).live
+
+  few : leaving g old ≤ length live
+  few = let many = sound.limits.groups in omega (arith, many)
+
+  live_now : (units_on (group_shape g) new).live ≡ drop (leaving g old) live ++ content ∷ []
+  live_now =
+      ap (λ (u : Units). u.live) made.units
+      ∙ ap (λ (n : ℕ). drop (n - (g.groups - 1)) (live ++ content ∷ [])) (length-append live (content ∷ []))
+      ∙ drop-append-le (leaving g old) live (content ∷ []) few
+
+  frames_now : frames_on g new ≡ rest_on g old ++ frames
+  frames_now = ap frames_of live_now ∙ frames_more (drop (leaving g old) live) content frames is_group
+
+  pub groups_more : AreGroups g new
+  groups_more = record {
+    form = made.form;
+    each = subst (AllByRecursion (λ c. IsGroup c (frames_in c))) (sym live_now)
+        (all_append (λ c. IsGroup c (frames_in c)) (drop (leaving g old) live) (content ∷ [])
+        (all_drop (λ c. IsGroup c (frames_in c)) (leaving g old) live sound.groups.each)
+        (subst (IsGroup content) (sym (frames_are_in content frames is_group)) is_group, tt));
+    frames = subst (AllByRecursion (IsFrameOf g)) (sym frames_now)
+        (all_append (IsFrameOf g) (rest_on g old) frames
+        (all_right (IsFrameOf g) (front_on g old) (rest_on g old) (subst (AllByRecursion (IsFrameOf g)) (frames_before g old) sound.groups.frames)) are_frames);
+  }
+
+one_kept : (g : Geometry) (change : Change) (old new : Image) → AreRingsSound g old → KeepsRings g change → Makes g change old new → AreRingsSound g new
+one_kept g (SealsBlock records) old new sound keeps made = rings_stay g old new made.1.sizes (made.1.others Masters (λ h. cc)) (made.1.others Segments (λ h. cc)) (made.1.others Groups (λ h. cc)) sound
+one_kept g (RewritesPages pages) old new sound keeps made = rings_stay g old new made.sizes (made.rings Masters) (made.rings Segments) (made.rings Groups) sound
+one_kept g (AppendsGroup content) old new sound keeps made = record {
+  limits = sound.limits;
+  lengths = lengths_stay g old new made.sizes sound.lengths;
+  masters = unused_stays g Masters old new (made.others Masters (λ h. cc)) sound.masters;
+  segments = unused_stays g Segments old new (made.others Segments (λ h. cc)) sound.segments;
+  groups = groups_more g old new content keeps.0 sound keeps.1 keeps.2 made;
+}
+one_kept g (AppendsSegment content) old new sound keeps made = absurd keeps
+one_kept g (AppendsMaster content) old new sound keeps made = absurd keeps
+
+pub rings_kept : RingsKept
+rings_kept g [] old new sound all reads = rings_stay g old new reads.sizes (reads.rings Masters) (reads.rings Segments) (reads.rings Groups) sound
+rings_kept g (change ∷ changes) old new sound all reached =
+    rings_kept g changes reached.0 new (one_kept g change old reached.0 sound all.0 reached.1) all.1 reached.2
