@@ -4,6 +4,7 @@ use Rattle.site.specs.declared.outside.Dev.TheVariants.{Log, Flash, Disk}
 use Rattle.site.specs.declared.geometry.Geometry.{Geometry}
 use Rattle.site.specs.Laws.{stays_honest}
 use Rattle.slotted_page.specs.Layout.{IsSound}
+use Rattle.image_changes.specs.Laws.{RingKept}
 use Rattle.flash_cache.specs.Held.{version_on}
 use Rattle.buffer_pool.specs.declared.frame.Frame.{Frame}
 use Rattle.buffer_pool.specs.Frames.{frame_of}
@@ -11,8 +12,8 @@ use Rattle.second_chance.specs.Machine.{Cache, is_changed, without, holds, with_
 use Rattle.second_chance.specs.Queue.{with_read}
 use Rattle.page_store.specs.Held.{content_by}
 use Rattle.page_store.specs.Ahead.{IsLogged, AreLogged, sealed_end, end_forced}
-use Rattle.page_store.specs.Laws.{TouchThenChange, GoesOnBeside, FitsBeside, CurrentBeside, AheadBeside}
-use Rattle.page_store.proofs.PushLaws.{version_same, clean_same, flash_fits_same, flash_holds_same, logged_more}
+use Rattle.page_store.specs.Laws.{TouchThenChange, GoesOnBeside, FitsBeside, CurrentBeside, AheadBeside, VersionsBeside, LeavesBeside, SealedBeside}
+use Rattle.page_store.proofs.PushLaws.{version_same, clean_same, flash_fits_same, flash_holds_same, logged_more, force_leaves, force_sealed}
 use Rattle.page_store.proofs.Versions.{pages_later}
 
 pub touch_then_change : TouchThenChange
@@ -73,3 +74,12 @@ ahead_beside store log log' old new geometry geometry' fits fits' hi end changes
             (ahead.versions.each page exists));
       };
     }
+
+pub versions_beside : VersionsBeside
+versions_beside g old new page changes = version_same g old.image new.image page (changes.only.now.content Flash flash_other) (changes.only.now.content Disk disk_other)
+
+pub leaves_beside : RingKept → LeavesBeside
+leaves_beside law g sealing list given old new quiet queue clean changes leaves front = force_leaves g sealing list old new leaves changes quiet law front queue given clean
+
+pub sealed_beside : SealedBeside
+sealed_beside g sealing list old new quiet has sealed changes leaves = force_sealed g sealing list old new leaves changes quiet has sealed

@@ -14,3 +14,4 @@ pub mod Flushes
 pub mod Rounds
 pub mod Beside
 pub mod Unsealed
+pub mod Rings

@@ -11,6 +11,7 @@ use Rattle.log_store.specs.declared.store.LogStore.{LogStore}
 use Rattle.log_store.specs.LogList.{LogList}
 use Rattle.log_store.specs.Held as log_held
 use Rattle.log_store.specs.Held.{LeavesLog}
+use Rattle.image_meaning.specs.Beside.{AreRingsSound}
 use Rattle.page_store.specs.declared.store.PageStore.{PageStore}
 use Rattle.page_store.specs.Held.{Fits, current}
 
@@ -36,6 +37,10 @@ pub record LeavesPages (g : Geometry) (contents : ℕ → List ℕ) (sealing : B
   pub queue : HasQueue g snapshot.image
   pub clean : IsCleanOn g snapshot.image
   pub versions : (page : ℕ) → page < g.pages → (version_on g snapshot.image page ≡ version_on g old.image page) ⊎ (version_on g snapshot.image page ≡ contents page)
+
+-- the rings are sound
+abbrev pub LeavesRings : Geometry → Snapshot → Type 0
+LeavesRings g snapshot = AreRingsSound g snapshot.image
 
 -- the pages given have these contents
 pub record AreGiven (given : ℕ → List ℕ) (pages : List ℕ) (contents : List (List ℕ)) : Type 0 where

@@ -11,5 +11,5 @@ mod store;
 #[cfg(test)]
 mod tests;
 
-pub use laws::{stays_beside, touch_then_change};
+pub use laws::{pages_beside_the_log, stays_beside, touch_then_change};
 pub use store::PageStore;

@@ -15,10 +15,11 @@ ghost use Rattle.log_store.specs.declared.store.LogStore.{LogStore};
 ghost use Rattle.log_store.specs.LogList.{LogList, sealed_if};
 ghost use Rattle.log_store.specs.Held as log_held;
 ghost use Rattle.log_store.specs.Held.{has_tail, HasRoom};
+ghost use Rattle.image_meaning.specs.Beside.{AreRingsSound};
 ghost use Rattle.page_store.specs.Held.{MayGoOn, current};
 ghost use Rattle.page_store.specs.Caching.{cache_of, rules, is_full, is_pushed};
 ghost use Rattle.page_store.specs.Ahead.{IsAhead, IsLogged, AreLogged, AreSealed, LeavesSealed, end_forced, forces, evicted, pushed_for_room};
-ghost use Rattle.page_store.specs.Leaves.{AreReady, LeavesPages, AreGiven, Gives, AreChanged, KeepsCurrent};
+ghost use Rattle.page_store.specs.Leaves.{AreReady, LeavesPages, LeavesRings, AreGiven, Gives, AreChanged, KeepsCurrent};
 ghost use Rattle.page_store.specs.Stopping.{MayStop};
 
 use crate::forcing::force_for;
@@ -27,6 +28,7 @@ use buffer_pool::frames_of_pages;
 use byte_fields::Mark;
 use flash_cache::{FlashCache, unframed_is_disk};
 use image_changes::ring_kept;
+use image_meaning::rings_kept;
 use log_store::{LogStore, stays_beside};
 use second_chance::{Plan, plan_evict};
 use site::{Site, Stop};
@@ -105,6 +107,10 @@ impl PageStore {
             → AreSealed self.old.flash.geometry (S.state site.old).image
             → AllByRecursion (IsLogged (end_forced log.old)) contents.now
             → LeavesOnly (S.state site.old) (S.state site.new) (LeavesSealed self.old.flash.geometry) }
+        ensures rings_moment { (list : LogList) → AreReady self.old log.old list (S.state site.old)
+            → AreRingsSound self.old.flash.geometry (S.state site.old).image
+            → AllByRecursion IsSound contents.now
+            → LeavesOnly (S.state site.old) (S.state site.new) (LeavesRings self.old.flash.geometry) }
         ensures gives { (list : LogList) → AreReady self.old log.old list (S.state site.old)
             → OnOk result (Gives self.old.flash.geometry pages.now contents.now
             (S.state site.old).image (S.state site.new).image) }
@@ -146,6 +152,7 @@ impl PageStore {
     {
         stays_beside();
         ring_kept();
+        rings_kept();
         match force_for(site, log, contents) {
             Ok(()) => self.flash.push_group(site, plan, pages, changed, contents),
             Err(stop) => Err(stop),
@@ -166,6 +173,9 @@ impl PageStore {
         ensures ahead_moment { (list : LogList) → AreReady self.old log.old list (S.state site.old)
             → IsAhead log.old self.old (S.state site.old).image
             → LeavesOnly (S.state site.old) (S.state site.new) (LeavesSealed self.old.flash.geometry) }
+        ensures rings_moment { (list : LogList) → AreReady self.old log.old list (S.state site.old)
+            → AreRingsSound self.old.flash.geometry (S.state site.old).image
+            → LeavesOnly (S.state site.old) (S.state site.new) (LeavesRings self.old.flash.geometry) }
         ensures ready { (list : LogList) → AreReady self.old log.old list (S.state site.old)
             → OnOk result (AreReady self.new log.new (sealed_if (forces log.old (evicted self.old)) list) (S.state site.new)) }
         ensures current { (list : LogList) → AreReady self.old log.old list (S.state site.old)
@@ -238,6 +248,9 @@ impl PageStore {
         ensures ahead_moment { (list : LogList) → AreReady self.old log.old list (S.state site.old)
             → IsAhead log.old self.old (S.state site.old).image
             → LeavesOnly (S.state site.old) (S.state site.new) (LeavesSealed self.old.flash.geometry) }
+        ensures rings_moment { (list : LogList) → AreReady self.old log.old list (S.state site.old)
+            → AreRingsSound self.old.flash.geometry (S.state site.old).image
+            → LeavesOnly (S.state site.old) (S.state site.new) (LeavesRings self.old.flash.geometry) }
         ensures ready { (list : LogList) → AreReady self.old log.old list (S.state site.old)
             → OnOk result (AreReady self.new log.new (sealed_if (forces log.old (pushed_for_room self.old)) list) (S.state site.new)) }
         ensures current { (list : LogList) → AreReady self.old log.old list (S.state site.old)

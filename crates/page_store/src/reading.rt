@@ -14,10 +14,11 @@ ghost use Rattle.buffer_pool.specs.Frames.{frame_of, front_of};
 ghost use Rattle.log_store.specs.LogList.{LogList, sealed_if};
 ghost use Rattle.log_store.specs.Held as log_held;
 ghost use Rattle.log_store.specs.Held.{has_tail, HasRoom};
+ghost use Rattle.image_meaning.specs.Beside.{AreRingsSound};
 ghost use Rattle.page_store.specs.Held.{MayGoOn, Fits, current};
 ghost use Rattle.page_store.specs.Caching.{cache_of, is_full, is_pushed, with_way};
 ghost use Rattle.page_store.specs.Ahead.{IsAhead, LeavesSealed, end_forced, forces, pushed_for_room};
-ghost use Rattle.page_store.specs.Leaves.{AreReady, LeavesPages, KeepsCurrent, PutsIn};
+ghost use Rattle.page_store.specs.Leaves.{AreReady, LeavesPages, LeavesRings, KeepsCurrent, PutsIn};
 ghost use Rattle.page_store.specs.Stopping.{MayStop};
 
 use crate::store::PageStore;
@@ -174,6 +175,9 @@ impl PageStore {
         ensures ahead_moment { (list : LogList) → AreReady self.old log.old list (S.state site.old)
             → IsAhead log.old self.old (S.state site.old).image
             → LeavesOnly (S.state site.old) (S.state site.new) (LeavesSealed self.old.flash.geometry) }
+        ensures rings_moment { (list : LogList) → AreReady self.old log.old list (S.state site.old)
+            → AreRingsSound self.old.flash.geometry (S.state site.old).image
+            → LeavesOnly (S.state site.old) (S.state site.new) (LeavesRings self.old.flash.geometry) }
         ensures ready { (list : LogList) → AreReady self.old log.old list (S.state site.old)
             → OnOk result (AreReady self.new log.new (sealed_if (forces log.old (pushed_for_room self.old)) list) (S.state site.new)) }
         ensures current { (list : LogList) → AreReady self.old log.old list (S.state site.old)

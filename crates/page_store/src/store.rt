@@ -17,10 +17,11 @@ ghost use Rattle.log_store.specs.LogList.{LogList, sealed_if};
 ghost use Rattle.log_store.specs.Held.{has_tail, HasRoom};
 ghost use Rattle.log_store.specs.declared.store.LogStore.{LogStore};
 ghost use Rattle.log_store.specs.Held as log_held;
+ghost use Rattle.image_meaning.specs.Beside.{AreRingsSound};
 ghost use Rattle.page_store.specs.Held.{IsStore, MayGoOn, Fits, current};
 ghost use Rattle.page_store.specs.Caching.{cache_of, rules, with_change, pushes};
 ghost use Rattle.page_store.specs.Ahead.{IsAhead, LeavesSealed, end_forced, forces, pushed_by_touch};
-ghost use Rattle.page_store.specs.Leaves.{AreReady, LeavesPages, KeepsCurrent};
+ghost use Rattle.page_store.specs.Leaves.{AreReady, LeavesPages, LeavesRings, KeepsCurrent};
 ghost use Rattle.page_store.specs.Flushing.{flushed_contents};
 ghost use Rattle.page_store.specs.Stopping.{MayStop};
 
@@ -190,6 +191,9 @@ impl PageStore {
         ensures ahead_moment { (list : LogList) → AreReady self.old log.old list (S.state site.old)
             → IsAhead log.old self.old (S.state site.old).image
             → LeavesOnly (S.state site.old) (S.state site.new) (LeavesSealed self.old.flash.geometry) }
+        ensures rings_moment { (list : LogList) → AreReady self.old log.old list (S.state site.old)
+            → AreRingsSound self.old.flash.geometry (S.state site.old).image
+            → LeavesOnly (S.state site.old) (S.state site.new) (LeavesRings self.old.flash.geometry) }
         ensures ready { (list : LogList) → AreReady self.old log.old list (S.state site.old)
             → OnOk result (AreReady self.new log.new (sealed_if (forces log.old (pushed_by_touch self.old page)) list) (S.state site.new)) }
         ensures current { (list : LogList) → AreReady self.old log.old list (S.state site.old)
@@ -264,6 +268,9 @@ impl PageStore {
         ensures ahead_moment { (list : LogList) → AreReady self.old log.old list (S.state site.old)
             → IsAhead log.old self.old (S.state site.old).image
             → LeavesOnly (S.state site.old) (S.state site.new) (LeavesSealed self.old.flash.geometry) }
+        ensures rings_moment { (list : LogList) → AreReady self.old log.old list (S.state site.old)
+            → AreRingsSound self.old.flash.geometry (S.state site.old).image
+            → LeavesOnly (S.state site.old) (S.state site.new) (LeavesRings self.old.flash.geometry) }
         ensures ready { (list : LogList) → AreReady self.old log.old list (S.state site.old)
             → OnOk result (AreReady self.new log.new (sealed_if (forces log.old (flushed_contents self.old)) list) (S.state site.new)) }
         ensures current { (list : LogList) → AreReady self.old log.old list (S.state site.old)

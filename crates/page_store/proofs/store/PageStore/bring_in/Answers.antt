@@ -8,7 +8,7 @@ use Rattle.second_chance.specs.Machine.{Cache}
 use Rattle.log_store.specs.LogList.{sealed_if}
 use Rattle.page_store.specs.Held.{current}
 use Rattle.page_store.specs.Ahead.{IsAhead, LeavesSealed, forces, pushed_for_room}
-use Rattle.page_store.specs.Leaves.{AreReady, LeavesPages, KeepsCurrent}
+use Rattle.page_store.specs.Leaves.{AreReady, LeavesPages, LeavesRings, KeepsCurrent}
 use Rattle.page_store.proofs.PushLaws.{ok_then}
 use Rattle.page_store.proofs.Bringing.{ok_two, ready_same, current_again, ahead_in}
 use Rattle.page_store.proofs.store.PageStore.bring_in.Goals as goal
@@ -75,3 +75,12 @@ returns-in-Ok-clause-ahead g c list ready ahead =
     (λ put read. ahead_in store c.make_room.new.self c.read_in.new.self c.make_room.new.log c.args.page mid new c.make_room.ensures.geometry c.read_in.ensures.geometry
     (c.make_room.ensures.log_geometry ∙ c.requires.sizes) there.blocks same.image c.requires.exists sealed (c.in-Ok.ensures.ahead ahead) put read)
     c.read_in.ensures.put (c.read_in.ensures.read there.pages)
+
+pub returns-in-Ok-clause-rings_moment : goal.returns-in-Ok-clause-rings_moment
+returns-in-Ok-clause-rings_moment g c list ready rings =
+    let there = c.in-Ok.ensures.ready list ready in
+    unchanged_calm (g.S.Site.state c.args.site.now) (g.S.Site.state c.make_room.new.site) (g.S.Site.state c.read_in.new.site) (Leaves (LeavesRings c.args.self.now.flash.geometry))
+    (c.make_room.ensures.rings_moment list ready rings) (c.read_in.ensures.same there.pages.flash.honest)
+
+pub returns-in-Ok-clause-foreign : goal.returns-in-Ok-clause-foreign
+returns-in-Ok-clause-foreign g c is list ready = c.read_in.ensures.foreign is (c.in-Ok.ensures.ready list ready).pages

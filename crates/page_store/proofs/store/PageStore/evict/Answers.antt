@@ -11,6 +11,7 @@ use Rattle.page_store.specs.Ahead.{IsLogged, end_forced, forces, evicted}
 use Rattle.page_store.specs.Leaves.{AreReady, LeavesPages, KeepsCurrent}
 use Rattle.page_store.proofs.PushLaws.{ok_then}
 use Rattle.page_store.proofs.Evictions.{stays_pages, stays_sealed, rest_kept, rest_ready, rest_going, last_page, one_evicted, last_given, last_clean, last_changed, last_current, rest_logged, last_logged, evicts_pushed}
+use Rattle.page_store.proofs.Rings.{stays_rings}
 use Rattle.page_store.proofs.store.PageStore.evict.Goals as goal
 
 pub returns-in_default-clause-any_moment : goal.returns-in_default-clause-any_moment
@@ -151,3 +152,20 @@ returns-clause-machine g c =
     ok_then c.push.result _ (cache_of c.push.new.self ≡ evict_coldest (rules_for store) (cache_of store))
     (λ after. ap (λ (p : Pool). let k : Cache = record { pool = map pool_page p.frames; queue = queue } in k) c.push.ensures.pool ∙ evicts_pushed store rest.frames last queue is must after)
     c.push.ensures.directory
+
+pub returns-in_default-clause-rings_moment : goal.returns-in_default-clause-rings_moment
+returns-in_default-clause-rings_moment g c list ready rings = stays_rings _ (g.S.Site.state c.args.site.now) ready.quiet rings
+
+pub returns-then-not-must_be_pushed-clause-rings_moment : goal.returns-then-not-must_be_pushed-clause-rings_moment
+returns-then-not-must_be_pushed-clause-rings_moment g c list ready rings = stays_rings _ (g.S.Site.state c.args.site.now) ready.quiet rings
+
+pub returns-clause-rings_moment : goal.returns-clause-rings_moment
+returns-clause-rings_moment g c list ready rings =
+    let store = c.args.self.now in
+    let log = c.args.log.now in
+    let old = g.S.Site.state c.args.site.now in
+    let rest : Pool = c.take_coldest.new.self in
+    let last : Frame = record { page = c.in-Some.page; changed = c.in-Some.changed; content = c.in-Some.content } in
+    let is : store.pool.frames ≡ rest.frames ++ last ∷ [] = c.in-Some.ensures.some in
+    let one = c.frames_of_pages.ensures.last rest.frames last (subst AreDistinct is c.requires.going.own.pool.distinct) in
+    c.push.ensures.rings_moment list (rest_ready store rest last is one log list old ready) rings ((last_page store rest last is one c.requires.going.own).sound, tt)

@@ -6,6 +6,7 @@ use Rattle.page_store.specs.Held.{current}
 use Rattle.page_store.specs.Ahead.{forces, evicted, pushed_for_room}
 use Rattle.page_store.specs.Leaves.{LeavesPages}
 use Rattle.page_store.proofs.Evictions.{stays_pages, stays_sealed}
+use Rattle.page_store.proofs.Rings.{stays_rings}
 use Rattle.page_store.proofs.store.PageStore.make_room.Goals as goal
 
 pub returns-then-not-is_full-clause-any_moment : goal.returns-then-not-is_full-clause-any_moment
@@ -23,3 +24,6 @@ returns-clause-any_moment g c list ready =
     let is : nat_le store.pool.size (length store.pool.frames) ≡ true = grind (arith, nat_tests) in
     let same : evicted store ≡ pushed_for_room store = sym (ap (λ b. cond b (evicted store) []) is) in
     subst (λ (contents : List (List ℕ)). LeavesOnly old new (LeavesPages store.flash.geometry (current store old.image) (forces c.args.log.now contents) list old)) same (c.evict.ensures.any_moment list ready)
+
+pub returns-then-not-is_full-clause-rings_moment : goal.returns-then-not-is_full-clause-rings_moment
+returns-then-not-is_full-clause-rings_moment g c list ready rings = stays_rings _ (g.S.Site.state c.args.site.now) ready.quiet rings

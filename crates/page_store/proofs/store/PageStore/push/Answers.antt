@@ -5,11 +5,13 @@ use Rattle.site.specs.State.{IsSettled}
 use Rattle.site.specs.Moments.{Leaves, LeavesOnly}
 use Rattle.site.specs.Laws.{in_sequence, quiet_settled, holds_now}
 use Rattle.log_store.specs.LogList.{sealed_if, changes_if}
+use Rattle.flash_cache.specs.Pushed.{staged_pages}
 use Rattle.log_store.specs.Held.{HasBlocks, LeavesLog}
 use Rattle.image_changes.specs.Reached.{LeavesFront}
 use Rattle.page_store.specs.Ahead.{LeavesSealed, sealed_end, forces}
-use Rattle.page_store.specs.Leaves.{AreReady, LeavesPages, Gives}
+use Rattle.page_store.specs.Leaves.{AreReady, LeavesPages, LeavesRings, Gives}
 use Rattle.second_chance.specs.Queue.{Queue}
+use Rattle.page_store.proofs.Rings.{sealing_keeps, pushing_keeps, rings_front}
 use Rattle.page_store.proofs.PushLaws.{kept_where, force_leaves, force_sealed, between, push_leaves, push_sealed, clean_given_same, gives_since, ok_then, ok_five, fits_behind, log_units_same}
 use Rattle.page_store.proofs.store.PageStore.push.Goals as goal
 
@@ -139,3 +141,29 @@ returns-in-Ok-clause-worn_at g c says =
     let kept = kept_where c.push_group.result _ _ says c.push_group.ensures.kept in
     let same = ap (λ (q : Queue). q.first + length q.groups) kept in
     omega (arith, before, next, first, same)
+
+pub returns-in-Err-clause-rings_moment : goal.returns-in-Err-clause-rings_moment
+returns-in-Err-clause-rings_moment g c list ready rings sound =
+    let old = g.S.Site.state c.args.site.now in
+    let mid = g.S.Site.state c.force_for.new.site in
+    let sealing : Bool = forces c.args.log.now c.args.contents.now in
+    rings_front c.rings_kept.ensures c.args.self.now.flash.geometry (changes_if sealing list) old mid rings (sealing_keeps c.args.self.now.flash.geometry sealing list)
+    (subst (λ (h : Geometry). LeavesFront h (changes_if sealing list) old mid) c.requires.sizes (c.force_for.ensures.front list ready.blocks ready.records ready.quiet))
+
+pub returns-in-Ok-clause-rings_moment : goal.returns-in-Ok-clause-rings_moment
+returns-in-Ok-clause-rings_moment g c list ready rings sound =
+    let old = g.S.Site.state c.args.site.now in
+    let mid = g.S.Site.state c.force_for.new.site in
+    let new = g.S.Site.state c.push_group.new.site in
+    let store = c.args.self.now in
+    let sealing : Bool = forces c.args.log.now c.args.contents.now in
+    let honest = ready.blocks.honest in
+    let b = between store c.args.log.now c.force_for.new.log sealing list old mid ready (c.force_for.ensures.changes honest) c.force_for.ensures.goes (c.in-Ok.ensures.quiet honest ready.quiet)
+    (c.in-Ok.ensures.fits ready.blocks) (c.in-Ok.ensures.holds list ready.blocks ready.records) in
+    let first = rings_front c.rings_kept.ensures store.flash.geometry (changes_if sealing list) old mid rings (sealing_keeps store.flash.geometry sealing list)
+    (subst (λ (h : Geometry). LeavesFront h (changes_if sealing list) old mid) c.requires.sizes (c.force_for.ensures.front list ready.blocks ready.records ready.quiet)) in
+    let has = c.push_group.ensures.frames in
+    in_sequence old mid new (Leaves (LeavesRings store.flash.geometry)) first
+    (rings_front c.rings_kept.ensures store.flash.geometry _ mid new (holds_now old mid (LeavesRings store.flash.geometry) first)
+    (pushing_keeps store.flash.geometry (staged_pages store.flash) c.args.pages.now c.args.changed.now c.args.contents.now sound has.exist has.is_group)
+    (c.push_group.ensures.front ready.pages.groups b.fits b.holds b.quiet))

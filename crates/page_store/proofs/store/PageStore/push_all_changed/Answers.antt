@@ -9,17 +9,19 @@ use Rattle.second_chance.specs.Machine.{Rules, rules_of, Cache, push_changed, fl
 use Rattle.second_chance.specs.Laws.{changed_count}
 use Rattle.log_store.specs.LogList.{LogList, sealed_if}
 use Rattle.log_store.specs.Held.{has_tail}
+use Rattle.image_meaning.specs.Beside.{AreRingsSound}
 use Rattle.page_store.specs.declared.store.PageStore.{PageStore}
 use Rattle.page_store.specs.Held.{current}
 use Rattle.page_store.specs.Caching.{cache_of, rules as rules_for}
 use Rattle.page_store.specs.Ahead.{IsAhead, AreSealed, LeavesSealed, forces, is_unsealed, end_now}
-use Rattle.page_store.specs.Leaves.{AreReady, LeavesPages}
+use Rattle.page_store.specs.Leaves.{AreReady, LeavesPages, LeavesRings}
 use Rattle.buffer_pool.specs.declared.frame.Frame.{Frame}
 use Rattle.page_store.specs.Flushing.{flushed_first, flushed_contents, changed_frames}
 use Rattle.page_store.proofs.Unsealed.{next_round, nothing_forced, risen_to, forced_by_first, or_first, or_second}
 use Rattle.page_store.proofs.Evictions.{stays_pages, stays_sealed}
 use Rattle.page_store.proofs.Bringing.{current_again}
 use Rattle.page_store.proofs.Rounds.{kept_block, no_tail, risen, sealed_again, and_left, not_forced, one_more_push}
+use Rattle.page_store.proofs.Rings.{stays_rings}
 use Rattle.page_store.proofs.store.PageStore.push_all_changed.Goals as goal
 
 pub loop-self-init : goal.loop-self-init
@@ -31,6 +33,7 @@ loop-self-init g c =
     record {
       moment = λ list ready. stays_pages store log (current store site.image) (forces log (flushed_contents store)) list site c.requires.sizes ready;
       ahead_moment = λ list ready ahead. stays_sealed store.flash.geometry site ready.quiet ahead.versions;
+      rings_moment = λ list ready rings. stays_rings store.flash.geometry site ready.quiet rings;
       ready = λ list ready. subst (λ (b : Bool). AreReady store log (sealed_if b list) site) (sym none) ready;
       current = λ list ready. record { each = λ page exists. refl };
       ahead = λ ahead. ahead;
@@ -72,6 +75,19 @@ returns-in-Err-clause-any_moment g c list ready =
     let also = λ (is : forced ≡ true). inv.forced ∙ or_second b _ (forced_by_first (has_tail log) (is_unsealed (end_now log)) store.pool.frames is) in
     one_more_push h (current first old.image) (current store mid.image) (forces log0 (flushed_contents first)) b forced list old mid new had also once (inv.current list ready).each (inv.moment list ready)
     (subst (λ (k : Geometry). LeavesOnly mid new (LeavesPages k (current store mid.image) forced list' mid)) inv.geometry (c.push_changed.ensures.any_moment list' there))
+
+pub returns-in-Err-clause-rings_moment : goal.returns-in-Err-clause-rings_moment
+returns-in-Err-clause-rings_moment g c list ready rings =
+    let old = g.S.Site.state c.args.site.now in
+    let mid = g.S.Site.state c.loop-self.site in
+    let new = g.S.Site.state c.push_changed.new.site in
+    let inv = c.loop-self.invariant in
+    let h = c.args.self.now.flash.geometry in
+    let sound = inv.rings_moment list ready rings in
+    in_sequence old mid new (Leaves (LeavesRings h)) sound
+    (subst (λ (k : Geometry). LeavesOnly mid new (LeavesRings k)) inv.geometry
+    (c.push_changed.ensures.rings_moment (sealed_if (nat_lt c.args.log.now.ring.hi c.loop-self.log.ring.hi) list) (inv.ready list ready)
+    (subst (λ (k : Geometry). AreRingsSound k mid.image) (sym inv.geometry) (holds_now old mid (LeavesRings h) sound))))
 
 pub returns-in-Err-clause-ahead_moment : goal.returns-in-Err-clause-ahead_moment
 returns-in-Err-clause-ahead_moment g c list ready ahead =
@@ -145,6 +161,11 @@ loop-self-preserved g c =
           let here : IsAhead log store mid.image = record { pool = inv.ahead ahead.pool; versions = subst (λ (k : Geometry). AreSealed k mid.image) (sym inv.geometry) (holds_now old mid (LeavesSealed h) sealed) } in
           in_sequence old mid new (Leaves (LeavesSealed h)) sealed
           (subst (λ (k : Geometry). LeavesOnly mid new (LeavesSealed k)) inv.geometry (c.push_changed.ensures.ahead_moment (sealed_if b list) (inv.ready list ready) here));
+      rings_moment = λ list ready rings.
+          let sound = inv.rings_moment list ready rings in
+          in_sequence old mid new (Leaves (LeavesRings h)) sound
+          (subst (λ (k : Geometry). LeavesOnly mid new (LeavesRings k)) inv.geometry
+          (c.push_changed.ensures.rings_moment (sealed_if b list) (inv.ready list ready) (subst (λ (k : Geometry). AreRingsSound k mid.image) (sym inv.geometry) (holds_now old mid (LeavesRings h) sound))));
       ready = λ list ready.
           subst (λ (l : LogList). AreReady c.push_changed.new.self c.push_changed.new.log l new) (sealed_again list b forced once ∙ ap (λ (t : Bool). sealed_if t list) (sym now))
           (c.in_default.ensures.ready (sealed_if b list) (inv.ready list ready));

@@ -11,11 +11,12 @@ use Rattle.second_chance.specs.Laws.{changed_count}
 use Rattle.log_store.specs.LogList.{LogList, sealed_if}
 use Rattle.log_store.specs.Held as log_held
 use Rattle.log_store.specs.Held.{has_tail, HasRoom}
+use Rattle.image_meaning.specs.Beside.{AreRingsSound}
 use Rattle.page_store.specs.Held.{MayGoOn, current}
 use Rattle.page_store.specs.Caching.{cache_of, rules}
 use Rattle.page_store.specs.Ahead.{IsAhead, AreLogged, LeavesSealed, end_forced, forces}
 use Rattle.page_store.specs.Flushing.{flushed_contents}
-use Rattle.page_store.specs.Leaves.{AreReady, LeavesPages, KeepsCurrent}
+use Rattle.page_store.specs.Leaves.{AreReady, LeavesPages, LeavesRings, KeepsCurrent}
 use Rattle.page_store.proofs.store.PageStore.push_all_changed.Given as goal
 
 abbrev pub invariant-loop-self : goal.invariant-loop-self
@@ -26,6 +27,7 @@ invariant-loop-self g l =
     record {
       moment : (list : LogList) → AreReady first l.fn.log list old → LeavesOnly old now (LeavesPages first.flash.geometry (current first old.image) (forces l.fn.log (flushed_contents first)) list old);
       ahead_moment : (list : LogList) → AreReady first l.fn.log list old → IsAhead l.fn.log first old.image → LeavesOnly old now (LeavesSealed first.flash.geometry);
+      rings_moment : (list : LogList) → AreReady first l.fn.log list old → AreRingsSound first.flash.geometry old.image → LeavesOnly old now (LeavesRings first.flash.geometry);
       ready : (list : LogList) → AreReady first l.fn.log list old → AreReady l.self l.log (sealed_if (nat_lt l.fn.log.ring.hi l.log.ring.hi) list) now;
       current : (list : LogList) → AreReady first l.fn.log list old → KeepsCurrent first old.image l.self now.image;
       ahead : AreLogged (end_forced l.fn.log) first.pool.frames → AreLogged (end_forced l.log) l.self.pool.frames;

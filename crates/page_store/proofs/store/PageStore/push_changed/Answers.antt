@@ -3,6 +3,7 @@ use Rattle.std.specs.Prelude.{All, IsSome}
 use Rattle.buffer_pool.specs.Frames.{frame_of}
 use Rattle.page_store.proofs.Evictions.{stays_pages, stays_sealed}
 use Rattle.page_store.proofs.Saving.{pages_there}
+use Rattle.page_store.proofs.Rings.{stays_rings}
 use Rattle.page_store.proofs.store.PageStore.push_changed.Goals as goal
 
 pub contents_of-requires : goal.contents_of-requires
@@ -27,3 +28,12 @@ returns-in_err-contents-clause-any_moment g c list ready = stays_pages c.args.se
 
 pub returns-in_err-contents-clause-ahead_moment : goal.returns-in_err-contents-clause-ahead_moment
 returns-in_err-contents-clause-ahead_moment g c list ready ahead = stays_sealed _ (g.S.Site.state c.args.site.now) ready.quiet ahead.versions
+
+pub returns-in_err-plan-clause-rings_moment : goal.returns-in_err-plan-clause-rings_moment
+returns-in_err-plan-clause-rings_moment g c list ready rings = stays_rings _ (g.S.Site.state c.args.site.now) ready.quiet rings
+
+pub returns-in_err-pages-clause-rings_moment : goal.returns-in_err-pages-clause-rings_moment
+returns-in_err-pages-clause-rings_moment g c list ready rings = stays_rings _ (g.S.Site.state c.args.site.now) ready.quiet rings
+
+pub returns-in_err-contents-clause-rings_moment : goal.returns-in_err-contents-clause-rings_moment
+returns-in_err-contents-clause-rings_moment g c list ready rings = stays_rings _ (g.S.Site.state c.args.site.now) ready.quiet rings

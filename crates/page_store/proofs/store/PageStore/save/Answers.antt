@@ -225,3 +225,17 @@ returns-in-Ok-clause-frames g c =
     ap (λ (s : PageStore). s.pool.frames) c.clear_all.ensures.cleared
     ∙ ap (λ (p : Pool). cleared_all c.args.pages.now p.frames) c.push.ensures.pool
     ∙ ap (λ (l : List ℕ). cleared_all l frames) c.requires.pages
+
+pub returns-in-Err-clause-rings_moment : goal.returns-in-Err-clause-rings_moment
+returns-in-Err-clause-rings_moment g c list ready rings =
+    let store = c.args.self.now in
+    let frames = store.pool.frames in
+    c.push.ensures.rings_moment list ready rings (chosen_contents IsSound frames c.args.pages.now c.args.contents.now c.requires.going.own.pool.distinct c.requires.pages c.requires.contents
+    (all_weaker (IsPage store.flash.geometry.pages) (λ (f : Frame). IsSound f.content) (λ f p. p.sound) frames c.requires.going.own.pages))
+
+pub returns-in-Ok-clause-rings_moment : goal.returns-in-Ok-clause-rings_moment
+returns-in-Ok-clause-rings_moment g c list ready rings =
+    let store = c.args.self.now in
+    let frames = store.pool.frames in
+    c.push.ensures.rings_moment list ready rings (chosen_contents IsSound frames c.args.pages.now c.args.contents.now c.requires.going.own.pool.distinct c.requires.pages c.requires.contents
+    (all_weaker (IsPage store.flash.geometry.pages) (λ (f : Frame). IsSound f.content) (λ f p. p.sound) frames c.requires.going.own.pages))

@@ -17,6 +17,7 @@ use Rattle.page_store.specs.Leaves.{AreReady, LeavesPages}
 use Rattle.page_store.proofs.Pools.{page_is, touched_held}
 use Rattle.page_store.proofs.Evictions.{stays_pages, stays_sealed}
 use Rattle.page_store.proofs.Touching.{way, pushed_same, pushes_same, finds_same, misses_same, not_there, count_if, count_unless, other_count, nothing_forced, nothing_pushed, all_touched, order_fits, pool_going}
+use Rattle.page_store.proofs.Rings.{stays_rings}
 use Rattle.page_store.proofs.store.PageStore.touch.Goals as goal
 
 pub returns-then-is_some-clause-any_moment : goal.returns-then-is_some-clause-any_moment
@@ -209,3 +210,6 @@ returns-clause-next g c =
     let none : frame_of store.pool.frames page ≡ None = search rules in
     let hi = c.args.log.now.ring.hi in
     c.in_default.ensures.next ∙ ap {B = ℕ} (λ (contents : List (List ℕ)). if forces c.args.log.now contents then hi + 1 else hi) (pushed_same store page none)
+
+pub returns-then-is_some-clause-rings_moment : goal.returns-then-is_some-clause-rings_moment
+returns-then-is_some-clause-rings_moment g c list ready rings = stays_rings _ (g.S.Site.state c.args.site.now) ready.quiet rings

@@ -1,0 +1,45 @@
+-- The rings stay sound at each moment.
+use Rattle.std.proofs.Common.{ℕ, ◌<◌, Bool, true, false, List, [], ◌∷◌, ◌++◌, sym, subst}
+use Rattle.std.specs.List.{AllByRecursion}
+use Rattle.site.specs.declared.geometry.Geometry.{Geometry}
+use Rattle.site.specs.State.{State, IsQuiet}
+use Rattle.site.specs.Moments.{Leaves, LeavesOnly}
+use Rattle.site.specs.Laws.{leaves_weaker, no_call, quiet_leaves}
+use Rattle.slotted_page.specs.Layout.{IsSound}
+use Rattle.frame_group.specs.Groups.{group, IsGroup}
+use Rattle.image_changes.specs.Changes.{Change}
+use Rattle.image_changes.specs.Reached.{IsReached, IsFrontOf, LeavesFront}
+use Rattle.log_store.specs.LogList.{LogList, changes_if}
+use Rattle.flash_cache.specs.Pushed.{frames_given, changes_of_push}
+use Rattle.image_meaning.specs.Meaning.{IsFrameOf}
+use Rattle.image_meaning.specs.Beside.{AreRingsSound, KeepsRings, RingsKept}
+use Rattle.page_store.specs.Leaves.{LeavesRings}
+
+all_front : {X : Type 0} (P : X → Type 0) (front left : List X) → AllByRecursion P (front ++ left) → AllByRecursion P front
+all_front P [] left all = tt
+all_front P (x ∷ front) left all = (all.0, all_front P front left all.1)
+
+pub sealing_keeps : (g : Geometry) (sealing : Bool) (list : LogList) → AllByRecursion (KeepsRings g) (changes_if sealing list)
+sealing_keeps g true list = (tt, tt)
+sealing_keeps g false list = tt
+
+sound_frames : (g : Geometry) (pages : List ℕ) (changed : List Bool) (contents : List (List ℕ)) → AllByRecursion IsSound contents → AllByRecursion (λ frame. frame.page < g.pages) (frames_given pages changed contents)
+    → AllByRecursion (IsFrameOf g) (frames_given pages changed contents)
+sound_frames g [] changed contents sound exist = tt
+sound_frames g (page ∷ pages) [] contents sound exist = tt
+sound_frames g (page ∷ pages) (mark ∷ changed) [] sound exist = tt
+sound_frames g (page ∷ pages) (mark ∷ changed) (content ∷ contents) sound exist = (record { exists = exist.0; sound = sound.0 }, sound_frames g pages changed contents sound.1 exist.1)
+
+pub pushing_keeps : (g : Geometry) (staged pages : List ℕ) (changed : List Bool) (contents : List (List ℕ)) → AllByRecursion IsSound contents → AllByRecursion (λ frame. frame.page < g.pages) (frames_given pages changed contents)
+    → IsGroup (group (frames_given pages changed contents)) (frames_given pages changed contents) → AllByRecursion (KeepsRings g) (changes_of_push staged (group (frames_given pages changed contents)))
+pushing_keeps g [] pages changed contents sound exist is = ((frames_given pages changed contents, is, sound_frames g pages changed contents sound exist), tt)
+pushing_keeps g (page ∷ staged) pages changed contents sound exist is = (tt, ((frames_given pages changed contents, is, sound_frames g pages changed contents sound exist), tt))
+
+pub rings_front : RingsKept → (g : Geometry) (changes : List Change) (old new : State) → AreRingsSound g old.image → AllByRecursion (KeepsRings g) changes → LeavesFront g changes old new → LeavesOnly old new (LeavesRings g)
+rings_front kept g changes old new sound all leaves =
+    leaves_weaker old new (IsReached g (IsFrontOf changes) old) (LeavesRings g)
+    (λ s is. kept g is.changes old.image s.image sound (all_front (KeepsRings g) is.changes is.made.0 (subst (AllByRecursion (KeepsRings g)) is.made.1 all)) is.reaches) leaves
+
+-- a site that stays as it is
+pub stays_rings : (g : Geometry) (site : State) → IsQuiet site → AreRingsSound g site.image → LeavesOnly site site (LeavesRings g)
+stays_rings g site quiet sound = no_call site (Leaves (LeavesRings g)) (λ snapshot left. subst (LeavesRings g) (sym (quiet_leaves site snapshot quiet left)) sound)
