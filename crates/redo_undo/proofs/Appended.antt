@@ -1,0 +1,196 @@
+-- A record is appended beside the pages.
+use Rattle.std.proofs.Common.{◌≡◌, ℕ, ◌+◌, ◌*◌, ◌≤◌, ◌<◌, Bool, true, false, List, [], ◌∷◌, ◌++◌, length, map, refl, sym, ap, subst, arith}
+use Rattle.std.specs.Prelude.{if◌then◌else◌, Result, Ok, Err, OnOk, IfOk}
+use Rattle.std.specs.List.{AllByRecursion, range_with_len}
+use Rattle.std.proofs.lemmas.Bool.{lt-ltb}
+use Rattle.std.proofs.lemmas.List.{length-append}
+use Rattle.site.specs.declared.outside.Dev.TheVariants.{Log}
+use Rattle.site.specs.declared.geometry.Geometry.{Geometry}
+use Rattle.site.specs.State.{State, IsQuiet}
+use Rattle.site.specs.Calls.{Goes}
+use Rattle.site.specs.Moments.{LeavesOnly, ChangesOnly}
+use Rattle.site.specs.Laws.{leaves_weaker}
+use Rattle.record_model.specs.State.{Content}
+use Rattle.log_records.specs.declared.log_record.LogRecord.{LogRecord}
+use Rattle.log_records.specs.Spelling.{AreBlock, block_len}
+use Rattle.log_records.specs.Log.{Entry, Version, log_from}
+use Rattle.image_changes.specs.Reached.{IsReached, IsFrontOf, LeavesFront}
+use Rattle.log_store.specs.declared.store.LogStore.{LogStore}
+use Rattle.log_store.specs.LogList.{LogList, sealed_if, changes_if, with_record}
+use Rattle.log_store.specs.Held as log_held
+use Rattle.log_store.specs.Held.{HasBlocks, LeavesLog, has_tail, end_of}
+use Rattle.buffer_pool.specs.declared.frame.Frame.{Frame}
+use Rattle.page_store.specs.declared.store.PageStore.{PageStore}
+use Rattle.page_store.specs.Held.{IsStore, current, content_by}
+use Rattle.buffer_pool.specs.Frames.{frame_of}
+use Rattle.page_store.specs.Ahead.{IsLogged, AreSealed, LeavesSealed, IsAhead, end_forced}
+use Rattle.page_store.specs.Leaves.{HasQueue, LeavesRings}
+use Rattle.image_meaning.specs.Meaning.{picture, blank_master, versions_on, version_in}
+use Rattle.image_meaning.specs.Moments.{LeavesTable}
+use Rattle.image_meaning.specs.Beside.{AreRingsSound, KeepsRings}
+use Rattle.redo_undo.specs.Running.{RunsOn}
+use Rattle.redo_undo.specs.Holding.{HoldsLog, Holds, MayGrow, blocks_to}
+use Rattle.redo_undo.specs.Laws.{LogLaws, PageLaws, BesideLaws}
+use Rattle.redo_undo.proofs.Runs.{one_more}
+use Rattle.redo_undo.proofs.Standing.{last_of_all}
+use Rattle.redo_undo.proofs.Touched.{tail_blocks, hi_is, runs_sealed, leaves_table}
+
+-- the numbers of an append, on every site
+pub record IsNumbered (log log' : LogStore) (lsn : ℕ) (sealing : Bool) : Type 0 where
+  pub lsn_is : lsn ≡ (if sealing then 512 * (log.ring.hi + 1) + 2 else end_of log)
+  pub next : log'.ring.hi ≡ (if sealing then log.ring.hi + 1 else log.ring.hi)
+  pub below : lsn < end_of log'
+  pub low : 2 ≤ log.used
+  pub high : log'.used ≤ block_len
+
+-- and what it has done on an honest one
+pub record IsAppended (g : Geometry) (log log' : LogStore) (list : LogList) (site new : State) (rec : LogRecord) (lsn : ℕ) (sealing : Bool) : Type 0 where
+  pub numbers : IsNumbered log log' lsn sealing
+  pub holds : log_held.Holds log' new.image (with_record rec (sealed_if sealing list))
+  pub fits : log_held.Fits log' new
+  pub quiet : IsQuiet new
+  pub changes : ChangesOnly Log site new
+  pub goes : Goes site new
+
+few_blocks : (b : Bool) → tail_blocks b ≤ 1
+few_blocks true = omega arith
+few_blocks false = omega arith
+
+-- Its numbers.
+module _ (log log' : LogStore) (lsn : ℕ) where
+  some_now : (sealing : Bool) → IsNumbered log log' lsn sealing → 2 < log'.used
+  some_now true is = let a = is.lsn_is in let b = is.next in let c = is.below in omega (arith, a, b, c)
+  some_now false is = let a = is.lsn_is in let b = is.next in let c = is.below in let d = is.low in omega (arith, a, b, c, d)
+
+  pub one_now : (sealing : Bool) → IsNumbered log log' lsn sealing → tail_blocks (has_tail log') ≡ 1
+  one_now sealing is = ap tail_blocks (lt-ltb 2 log'.used (some_now sealing is))
+
+  pub most_blocks : (sealing : Bool) → (sealing ≡ true → has_tail log ≡ true) → IsNumbered log log' lsn sealing → blocks_to log' ≤ blocks_to log + 1
+  most_blocks true full is = let a = one_now true is in let b = is.next in let c = ap tail_blocks (full refl) in omega (arith, a, b, c)
+  most_blocks false full is = let a = one_now false is in let b = is.next in omega (arith, a, b)
+
+  pub least_blocks : (sealing : Bool) → IsNumbered log log' lsn sealing → blocks_to log ≤ blocks_to log'
+  least_blocks true is = let a = one_now true is in let b = is.next in let c = few_blocks (has_tail log) in omega (arith, a, b, c)
+  least_blocks false is = let a = one_now false is in let b = is.next in let c = few_blocks (has_tail log) in omega (arith, a, b, c)
+
+  pub before_end : (sealing : Bool) → IsNumbered log log' lsn sealing → lsn < end_forced log'
+  before_end sealing is = let a = one_now sealing is in let b = is.below in let c = is.high in omega (arith, a, b, c)
+
+logged_more : (end end' : ℕ) → end ≤ end' → (frames : List Frame) → AllByRecursion (λ frame. IsLogged end frame.content) frames → AllByRecursion (λ frame. IsLogged end' frame.content) frames
+logged_more end end' more [] all = tt
+logged_more end end' more (frame ∷ frames) all = (record { below = λ some. let below = all.0.below some in omega (arith, below, more) }, logged_more end end' more frames all.1)
+
+all_front : {X : Type 0} (P : X → Type 0) (front left : List X) → AllByRecursion P (front ++ left) → AllByRecursion P front
+all_front P [] left all = tt
+all_front P (x ∷ front) left all = (all.0, all_front P front left all.1)
+
+sealing_keeps : (g : Geometry) (sealing : Bool) (list : LogList) → AllByRecursion (KeepsRings g) (changes_if sealing list)
+sealing_keeps g true list = (tt, tt)
+sealing_keeps g false list = tt
+
+-- the pages stay
+module _ (beside : BesideLaws) (pages : PageStore) (site new : State) (changes : ChangesOnly Log site new) where
+  pub versions_same : versions_on pages.flash.geometry new.image ≡ versions_on pages.flash.geometry site.image
+  versions_same = λ i. map (λ number. version_in (beside.versions pages.flash.geometry site new number changes i)) (range_with_len 0 pages.flash.geometry.pages)
+
+  pub current_same : (number : ℕ) → current pages new.image number ≡ current pages site.image number
+  current_same number = ap (content_by (frame_of pages.pool.frames number)) (beside.versions pages.flash.geometry site new number changes)
+
+module _ (logs : LogLaws) (laws : PageLaws) (beside : BesideLaws) (log : LogStore) (pages : PageStore) (site : State) (records : List Entry) (table : List Content) (commits : ℕ) (h : Holds log pages site records table commits) (sizes : log.geometry ≡ pages.flash.geometry) where
+  abbrev g : Geometry
+  g = pages.flash.geometry
+
+  abbrev list : LogList
+  list = record { first = 0; blocks = h.log_holds.blocks; tail = h.log_holds.tail }
+
+  -- At each moment.
+  module _ (new : State) (sealing : Bool) (changes : ChangesOnly Log site new) (leaves : LeavesOnly site new (LeavesLog log.geometry sealing list site.told)) (front : LeavesFront log.geometry (changes_if sealing list) site new) where
+    at_log : LeavesOnly site new (LeavesLog g sealing list site.told)
+    at_log = subst (λ (k : Geometry). LeavesOnly site new (LeavesLog k sealing list site.told)) sizes leaves
+
+    at_front : LeavesFront g (changes_if sealing list) site new
+    at_front = subst (λ (k : Geometry). LeavesFront k (changes_if sealing list) site new) sizes front
+
+    queue_is : HasQueue g site.image
+    queue_is = record { first = pages.flash.directory.first; groups = h.log_holds.ready.pages.groups; has = h.log_holds.ready.pages.holds.has }
+
+    pub rings_stay : LeavesOnly site new (LeavesRings g)
+    rings_stay =
+        leaves_weaker site new (IsReached g (IsFrontOf (changes_if sealing list)) site) (LeavesRings g)
+        (λ s is. beside.rings g is.changes site.image s.image h.log_holds.rings (all_front (KeepsRings g) is.changes is.made.0 (subst (AllByRecursion (KeepsRings g)) is.made.1 (sealing_keeps g sealing list))) is.reaches)
+        at_front
+
+    pub sealed_stay : LeavesOnly site new (LeavesSealed g)
+    sealed_stay =
+        beside.are_sealed g sealing list site new h.log_holds.ready.quiet (subst (λ (k : Geometry). HasBlocks k 0 h.log_holds.blocks site.image) sizes h.log_holds.ready.records.blocks) h.log_holds.ahead.versions changes at_log
+
+    pub append_leaves : IsStore pages → (sealing ≡ true → has_tail log ≡ true) → LeavesOnly site new (LeavesTable g table commits site.told)
+    append_leaves own some =
+        leaves_table logs laws log pages site records table commits h own sealing some new
+        (beside.leaves g sealing list (current pages site.image) site new h.log_holds.ready.quiet queue_is h.log_holds.ready.pages.clean changes at_log at_front) sealed_stay rings_stay
+
+  -- Behind it.
+  module _ (new : State) (changes : ChangesOnly Log site new) where
+    moved : (blocks : List (List LogRecord)) (tail : List LogRecord) (records' : List Entry) → RunsOn (picture g site.image blocks) tail records' table commits → RunsOn (picture g new.image blocks) tail records' table commits
+    moved blocks tail records' runs =
+        subst (λ (versions : List Version). RunsOn (record { master = blank_master; log = log_from 0 blocks; hi = length blocks; blocks = g.blocks; pages = versions }) tail records' table commits) (sym (versions_same beside pages site new changes)) runs
+
+  module _ (log' : LogStore) (new : State) (rec : LogRecord) (lsn : ℕ) (rings : AreRingsSound g new.image) (are_sealed : AreSealed g new.image) (may : MayGrow log pages site.image records (record { lsn = lsn; rec = rec })) where
+    ahead_still : (sealing : Bool) → IsAppended g log log' list site new rec lsn sealing → IsAhead log' pages new.image
+    ahead_still sealing is =
+        let more = least_blocks log log' lsn sealing is.numbers in
+        record {
+          pool = logged_more (end_forced log) (end_forced log') (omega (arith, more)) pages.pool.frames h.log_holds.ahead.pool;
+          versions = are_sealed;
+        }
+
+    pub appended : (sealing : Bool) → (sealing ≡ true → has_tail log ≡ true) → IsAppended g log log' list site new rec lsn sealing → HoldsLog g log' pages new (records ++ record { lsn = lsn; rec = rec } ∷ []) table commits
+    appended false full is =
+        let most = most_blocks log log' lsn false full is.numbers in
+        let room = may.room in
+        let hi = hi_is logs laws log pages site records table commits h in
+        let used = h.log_holds.ready.records.tail.end in
+        let number = is.numbers.lsn_is in
+        record {
+          blocks = h.log_holds.blocks;
+          tail = h.log_holds.tail ++ rec ∷ [];
+          ready = record { pages = beside.fits pages site new is.changes is.goes h.log_holds.ready.pages; blocks = is.fits; records = is.holds; quiet = is.quiet };
+          rings = rings;
+          runs_on = moved new is.changes h.log_holds.blocks (h.log_holds.tail ++ rec ∷ []) (records ++ record { lsn = lsn; rec = rec } ∷ [])
+              (one_more logs (picture g site.image h.log_holds.blocks) h.log_holds.tail rec lsn records table commits h.log_holds.runs_on (omega (arith, hi, used, number)) may.follows may.no_commit);
+          ahead = ahead_still false is;
+          room = omega (arith, most, room);
+        }
+    appended true full is =
+        let most = most_blocks log log' lsn true full is.numbers in
+        let room = may.room in
+        let hi = hi_is logs laws log pages site records table commits h in
+        let number = is.numbers.lsn_is in
+        let more : List (List LogRecord) = h.log_holds.blocks ++ h.log_holds.tail ∷ [] in
+        let runs = runs_sealed logs laws log pages site records table commits h (full refl) (last_of_all AreBlock h.log_holds.blocks h.log_holds.tail is.holds.blocks.are_blocks) in
+        record {
+          blocks = more;
+          tail = rec ∷ [];
+          ready = record { pages = beside.fits pages site new is.changes is.goes h.log_holds.ready.pages; blocks = is.fits; records = is.holds; quiet = is.quiet };
+          rings = rings;
+          runs_on = moved new is.changes more (rec ∷ []) (records ++ record { lsn = lsn; rec = rec } ∷ [])
+              (one_more logs (picture g site.image more) [] rec lsn records table commits runs (omega (arith, hi, number, length-append h.log_holds.blocks (h.log_holds.tail ∷ []))) may.follows may.no_commit);
+          ahead = ahead_still true is;
+          room = omega (arith, most, room);
+        }
+
+pub if_ok_six : {A E : Type 0} (r : Result A E) (P Q R N : Type 0) (L S Z : A → Type 0) → ((x : A) → P → Q → R → N → L x → S x → Z x) → OnOk r P → OnOk r Q → OnOk r R → OnOk r N → IfOk r L → IfOk r S → IfOk r Z
+if_ok_six (Ok x) P Q R N L S Z f p q r n l s = f x p q r n l s
+if_ok_six (Err e) P Q R N L S Z f p q r n l s = tt
+
+pub if_ok_one : {A E : Type 0} (r : Result A E) (P Q : A → Type 0) → ((x : A) → P x → Q x) → IfOk r P → IfOk r Q
+if_ok_one (Ok x) P Q f p = f x p
+if_ok_one (Err e) P Q f p = tt
+
+pub if_ok_two : {A E : Type 0} (r : Result A E) (P R Q : A → Type 0) → ((x : A) → P x → R x → Q x) → IfOk r P → IfOk r R → IfOk r Q
+if_ok_two (Ok x) P R Q f p s = f x p s
+if_ok_two (Err e) P R Q f p s = tt
+
+pub if_ok_three : {A E : Type 0} (r : Result A E) (N : Type 0) (P R Q : A → Type 0) → ((x : A) → N → P x → R x → Q x) → OnOk r N → IfOk r P → IfOk r R → IfOk r Q
+if_ok_three (Ok x) N P R Q f n p s = f x n p s
+if_ok_three (Err e) N P R Q f n p s = tt

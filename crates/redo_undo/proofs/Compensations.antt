@@ -1,0 +1,167 @@
+-- Undoing an Update.
+use Rattle.std.proofs.Common.{◌≡◌, ℕ, ◌+◌, ◌-◌, ◌*◌, ◌≤◌, ◌<◌, ◌==◌, Bool, true, false, List, [], ◌∷◌, ◌++◌, length, Option, None, Some, true≢false, refl, sym, ap, subst, ◌∙◌, arith, zero-add}
+use Rattle.std.specs.Prelude.{if◌then◌else◌, find}
+use Rattle.site.specs.declared.geometry.Geometry.{Geometry}
+use Rattle.site.specs.State.{State, Image}
+use Rattle.record_model.specs.State.{Content}
+use Rattle.log_records.specs.declared.log_record.LogRecord.{LogRecord}
+use Rattle.log_records.specs.declared.log_record.LogRecord.TheVariants.{Begin, Update, Clr, Commit, End}
+use Rattle.log_records.specs.Unfinished.{is_clr, left_open, owed}
+use Rattle.log_records.specs.Log.{Entry, Version, txn_of, is_closed, is_update, log_from, entries_from, entries_of}
+use Rattle.log_records.specs.Sound.{Picture, IsLoserChain}
+use Rattle.log_laws.specs.Follow.{Follows, IsUndoable}
+use Rattle.log_laws.specs.Tail.{whole}
+use Rattle.log_laws.specs.Analysis.{Unfinished, IsUnfinished}
+use Rattle.log_laws.specs.UndoSteps.{IsToUndo}
+use Rattle.log_store.specs.declared.store.LogStore.{LogStore}
+use Rattle.log_store.specs.LogList.{entries, at_lsn}
+use Rattle.page_store.specs.declared.store.PageStore.{PageStore}
+use Rattle.image_meaning.specs.Meaning.{blank_master, picture, versions_on}
+use Rattle.redo_undo.specs.Holding.{Holds, MayGrow, blocks_to}
+use Rattle.redo_undo.specs.declared.undo.Undoing.{Undoing}
+use Rattle.redo_undo.specs.declared.undo.Wanted.{Wanted}
+use Rattle.redo_undo.specs.Undoing.{IsAt, IsWanted, Undone}
+use Rattle.redo_undo.specs.Laws.{PageLaws, UndoLaws}
+
+-- a record that is found by its LSN
+found_by : (b : Bool) (e u : Entry) (rest : Option Entry) (last : Option LogRecord) → (rest ≡ Some u → last ≡ Some u.rec) →
+    (if b then Some e else rest) ≡ Some u → (if b then Some e.rec else last) ≡ Some u.rec
+found_by true e u rest last later found = let same : e ≡ u = cc in ap (λ (x : Entry). Some x.rec) same
+found_by false e u rest last later found = later found
+
+found_at : (lsn : ℕ) (log : List Entry) (u : Entry) → find (λ e. e.lsn == lsn) log ≡ Some u → at_lsn lsn log ≡ Some u.rec
+found_at lsn [] u found = cc
+found_at lsn (e ∷ log) u found = found_by (e.lsn == lsn) e u (find (λ e. e.lsn == lsn) log) (at_lsn lsn log) (found_at lsn log u) found
+
+-- the store's list is the whole log
+entries_are : (g : Geometry) (image : Image) (blocks : List (List LogRecord)) (tail : List LogRecord) → entries (record { first = 0; blocks = blocks; tail = tail }) ≡ whole (picture g image blocks) tail
+entries_are g image blocks tail = ap (λ (n : ℕ). log_from 0 blocks ++ entries_from (512 * n + 2) tail) (zero-add (length blocks))
+
+-- undoing goes on at or before the transaction's last record
+pub next_below : (p : Picture) (records : List Entry) (x : Unfinished) (rec : LogRecord) → IsToUndo p records x rec → x.next ≤ x.last
+next_below p records x (Update txn prev page slot before after) is = is.3
+next_below p records x Begin is = absurd is
+next_below p records x (Clr txn prev undo_next page slot after) is = absurd is
+next_below p records x (Commit txn number) is = absurd is
+next_below p records x (End txn) is = absurd is
+
+-- what is undone is an Update
+pub is_one : (p : Picture) (records : List Entry) (x : Unfinished) (rec : LogRecord) → IsToUndo p records x rec → ((txn prev page slot : ℕ) (before after : Content) → rec ≡ Update txn prev page slot before after → ⊥) → ⊥
+is_one p records x (Update txn prev page slot before after) is none = none txn prev page slot before after refl
+is_one p records x Begin is none = is
+is_one p records x (Clr txn prev undo_next page slot after) is none = is
+is_one p records x (Commit txn number) is none = is
+is_one p records x (End txn) is none = is
+
+module _ (pages_laws : PageLaws) (laws : UndoLaws) (log : LogStore) (pages : PageStore) (site : State) (records : List Entry) (table : List Content) (commits : ℕ) (h : Holds log pages site records table commits) (x : Unfinished) (unfinished : IsUnfinished records x) where
+  abbrev g : Geometry
+  g = pages.flash.geometry
+
+  abbrev p : Picture
+  p = picture pages.flash.geometry site.image h.log_holds.blocks
+
+  -- the record at the LSN where undoing goes on is the Update that is undone next
+  pub to_undo : 0 < x.remaining → (u : Entry) × (at_lsn x.next (entries (record { first = 0; blocks = h.log_holds.blocks; tail = h.log_holds.tail })) ≡ Some u.rec) × IsToUndo p records x u.rec
+  to_undo some =
+      let are = h.log_holds.runs_on.records_are in
+      let step = laws.step p h.log_holds.tail x h.log_holds.runs_on.carries refl (subst (λ (l : List Entry). IsUnfinished l x) (sym are) unfinished) some in
+      (step.0, ap (at_lsn x.next) (entries_are g site.image h.log_holds.blocks h.log_holds.tail) ∙ found_at x.next (whole p h.log_holds.tail) step.0 step.1, subst (λ (l : List Entry). IsToUndo p l x step.0.rec) are step.2)
+
+  -- whichever record it is that was read there
+  pub read_is : (lsn : ℕ) (rec : LogRecord) → 0 < x.remaining → lsn ≡ x.next → at_lsn lsn (entries (record { first = 0; blocks = h.log_holds.blocks; tail = h.log_holds.tail })) ≡ Some rec → IsToUndo p records x rec
+  read_is lsn rec some at read =
+      let wanted = to_undo some in
+      let there : at_lsn x.next (entries (record { first = 0; blocks = h.log_holds.blocks; tail = h.log_holds.tail })) ≡ Some rec = subst (λ (n : ℕ). at_lsn n (entries (record { first = 0; blocks = h.log_holds.blocks; tail = h.log_holds.tail })) ≡ Some rec) at read in
+      let found = wanted.1 in
+      let same : wanted.0.rec ≡ rec = cc in
+      subst (IsToUndo p records x) same wanted.2
+
+  -- what its Update has
+  pub wanted_is : (lsn txn prev page slot : ℕ) (before after : Content) → 0 < x.remaining → lsn ≡ x.next → at_lsn lsn (entries (record { first = 0; blocks = h.log_holds.blocks; tail = h.log_holds.tail })) ≡ Some (Update txn prev page slot before after) →
+      IsWanted g site.image records x (record { prev = prev; page = page; slot = slot; before = before })
+  wanted_is lsn txn prev page slot before after some at read =
+      let is = read_is lsn (Update txn prev page slot before after) some at read in
+      let within = is.4 in
+      let long = pages_laws.count g site.image in
+      record { late = is.1; early = is.2; exists = omega (arith, within, long); follows = is.5 }
+
+  -- it is read there
+  pub is_there : (lsn : ℕ) → 0 < x.remaining → lsn ≡ x.next → at_lsn lsn (entries (record { first = 0; blocks = h.log_holds.blocks; tail = h.log_holds.tail })) ≡ None → ⊥
+  is_there lsn some at none =
+      let wanted = to_undo some in
+      let found = wanted.1 in
+      let there : at_lsn x.next (entries (record { first = 0; blocks = h.log_holds.blocks; tail = h.log_holds.tail })) ≡ None = subst (λ (n : ℕ). at_lsn n (entries (record { first = 0; blocks = h.log_holds.blocks; tail = h.log_holds.tail })) ≡ None) at none in
+      cc
+
+  -- its transaction can be undone
+  pub chain : IsLoserChain x.txn (entries_of x.txn records)
+  chain = (subst IsUndoable h.log_holds.runs_on.records_are (laws.undoable p h.log_holds.tail h.log_holds.runs_on.carries)).undone x.txn unfinished.loser
+
+-- A record that is no Update may follow whatever the pages show.
+pub follows_moved : (versions versions' : List Version) (records : List Entry) (e : Entry) → is_update e.rec ≡ false → length versions' ≡ length versions → Follows blank_master versions records e → Follows blank_master versions' records e
+follows_moved versions versions' records e other same f = record {
+  in_table = λ number is. let within = f.in_table number is in omega (arith, within, same);
+  of_open = f.of_open;
+  can_be_undone = f.can_be_undone;
+  held_off = f.held_off;
+  from_shown = λ number is on. absurd (true≢false (sym is ∙ other));
+  ends_undone = f.ends_undone;
+}
+
+pub may_moved : PageLaws → (log log' : LogStore) (pages pages' : PageStore) (old new : Image) (records : List Entry) (e : Entry) → is_update e.rec ≡ false → pages'.flash.geometry ≡ pages.flash.geometry → blocks_to log' ≡ blocks_to log →
+    MayGrow log pages old records e → MayGrow log' pages' new records e
+may_moved laws log log' pages pages' old new records e other geometry blocks may =
+    let room = may.room in
+    let all = ap (λ (g : Geometry). g.pages) geometry in
+    let many = ap (λ (g : Geometry). g.blocks) geometry in
+    record {
+      follows = follows_moved (versions_on pages.flash.geometry old) (versions_on pages'.flash.geometry new) records e other (laws.count pages'.flash.geometry new ∙ all ∙ sym (laws.count pages.flash.geometry old)) may.follows;
+      no_commit = may.no_commit;
+      room = omega (arith, room, many, blocks);
+    }
+
+-- A CLR of an unfinished transaction may be logged: with it there is less to undo.
+module _ (pages_laws : PageLaws) (laws : UndoLaws) (log : LogStore) (pages : PageStore) (site : State) (records : List Entry) (table : List Content) (commits : ℕ) (h : Holds log pages site records table commits) (x : Unfinished) (unfinished : IsUnfinished records x) where
+  owes_less : (e : Entry) → is_clr e.rec ≡ true → txn_of e ≡ x.txn → 0 < x.remaining → owed records ≡ owed (records ++ e ∷ []) + 1
+  owes_less e clr own some =
+      let remains = unfinished.remaining_is in
+      laws.owed_clr records e clr (subst (λ t. is_closed records t ≡ false) (sym own) (laws.lives records x.txn unfinished.loser))
+      (subst (λ t. IsLoserChain t (entries_of t records)) (sym own) (chain pages_laws laws log pages site records table commits h x unfinished))
+      (subst (λ t. 0 < length (left_open records t)) (sym own) (omega (arith, some, remains)))
+
+  pub may_compensate : (at : Undoing) (w : Wanted) (lsn : ℕ) → IsAt at x → 0 < x.remaining → IsWanted pages.flash.geometry site.image records x w →
+      MayGrow log pages site.image records (record { lsn = lsn; rec = Clr at.txn at.last w.prev w.page w.slot w.before })
+  may_compensate at w lsn is some wanted =
+      let e : Entry = record { lsn = lsn; rec = Clr at.txn at.last w.prev w.page w.slot w.before } in
+      let room = h.log_holds.room in
+      let owes = owes_less e refl is.txn some in
+      record {
+        follows = subst (λ (t : ℕ). Follows blank_master (versions_on pages.flash.geometry site.image) records (record { lsn = lsn; rec = Clr t at.last w.prev w.page w.slot w.before })) (sym is.txn)
+            (subst (λ (l : ℕ). Follows blank_master (versions_on pages.flash.geometry site.image) records (record { lsn = lsn; rec = Clr x.txn l w.prev w.page w.slot w.before })) (sym is.last) (wanted.follows lsn));
+        no_commit = refl;
+        room = omega (arith, owes, room);
+      }
+
+  -- there is room for it
+  pub room_for_clr : (w : Wanted) → 0 < x.remaining → blocks_to log + 1 ≤ pages.flash.geometry.blocks - 1
+  room_for_clr w some =
+      let e : Entry = record { lsn = 0; rec = Clr x.txn 0 0 0 0 None } in
+      let room = h.log_holds.room in
+      let owes = owes_less e refl refl some in
+      omega (arith, owes, room)
+
+-- it was logged
+pub undone : UndoLaws → (log : LogStore) (pages : PageStore) (site : State) (records : List Entry) (table : List Content) (commits : ℕ) (x : Unfinished) (at : Undoing) (w : Wanted) (lsn : ℕ) →
+    IsUnfinished records x → IsAt at x → 0 < x.remaining → Holds log pages site (records ++ record { lsn = lsn; rec = Clr at.txn at.last w.prev w.page w.slot w.before } ∷ []) table commits →
+    Undone log pages site records table commits x (record { txn = at.txn; last = lsn; next = w.prev })
+undone laws log pages site records table commits x at w lsn unfinished is some holds =
+    let e : Entry = record { lsn = lsn; rec = Clr at.txn at.last w.prev w.page w.slot w.before } in
+    record {
+      e = e;
+      clr = refl;
+      own = is.txn;
+      holds = holds;
+      left = laws.unfinished records e x unfinished (sym is.txn) refl;
+      at = record { txn = is.txn; last = refl; next = refl };
+      fewer = omega (arith, some);
+    }

@@ -1,0 +1,9 @@
+pub mod Runs
+pub mod Standing
+pub mod Touched
+pub mod Appended
+pub mod Changed
+pub mod Compensations
+pub mod Sames
+pub mod Rollbacks
+pub mod Empties

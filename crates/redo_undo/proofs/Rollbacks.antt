@@ -1,0 +1,136 @@
+-- Undoing a transaction, CLR by CLR, and its End.
+use Rattle.std.proofs.Common.{◌≡◌, ◌≢◌, ℕ, zero, suc, ◌+◌, ◌-◌, ◌*◌, ◌<◌, ◌≤◌, true, List, [], ◌∷◌, ◌++◌, length, refl, sym, ap, subst, ◌∙◌, arith, append_assoc, append-nil}
+use Rattle.std.specs.List.{AllByRecursion}
+use Rattle.std.proofs.lemmas.Bool.{ne_eqb}
+use Rattle.site.specs.State.{State}
+use Rattle.record_model.specs.State.{Content}
+use Rattle.log_records.specs.declared.log_record.LogRecord.{LogRecord}
+use Rattle.log_records.specs.declared.log_record.LogRecord.TheVariants.{Begin, Update, Clr, Commit, End}
+use Rattle.log_records.specs.Log.{Entry, txn_of, is_loser}
+use Rattle.log_records.specs.Unfinished.{is_clr, left_open, owed, owed_by}
+use Rattle.log_records.specs.Sound.{IsInOrder}
+use Rattle.log_laws.specs.Follow.{Follows}
+use Rattle.log_laws.specs.Tail.{next_lsn}
+use Rattle.log_laws.specs.Analysis.{Unfinished, IsUnfinished, after_record}
+use Rattle.log_laws.specs.UndoSteps.{IsToUndo}
+use Rattle.log_store.specs.declared.store.LogStore.{LogStore}
+use Rattle.page_store.specs.declared.store.PageStore.{PageStore}
+use Rattle.image_meaning.specs.Meaning.{picture, blank_master, versions_on}
+use Rattle.redo_undo.specs.declared.undo.Undoing.{Undoing}
+use Rattle.redo_undo.specs.Holding.{Holds, MayGrow, blocks_to}
+use Rattle.redo_undo.specs.Undoing.{IsAt, Undone}
+use Rattle.redo_undo.specs.Rollback.{AreClrsOf, left_of, Compensates, RollsBack}
+use Rattle.redo_undo.specs.Laws.{PageLaws, UndoLaws}
+use Rattle.redo_undo.proofs.Compensations.{to_undo, chain}
+
+all_append : {X : Type 0} (P : X → Type 0) (xs ys : List X) → AllByRecursion P xs → AllByRecursion P ys → AllByRecursion P (xs ++ ys)
+all_append P [] ys front rest = rest
+all_append P (x ∷ xs) ys front rest = (front.0, all_append P xs ys front.1 rest)
+
+none_left : {X : Type 0} (xs : List X) → 0 ≡ length xs → xs ≡ []
+none_left [] is = refl
+none_left (x ∷ xs) is = absurd (omega (arith, is))
+
+-- nothing is compensated yet
+pub starts : (log : LogStore) (pages : PageStore) (site : State) (records : List Entry) (table : List Content) (commits : ℕ) (x : Unfinished) (first : Undoing) → Holds log pages site records table commits → IsUnfinished records x → IsAt first x →
+    Compensates log pages site records table commits x.txn first
+starts log pages site records table commits x first holds unfinished at =
+    let same : x ≡ left_of first x.remaining = λ i. record { txn = sym at.txn i; last = sym at.last i; next = sym at.next i; remaining = x.remaining } in
+    record {
+      clrs = [];
+      own = tt;
+      holds = subst (λ (l : List Entry). Holds log pages site l table commits) (sym (append-nil records)) holds;
+      remaining = x.remaining;
+      left = subst (λ (l : List Entry). IsUnfinished l (left_of first x.remaining)) (sym (append-nil records)) (subst (IsUnfinished records) same unfinished);
+      same = at.txn;
+    }
+
+module _ (pages_laws : PageLaws) (laws : UndoLaws) (log : LogStore) (pages : PageStore) (site : State) (records : List Entry) (table : List Content) (commits txn : ℕ) (now : Undoing) (c : Compensates log pages site records table commits txn now) where
+  -- as long as undoing hasn't come to the Begin an Update remains
+  pub remains : now.next ≢ now.txn → 0 < c.remaining
+  remains differ = by c.remaining refl
+    where
+      by : (n : ℕ) → c.remaining ≡ n → 0 < n
+      by (suc n) is = omega arith
+      by zero is =
+          let p = picture pages.flash.geometry site.image c.holds.log_holds.blocks in
+          let order = subst (λ (l : List Entry). IsInOrder (512 * p.master.kept) l (next_lsn p c.holds.log_holds.tail)) c.holds.log_holds.runs_on.records_are (laws.in_order p c.holds.log_holds.tail c.holds.log_holds.runs_on.carries) in
+          absurd (differ (c.left.next_is ∙ laws.next_undone (512 * p.master.kept) (next_lsn p c.holds.log_holds.tail) (records ++ c.clrs) now.txn order
+          (chain pages_laws laws log pages site (records ++ c.clrs) table commits c.holds (left_of now c.remaining) c.left) (none_left (left_open (records ++ c.clrs) now.txn) (sym is ∙ c.left.remaining_is))))
+
+  later : (rec : LogRecord) → IsToUndo (picture pages.flash.geometry site.image c.holds.log_holds.blocks) (records ++ c.clrs) (left_of now c.remaining) rec → now.txn < now.next
+  later (Update txn prev page slot before after) is = let late = is.1 in let early = is.2 in omega (arith, late, early)
+  later Begin is = absurd is
+  later (Clr txn prev undo_next page slot after) is = absurd is
+  later (Commit txn number) is = absurd is
+  later (End txn) is = absurd is
+
+  -- and where it has, none does
+  pub none_remains : now.next ≡ now.txn → c.remaining ≡ 0
+  none_remains same = by c.remaining refl
+    where
+      by : (n : ℕ) → c.remaining ≡ n → n ≡ 0
+      by zero is = refl
+      by (suc n) is =
+          let there = to_undo pages_laws laws log pages site (records ++ c.clrs) table commits c.holds (left_of now c.remaining) c.left (omega (arith, is)) in
+          let more = later there.0.rec there.2 in
+          absurd (omega (arith, more, same))
+
+  -- one more CLR
+  pub goes_on : (log' : LogStore) (pages' : PageStore) (new : State) (next : Undoing) → Undone log' pages' new (records ++ c.clrs) table commits (left_of now c.remaining) next → Compensates log' pages' new records table commits txn next
+  goes_on log' pages' new next u =
+      let y = after_record (left_of now c.remaining) u.e in
+      let is : y ≡ left_of next y.remaining = λ i. record { txn = sym u.at.txn i; last = sym u.at.last i; next = sym u.at.next i; remaining = y.remaining } in
+      let all = append_assoc records c.clrs (u.e ∷ []) in
+      record {
+        clrs = c.clrs ++ u.e ∷ [];
+        own = all_append (λ (e : Entry). (is_clr e.rec ≡ true) × (txn_of e ≡ txn)) c.clrs (u.e ∷ []) c.own ((u.clr, u.own ∙ c.same), tt);
+        holds = subst (λ (l : List Entry). Holds log' pages' new l table commits) all u.holds;
+        remaining = y.remaining;
+        left = subst (λ (l : List Entry). IsUnfinished l (left_of next y.remaining)) all (subst (IsUnfinished ((records ++ c.clrs) ++ u.e ∷ [])) is u.left);
+        same = u.at.txn ∙ c.same;
+      }
+
+  -- Where none remains, the End may be logged.
+  module _ (none : c.remaining ≡ 0) where
+    owes_less : (lsn : ℕ) → owed (records ++ c.clrs) ≡ owed ((records ++ c.clrs) ++ record { lsn = lsn; rec = End now.txn } ∷ []) + owed_by (records ++ c.clrs) now.txn
+    owes_less lsn =
+        laws.owed_closing (records ++ c.clrs) (record { lsn = lsn; rec = End now.txn }) refl (laws.lives (records ++ c.clrs) now.txn c.left.loser)
+        (chain pages_laws laws log pages site (records ++ c.clrs) table commits c.holds (left_of now c.remaining) c.left)
+
+    pub room_for_end : blocks_to log + 1 ≤ pages.flash.geometry.blocks - 1
+    room_for_end = let owes = owes_less 0 in let room = c.holds.log_holds.room in omega (arith, owes, room)
+
+    pub may_end : (lsn : ℕ) → MayGrow log pages site.image (records ++ c.clrs) (record { lsn = lsn; rec = End txn })
+    may_end lsn =
+        let p = picture pages.flash.geometry site.image c.holds.log_holds.blocks in
+        let are = c.holds.log_holds.runs_on.records_are in
+        let owes = owes_less lsn in
+        let room = c.holds.log_holds.room in
+        subst (λ (t : ℕ). MayGrow log pages site.image (records ++ c.clrs) (record { lsn = lsn; rec = End t })) c.same (record {
+          follows = subst (λ (l : List Entry). Follows blank_master (versions_on pages.flash.geometry site.image) l (record { lsn = lsn; rec = End now.txn })) are
+              (laws.end p c.holds.log_holds.tail (left_of now c.remaining) c.holds.log_holds.runs_on.carries refl (subst (λ (l : List Entry). IsUnfinished l (left_of now c.remaining)) (sym are) c.left) none lsn);
+          no_commit = refl;
+          room = omega (arith, owes, room);
+        })
+
+-- all other transactions are as they were
+others_stay : UndoLaws → (records clrs : List Entry) (txn t : ℕ) → t ≢ txn → AreClrsOf txn clrs → is_loser (records ++ clrs) t ≡ is_loser records t
+others_stay laws records [] txn t differ own = ap (λ (l : List Entry). is_loser l t) (append-nil records)
+others_stay laws records (e ∷ clrs) txn t differ own =
+    ap (λ (l : List Entry). is_loser l t) (sym (append_assoc records (e ∷ []) clrs)) ∙ others_stay laws (records ++ e ∷ []) clrs txn t differ own.1
+    ∙ laws.stays records e t (ne_eqb (txn_of e) t (λ same. differ (sym same ∙ own.0.1)))
+
+-- it is logged
+pub rolls_back : UndoLaws → (log : LogStore) (pages : PageStore) (site : State) (records : List Entry) (table : List Content) (commits txn : ℕ) (clrs : List Entry) (lsn : ℕ) → AreClrsOf txn clrs →
+    Holds log pages site ((records ++ clrs) ++ record { lsn = lsn; rec = End txn } ∷ []) table commits → RollsBack log pages site records table commits txn
+rolls_back laws log pages site records table commits txn clrs lsn own holds =
+    let e : Entry = record { lsn = lsn; rec = End txn } in
+    record {
+      clrs = clrs;
+      lsn = lsn;
+      own = own;
+      holds = holds;
+      closed = laws.closed (records ++ clrs) e refl;
+      others = λ t differ. laws.stays (records ++ clrs) e t (ne_eqb txn t (λ same. differ (sym same))) ∙ others_stay laws records clrs txn t differ own;
+    }

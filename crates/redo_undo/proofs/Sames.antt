@@ -1,0 +1,160 @@
+-- Calls one behind the other, and a site of which only was read.
+use Rattle.std.proofs.Common.{◌≡◌, ℕ, ◌<◌, Bool, false, nat_lt, arith, append-nil, [], List, refl, sym, ap, subst, ◌∙◌}
+use Rattle.std.specs.Prelude.{if◌then◌else◌}
+use Rattle.site.specs.declared.outside.Dev.TheVariants.{Log, Flash, Disk}
+use Rattle.site.specs.declared.geometry.Geometry.{Geometry}
+use Rattle.site.specs.State.{State, Image, Loose}
+use Rattle.site.specs.Calls.{Goes, IsUnchanged}
+use Rattle.site.specs.Laws.{in_sequence, holds_now, no_call, unchanged_calm, stays_honest, quiet_leaves}
+use Rattle.site.specs.Moments.{Leaves, LeavesOnly, SameBut, ChangesOnly}
+use Rattle.sealed_ring.specs.Ring.{IsRing, FitsIn, hi_of}
+use Rattle.image_changes.specs.Rings.{log_shape}
+use Rattle.record_model.specs.State.{Content}
+use Rattle.log_records.specs.Log.{Entry, log_from}
+use Rattle.log_store.specs.declared.store.LogStore.{LogStore}
+use Rattle.log_store.specs.Held as log_held
+use Rattle.log_store.specs.Held.{HasBlocks, has_tail, end_of}
+use Rattle.slotted_page.specs.Layout.{lsn_of}
+use Rattle.page_store.specs.declared.store.PageStore.{PageStore}
+use Rattle.page_store.specs.Held.{current}
+use Rattle.page_store.specs.Ahead.{IsAhead}
+use Rattle.page_store.specs.Laws.{FitsBeside}
+use Rattle.image_meaning.specs.Meaning.{picture, Stands}
+use Rattle.image_meaning.specs.Moments.{LeavesTable}
+use Rattle.image_meaning.specs.Beside.{AreRingsSound}
+use Rattle.redo_undo.specs.HoldingLaws.{OpenedHolds}
+use Rattle.redo_undo.specs.Laws.{LogLaws}
+use Rattle.redo_undo.specs.Running.{RunsOn}
+use Rattle.redo_undo.specs.Holding.{MayGoOn, Holds, ShowRecords}
+
+-- one call behind others
+pub and_then : (g g' : Geometry) (old mid new : State) (table : List Content) (commits : ℕ) → g' ≡ g → LeavesOnly old mid (LeavesTable g table commits old.told) → LeavesOnly mid new (LeavesTable g' table commits mid.told) →
+    LeavesOnly old new (LeavesTable g table commits old.told)
+and_then g g' old mid new table commits same first second =
+    let told : mid.told ≡ old.told = (holds_now old mid (LeavesTable g table commits old.told) first).told in
+    in_sequence old mid new (Leaves (LeavesTable g table commits old.told)) first
+    (subst (λ (t : List ℕ). LeavesOnly mid new (LeavesTable g table commits t)) told (subst (λ (x : Geometry). LeavesOnly mid new (LeavesTable x table commits mid.told)) same second))
+
+-- reading changes no device
+only_read : (old new : State) → IsUnchanged old new → ChangesOnly Log old new
+only_read old new same = record {
+  only = unchanged_calm old old new (SameBut Log old) (no_call old (SameBut Log old) (record { told = refl; telling = refl; content = λ d other. refl; loose = λ d other. refl })) same;
+  left = same.left;
+}
+
+-- log and pages hold together still
+pub holds_still : FitsBeside → (log : LogStore) (pages : PageStore) (old new : State) (records : List Entry) (table : List Content) (commits : ℕ) → Goes old new → IsUnchanged old new → Holds log pages old records table commits → Holds log pages new records table commits
+holds_still fits log pages old new records table commits goes same h =
+    let ready = h.log_holds.ready in
+    record {
+      log_holds = record {
+        blocks = h.log_holds.blocks;
+        tail = h.log_holds.tail;
+        ready = record {
+          pages = fits pages old new (only_read old new same) goes ready.pages;
+          blocks = record {
+            honest = stays_honest old new goes ready.blocks.honest;
+            settled = ap (λ (l : Loose). l.log) same.loose ∙ ready.blocks.settled;
+            form = subst (λ (i : Image). IsRing (log_shape log.geometry) i.log) (sym same.image) ready.blocks.form;
+            hi = subst (λ (i : Image). log.ring.hi ≡ hi_of (log_shape log.geometry) i.log) (sym same.image) ready.blocks.hi;
+          };
+          records = subst (λ (i : Image). log_held.Holds log i (record { first = 0; blocks = h.log_holds.blocks; tail = h.log_holds.tail })) (sym same.image) ready.records;
+          quiet = same.loose ∙ ready.quiet;
+        };
+        rings = subst (AreRingsSound pages.flash.geometry) (sym same.image) h.log_holds.rings;
+        runs_on = subst (λ (i : Image). RunsOn (picture pages.flash.geometry i h.log_holds.blocks) h.log_holds.tail records table commits) (sym same.image) h.log_holds.runs_on;
+        ahead = subst (IsAhead log pages) (sym same.image) h.log_holds.ahead;
+        room = h.log_holds.room;
+      };
+      shows = subst (λ (i : Image). ShowRecords pages.flash.geometry pages i records) (sym same.image) h.shows;
+      below = subst (λ (i : Image). (page : ℕ) → page < pages.flash.geometry.pages → lsn_of (current pages i page) < end_of log) (sym same.image) h.below;
+    }
+
+-- they may still go on
+pub going_still : (log : LogStore) (pages : PageStore) (old new : State) → Goes old new → MayGoOn log pages old → MayGoOn log pages new
+going_still log pages old new goes may = record {
+  log_going = record {
+    limits = may.log_going.limits;
+    lengths = record { log = goes.sizes Log ∙ may.log_going.lengths.log; flash = goes.sizes Flash ∙ may.log_going.lengths.flash; disk = goes.sizes Disk ∙ may.log_going.lengths.disk };
+    usable = record { fits = subst (FitsIn log.ring.shape) (sym (goes.sizes log.ring.shape.dev)) may.log_going.usable.fits; bounded = may.log_going.usable.bounded };
+    shape = may.log_going.shape;
+    kept = may.log_going.kept;
+    live = may.log_going.live;
+    low = may.log_going.low;
+    high = may.log_going.high;
+  };
+  pages_going = record {
+    flash = let f = may.pages_going.flash in record {
+      limits = f.limits;
+      lengths = record { log = goes.sizes Log ∙ f.lengths.log; flash = goes.sizes Flash ∙ f.lengths.flash; disk = goes.sizes Disk ∙ f.lengths.disk };
+      usable = record { fits = subst (FitsIn pages.flash.ring.shape) (sym (goes.sizes pages.flash.ring.shape.dev)) f.usable.fits; bounded = f.usable.bounded };
+      shape = f.shape;
+      next = f.next;
+      few = f.few;
+      sizes = f.sizes;
+      exist = f.exist;
+    };
+    own = may.pages_going.own;
+  };
+  sizes = may.sizes;
+  room = may.room;
+}
+
+-- what stands there stands for the table
+pub stands_there : (log : LogStore) (pages : PageStore) (site : State) (records : List Entry) (table : List Content) (commits : ℕ) → log.geometry ≡ pages.flash.geometry → Holds log pages site records table commits → Stands pages.flash.geometry site.image table commits
+stands_there log pages site records table commits sizes h =
+    let rings = h.log_holds.rings in
+    record {
+      blocks = h.log_holds.blocks;
+      sound = record {
+        octets = record {
+          limits = rings.limits;
+          lengths = rings.lengths;
+          masters = rings.masters;
+          segments = rings.segments;
+          groups = rings.groups;
+          versions = h.log_holds.ready.pages.sound;
+          clean = h.log_holds.ready.pages.clean;
+        };
+        held = subst (λ (k : Geometry). HasBlocks k 0 h.log_holds.blocks site.image) sizes h.log_holds.ready.records.blocks;
+        records = h.log_holds.runs_on.carries.sound;
+      };
+      means = h.log_holds.runs_on.means;
+    }
+
+pub nothing_happens : (log : LogStore) (pages : PageStore) (site : State) (records : List Entry) (table : List Content) (commits : ℕ) → log.geometry ≡ pages.flash.geometry → Holds log pages site records table commits →
+    LeavesOnly site site (LeavesTable pages.flash.geometry table commits site.told)
+nothing_happens log pages site records table commits sizes h =
+    no_call site (Leaves (LeavesTable pages.flash.geometry table commits site.told))
+    (λ snapshot left. subst (LeavesTable pages.flash.geometry table commits site.told) (sym (quiet_leaves site snapshot h.log_holds.ready.quiet left)) (record { told = refl; stands = stands_there log pages site records table commits sizes h }))
+
+-- a crash while only was read leaves it
+pub leaves_still : (log : LogStore) (pages : PageStore) (old new : State) (records : List Entry) (table : List Content) (commits : ℕ) → log.geometry ≡ pages.flash.geometry → IsUnchanged old new → Holds log pages old records table commits →
+    LeavesOnly old new (LeavesTable pages.flash.geometry table commits old.told)
+leaves_still log pages old new records table commits sizes same h =
+    unchanged_calm old old new (Leaves (LeavesTable pages.flash.geometry table commits old.told)) (nothing_happens log pages old records table commits sizes h) same
+
+-- where the tail is empty all records are sealed ones
+pub opened_holds : LogLaws → OpenedHolds
+opened_holds laws log pages site blocks table commits sizes ready sound means shows are_ahead below =
+    let g = pages.flash.geometry in
+    let p = picture g site.image blocks in
+    let hi = ready.blocks.hi in
+    let next = ready.records.blocks.next in
+    let room = sound.records.room_for_undo in
+    let empty : log.used ≡ 2 = ready.records.tail.end in
+    let none : has_tail log ≡ false = ap (nat_lt 2) empty in
+    let no_tail : (if has_tail log then 1 else 0) ≡ 0 = ap {B = ℕ} (λ (b : Bool). if b then 1 else 0) none in
+    record {
+      log_holds = record {
+        blocks = blocks;
+        tail = [];
+        ready = ready;
+        rings = record { limits = sound.octets.limits; lengths = sound.octets.lengths; masters = sound.octets.masters; segments = sound.octets.segments; groups = sound.octets.groups };
+        runs_on = record { carries = laws.carries_nothing p sound.records; means = means; no_commit = refl; records_are = append-nil (log_from 0 blocks) };
+        ahead = are_ahead;
+        room = omega (arith, hi, next, room, no_tail);
+      };
+      shows = shows;
+      below = below;
+    }

@@ -1,0 +1,70 @@
+use Rattle.std.proofs.Common.{true≢false, Err, refl, sym, ap, subst, ◌∙◌, arith}
+use Rattle.site.specs.declared.geometry.Geometry.{Geometry}
+use Rattle.site.specs.State.{Image}
+use Rattle.redo_undo.specs.Undoing.{IsWanted}
+use Rattle.redo_undo.proofs.Sames.{and_then, holds_still, going_still, leaves_still}
+use Rattle.redo_undo.proofs.Compensations.{may_compensate, room_for_clr, undone}
+use Rattle.redo_undo.proofs.undo.undo_update.Goals as goal
+
+pub returns-in-Err-clause-any_moment : goal.returns-in-Err-clause-any_moment
+returns-in-Err-clause-any_moment g c records table commits h =
+    leaves_still c.args.log.now c.args.pages.now (g.S.Site.state c.args.site.now) (g.S.Site.state c.read_update.new.site) records table commits c.requires.going.sizes (c.read_update.ensures.same h.log_holds.ready.blocks.honest) h
+
+pub returns-in-Err-clause-readable : goal.returns-in-Err-clause-readable
+returns-in-Err-clause-readable g c records table commits x h unfinished at some = c.in-Err.ensures.readable c.args.pages.now records table commits x c.requires.going.sizes h unfinished at some
+
+pub returns-then-not-has_room-clause-any_moment : goal.returns-then-not-has_room-clause-any_moment
+returns-then-not-has_room-clause-any_moment g c records table commits h =
+    leaves_still c.args.log.now c.args.pages.now (g.S.Site.state c.args.site.now) (g.S.Site.state c.read_update.new.site) records table commits c.requires.going.sizes (c.read_update.ensures.same h.log_holds.ready.blocks.honest) h
+
+pub returns-then-not-has_room-clause-readable : goal.returns-then-not-has_room-clause-readable
+returns-then-not-has_room-clause-readable g c records table commits x h unfinished at some = λ same.
+    let room = room_for_clr c.page_laws.ensures c.undo_laws.ensures c.args.log.now c.args.pages.now (g.S.Site.state c.args.site.now) records table commits h x unfinished c.in-Ok.wanted some in
+    let all = ap (λ (k : Geometry). k.blocks) c.requires.going.sizes in
+    let many = c.requires.going.log_going.limits.blocks in
+    true≢false (sym (c.has_room.ensures.1 (omega (arith, room, all, many))) ∙ c.if-not-has_room.true)
+
+pub compensate-requires-clause-going : goal.compensate-requires-clause-going
+compensate-requires-clause-going g c = going_still c.args.log.now c.args.pages.now (g.S.Site.state c.args.site.now) (g.S.Site.state c.read_update.new.site) c.read_update.ensures.goes c.requires.going
+
+pub returns-in-Err-compensate-clause-any_moment : goal.returns-in-Err-compensate-clause-any_moment
+returns-in-Err-compensate-clause-any_moment g c records table commits h =
+    let old = g.S.Site.state c.args.site.now in
+    let mid = g.S.Site.state c.read_update.new.site in
+    let same = c.read_update.ensures.same h.log_holds.ready.blocks.honest in
+    let k = c.args.pages.now.flash.geometry in
+    and_then k k old mid (g.S.Site.state c.compensate.new.site) table commits refl
+    (leaves_still c.args.log.now c.args.pages.now old mid records table commits c.requires.going.sizes same h)
+    (c.compensate.ensures.any_moment records table commits (holds_still c.beside_laws.ensures.fits c.args.log.now c.args.pages.now old mid records table commits c.read_update.ensures.goes same h))
+
+pub returns-clause-any_moment : goal.returns-clause-any_moment
+returns-clause-any_moment g c records table commits h =
+    let old = g.S.Site.state c.args.site.now in
+    let mid = g.S.Site.state c.read_update.new.site in
+    let same = c.read_update.ensures.same h.log_holds.ready.blocks.honest in
+    let k = c.args.pages.now.flash.geometry in
+    and_then k k old mid (g.S.Site.state c.compensate.new.site) table commits refl
+    (leaves_still c.args.log.now c.args.pages.now old mid records table commits c.requires.going.sizes same h)
+    (c.compensate.ensures.any_moment records table commits (holds_still c.beside_laws.ensures.fits c.args.log.now c.args.pages.now old mid records table commits c.read_update.ensures.goes same h))
+
+pub returns-in-Err-compensate-clause-readable : goal.returns-in-Err-compensate-clause-readable
+returns-in-Err-compensate-clause-readable g c records table commits x h unfinished at some = λ same.
+    let old = g.S.Site.state c.args.site.now in
+    let mid = g.S.Site.state c.read_update.new.site in
+    c.in-Err-compensate.ensures.readable records table commits
+    (holds_still c.beside_laws.ensures.fits c.args.log.now c.args.pages.now old mid records table commits c.read_update.ensures.goes (c.read_update.ensures.same h.log_holds.ready.blocks.honest) h) (ap Err same)
+
+pub returns-clause-undone : goal.returns-clause-undone
+returns-clause-undone g c records table commits x h unfinished at some =
+    let log = c.args.log.now in
+    let pages = c.args.pages.now in
+    let old = g.S.Site.state c.args.site.now in
+    let mid = g.S.Site.state c.read_update.new.site in
+    let same = c.read_update.ensures.same h.log_holds.ready.blocks.honest in
+    let still = holds_still c.beside_laws.ensures.fits log pages old mid records table commits c.read_update.ensures.goes same h in
+    let w = c.in-Ok.wanted in
+    let wanted = c.in-Ok.ensures.wanted pages records table commits x c.requires.going.sizes h unfinished at some in
+    let there : IsWanted pages.flash.geometry mid.image records x w = subst (λ (i : Image). IsWanted pages.flash.geometry i records x w) (sym same.image) wanted in
+    let may = may_compensate c.page_laws.ensures c.undo_laws.ensures log pages mid records table commits still x unfinished c.args.at w c.in-Ok-compensate.last at some there in
+    undone c.undo_laws.ensures c.compensate.new.log c.compensate.new.pages (g.S.Site.state c.compensate.new.site) records table commits x c.args.at w c.in-Ok-compensate.last unfinished at some
+    (c.in-Ok-compensate.ensures.holds records table commits still may)

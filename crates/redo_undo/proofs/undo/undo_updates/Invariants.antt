@@ -1,0 +1,31 @@
+use Rattle.std.proofs.Common.{◌≡◌, ◌<◌, ℕ, List}
+use Rattle.site.specs.Calls.{Goes}
+use Rattle.site.specs.Moments.{LeavesOnly}
+use Rattle.record_model.specs.State.{Content}
+use Rattle.log_records.specs.Log.{Entry}
+use Rattle.log_laws.specs.Analysis.{Unfinished, IsUnfinished}
+use Rattle.log_store.specs.Held.{end_of}
+use Rattle.image_meaning.specs.Moments.{LeavesTable}
+use Rattle.redo_undo.specs.Holding.{MayGoOn, Holds}
+use Rattle.redo_undo.specs.Undoing.{IsAt}
+use Rattle.redo_undo.specs.Rollback.{Compensates}
+use Rattle.redo_undo.proofs.undo.undo_updates.Given as goal
+
+abbrev pub invariant-loop-at : goal.invariant-loop-at
+invariant-loop-at g l =
+    let old = g.S.Site.state l.fn.site in
+    let now = g.S.Site.state l.site in
+    record {
+      going : MayGoOn l.log l.pages now;
+      last : l.at.last < end_of l.log;
+      same : l.at.txn ≡ l.fn.first.txn;
+      kept : l.log.kept ≡ l.fn.log.kept;
+      geometry : l.pages.flash.geometry ≡ l.fn.pages.flash.geometry;
+      size : l.pages.pool.size ≡ l.fn.pages.pool.size;
+      goes : Goes old now;
+      undone : (records : List Entry) (table : List Content) (commits : ℕ) (x : Unfinished) → Holds l.fn.log l.fn.pages old records table commits → IsUnfinished records x → IsAt l.fn.first x → Compensates l.log l.pages now records table commits x.txn l.at;
+      any_moment : (records : List Entry) (table : List Content) (commits : ℕ) (x : Unfinished) → Holds l.fn.log l.fn.pages old records table commits → IsUnfinished records x → IsAt l.fn.first x → LeavesOnly old now (LeavesTable l.fn.pages.flash.geometry table commits old.told);
+    }
+
+abbrev pub decreases-loop-at : goal.decreases-loop-at
+decreases-loop-at g l = l.at.next

@@ -1,0 +1,73 @@
+-- What the log and the pages hold together.
+use Rattle.std.specs.Prelude.{◌≡◌, ℕ, ◌+◌, ◌-◌, ◌/◌, ◌≤◌, ◌<◌, if◌then◌else◌, List, [], ◌∷◌, ◌++◌, Some, None}
+use Rattle.site.specs.declared.geometry.Geometry.{Geometry}
+use Rattle.site.specs.State.{State, Image}
+use Rattle.record_model.specs.State.{Content}
+use Rattle.log_records.specs.declared.log_record.LogRecord.{LogRecord}
+use Rattle.log_records.specs.Log.{Entry, number_of}
+use Rattle.log_records.specs.Unfinished.{owed}
+use Rattle.log_records.specs.Sound.{commit_number}
+use Rattle.log_laws.specs.Follow.{Follows}
+use Rattle.log_store.specs.declared.store.LogStore.{LogStore}
+use Rattle.log_store.specs.Held as log_held
+use Rattle.log_store.specs.Held.{has_tail, end_of}
+use Rattle.slotted_page.specs.Layout.{lsn_of}
+use Rattle.page_store.specs.declared.store.PageStore.{PageStore}
+use Rattle.page_store.specs.Held as page_held
+use Rattle.page_store.specs.Held.{current}
+use Rattle.page_store.specs.Ahead.{IsAhead}
+use Rattle.page_store.specs.Leaves.{AreReady}
+use Rattle.image_meaning.specs.Meaning.{picture, versions_on, version_in, blank_master}
+use Rattle.image_meaning.specs.Redone.{ShowsAll}
+use Rattle.image_meaning.specs.Beside.{AreRingsSound}
+use Rattle.redo_undo.specs.Running.{RunsOn}
+
+-- how many blocks there are once the tail is sealed
+abbrev pub blocks_to : LogStore → ℕ
+blocks_to log = log.ring.hi + (if has_tail log then 1 else 0)
+
+-- Of every site: log and pages may go on. From the kept block on there are no more blocks than can be live, the tail as one of them.
+pub record MayGoOn (log : LogStore) (pages : PageStore) (site : State) : Type 0 where
+  pub log_going : log_held.MayGoOn log site
+  pub pages_going : page_held.MayGoOn pages site
+  pub sizes : log.geometry ≡ pages.flash.geometry
+  pub room : blocks_to log < log.kept + log.geometry.blocks
+
+-- Of an honest site, but for what the pages show: log and pages fit it, and the log has these records. What is sealed of them stands
+-- for this table after so many commits. The log is ahead of the pages, and has room to undo all.
+pub record HoldsLog (g : Geometry) (log : LogStore) (pages : PageStore) (site : State) (records : List Entry) (table : List Content) (commits : ℕ) : Type 0 where
+  pub blocks : List (List LogRecord)
+  pub tail : List LogRecord
+  pub ready : AreReady pages log (record { first = 0; blocks = blocks; tail = tail }) site
+  pub rings : AreRingsSound g site.image
+  pub runs_on : RunsOn (picture g site.image blocks) tail records table commits
+  pub ahead : IsAhead log pages site.image
+  pub room : blocks_to log + owed records ≤ g.blocks - 1
+
+-- each page has all records redone, those of the tail too
+pub record ShowRecords (g : Geometry) (pages : PageStore) (image : Image) (records : List Entry) : Type 0 where
+  pub each : (page : ℕ) → page < g.pages → ShowsAll records (versions_on g image) page (version_in (current pages image page))
+
+-- Of an honest site: both. No page has an LSN that a next record may get.
+pub record HoldsIn (g : Geometry) (log : LogStore) (pages : PageStore) (site : State) (records : List Entry) (table : List Content) (commits : ℕ) : Type 0 where
+  pub log_holds : HoldsLog g log pages site records table commits
+  pub shows : ShowRecords g pages site.image records
+  pub below : (page : ℕ) → page < g.pages → lsn_of (current pages site.image page) < end_of log
+
+abbrev pub Holds : LogStore → PageStore → State → List Entry → List Content → ℕ → Type 0
+Holds log pages site records table commits = HoldsIn pages.flash.geometry log pages site records table commits
+
+-- One more record may be appended: it may stand there, is no Commit, and leaves room to undo all.
+pub record MayGrow (log : LogStore) (pages : PageStore) (image : Image) (records : List Entry) (e : Entry) : Type 0 where
+  pub follows : Follows blank_master (versions_on pages.flash.geometry image) records e
+  pub no_commit : commit_number e ≡ None
+  pub room : blocks_to log + 1 + owed (records ++ e ∷ []) ≤ pages.flash.geometry.blocks - 1
+
+-- a record is an Update or a CLR on a page
+abbrev pub IsOnPage : ℕ → LogRecord → Type 0
+IsOnPage page rec = (number : ℕ) × (number_of rec ≡ Some number) × (number / 32 ≡ page)
+
+-- each page has the version and the content that it had
+pub record KeepsPages (g : Geometry) (pages : PageStore) (old new : Image) : Type 0 where
+  pub versions : versions_on g new ≡ versions_on g old
+  pub current : (page : ℕ) → current pages new page ≡ current pages old page

@@ -1,0 +1,61 @@
+-- The laws of the layers below that the proofs rest on, in one place.
+use Rattle.log_laws.specs.TailLaws.{CarriesNothing, CarriesMore, WholeMore, CommitsStay, TailWithoutCommit, SealedTail, SealedCount, PlainSealed, WholeSealed}
+use Rattle.log_laws.specs.ShownLaws.{ShownPush}
+use Rattle.log_laws.specs.TailLaws.{WholeIsUndoable, WholeInOrder}
+use Rattle.log_laws.specs.UndoLaws.{NextOfUndone}
+use Rattle.log_laws.specs.UndoSteps.{UndoStep, UndoEnd, UnfinishedStep}
+use Rattle.log_laws.specs.ActiveLaws.{LoserStays, LoserIsClosed, LoserIsNotClosed}
+use Rattle.log_laws.specs.RoomLaws.{OwedClr, OwedClosing}
+use Rattle.log_store.specs.Laws.{FullTail}
+use Rattle.page_store.specs.Laws.{FitsBeside, VersionsBeside, LeavesBeside, SealedBeside}
+use Rattle.image_meaning.specs.Beside.{RingsKept}
+use Rattle.image_meaning.specs.Pictures.{VersionsMean, VersionReplacesItself}
+use Rattle.image_meaning.specs.Ahead.{SealedPageReplaces, ShownStays, CarriesStill}
+use Rattle.image_meaning.specs.PictureLaws.{EachReplaces, VersionOfPage, CountOfVersions}
+
+-- on logs
+pub record LogLaws : Type 0 where
+  pub carries_nothing : CarriesNothing
+  pub carries_more : CarriesMore
+  pub whole_more : WholeMore
+  pub commits_stay : CommitsStay
+  pub tail_without_commit : TailWithoutCommit
+  pub sealed_tail : SealedTail
+  pub sealed_count : SealedCount
+  pub plain_sealed : PlainSealed
+  pub whole_sealed : WholeSealed
+  pub shown_push : ShownPush
+
+-- on versions of pages
+pub record PageLaws : Type 0 where
+  pub versions_mean : VersionsMean
+  pub itself : VersionReplacesItself
+  pub sealed_page : SealedPageReplaces
+  pub shown_stays : ShownStays
+  pub carries_still : CarriesStill
+  pub each_replaces : EachReplaces
+  pub at : VersionOfPage
+  pub count : CountOfVersions
+
+-- on an append beside the pages
+pub record BesideLaws : Type 0 where
+  pub fits : FitsBeside
+  pub versions : VersionsBeside
+  pub leaves : LeavesBeside
+  pub are_sealed : SealedBeside
+  pub rings : RingsKept
+  pub full : FullTail
+
+-- on what undo has to do
+pub record UndoLaws : Type 0 where
+  pub step : UndoStep
+  pub end : UndoEnd
+  pub unfinished : UnfinishedStep
+  pub undoable : WholeIsUndoable
+  pub in_order : WholeInOrder
+  pub next_undone : NextOfUndone
+  pub stays : LoserStays
+  pub closed : LoserIsClosed
+  pub lives : LoserIsNotClosed
+  pub owed_clr : OwedClr
+  pub owed_closing : OwedClosing

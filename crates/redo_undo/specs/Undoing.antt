@@ -1,0 +1,39 @@
+-- What undoing an Update leaves.
+use Rattle.std.specs.Prelude.{◌≡◌, ℕ, ◌+◌, ◌≤◌, ◌<◌, List, [], ◌∷◌, ◌++◌, true}
+use Rattle.site.specs.declared.geometry.Geometry.{Geometry}
+use Rattle.site.specs.State.{State, Image}
+use Rattle.record_model.specs.State.{Content}
+use Rattle.log_records.specs.declared.log_record.LogRecord.TheVariants.{Clr}
+use Rattle.log_records.specs.Log.{Entry, txn_of}
+use Rattle.log_records.specs.Unfinished.{is_clr}
+use Rattle.log_laws.specs.Follow.{Follows}
+use Rattle.log_laws.specs.Analysis.{Unfinished, IsUnfinished, after_record}
+use Rattle.log_store.specs.declared.store.LogStore.{LogStore}
+use Rattle.page_store.specs.declared.store.PageStore.{PageStore}
+use Rattle.image_meaning.specs.Meaning.{blank_master, versions_on}
+use Rattle.redo_undo.specs.declared.undo.Undoing.{Undoing}
+use Rattle.redo_undo.specs.declared.undo.Wanted.{Wanted}
+use Rattle.redo_undo.specs.Holding.{Holds}
+
+-- where undoing an unfinished transaction stands
+pub record IsAt (at : Undoing) (x : Unfinished) : Type 0 where
+  pub txn : at.txn ≡ x.txn
+  pub last : at.last ≡ x.last
+  pub next : at.next ≡ x.next
+
+-- the Update that is undone next: it is on a page that exists, and its CLR may follow
+pub record IsWanted (g : Geometry) (image : Image) (records : List Entry) (x : Unfinished) (w : Wanted) : Type 0 where
+  pub late : x.txn ≤ w.prev
+  pub early : w.prev < x.next
+  pub exists : w.page < g.pages
+  pub follows : (lsn : ℕ) → Follows blank_master (versions_on g image) records (record { lsn = lsn; rec = Clr x.txn x.last w.prev w.page w.slot w.before })
+
+-- a CLR of the transaction was logged, and its page has what stood there before
+pub record Undone (log : LogStore) (pages : PageStore) (site : State) (records : List Entry) (table : List Content) (commits : ℕ) (x : Unfinished) (now : Undoing) : Type 0 where
+  pub e : Entry
+  pub clr : is_clr e.rec ≡ true
+  pub own : txn_of e ≡ x.txn
+  pub holds : Holds log pages site (records ++ e ∷ []) table commits
+  pub left : IsUnfinished (records ++ e ∷ []) (after_record x e)
+  pub at : IsAt now (after_record x e)
+  pub fewer : (after_record x e).remaining + 1 ≡ x.remaining

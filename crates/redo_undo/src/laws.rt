@@ -1,0 +1,81 @@
+// Laws on log and pages that hold together, and those of the layers below that the proofs rest on. The functions do nothing.
+ghost use Rattle.redo_undo.specs.HoldingLaws.{OpenedHolds, EmptyHolds, HoldsStands, HoldsMoment, HoldsStill, FrontShows};
+ghost use Rattle.redo_undo.specs.Laws.{LogLaws, PageLaws, BesideLaws, UndoLaws};
+
+use image_meaning::{
+    new_versions, pictures, rings_kept, versions_beside_the_tail, versions_by_page, write_ahead,
+};
+use log_laws::{
+    carries_more, carries_nothing, commits_more, losers_after, next_of_undone, owed_closing,
+    owed_clr, plain_sealed, sealed_count, sealed_tail, shown_push, tail_without_commit, undo_end,
+    undo_step, unfinished_step, whole_in_order, whole_is_undoable, whole_more, whole_sealed,
+};
+use log_store::full_tail;
+use page_store::{pages_beside_the_log, stays_beside};
+
+// On logs.
+pub(crate) fn log_laws()
+    ensures { LogLaws }
+{
+    carries_nothing();
+    carries_more();
+    whole_more();
+    commits_more();
+    tail_without_commit();
+    sealed_tail();
+    sealed_count();
+    plain_sealed();
+    whole_sealed();
+    shown_push();
+}
+
+// On versions of pages.
+pub(crate) fn page_laws()
+    ensures { PageLaws }
+{
+    new_versions();
+    write_ahead();
+    versions_beside_the_tail();
+    pictures();
+    versions_by_page();
+}
+
+// On an append beside the pages.
+pub(crate) fn beside_laws()
+    ensures { BesideLaws }
+{
+    stays_beside();
+    pages_beside_the_log();
+    rings_kept();
+    full_tail();
+}
+
+// On what undo has to do.
+pub(crate) fn undo_laws()
+    ensures { UndoLaws }
+{
+    undo_step();
+    undo_end();
+    unfinished_step();
+    whole_is_undoable();
+    whole_in_order();
+    next_of_undone();
+    losers_after();
+    owed_clr();
+    owed_closing();
+}
+
+/// Law: log and pages that fit a sound image hold together where the pages show all records; where they do the devices stand for the table, now and as long as nothing is called; they do still after
+/// calls that only read; and the page in front of the pool shows what all records leave there.
+pub fn hold_together()
+    ensures opened { OpenedHolds }
+    ensures empty { EmptyHolds }
+    ensures stands { HoldsStands }
+    ensures moment { HoldsMoment }
+    ensures still { HoldsStill }
+    ensures front { FrontShows }
+{
+    log_laws();
+    page_laws();
+    stays_beside();
+}

@@ -1,0 +1,185 @@
+// A page is touched, a record is logged, and the page is changed.
+ghost use Rattle.std.specs.Prelude.{◌≡◌, ◌⊎◌, ◌+◌, ◌^◌, ◌<◌, ◌≤◌, ◌++◌, ◌∷◌, [], ℕ, List, length, None, IfOk, IsTrue, true, false, OnOk, OnErr, IfErr, IsErrOf};
+ghost use Rattle.site.specs.declared.outside.Dev.{Dev};
+ghost use Rattle.site.specs.declared.outside.Stop.{Stop};
+ghost use Rattle.site.specs.Calls.{Goes, SameReads, FaultRose};
+ghost use Rattle.site.specs.Moments.{LeavesOnly};
+ghost use Rattle.record_model.specs.State.{Content};
+ghost use Rattle.log_records.specs.declared.log_record.LogRecord.{LogRecord};
+ghost use Rattle.log_records.specs.Log.{Entry, number_of};
+ghost use Rattle.log_records.specs.Spelling.{HasForm};
+ghost use Rattle.log_store.specs.Held as log_held;
+ghost use Rattle.log_store.specs.Held.{end_of};
+ghost use Rattle.page_store.specs.declared.store.PageStore.{PageStore};
+ghost use Rattle.second_chance.specs.Machine.{touched, holds};
+ghost use Rattle.buffer_pool.specs.Frames.{front_of};
+ghost use Rattle.page_store.specs.Caching.{cache_of, rules, with_change, pushes};
+ghost use Rattle.page_store.specs.Ahead.{end_forced};
+ghost use Rattle.page_store.specs.Stopping.{MayStop};
+ghost use Rattle.image_meaning.specs.Moments.{LeavesTable};
+ghost use Rattle.redo_undo.specs.Holding.{MayGoOn, HoldsLog, Holds, MayGrow, KeepsPages, IsOnPage, blocks_to};
+
+use crate::changing::change_front;
+use crate::laws::{beside_laws, log_laws, page_laws};
+use log_records::LogRecord;
+use log_store::LogStore;
+use page_store::PageStore;
+use site::{Site, Stop};
+
+/// Brings a page to the front of the pool. What log and pages hold together stays, and at each moment the devices stand for
+/// the same table. The machine says which pages leave; where they have changes that aren't sealed the log is sealed before.
+pub fn touch<S: Site>(
+    site: &mut S,
+    log: &mut LogStore,
+    pages: &mut PageStore,
+    page: u32,
+) -> Result<(), Stop>
+    requires going { MayGoOn log.old pages.old (S.state site.old) }
+    requires exists { page < pages.old.flash.geometry.pages }
+
+    // Of an honest site on which log and pages hold together.
+    ensures holds { (records : List Entry) (table : List Content) (commits : ℕ)
+        → Holds log.old pages.old (S.state site.old) records table commits
+        → OnOk result (Holds log.new pages.new (S.state site.new) records table commits) }
+    ensures any_moment { (records : List Entry) (table : List Content) (commits : ℕ)
+        → Holds log.old pages.old (S.state site.old) records table commits
+        → LeavesOnly (S.state site.old) (S.state site.new)
+        (LeavesTable pages.old.flash.geometry table commits (S.state site.old).told) }
+    ensures readable { (records : List Entry) (table : List Content) (commits : ℕ)
+        → Holds log.old pages.old (S.state site.old) records table commits
+        → IsErrOf result Stop.Foreign → ⊥ }
+
+    // Of every site.
+    ensures machine { OnOk result (cache_of pages.new ≡ touched (rules pages.old) page false (cache_of pages.old)) }
+    ensures front { OnOk result ((front_of pages.new.pool.frames).page ≡ page) }
+    ensures there { OnOk result (0 < length pages.new.pool.frames) }
+    ensures going { OnOk result (MayGoOn log.new pages.new (S.state site.new)) }
+    ensures blocks { OnOk result (blocks_to log.new ≡ blocks_to log.old) }
+    ensures kept { log.new.kept ≡ log.old.kept }
+    ensures geometry { pages.new.flash.geometry ≡ pages.old.flash.geometry }
+    ensures size { pages.new.pool.size ≡ pages.old.pool.size }
+    ensures goes { Goes (S.state site.old) (S.state site.new) }
+
+    // When each answer comes.
+    ensures worn_log { IsErrOf result (Stop.Worn Dev.Log) → log.old.ring.hi ≡ 2 ^ 40 }
+    ensures worn_flash { IsErrOf result (Stop.Worn Dev.Flash)
+        → (pushes (rules pages.old) page (cache_of pages.old) ≡ true) × (pages.old.flash.ring.hi ≡ 2 ^ 40) }
+    ensures device { (d : Dev) → IsErrOf result (Stop.Device d)
+        → FaultRose d (S.state site.old) (S.state site.new) }
+    ensures stops { IfErr result (λ stop. MayStop stop) }
+{
+    log_laws();
+    page_laws();
+    pages.touch(site, log, page)
+}
+
+/// Appends a record, and answers its LSN. From the kept block on there is room for one block more. The pages stay as they are, so where
+/// the record is on none of them log and pages hold together still.
+pub fn log_record<S: Site>(site: &mut S, log: &mut LogStore, rec: &LogRecord) -> Result<u64, Stop>
+    requires going { log_held.MayGoOn log.old (S.state site.old) }
+    requires form { HasForm rec.now }
+    requires room { blocks_to log.old + 1 < log.old.kept + log.old.geometry.blocks }
+
+    // Of an honest site on which log and pages hold together.
+    ensures log_holds { (pages : PageStore) (records : List Entry) (table : List Content) (commits : ℕ)
+        → log.old.geometry ≡ pages.flash.geometry
+        → Holds log.old pages (S.state site.old) records table commits
+        → IfOk result (λ lsn. MayGrow log.old pages (S.state site.old).image records (record { lsn = lsn; rec = rec.now })
+        → HoldsLog pages.flash.geometry log.new pages (S.state site.new)
+        (records ++ record { lsn = lsn; rec = rec.now } ∷ []) table commits) }
+    ensures pages { (pages : PageStore) (records : List Entry) (table : List Content) (commits : ℕ)
+        → Holds log.old pages (S.state site.old) records table commits
+        → KeepsPages pages.flash.geometry pages (S.state site.old).image (S.state site.new).image }
+    ensures holds { (pages : PageStore) (records : List Entry) (table : List Content) (commits : ℕ)
+        → log.old.geometry ≡ pages.flash.geometry
+        → Holds log.old pages (S.state site.old) records table commits → number_of rec.now ≡ None
+        → IfOk result (λ lsn. MayGrow log.old pages (S.state site.old).image records (record { lsn = lsn; rec = rec.now })
+        → Holds log.new pages (S.state site.new)
+        (records ++ record { lsn = lsn; rec = rec.now } ∷ []) table commits) }
+    ensures any_moment { (pages : PageStore) (records : List Entry) (table : List Content) (commits : ℕ)
+        → MayGoOn log.old pages (S.state site.old)
+        → Holds log.old pages (S.state site.old) records table commits
+        → LeavesOnly (S.state site.old) (S.state site.new)
+        (LeavesTable pages.flash.geometry table commits (S.state site.old).told) }
+
+    // Of every site.
+    ensures rises { IfOk result (λ lsn. (end_of log.old ≤ lsn) × (lsn < end_of log.new)) }
+    ensures forced { IfOk result (λ lsn. lsn < end_forced log.new) }
+    ensures going { (pages : PageStore) → MayGoOn log.old pages (S.state site.old)
+        → OnOk result (MayGoOn log.new pages (S.state site.new)) }
+    ensures blocks { OnOk result (blocks_to log.new ≤ blocks_to log.old + 1) }
+    ensures kept { log.new.kept ≡ log.old.kept }
+    ensures geometry { log.new.geometry ≡ log.old.geometry }
+    ensures goes { Goes (S.state site.old) (S.state site.new) }
+    ensures reads { SameReads (S.state site.old) (S.state site.new) }
+
+    // When each answer comes.
+    ensures worn { IsErrOf result (Stop.Worn Dev.Log) → log.old.ring.hi ≡ 2 ^ 40 }
+    ensures device { IsErrOf result (Stop.Device Dev.Log)
+        → FaultRose Dev.Log (S.state site.old) (S.state site.new) }
+    ensures stops { IfErr result (λ stop. (stop ≡ Stop.Device Dev.Log) ⊎ (stop ≡ Stop.Worn Dev.Log)) }
+{
+    log_laws();
+    page_laws();
+    beside_laws();
+    log.append(site, rec)
+}
+
+/// Appends an Update or a CLR, which is on the page in front of the pool, and changes that page by it. Answers the record's LSN. From the
+/// kept block on there is room for one block more. What log and pages hold together goes on by the record, and at each moment the
+/// devices stand for the same table.
+pub fn log_change<S: Site>(
+    site: &mut S,
+    log: &mut LogStore,
+    pages: &mut PageStore,
+    rec: &LogRecord,
+) -> Result<u64, Stop>
+    requires going { MayGoOn log.old pages.old (S.state site.old) }
+    requires there { 0 < length pages.old.pool.frames }
+    requires form { HasForm rec.now }
+    requires on_page { IsOnPage (front_of pages.old.pool.frames).page rec.now }
+    requires room { blocks_to log.old + 1 < log.old.kept + log.old.geometry.blocks }
+
+    // Of an honest site on which log and pages hold together.
+    ensures holds { (records : List Entry) (table : List Content) (commits : ℕ)
+        → Holds log.old pages.old (S.state site.old) records table commits
+        → IfOk result (λ lsn. MayGrow log.old pages.old (S.state site.old).image records (record { lsn = lsn; rec = rec.now })
+        → Holds log.new pages.new (S.state site.new)
+        (records ++ record { lsn = lsn; rec = rec.now } ∷ []) table commits) }
+    ensures any_moment { (records : List Entry) (table : List Content) (commits : ℕ)
+        → Holds log.old pages.old (S.state site.old) records table commits
+        → LeavesOnly (S.state site.old) (S.state site.new)
+        (LeavesTable pages.old.flash.geometry table commits (S.state site.old).told) }
+    ensures readable { (records : List Entry) (table : List Content) (commits : ℕ)
+        → Holds log.old pages.old (S.state site.old) records table commits
+        → IsErrOf result Stop.Foreign → ⊥ }
+
+    // Of every site.
+    ensures machine { OnOk result (cache_of pages.new ≡ with_change (cache_of pages.old)) }
+    ensures rises { IfOk result (λ lsn. (end_of log.old ≤ lsn) × (lsn < end_of log.new)) }
+    ensures going { OnOk result (MayGoOn log.new pages.new (S.state site.new)) }
+    ensures blocks { OnOk result (blocks_to log.new ≤ blocks_to log.old + 1) }
+    ensures kept { log.new.kept ≡ log.old.kept }
+    ensures geometry { pages.new.flash.geometry ≡ pages.old.flash.geometry }
+    ensures size { pages.new.pool.size ≡ pages.old.pool.size }
+    ensures goes { Goes (S.state site.old) (S.state site.new) }
+    ensures reads { SameReads (S.state site.old) (S.state site.new) }
+
+    // When each answer comes.
+    ensures worn { IsErrOf result (Stop.Worn Dev.Log) → log.old.ring.hi ≡ 2 ^ 40 }
+    ensures device { IsErrOf result (Stop.Device Dev.Log)
+        → FaultRose Dev.Log (S.state site.old) (S.state site.new) }
+    ensures stops { IfErr result (λ stop. (stop ≡ Stop.Device Dev.Log)
+        ⊎ ((stop ≡ Stop.Worn Dev.Log) ⊎ (stop ≡ Stop.Foreign))) }
+{
+    log_laws();
+    let lsn = match log_record(site, log, rec) {
+        Ok(lsn) => lsn,
+        Err(stop) => return Err(stop),
+    };
+    if pages.front_lsn() >= lsn {
+        return Err(Stop::Foreign);
+    }
+    change_front(pages, rec, lsn);
+    Ok(lsn)
+}

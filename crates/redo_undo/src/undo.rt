@@ -1,0 +1,357 @@
+// Undoing an Update: a compensation record, and what stood before it.
+ghost use Rattle.std.specs.Prelude.{◌≡◌, ◌≢◌, ◌⊎◌, ◌↔◌, ◌+◌, ◌*◌, ◌<◌, ◌≤◌, ◌++◌, ◌∷◌, [], ◌^◌, ℕ, List, length, IsTrue, IfOk, IfErr, OnOk, IsErrOf};
+ghost use Rattle.site.specs.declared.outside.Dev.{Dev};
+ghost use Rattle.site.specs.declared.outside.Stop.{Stop};
+ghost use Rattle.site.specs.Calls.{Goes, IsUnchanged, FaultRose};
+ghost use Rattle.site.specs.Moments.{LeavesOnly};
+ghost use Rattle.record_model.specs.State.{Content};
+ghost use Rattle.log_records.specs.declared.log_record.LogRecord.{LogRecord};
+ghost use Rattle.log_records.specs.Log.{Entry};
+ghost use Rattle.log_records.specs.Spelling.{IsShort};
+ghost use Rattle.log_laws.specs.Analysis.{Unfinished, IsUnfinished};
+ghost use Rattle.log_store.specs.Held as log_held;
+ghost use Rattle.log_store.specs.Held.{end_of};
+ghost use Rattle.page_store.specs.declared.store.PageStore.{PageStore};
+ghost use Rattle.page_store.specs.Stopping.{MayStop};
+ghost use Rattle.image_meaning.specs.Moments.{LeavesTable};
+ghost use Rattle.redo_undo.specs.Holding.{MayGoOn, Holds, MayGrow, blocks_to};
+ghost use Rattle.redo_undo.specs.Undoing.{IsAt, IsWanted, Undone};
+ghost use Rattle.redo_undo.specs.Rollback.{Compensates, RollsBack};
+
+use crate::laws::{beside_laws, page_laws, undo_laws};
+use crate::logging::{log_change, log_record, touch};
+use log_records::LogRecord;
+use log_store::LogStore;
+use page_store::PageStore;
+use record_model::Octets;
+use site::{Site, Stop};
+
+/// Where a transaction stands that is being undone.
+#[derive(Clone, Copy)]
+pub(crate) struct Undoing {
+    /// The transaction: the LSN of its Begin.
+    pub txn: u64,
+    /// The LSN of its last record.
+    pub last: u64,
+    /// The LSN of its last Update that isn't compensated, or of its Begin.
+    pub next: u64,
+}
+
+/// An Update that is to be compensated.
+#[derive(Drop)]
+struct Wanted {
+    prev: u64,
+    page: u32,
+    slot: u8,
+    before: Option<Octets>,
+}
+
+// Whether from the kept block on there is room for one block more, besides the tail.
+fn has_room(log: &LogStore) -> bool
+    requires limits { log.now.geometry.blocks < 2 ^ 32 }
+    requires bounded { log.now.ring.hi ≤ 2 ^ 40 }
+    requires kept { log.now.kept ≤ log.now.ring.hi }
+    requires low { 2 ≤ log.now.used }
+    ensures { IsTrue result ↔ (blocks_to log.now + 1 < log.now.kept + log.now.geometry.blocks) }
+{
+    let tail = if log.tail_empty() { 0 } else { 1 };
+    let geometry = log.geometry();
+    log.sealed_end() / 512 + tail + 1 < log.kept() + geometry.blocks as u64
+}
+
+// Reads the Update of a transaction that is to be compensated. It stands in the kept log, is on a page that exists, and names an
+// earlier record.
+fn read_update<S: Site>(log: &LogStore, site: &mut S, at: &Undoing) -> Result<Wanted, Stop>
+    requires going { log_held.MayGoOn log.now (S.state site.old) }
+    requires last { at.now.last < end_of log.now }
+
+    // Of an honest site on which log and pages hold together.
+    ensures wanted { (pages : PageStore) (records : List Entry) (table : List Content) (commits : ℕ) (x : Unfinished)
+        → log.now.geometry ≡ pages.flash.geometry
+        → Holds log.now pages (S.state site.old) records table commits
+        → IsUnfinished records x → IsAt at.now x → 0 < x.remaining
+        → IfOk result (IsWanted pages.flash.geometry (S.state site.old).image records x) }
+    ensures readable { (pages : PageStore) (records : List Entry) (table : List Content) (commits : ℕ) (x : Unfinished)
+        → log.now.geometry ≡ pages.flash.geometry
+        → Holds log.now pages (S.state site.old) records table commits
+        → IsUnfinished records x → IsAt at.now x → 0 < x.remaining
+        → IfErr result (λ stop. stop ≢ Stop.Foreign) }
+
+    // Of every site.
+    ensures form { IfOk result (λ wanted. (wanted.slot < 32) × IsShort wanted.before) }
+    ensures exists { IfOk result (λ wanted. wanted.page < log.now.geometry.pages) }
+    ensures falls { IfOk result (λ wanted. wanted.prev < at.now.next) }
+    ensures same { IsTrue (S.state site.old).honest
+        → IsUnchanged (S.state site.old) (S.state site.new) }
+    ensures goes { Goes (S.state site.old) (S.state site.new) }
+    ensures device { IsErrOf result (Stop.Device Dev.Log)
+        → FaultRose Dev.Log (S.state site.old) (S.state site.new) }
+    ensures stops { IfErr result (λ stop. (stop ≡ Stop.Device Dev.Log) ⊎ (stop ≡ Stop.Foreign)) }
+{
+    page_laws();
+    undo_laws();
+    if at.next > at.last {
+        return Err(Stop::Foreign);
+    }
+    if at.next < 512 * log.kept() {
+        return Err(Stop::Foreign);
+    }
+    let rec = match log.read_at(site, at.next) {
+        Ok(rec) => rec,
+        Err(stop) => return Err(stop),
+    };
+    match rec {
+        LogRecord::Update {
+            txn,
+            prev,
+            page,
+            slot,
+            before,
+            ..
+        } => {
+            if txn != at.txn {
+                return Err(Stop::Foreign);
+            }
+            if prev >= at.next {
+                return Err(Stop::Foreign);
+            }
+            if page >= log.geometry().pages {
+                return Err(Stop::Foreign);
+            }
+            Ok(Wanted {
+                prev,
+                page,
+                slot,
+                before,
+            })
+        }
+        _ => Err(Stop::Foreign),
+    }
+}
+
+// Logs the CLR of an Update, and its slot has again what stood there before. Answers the CLR's LSN.
+fn compensate<S: Site>(
+    site: &mut S,
+    log: &mut LogStore,
+    pages: &mut PageStore,
+    at: &Undoing,
+    wanted: Wanted,
+) -> Result<u64, Stop>
+    requires going { MayGoOn log.old pages.old (S.state site.old) }
+    requires form { (wanted.slot < 32) × IsShort wanted.before }
+    requires exists { wanted.page < pages.old.flash.geometry.pages }
+    requires room { blocks_to log.old + 1 < log.old.kept + log.old.geometry.blocks }
+
+    // Of an honest site on which log and pages hold together.
+    ensures holds { (records : List Entry) (table : List Content) (commits : ℕ)
+        → Holds log.old pages.old (S.state site.old) records table commits
+        → IfOk result (λ lsn. MayGrow log.old pages.old (S.state site.old).image records
+        (record { lsn = lsn; rec = LogRecord.Clr at.now.txn at.now.last wanted.prev wanted.page wanted.slot wanted.before })
+        → Holds log.new pages.new (S.state site.new) (records
+        ++ record { lsn = lsn; rec = LogRecord.Clr at.now.txn at.now.last wanted.prev wanted.page wanted.slot wanted.before } ∷ [])
+        table commits) }
+    ensures any_moment { (records : List Entry) (table : List Content) (commits : ℕ)
+        → Holds log.old pages.old (S.state site.old) records table commits
+        → LeavesOnly (S.state site.old) (S.state site.new)
+        (LeavesTable pages.old.flash.geometry table commits (S.state site.old).told) }
+    ensures readable { (records : List Entry) (table : List Content) (commits : ℕ)
+        → Holds log.old pages.old (S.state site.old) records table commits
+        → IsErrOf result Stop.Foreign → ⊥ }
+
+    // Of every site.
+    ensures before { IfOk result (λ lsn. lsn < end_of log.new) }
+    ensures going { OnOk result (MayGoOn log.new pages.new (S.state site.new)) }
+    ensures blocks { OnOk result (blocks_to log.new ≤ blocks_to log.old + 1) }
+    ensures kept { log.new.kept ≡ log.old.kept }
+    ensures geometry { pages.new.flash.geometry ≡ pages.old.flash.geometry }
+    ensures size { pages.new.pool.size ≡ pages.old.pool.size }
+    ensures goes { Goes (S.state site.old) (S.state site.new) }
+    ensures device { (d : Dev) → IsErrOf result (Stop.Device d)
+        → FaultRose d (S.state site.old) (S.state site.new) }
+    ensures stops { IfErr result (λ stop. MayStop stop) }
+{
+    page_laws();
+    let page = wanted.page;
+    let clr = LogRecord::Clr {
+        txn: at.txn,
+        prev: at.last,
+        undo_next: wanted.prev,
+        page,
+        slot: wanted.slot,
+        after: wanted.before,
+    };
+    match touch(site, log, pages, page) {
+        Ok(()) => log_change(site, log, pages, &clr),
+        Err(stop) => Err(stop),
+    }
+}
+
+/// Compensates the last Update of a transaction that isn't compensated yet: its slot has again what stood before it. Where what it reads
+/// is no such Update, or there is no room for the CLR, it answers Foreign.
+pub(crate) fn undo_update<S: Site>(
+    site: &mut S,
+    log: &mut LogStore,
+    pages: &mut PageStore,
+    at: Undoing,
+) -> Result<Undoing, Stop>
+    requires going { MayGoOn log.old pages.old (S.state site.old) }
+    requires last { at.last < end_of log.old }
+
+    // Of an honest site on which log and pages hold together.
+    ensures undone { (records : List Entry) (table : List Content) (commits : ℕ) (x : Unfinished)
+        → Holds log.old pages.old (S.state site.old) records table commits
+        → IsUnfinished records x → IsAt at x → 0 < x.remaining
+        → IfOk result (Undone log.new pages.new (S.state site.new) records table commits x) }
+    ensures any_moment { (records : List Entry) (table : List Content) (commits : ℕ)
+        → Holds log.old pages.old (S.state site.old) records table commits
+        → LeavesOnly (S.state site.old) (S.state site.new)
+        (LeavesTable pages.old.flash.geometry table commits (S.state site.old).told) }
+    ensures readable { (records : List Entry) (table : List Content) (commits : ℕ) (x : Unfinished)
+        → Holds log.old pages.old (S.state site.old) records table commits
+        → IsUnfinished records x → IsAt at x → 0 < x.remaining
+        → IfErr result (λ stop. stop ≢ Stop.Foreign) }
+
+    // Of every site.
+    ensures last { IfOk result (λ now. now.last < end_of log.new) }
+    ensures falls { IfOk result (λ now. now.next < at.next) }
+    ensures same { IfOk result (λ now. now.txn ≡ at.txn) }
+    ensures going { OnOk result (MayGoOn log.new pages.new (S.state site.new)) }
+    ensures kept { log.new.kept ≡ log.old.kept }
+    ensures geometry { pages.new.flash.geometry ≡ pages.old.flash.geometry }
+    ensures size { pages.new.pool.size ≡ pages.old.pool.size }
+    ensures goes { Goes (S.state site.old) (S.state site.new) }
+    ensures device { (d : Dev) → IsErrOf result (Stop.Device d)
+        → FaultRose d (S.state site.old) (S.state site.new) }
+    ensures stops { IfErr result (λ stop. MayStop stop) }
+{
+    page_laws();
+    undo_laws();
+    beside_laws();
+    let wanted = match read_update(log, site, &at) {
+        Ok(wanted) => wanted,
+        Err(stop) => return Err(stop),
+    };
+    if !has_room(log) {
+        return Err(Stop::Foreign);
+    }
+    let next = wanted.prev;
+    let last = match compensate(site, log, pages, &at, wanted) {
+        Ok(last) => last,
+        Err(stop) => return Err(stop),
+    };
+    Ok(Undoing {
+        txn: at.txn,
+        last,
+        next,
+    })
+}
+
+// Compensates all Updates of a transaction that aren't compensated, the last one first.
+fn undo_updates<S: Site>(
+    site: &mut S,
+    log: &mut LogStore,
+    pages: &mut PageStore,
+    first: Undoing,
+) -> Result<Undoing, Stop>
+    requires going { MayGoOn log.old pages.old (S.state site.old) }
+    requires last { first.last < end_of log.old }
+
+    // Of an honest site on which log and pages hold together.
+    ensures undone { (records : List Entry) (table : List Content) (commits : ℕ) (x : Unfinished)
+        → Holds log.old pages.old (S.state site.old) records table commits
+        → IsUnfinished records x → IsAt first x
+        → IfOk result (Compensates log.new pages.new (S.state site.new) records table commits x.txn) }
+    ensures any_moment { (records : List Entry) (table : List Content) (commits : ℕ) (x : Unfinished)
+        → Holds log.old pages.old (S.state site.old) records table commits
+        → IsUnfinished records x → IsAt first x
+        → LeavesOnly (S.state site.old) (S.state site.new)
+        (LeavesTable pages.old.flash.geometry table commits (S.state site.old).told) }
+    ensures readable { (records : List Entry) (table : List Content) (commits : ℕ) (x : Unfinished)
+        → Holds log.old pages.old (S.state site.old) records table commits
+        → IsUnfinished records x → IsAt first x
+        → IfErr result (λ stop. stop ≢ Stop.Foreign) }
+
+    // Of every site.
+    ensures none { IfOk result (λ now. now.next ≡ now.txn) }
+    ensures same { IfOk result (λ now. now.txn ≡ first.txn) }
+    ensures going { OnOk result (MayGoOn log.new pages.new (S.state site.new)) }
+    ensures kept { log.new.kept ≡ log.old.kept }
+    ensures geometry { pages.new.flash.geometry ≡ pages.old.flash.geometry }
+    ensures size { pages.new.pool.size ≡ pages.old.pool.size }
+    ensures goes { Goes (S.state site.old) (S.state site.new) }
+    ensures device { (d : Dev) → IsErrOf result (Stop.Device d)
+        → FaultRose d (S.state site.old) (S.state site.new) }
+    ensures stops { IfErr result (λ stop. MayStop stop) }
+{
+    page_laws();
+    undo_laws();
+    let mut at = first;
+    while at.next != at.txn {
+        at = match undo_update(site, log, pages, at) {
+            Ok(next) => next,
+            Err(stop) => return Err(stop),
+        };
+    }
+    Ok(at)
+}
+
+/// Undoes a transaction as a whole: a CLR for each of its Updates, the last one first, and its End. `txn` is the LSN of its Begin and
+/// `last` that of its last record, which is its Begin or an Update: none of its Updates was compensated before. Undo reads no record
+/// outside of the kept log, and follows a transaction to falling LSNs only. Where what it reads is no Update of the transaction, or there
+/// is no room for what it logs, it answers Foreign.
+pub fn undo_one<S: Site>(
+    site: &mut S,
+    log: &mut LogStore,
+    pages: &mut PageStore,
+    txn: u64,
+    last: u64,
+) -> Result<(), Stop>
+    requires going { MayGoOn log.old pages.old (S.state site.old) }
+    requires last { last < end_of log.old }
+
+    // Of an honest site on which log and pages hold together, and of an unfinished transaction.
+    ensures undone { (records : List Entry) (table : List Content) (commits : ℕ) (x : Unfinished)
+        → Holds log.old pages.old (S.state site.old) records table commits
+        → IsUnfinished records x → x.txn ≡ txn → x.last ≡ last → x.next ≡ last
+        → OnOk result (RollsBack log.new pages.new (S.state site.new) records table commits txn) }
+    ensures any_moment { (records : List Entry) (table : List Content) (commits : ℕ) (x : Unfinished)
+        → Holds log.old pages.old (S.state site.old) records table commits
+        → IsUnfinished records x → x.txn ≡ txn → x.last ≡ last → x.next ≡ last
+        → LeavesOnly (S.state site.old) (S.state site.new)
+        (LeavesTable pages.old.flash.geometry table commits (S.state site.old).told) }
+    ensures readable { (records : List Entry) (table : List Content) (commits : ℕ) (x : Unfinished)
+        → Holds log.old pages.old (S.state site.old) records table commits
+        → IsUnfinished records x → x.txn ≡ txn → x.last ≡ last → x.next ≡ last
+        → IfErr result (λ stop. stop ≢ Stop.Foreign) }
+
+    // Of every site.
+    ensures going { OnOk result (MayGoOn log.new pages.new (S.state site.new)) }
+    ensures kept { log.new.kept ≡ log.old.kept }
+    ensures geometry { pages.new.flash.geometry ≡ pages.old.flash.geometry }
+    ensures size { pages.new.pool.size ≡ pages.old.pool.size }
+    ensures goes { Goes (S.state site.old) (S.state site.new) }
+
+    // When each answer comes.
+    ensures device { (d : Dev) → IsErrOf result (Stop.Device d)
+        → FaultRose d (S.state site.old) (S.state site.new) }
+    ensures stops { IfErr result (λ stop. MayStop stop) }
+{
+    page_laws();
+    undo_laws();
+    let first = Undoing {
+        txn,
+        last,
+        next: last,
+    };
+    let _undone = match undo_updates(site, log, pages, first) {
+        Ok(at) => at,
+        Err(stop) => return Err(stop),
+    };
+    if !has_room(log) {
+        return Err(Stop::Foreign);
+    }
+    match log_record(site, log, &LogRecord::End { txn }) {
+        Ok(_) => Ok(()),
+        Err(stop) => Err(stop),
+    }
+}
