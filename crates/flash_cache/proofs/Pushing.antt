@@ -11,7 +11,7 @@ use Rattle.site.specs.Moments.{OnlyDevice}
 use Rattle.sealed_ring.specs.declared.slots.Shape.{Shape}
 use Rattle.sealed_ring.specs.declared.ring.Ring.{Ring}
 use Rattle.sealed_ring.specs.Ring.{FitsIn, IsRing, SameOutside, hi_of, appended}
-use Rattle.sealed_ring.specs.Ready.{region, units_in, IsUsable, IsReady}
+use Rattle.sealed_ring.specs.Ready.{region, units_in, IsUsable, IsReady, Finds}
 use Rattle.image_changes.specs.Rings.{Groups, group_shape}
 use Rattle.image_changes.specs.Changes.{Appends}
 use Rattle.image_changes.proofs.AppendLaws.{append_done}
@@ -109,9 +109,8 @@ goes_on_pushed cache heads ring queue old new going goes are exist shape hi usab
 
 -- the ring of a cache that fits
 
-pub ring_ready : (cache : FlashCache) (site : State) → cache.ring.shape ≡ group_shape cache.geometry → Fits cache site → IsReady cache.ring site
-ring_ready cache site shape fits = record {
-  settled = subst (λ (s : Shape). IsSettled s.dev site) (sym shape) fits.settled;
+pub ring_found : (cache : FlashCache) (site : State) → cache.ring.shape ≡ group_shape cache.geometry → Fits cache site → Finds cache.ring site
+ring_found cache site shape fits = record {
   form = subst (λ (s : Shape). IsRing s (region s site)) (sym shape) fits.form;
   hi = fits.hi ∙ ap (λ (s : Shape). hi_of s (region s site)) (sym shape);
 }
@@ -119,7 +118,6 @@ ring_ready cache site shape fits = record {
 pub fits_again : (cache : FlashCache) (ring : Ring) (queue : Queue) (site : State) → ring.shape ≡ group_shape cache.geometry → IsTrue site.honest → IsReady ring site → Fits (record cache { ring = ring; directory = queue }) site
 fits_again cache ring queue site shape honest ready = record {
   honest = honest;
-  settled = subst (λ (s : Shape). IsSettled s.dev site) shape ready.settled;
   form = subst (λ (s : Shape). IsRing s (region s site)) shape ready.form;
   hi = ready.hi ∙ ap (λ (s : Shape). hi_of s (region s site)) shape;
 }

@@ -26,10 +26,8 @@ goes_on_later cache old new going goes = goes_on_same cache cache.ring cache.dir
 pub fits_on : (cache : FlashCache) (old mid : State) → Fits cache old → Goes old mid → ChangesOnly Disk old mid → Fits cache mid
 fits_on cache old mid fits goes changes =
     let flash : mid.image.flash ≡ old.image.flash = changes.only.now.content Flash (λ h. cc) in
-    let loose : mid.loose.flash ≡ old.loose.flash = changes.only.now.loose Flash (λ h. cc) in
     record {
       honest = stays_honest old mid goes fits.honest;
-      settled = loose ∙ fits.settled;
       form = subst (IsRing (group_shape cache.geometry)) (sym flash) fits.form;
       hi = fits.hi ∙ ap (hi_of (group_shape cache.geometry)) (sym flash);
     }
@@ -51,7 +49,6 @@ all_made g pages group old mid new made more = changes_add_up g (changes_of page
 pub fits_read : (cache : FlashCache) (old mid : State) → Fits cache old → Goes old mid → IsUnchanged old mid → Fits cache mid
 fits_read cache old mid fits goes same = record {
   honest = stays_honest old mid goes fits.honest;
-  settled = ap (λ (l : Loose). l.flash) same.loose ∙ fits.settled;
   form = subst (λ (i : Image). IsRing (group_shape cache.geometry) i.flash) (sym same.image) fits.form;
   hi = fits.hi ∙ ap (λ (i : Image). hi_of (group_shape cache.geometry) i.flash) (sym same.image);
 }

@@ -1,10 +1,9 @@
 -- What the cache knows of the queue on flash, and what an image has of it.
-use Rattle.std.specs.Prelude.{◌≡◌, ℕ, ◌+◌, ◌≤◌, ◌<◌, IsTrue, List, [], ◌∷◌, length, map}
+use Rattle.std.specs.Prelude.{◌≡◌, ℕ, ◌+◌, ◌^◌, ◌≤◌, ◌<◌, IsTrue, List, [], ◌∷◌, length, map}
 use Rattle.std.specs.List.{All, AllByRecursion}
-use Rattle.site.specs.declared.outside.Dev.TheVariants.{Flash}
 use Rattle.site.specs.declared.geometry.Geometry.{Geometry}
 use Rattle.site.specs.Geometry.{HasLimits, HasLengths}
-use Rattle.site.specs.State.{State, Image, IsSettled}
+use Rattle.site.specs.State.{State, Image}
 use Rattle.sealed_ring.specs.Ring.{IsRing, hi_of, unit_at}
 use Rattle.sealed_ring.specs.Ready.{IsUsable}
 use Rattle.disk_pages.specs.Pages.{page_on}
@@ -66,12 +65,15 @@ pub record MayGoOn (cache : FlashCache) (site : State) : Type 0 where
   pub sizes : AllByRecursion (λ frames. (1 ≤ length frames) × (length frames ≤ 8)) cache.directory.groups
   pub exist : AllByRecursion (λ frames. AllByRecursion (λ frame. frame.page < cache.geometry.pages) frames) cache.directory.groups
 
--- of an honest site: nothing of the flash is loose, and the ring of groups is of the form and the one that the cache found
+-- of an honest site, whatever of the flash is loose: the ring of groups is of the form and the one that the cache found
 pub record Fits (cache : FlashCache) (site : State) : Type 0 where
   pub honest : IsTrue site.honest
-  pub settled : IsSettled Flash site
   pub form : IsRing (group_shape cache.geometry) site.image.flash
   pub hi : cache.ring.hi ≡ hi_of (group_shape cache.geometry) site.image.flash
+
+-- the ring of groups stands at its end: no group can be appended
+abbrev pub IsWorn : Geometry → Image → Type 0
+IsWorn g image = hi_of (group_shape g) image.flash ≡ 2 ^ 40
 
 -- a frame in the directory shows the page and the mark of one on flash
 pub record Shows (known : Known) (frame : Frame) : Type 0 where

@@ -19,7 +19,7 @@ ghost use Rattle.second_chance.specs.Queue.{has_frame, with_read, marks, front_m
 ghost use Rattle.second_chance.specs.Machine.{rules_of, leaving};
 ghost use Rattle.stage_out.specs.Staged.{HasStaged};
 ghost use Rattle.flash_directory.specs.Heads.{frames_in};
-ghost use Rattle.flash_cache.specs.Held.{MayGoOn, Fits, HasGroups, HasFrames, Holds, queue_of, version_on, group_on, PagesExist, IsCleanOn};
+ghost use Rattle.flash_cache.specs.Held.{MayGoOn, Fits, IsWorn, HasGroups, HasFrames, Holds, queue_of, version_on, group_on, PagesExist, IsCleanOn};
 ghost use Rattle.flash_cache.specs.Pushed.{staged_marks, staged_pages, staged_contents, frames_given, known_given, pushed_groups, pushed_queue, changes_of_push, LeavesPush, ChangesPages};
 ghost use Rattle.flash_cache.specs.Kept.{GivesVersions, LeavesVersions, AreCleanGiven, LeavesClean};
 
@@ -170,7 +170,7 @@ impl FlashCache {
         ensures going { IfOk result (λ cache. MayGoOn cache (S.state site.new)) }
         ensures geometry { IfOk result (λ cache. cache.geometry ≡ geometry.now) }
         ensures ended { IfOk result (λ cache. cache.ended ≡ false) }
-        ensures fits { IsTrue (S.state site.old).honest → IsSettled Dev.Flash (S.state site.old)
+        ensures fits { IsTrue (S.state site.old).honest
             → IsRing (group_shape geometry.now) (S.state site.old).image.flash
             → IfOk result (λ cache. Fits cache (S.state site.new)) }
         ensures queue { IsTrue (S.state site.old).honest → (first : ℕ) (groups : List (List Frame))
@@ -356,6 +356,8 @@ impl FlashCache {
         ensures fits { Fits self.old (S.state site.old) → OnOk result (Fits self.new (S.state site.new)) }
         ensures quiet { IsTrue (S.state site.old).honest → IsQuiet (S.state site.old)
             → OnOk result (IsQuiet (S.state site.new)) }
+        ensures quiet_err { IsTrue (S.state site.old).honest → IsQuiet (S.state site.old)
+            → IfErr result (λ stop. ((d : Dev) → stop ≢ Stop.Device d) → IsQuiet (S.state site.new)) }
 
         // Of every site.
         ensures frames { let frames = frames_given pages.now changed.now contents.now in
@@ -372,6 +374,8 @@ impl FlashCache {
 
         // When each answer comes.
         ensures worn { IsErrOf result (Stop.Worn Dev.Flash) → self.old.ring.hi ≡ 2 ^ 40 }
+        ensures worn_end { Fits self.old (S.state site.old) → IsErrOf result (Stop.Worn Dev.Flash)
+            → IsWorn self.old.geometry (S.state site.new).image }
         ensures never_past { self.old.ring.hi ≡ 2 ^ 40 → OnOk result ⊥ }
         ensures device { (d : Dev) → IsErrOf result (Stop.Device d)
             → FaultRose d (S.state site.old) (S.state site.new) }
@@ -424,6 +428,8 @@ impl FlashCache {
         ensures fits { Fits self.old (S.state site.old) → OnOk result (Fits self.new (S.state site.new)) }
         ensures quiet { IsTrue (S.state site.old).honest → IsQuiet (S.state site.old)
             → OnOk result (IsQuiet (S.state site.new)) }
+        ensures quiet_err { IsTrue (S.state site.old).honest → IsQuiet (S.state site.old)
+            → IfErr result (λ stop. ((d : Dev) → stop ≢ Stop.Device d) → IsQuiet (S.state site.new)) }
 
         // Of every site.
         ensures frames { let frames = frames_given pages.now changed.now contents.now in
@@ -441,6 +447,8 @@ impl FlashCache {
 
         // When each answer comes.
         ensures worn { IsErrOf result (Stop.Worn Dev.Flash) → self.old.ring.hi ≡ 2 ^ 40 }
+        ensures worn_end { Fits self.old (S.state site.old) → IsErrOf result (Stop.Worn Dev.Flash)
+            → IsWorn self.old.geometry (S.state site.new).image }
         ensures never_past { self.old.ring.hi ≡ 2 ^ 40 → OnOk result ⊥ }
         ensures device { (d : Dev) → IsErrOf result (Stop.Device d)
             → FaultRose d (S.state site.old) (S.state site.new) }
@@ -493,6 +501,8 @@ impl FlashCache {
         ensures fits { Fits self.old (S.state site.old) → OnOk result (Fits self.new (S.state site.new)) }
         ensures quiet { IsTrue (S.state site.old).honest → IsQuiet (S.state site.old)
             → OnOk result (IsQuiet (S.state site.new)) }
+        ensures quiet_err { IsTrue (S.state site.old).honest → IsQuiet (S.state site.old)
+            → IfErr result (λ stop. ((d : Dev) → stop ≢ Stop.Device d) → IsQuiet (S.state site.new)) }
 
         // Of every site.
         ensures ok { OnOk result (self.new.directory ≡ pushed_queue self.old (frames_in heads.now)) }
@@ -505,6 +515,8 @@ impl FlashCache {
 
         // When each answer comes.
         ensures worn { IsErrOf result (Stop.Worn Dev.Flash) → self.old.ring.hi ≡ 2 ^ 40 }
+        ensures worn_end { Fits self.old (S.state site.old) → IsErrOf result (Stop.Worn Dev.Flash)
+            → IsWorn self.old.geometry (S.state site.new).image }
         ensures never_past { self.old.ring.hi ≡ 2 ^ 40 → OnOk result ⊥ }
         ensures device { (d : Dev) → IsErrOf result (Stop.Device d)
             → FaultRose d (S.state site.old) (S.state site.new) }
@@ -530,7 +542,7 @@ impl FlashCache {
         requires heads { AreGroupHeads heads.now }
         requires exist { PagesExist self.old.geometry.pages heads.now }
 
-        ensures any_moment { Fits self.old (S.state site.old)
+        ensures any_moment { Fits self.old (S.state site.old) → IsSettled Dev.Flash (S.state site.old)
             → LeavesOnly (S.state site.old) (S.state site.new) (LeavesOldOrNew
             (group_shape self.old.geometry) (S.state site.old).image.flash content.now) }
         ensures changes { IsTrue (S.state site.old).honest
@@ -540,6 +552,8 @@ impl FlashCache {
         ensures fits { Fits self.old (S.state site.old) → OnOk result (Fits self.new (S.state site.new)) }
         ensures quiet { IsTrue (S.state site.old).honest → IsQuiet (S.state site.old)
             → OnOk result (IsQuiet (S.state site.new)) }
+        ensures quiet_err { IsTrue (S.state site.old).honest → IsQuiet (S.state site.old)
+            → IfErr result (λ stop. ((d : Dev) → stop ≢ Stop.Device d) → IsQuiet (S.state site.new)) }
 
         // Of every site.
         ensures ok { OnOk result (self.new.directory ≡ pushed_queue self.old (frames_in heads.now)) }
@@ -552,6 +566,8 @@ impl FlashCache {
 
         // When each answer comes.
         ensures worn { IsErrOf result (Stop.Worn Dev.Flash) → self.old.ring.hi ≡ 2 ^ 40 }
+        ensures worn_end { Fits self.old (S.state site.old) → IsErrOf result (Stop.Worn Dev.Flash)
+            → IsWorn self.old.geometry (S.state site.new).image }
         ensures never_past { self.old.ring.hi ≡ 2 ^ 40 → OnOk result ⊥ }
         ensures device { IsErrOf result (Stop.Device Dev.Flash)
             → FaultRose Dev.Flash (S.state site.old) (S.state site.new) }

@@ -43,8 +43,7 @@ fits_beside store old new changes goes fits =
     let disk = changes.only.now.content Disk disk_other in
     let g = store.flash.geometry in
     record {
-      flash = flash_fits_same store.flash old new flash (changes.only.now.loose Flash flash_other) (stays_honest old new goes fits.flash.honest) fits.flash;
-      disk = changes.only.now.loose Disk disk_other ∙ fits.disk;
+      flash = flash_fits_same store.flash old new flash (stays_honest old new goes fits.flash.honest) fits.flash;
       groups = fits.groups;
       holds = flash_holds_same store.flash old.image new.image fits.groups flash fits.holds;
       clean = clean_same g old.image new.image flash disk fits.clean;

@@ -1,9 +1,12 @@
 -- A page is brought in, behind the eviction of another.
-use Rattle.std.proofs.Common.{◌≡◌, IsTrue, ℕ, ◌+◌, ◌*◌, ◌<◌, ◌≤◌, Bool, true, false, cond, arith, sym, ap, subst, ◌∙◌}
-use Rattle.std.specs.Prelude.{Result, Ok, Err, OnOk}
+use Rattle.std.proofs.Common.{◌≡◌, ◌≢◌, IsTrue, ℕ, ◌+◌, ◌*◌, ◌<◌, ◌≤◌, Bool, true, false, cond, arith, sym, ap, subst, ◌∙◌}
+use Rattle.std.specs.Prelude.{Result, Ok, Err, OnOk, IfErr}
 use Rattle.std.specs.List.{AllByRecursion}
 use Rattle.site.specs.declared.geometry.Geometry.{Geometry}
-use Rattle.site.specs.State.{State, Image, Loose}
+use Rattle.site.specs.declared.outside.Dev.{Dev}
+use Rattle.site.specs.declared.outside.Stop.{Stop}
+use Rattle.site.specs.declared.outside.Stop.TheVariants.{Device}
+use Rattle.site.specs.State.{State, Image, IsQuiet, snapshot_of}
 use Rattle.site.specs.Calls.{IsUnchanged}
 use Rattle.sealed_ring.specs.Ring.{IsRing, hi_of}
 use Rattle.image_changes.specs.Rings.{log_shape}
@@ -24,10 +27,17 @@ pub ok_two : {A E : Type 0} (r : Result A E) (P Q Z : Type 0) → (P → Q → Z
 ok_two (Ok x) P Q Z f p q = f p q
 ok_two (Err e) P Q Z f p q = tt
 
-pub log_fits_same : (log : LogStore) (old new : State) → IsUnchanged old new → IsTrue new.honest → log_held.Fits log old → log_held.Fits log new
-log_fits_same log old new same honest fits = record {
+pub on_ok : {A E : Type 0} (r : Result A E) (P : Type 0) → P → OnOk r P
+on_ok (Ok x) P p = p
+on_ok (Err e) P p = tt
+
+-- a site of which nothing changed leaves the same snapshot
+pub snapshot_same : (old new : State) → IsUnchanged old new → snapshot_of new ≡ snapshot_of old
+snapshot_same old new same = λ i. record { told = same.told i; image = same.image i }
+
+pub log_found_same : (log : LogStore) (old new : State) → IsUnchanged old new → IsTrue new.honest → log_held.Finds log old → log_held.Finds log new
+log_found_same log old new same honest fits = record {
   honest = honest;
-  settled = ap (λ (l : Loose). l.log) same.loose ∙ fits.settled;
   form = subst (λ (i : Image). IsRing (log_shape log.geometry) i.log) (sym same.image) fits.form;
   hi = fits.hi ∙ ap (λ (i : Image). hi_of (log_shape log.geometry) i.log) (sym same.image);
 }
@@ -35,9 +45,8 @@ log_fits_same log old new same honest fits = record {
 pub ready_same : (store store' : PageStore) (log : LogStore) (list : LogList) (old new : State) → Fits store' new → IsUnchanged old new → AreReady store log list old → AreReady store' log list new
 ready_same store store' log list old new fits same ready = record {
   pages = fits;
-  blocks = log_fits_same log old new same fits.flash.honest ready.blocks;
+  blocks = log_found_same log old new same fits.flash.honest ready.blocks;
   records = subst (λ (i : Image). log_held.Holds log i list) (sym same.image) ready.records;
-  quiet = same.loose ∙ ready.quiet;
 }
 
 pub current_again : (a b c : PageStore) (x y z : Image) → b.flash.geometry ≡ a.flash.geometry → KeepsCurrent a x b y → KeepsCurrent b y c z → KeepsCurrent a x c z
@@ -46,7 +55,7 @@ current_again a b c x y z geometry first second = record {
 }
 
 -- the LSN of a version is below the end of the log's blocks
-sealed_below : (log : LogStore) (site : State) → log_held.Fits log site → sealed_end log.geometry site.image ≤ end_forced log
+sealed_below : (log : LogStore) (site : State) → log_held.Finds log site → sealed_end log.geometry site.image ≤ end_forced log
 sealed_below log site fits = let hi = fits.hi in by (has_tail log) hi
   where
     by : (b : Bool) → log.ring.hi ≡ hi_of (log_shape log.geometry) site.image.log → 512 * hi_of (log_shape log.geometry) site.image.log ≤ 512 * (log.ring.hi + cond b 1 0)
@@ -54,7 +63,7 @@ sealed_below log site fits = let hi = fits.hi in by (has_tail log) hi
     by false hi = omega (arith, hi)
 
 pub ahead_in : (store mid store' : PageStore) (log : LogStore) (page : ℕ) (site new : State) → mid.flash.geometry ≡ store.flash.geometry → store'.flash.geometry ≡ mid.flash.geometry → log.geometry ≡ store.flash.geometry
-    → log_held.Fits log site → new.image ≡ site.image → page < store.flash.geometry.pages → AreSealed store.flash.geometry site.image
+    → log_held.Finds log site → new.image ≡ site.image → page < store.flash.geometry.pages → AreSealed store.flash.geometry site.image
     → AllByRecursion (λ (frame : Frame). IsLogged (end_forced log) frame.content) mid.pool.frames
     → PutsIn page mid.pool.frames store'.pool.frames → (front_of store'.pool.frames).content ≡ version_on mid.flash.geometry site.image page → IsAhead log store' new.image
 ahead_in store mid store' log page site new geometry geometry' log_geometry fits same exists sealed rest put read = record {
@@ -68,3 +77,8 @@ ahead_in store mid store' log page site new geometry geometry' log_geometry fits
     front : IsLogged (end_forced log) (front_of store'.pool.frames).content
     front = subst (IsLogged (end_forced log)) (sym (read ∙ ap (λ (g : Geometry). version_on g site.image page) geometry))
         (logged_more (sealed_end store.flash.geometry site.image) (end_forced log) _ below (sealed.each page exists))
+
+-- a site that is quiet is so after any error
+pub still_quiet : {A : Type 0} (r : Result A Stop) (site : State) → IsQuiet site → IfErr r (λ stop. ((d : Dev) → stop ≢ Device d) → IsQuiet site)
+still_quiet (Ok x) site quiet = tt
+still_quiet (Err e) site quiet = λ named. quiet

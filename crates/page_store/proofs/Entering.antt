@@ -14,7 +14,6 @@ pub put_fits : (store : PageStore) (pool : Pool) (frame : Frame) (site : State) 
     → Fits store site → Fits (record store { pool = pool }) site
 put_fits store pool frame site is version fits = record {
   flash = fits.flash;
-  disk = fits.disk;
   groups = fits.groups;
   holds = fits.holds;
   clean = fits.clean;

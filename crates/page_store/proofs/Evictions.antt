@@ -6,7 +6,7 @@ use Rattle.std.proofs.lemmas.Option.{none-some}
 use Rattle.std.proofs.lemmas.Bool.{cases_eq}
 use Rattle.std.proofs.lemmas.List.{map-append, reverse-append, reverse-reverse}
 use Rattle.site.specs.declared.geometry.Geometry.{Geometry}
-use Rattle.site.specs.State.{State, Image, IsQuiet}
+use Rattle.site.specs.State.{State, Image, IsQuiet, snapshot_of}
 use Rattle.site.specs.Moments.{Leaves, LeavesOnly}
 use Rattle.site.specs.Laws.{no_call, quiet_leaves}
 use Rattle.flash_cache.specs.Held.{version_on}
@@ -28,17 +28,21 @@ use Rattle.page_store.specs.Ahead.{IsLogged, AreSealed, LeavesSealed, forces, ev
 use Rattle.page_store.specs.Leaves.{AreReady, LeavesPages, AreGiven, Gives, AreChanged, KeepsCurrent}
 
 -- a site that stays as it is
-pub stays_pages : (store : PageStore) (log : LogStore) (given : ℕ → List ℕ) (sealing : Bool) (list : LogList) (site : State) → log.geometry ≡ store.flash.geometry → AreReady store log list site
+pub same_pages : (store : PageStore) (log : LogStore) (given : ℕ → List ℕ) (sealing : Bool) (list : LogList) (site : State) → log.geometry ≡ store.flash.geometry → AreReady store log list site
+    → LeavesPages store.flash.geometry given sealing list site (snapshot_of site)
+same_pages store log given sealing list site geometry ready = record {
+  log = record { told = refl; blocks = inl (subst (λ (g : Geometry). HasBlocks g list.first list.blocks site.image) geometry ready.records.blocks) };
+  rings = λ ring log flash. record { units = refl; form = λ form. form };
+  queue = record { first = store.flash.directory.first; groups = ready.pages.groups; has = ready.pages.holds.has };
+  clean = ready.pages.clean;
+  versions = λ page exists. inl refl;
+}
+
+pub stays_pages : (store : PageStore) (log : LogStore) (given : ℕ → List ℕ) (sealing : Bool) (list : LogList) (site : State) → log.geometry ≡ store.flash.geometry → AreReady store log list site → IsQuiet site
     → LeavesOnly site site (LeavesPages store.flash.geometry given sealing list site)
-stays_pages store log given sealing list site geometry ready =
+stays_pages store log given sealing list site geometry ready quiet =
     no_call site (Leaves (LeavesPages store.flash.geometry given sealing list site)) (λ snapshot left.
-    subst (LeavesPages store.flash.geometry given sealing list site) (sym (quiet_leaves site snapshot ready.quiet left)) (record {
-      log = record { told = refl; blocks = inl (subst (λ (g : Geometry). HasBlocks g list.first list.blocks site.image) geometry ready.records.blocks) };
-      rings = λ ring log flash. record { units = refl; form = λ form. form };
-      queue = record { first = store.flash.directory.first; groups = ready.pages.groups; has = ready.pages.holds.has };
-      clean = ready.pages.clean;
-      versions = λ page exists. inl refl;
-    }))
+    subst (LeavesPages store.flash.geometry given sealing list site) (sym (quiet_leaves site snapshot quiet left)) (same_pages store log given sealing list site geometry ready))
 
 pub stays_sealed : (g : Geometry) (site : State) → IsQuiet site → AreSealed g site.image → LeavesOnly site site (LeavesSealed g)
 stays_sealed g site quiet sealed =
@@ -58,7 +62,7 @@ distinct_front : (xs : List Frame) (x : Frame) → AreDistinct (xs ++ x ∷ []) 
 distinct_front [] x all = tt
 distinct_front (y ∷ xs) x all = (all_front (λ other. y.page ≢ other.page) xs x all.0, distinct_front xs x all.1)
 
-reverse_last : {X : Type 0} (xs : List X) (x : X) → reverse (xs ++ x ∷ []) ≡ x ∷ reverse xs
+pub reverse_last : {X : Type 0} (xs : List X) (x : X) → reverse (xs ++ x ∷ []) ≡ x ∷ reverse xs
 reverse_last xs x = reverse-append xs (x ∷ [])
 
 -- what is pushed of these
@@ -142,7 +146,6 @@ module _ (store : PageStore) (rest : Pool) (last : Frame) (is : store.pool.frame
   pub rest_fits : (site : State) → Fits store site → Fits smaller site
   rest_fits site fits = record {
     flash = fits.flash;
-    disk = fits.disk;
     groups = fits.groups;
     holds = fits.holds;
     clean = fits.clean;
@@ -151,7 +154,7 @@ module _ (store : PageStore) (rest : Pool) (last : Frame) (is : store.pool.frame
   }
 
   pub rest_ready : (log : LogStore) (list : LogList) (site : State) → AreReady store log list site → AreReady smaller log list site
-  rest_ready log list site ready = record { pages = rest_fits site ready.pages; blocks = ready.blocks; records = ready.records; quiet = ready.quiet }
+  rest_ready log list site ready = record { pages = rest_fits site ready.pages; blocks = ready.blocks; records = ready.records }
 
   pub rest_kept : (log : LogStore) (list : LogList) (site : State) → must_be_pushed store.flash.directory (pool_page last) ≡ false → AreReady store log list site
       → AreReady smaller log (sealed_if (forces log (evicted store)) list) site

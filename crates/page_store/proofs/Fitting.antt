@@ -4,9 +4,8 @@ use Rattle.std.specs.Prelude.{Result, Err, IsErrOf}
 use Rattle.std.specs.List.{AllByRecursion}
 use Rattle.std.proofs.lemmas.Option.{none-some}
 use Rattle.std.proofs.lemmas.Bool.{cases_eq}
-use Rattle.site.specs.declared.outside.Dev.TheVariants.{Disk}
 use Rattle.site.specs.declared.geometry.Geometry.{Geometry}
-use Rattle.site.specs.State.{State, Image, Loose, IsSettled}
+use Rattle.site.specs.State.{State, Image}
 use Rattle.slotted_page.specs.Layout.{IsSound}
 use Rattle.frame_group.specs.Groups.{Frame as Stored}
 use Rattle.flash_cache.specs.Held as held
@@ -22,11 +21,10 @@ pub err_again : {T U E : Type 0} (a b : E) → IsErrOf {T = T} (Err a) b → IsE
 err_again {T} {U} {E} a b is = let same : a ≡ b = cc in ap {A = E} {B = Result U E} (λ (e : E). Err e) same
 
 pub fits_at_start : (store : PageStore) (g : Geometry) (old new : State) (groups : List (List Stored)) → store.flash.geometry ≡ g → store.pool.frames ≡ []
-    → new.image ≡ old.image → new.loose ≡ old.loose → IsSettled Disk old → held.Fits store.flash new → held.Holds store.flash new.image groups → IsCleanOn g old.image
+    → new.image ≡ old.image → held.Fits store.flash new → held.Holds store.flash new.image groups → IsCleanOn g old.image
     → ((page : ℕ) → page < g.pages → IsSound (version_on g old.image page)) → Fits store new
-fits_at_start store g old new groups geometry empty image loose disk fits holds clean sound = record {
+fits_at_start store g old new groups geometry empty image fits holds clean sound = record {
   flash = fits;
-  disk = ap (λ (l : Loose). l.disk) loose ∙ disk;
   groups = groups;
   holds = holds;
   clean = subst (λ (i : Image). IsCleanOn store.flash.geometry i) (sym image) (subst (λ (h : Geometry). IsCleanOn h old.image) (sym geometry) clean);
@@ -41,7 +39,6 @@ pub change_fits : (store : PageStore) (pool : Pool) (site : State) → ChangesOn
     → Fits store site → Fits (record store { pool = pool }) site
 change_fits store pool site one changed fits = record {
   flash = fits.flash;
-  disk = fits.disk;
   groups = fits.groups;
   holds = fits.holds;
   clean = fits.clean;

@@ -79,7 +79,6 @@ module _ (law : ClearedKeepsFrames) (store after : PageStore) (pages : List ℕ)
   pub saved_fits : Fits after new → Fits (record after { pool = record after.pool { frames = cleared_all pages frames } }) new
   saved_fits fits = record {
     flash = fits.flash;
-    disk = fits.disk;
     groups = fits.groups;
     holds = fits.holds;
     clean = fits.clean;

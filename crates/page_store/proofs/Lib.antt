@@ -15,3 +15,5 @@ pub mod Rounds
 pub mod Beside
 pub mod Unsealed
 pub mod Rings
+pub mod Changing
+pub mod Lines

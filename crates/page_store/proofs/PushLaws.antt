@@ -1,5 +1,5 @@
 -- A force of the log, and a push behind it.
-use Rattle.std.proofs.Common.{◌≡◌, ◌≢◌, ◌⊎◌, inl, inr, IsTrue, ℕ, zero, suc, ◌*◌, ◌<◌, ◌≤◌, Bool, true, false, List, [], ◌∷◌, ◌++◌, length, get_or, Some, arith, refl, sym, ap, subst, ◌∙◌, length-append}
+use Rattle.std.proofs.Common.{◌≡◌, ◌≢◌, ◌⊎◌, inl, inr, IsTrue, ℕ, zero, suc, ◌*◌, ◌<◌, ◌≤◌, Bool, true, false, List, [], ◌∷◌, ◌++◌, length, get_or, Some, arith, refl, sym, ap, subst, ◌∙◌, length-append, append-nil}
 use Rattle.std.specs.Prelude.{Result, Ok, Err, OnOk, OnErr, IsErrOf, slice_index, Contains}
 use Rattle.std.specs.List.{AllByRecursion}
 use Rattle.std.proofs.lemmas.Bool.{cases_eq, true≢false}
@@ -7,14 +7,14 @@ use Rattle.std.proofs.lemmas.List.{get_or_default}
 use Rattle.site.specs.declared.outside.Dev.{Dev}
 use Rattle.site.specs.declared.outside.Dev.TheVariants.{Log, Flash, Disk}
 use Rattle.site.specs.declared.geometry.Geometry.{Geometry}
-use Rattle.site.specs.State.{State, Image, Snapshot, MayStand, content_of, loose_of, IsSettled, IsQuiet}
+use Rattle.site.specs.State.{State, Image, Snapshot, MayStand, content_of, loose_of, snapshot_of, IsSettled, IsQuiet}
 use Rattle.site.specs.Calls.{Goes}
 use Rattle.site.specs.Moments.{Leaves, LeavesOnly, ChangesOnly, Untouched}
 use Rattle.site.specs.Laws.{leaves_weaker, leaves_others_too, untouched_leaves, each_both, each_weaker, settled_is, quiet_settled, stays_honest}
-use Rattle.sealed_ring.specs.Ring.{IsRing, hi_of, units_of}
+use Rattle.sealed_ring.specs.Ring.{Units, IsRing, hi_of, units_of}
 use Rattle.sealed_ring.specs.declared.slots.Shape.{Shape}
 use Rattle.image_changes.specs.Rings.{RingName, Blocks, Groups, log_shape, group_shape, shape_of, KeepsUnits}
-use Rattle.image_changes.specs.Changes.{Change, ring_of}
+use Rattle.image_changes.specs.Changes.{Change, Reaches, ring_of}
 use Rattle.image_changes.specs.Reached.{IsReached, IsFrontOf, LeavesFront}
 use Rattle.image_changes.specs.Laws.{RingKept}
 use Rattle.flash_cache.specs.Pushed.{changes_of_push, pushed_queue, pushed_groups, known_given, frames_given}
@@ -57,10 +57,9 @@ groups_same g first groups old new flash has = record {
   live = ap (λ (f : List ℕ). (units_of (group_shape g) f).live) flash ∙ has.live;
 }
 
-pub flash_fits_same : (cache : FlashCache) (old new : State) → new.image.flash ≡ old.image.flash → loose_of Flash new.loose ≡ loose_of Flash old.loose → IsTrue new.honest → held.Fits cache old → held.Fits cache new
-flash_fits_same cache old new flash loose honest fits = record {
+pub flash_fits_same : (cache : FlashCache) (old new : State) → new.image.flash ≡ old.image.flash → IsTrue new.honest → held.Fits cache old → held.Fits cache new
+flash_fits_same cache old new flash honest fits = record {
   honest = honest;
-  settled = loose ∙ fits.settled;
   form = subst (IsRing (group_shape cache.geometry)) (sym flash) fits.form;
   hi = fits.hi ∙ ap (hi_of (group_shape cache.geometry)) (sym flash);
 }
@@ -196,21 +195,21 @@ module _ (g : Geometry) (sealing : Bool) (list : LogList) (old mid : State) (lea
 -- The push.
 
 module _ (cache : FlashCache) (groups : List (List Stored)) (pages : List ℕ) (changed : List Bool) (contents : List (List ℕ)) (old mid new : State)
-    (flash : mid.image.flash ≡ old.image.flash) (disk : mid.image.disk ≡ old.image.disk) (told : mid.told ≡ old.told) (settled : IsSettled Log mid)
-    (versions : LeavesOnly mid new (kept.LeavesVersions cache groups pages changed contents mid)) (untouched : Untouched Log mid new) where
+    (flash : mid.image.flash ≡ old.image.flash) (disk : mid.image.disk ≡ old.image.disk) (told : mid.told ≡ old.told) where
   abbrev g : Geometry
   g = cache.geometry
 
-  log_stands : (s : Snapshot) → MayStand (loose_of Log mid.loose) mid.image.log s.image.log → s.image.log ≡ mid.image.log
-  log_stands s stands = settled_is mid.image.log s.image.log (subst (λ rs. MayStand rs mid.image.log s.image.log) settled stands)
+  log_stands : IsSettled Log mid → (s : Snapshot) → MayStand (loose_of Log mid.loose) mid.image.log s.image.log → s.image.log ≡ mid.image.log
+  log_stands settled s stands = settled_is mid.image.log s.image.log (subst (λ rs. MayStand rs mid.image.log s.image.log) settled stands)
 
-  record Pushed (s : Snapshot) : Type 0 where
-    log : s.image.log ≡ mid.image.log
-    pages_are : kept.LeavesVersions cache groups pages changed contents mid s
+  pub record Pushed (s : Snapshot) : Type 0 where
+    pub log : s.image.log ≡ mid.image.log
+    pub pages_are : kept.LeavesVersions cache groups pages changed contents mid s
 
-  pushed : LeavesOnly mid new Pushed
-  pushed = each_weaker mid new (λ m. Leaves (λ s. MayStand (loose_of Log mid.loose) mid.image.log s.image.log) m × Leaves (kept.LeavesVersions cache groups pages changed contents mid) m) (Leaves Pushed)
-      (λ m p s left. record { log = log_stands s (p.0 s left); pages_are = p.1 s left })
+  pub pushed : IsSettled Log mid → LeavesOnly mid new (kept.LeavesVersions cache groups pages changed contents mid) → Untouched Log mid new → LeavesOnly mid new Pushed
+  pushed settled versions untouched =
+      each_weaker mid new (λ m. Leaves (λ s. MayStand (loose_of Log mid.loose) mid.image.log s.image.log) m × Leaves (kept.LeavesVersions cache groups pages changed contents mid) m) (Leaves Pushed)
+      (λ m p s left. record { log = log_stands settled s (p.0 s left); pages_are = p.1 s left })
       (each_both mid new _ _ (untouched_leaves Log mid new untouched) versions)
 
   -- the version of each page
@@ -237,34 +236,50 @@ module _ (cache : FlashCache) (groups : List (List Stored)) (pages : List ℕ) (
     | inr gives ↦ record { first = (pushed_queue cache (known_given pages changed)).first; groups = pushed_groups cache groups (frames_given pages changed contents); has = gives.has }
   ]
 
-  pub push_leaves : RingKept → (staged group : List ℕ) → LeavesFront g (changes_of_push staged group) mid new
-      → ((ring : RingName) → ring ≢ Blocks → ring ≢ Groups → KeepsUnits (shape_of g ring) old.image mid.image)
+  -- what one snapshot has, behind a front of the push
+  pub pushed_pages : RingKept → (staged group : List ℕ) → ((ring : RingName) → ring ≢ Blocks → ring ≢ Groups → KeepsUnits (shape_of g ring) old.image mid.image)
       → (given : ℕ → List ℕ) (sealing : Bool) (list : LogList) → AreGiven given pages contents → HasBlocks g (sealed_if sealing list).first (sealed_if sealing list).blocks mid.image
-      → LeavesOnly mid new (LeavesClean g) → LeavesOnly mid new (LeavesPages g given sealing list old)
-  push_leaves law staged group front before given sealing list are has clean =
-      each_weaker mid new (λ m. Leaves Pushed m × Leaves (λ s. LeavesClean g s × IsReached g (IsFrontOf (changes_of_push staged group)) mid s) m) (Leaves (LeavesPages g given sealing list old)) (λ m p s left.
-      let is = p.0 s left in let more = p.1 s left in record {
+      → (s : Snapshot) → Pushed s → IsCleanOn g s.image → IsReached g (IsFrontOf (changes_of_push staged group)) mid s → LeavesPages g given sealing list old s
+  pushed_pages law staged group before given sealing list are has s is clean more =
+      record {
         log = blocks_left s is.log is.pages_are sealing list refl has;
-        rings = λ ring log flash. units_then (shape_of g ring) old.image mid.image s.image (before ring log flash) (rings_kept law g (changes_of_push staged group) mid s (own_push staged group) more.1 ring log flash);
+        rings = λ ring log flash. units_then (shape_of g ring) old.image mid.image s.image (before ring log flash) (rings_kept law g (changes_of_push staged group) mid s (own_push staged group) more ring log flash);
         queue = queue_left s is.pages_are;
-        clean = more.0;
+        clean = clean;
         versions = each_version (λ page content. (content ≡ version_on g old.image page) ⊎ (content ≡ given page)) (λ page exists. inl refl) (λ k less. inr (are.each k less)) s is.pages_are;
-      }) (each_both mid new _ _ pushed (each_weaker mid new (λ m. Leaves (LeavesClean g) m × Leaves (IsReached g (IsFrontOf (changes_of_push staged group)) mid) m)
-      (Leaves (λ s. LeavesClean g s × IsReached g (IsFrontOf (changes_of_push staged group)) mid s)) (λ m q s left. (q.0 s left, q.1 s left)) (each_both mid new _ _ clean front)))
+      }
     where
       blocks_left : (s : Snapshot) → s.image.log ≡ mid.image.log → kept.LeavesVersions cache groups pages changed contents mid s → (b : Bool) (l : LogList) → b ≡ b
           → HasBlocks g (sealed_if b l).first (sealed_if b l).blocks mid.image → LeavesLog g b l old.told s
       blocks_left s log is true l same has = record { told = is.told ∙ told; blocks = inr (refl, blocks_same g l.first (l.blocks ++ l.tail ∷ []) mid.image s.image log has) }
       blocks_left s log is false l same has = record { told = is.told ∙ told; blocks = inl (blocks_same g l.first l.blocks mid.image s.image log has) }
 
-  pub push_sealed : (end : ℕ) → end ≡ sealed_end g mid.image → sealed_end g old.image ≤ end → length contents ≡ length pages → AllByRecursion (IsLogged end) contents → AreSealed g old.image
-      → LeavesOnly mid new (LeavesSealed g)
-  push_sealed end is rises lists logged sealed =
-      leaves_weaker mid new Pushed (LeavesSealed g) (λ s p. record {
-        each = λ page exists. subst (λ e. IsLogged e (version_on g s.image page)) (is ∙ ap (λ l. 512 * hi_of (log_shape g) l) (sym p.log))
-            (each_version (λ n content. IsLogged end content) (λ n there. logged_more (sealed_end g old.image) end (version_on g old.image n) rises (sealed.each n there))
-            (λ k less. logged_at end contents k [] logged (omega (arith, lists, less))) s p.pages_are page exists);
-      }) pushed
+  pub push_leaves : RingKept → (staged group : List ℕ) → IsSettled Log mid → LeavesOnly mid new (kept.LeavesVersions cache groups pages changed contents mid) → Untouched Log mid new
+      → LeavesFront g (changes_of_push staged group) mid new → ((ring : RingName) → ring ≢ Blocks → ring ≢ Groups → KeepsUnits (shape_of g ring) old.image mid.image)
+      → (given : ℕ → List ℕ) (sealing : Bool) (list : LogList) → AreGiven given pages contents → HasBlocks g (sealed_if sealing list).first (sealed_if sealing list).blocks mid.image
+      → LeavesOnly mid new (LeavesClean g) → LeavesOnly mid new (LeavesPages g given sealing list old)
+  push_leaves law staged group settled versions untouched front before given sealing list are has clean =
+      each_weaker mid new (λ m. Leaves Pushed m × Leaves (λ s. LeavesClean g s × IsReached g (IsFrontOf (changes_of_push staged group)) mid s) m) (Leaves (LeavesPages g given sealing list old))
+      (λ m p s left. let more = p.1 s left in pushed_pages law staged group before given sealing list are has s (p.0 s left) more.0 more.1)
+      (each_both mid new _ _ (pushed settled versions untouched) (each_weaker mid new (λ m. Leaves (LeavesClean g) m × Leaves (IsReached g (IsFrontOf (changes_of_push staged group)) mid) m)
+      (Leaves (λ s. LeavesClean g s × IsReached g (IsFrontOf (changes_of_push staged group)) mid s)) (λ m q s left. (q.0 s left, q.1 s left)) (each_both mid new _ _ clean front)))
+
+  pub pushed_sealed : (end : ℕ) → end ≡ sealed_end g mid.image → sealed_end g old.image ≤ end → length contents ≡ length pages → AllByRecursion (IsLogged end) contents → AreSealed g old.image
+      → (s : Snapshot) → Pushed s → AreSealed g s.image
+  pushed_sealed end is rises lists logged sealed s p = record {
+    each = λ page exists. subst (λ e. IsLogged e (version_on g s.image page)) (is ∙ ap (λ l. 512 * hi_of (log_shape g) l) (sym p.log))
+        (each_version (λ n content. IsLogged end content) (λ n there. logged_more (sealed_end g old.image) end (version_on g old.image n) rises (sealed.each n there))
+        (λ k less. logged_at end contents k [] logged (omega (arith, lists, less))) s p.pages_are page exists);
+  }
+
+  -- once it is done
+  pub pushed_now : mid.image.log ≡ new.image.log → new.told ≡ mid.told → GivesVersions g (pushed_queue cache (known_given pages changed)).first (pushed_groups cache groups (frames_given pages changed contents)) pages contents mid.image new.image
+      → Pushed (snapshot_of new)
+  pushed_now log told_since gives = record { log = sym log; pages_are = record { told = told_since; either = inr gives } }
+
+-- all changes of a call were made
+pub reached_all : (g : Geometry) (all : List Change) (old new : State) → new.told ≡ old.told → Reaches g all old.image new.image → IsReached g (IsFrontOf all) old (snapshot_of new)
+reached_all g all old new told reaches = record { told = told; changes = all; made = ([], sym (append-nil all)); reaches = reaches }
 
 pub gives_since : (g : Geometry) (pages : List ℕ) (contents : List (List ℕ)) (old mid new : Image) → mid.flash ≡ old.flash → mid.disk ≡ old.disk → Gives g pages contents mid new → Gives g pages contents old new
 gives_since g pages contents old mid new flash disk gives = record { given = gives.given; others = λ page none. gives.others page none ∙ version_same g old mid page flash disk }
@@ -276,16 +291,15 @@ pub record IsBetween (store : PageStore) (log log' : LogStore) (sealing : Bool) 
   pub disk : mid.image.disk ≡ old.image.disk
   pub told : mid.told ≡ old.told
   pub honest : IsTrue mid.honest
-  pub quiet : IsQuiet mid
   pub fits : held.Fits store.flash mid
   pub holds : held.Holds store.flash mid.image ready.pages.groups
   pub clean : IsCleanOn store.flash.geometry mid.image
-  pub log_fits : log_held.Fits log' mid
+  pub log_fits : log_held.Finds log' mid
   pub log_holds : log_held.Holds log' mid.image (sealed_if sealing list)
 
-pub between : (store : PageStore) (log log' : LogStore) (sealing : Bool) (list : LogList) (old mid : State) (ready : AreReady store log list old) → ChangesOnly Log old mid → Goes old mid → IsQuiet mid
-    → log_held.Fits log' mid → log_held.Holds log' mid.image (sealed_if sealing list) → IsBetween store log log' sealing list old mid ready
-between store log log' sealing list old mid ready changes goes quiet fits holds =
+pub between : (store : PageStore) (log log' : LogStore) (sealing : Bool) (list : LogList) (old mid : State) (ready : AreReady store log list old) → ChangesOnly Log old mid → Goes old mid
+    → log_held.Finds log' mid → log_held.Holds log' mid.image (sealed_if sealing list) → IsBetween store log log' sealing list old mid ready
+between store log log' sealing list old mid ready changes goes fits holds =
     let flash_other : Flash ≢ Log = λ same. cc in
     let disk_other : Disk ≢ Log = λ same. cc in
     let flash : mid.image.flash ≡ old.image.flash = changes.only.now.content Flash flash_other in
@@ -296,8 +310,7 @@ between store log log' sealing list old mid ready changes goes quiet fits holds 
       disk = disk;
       told = changes.only.now.told;
       honest = honest;
-      quiet = quiet;
-      fits = flash_fits_same store.flash old mid flash (changes.only.now.loose Flash flash_other) honest ready.pages.flash;
+      fits = flash_fits_same store.flash old mid flash honest ready.pages.flash;
       holds = flash_holds_same store.flash old.image mid.image ready.pages.groups flash ready.pages.holds;
       clean = clean_same store.flash.geometry old.image mid.image flash disk ready.pages.clean;
       log_fits = fits;
@@ -313,9 +326,25 @@ pub ok_then : {A E : Type 0} (r : Result A E) (P Q : Type 0) → (P → Q) → O
 ok_then (Ok x) P Q f p = f p
 ok_then (Err e) P Q f p = tt
 
-pub ok_five : {A E : Type 0} (r : Result A E) (P Q R S T Z : Type 0) → (P → Q → R → S → T → Z) → OnOk r P → OnOk r Q → OnOk r R → OnOk r S → OnOk r T → OnOk r Z
-ok_five (Ok x) P Q R S T Z f p q r s t = f p q r s t
-ok_five (Err e) P Q R S T Z f p q r s t = tt
+pub ok_three : {A E : Type 0} (r : Result A E) (P Q R Z : Type 0) → (P → Q → R → Z) → OnOk r P → OnOk r Q → OnOk r R → OnOk r Z
+ok_three (Ok x) P Q R Z f p q r = f p q r
+ok_three (Err e) P Q R Z f p q r = tt
+
+pub ok_four : {A E : Type 0} (r : Result A E) (P Q R S Z : Type 0) → (P → Q → R → S → Z) → OnOk r P → OnOk r Q → OnOk r R → OnOk r S → OnOk r Z
+ok_four (Ok x) P Q R S Z f p q r s = f p q r s
+ok_four (Err e) P Q R S Z f p q r s = tt
+
+-- the log that was found, where nothing of its device is loose
+pub log_fits : (log : LogStore) (site : State) → IsQuiet site → log_held.Finds log site → log_held.Fits log site
+log_fits log site quiet finds = record { honest = finds.honest; settled = quiet_settled Log site quiet; form = finds.form; hi = finds.hi }
+
+-- a log is found after calls that leave the units of its ring
+pub log_found : (log : LogStore) (old new : State) → KeepsUnits (log_shape log.geometry) old.image new.image → Goes old new → log_held.Finds log old → log_held.Finds log new
+log_found log old new keeps goes finds = record {
+  honest = stays_honest old new goes finds.honest;
+  form = keeps.form finds.form;
+  hi = finds.hi ∙ sym (ap (λ (u : Units). u.hi) keeps.units);
+}
 
 -- Behind the push.
 
@@ -323,11 +352,10 @@ module _ (store : PageStore) (flash' : FlashCache) (log : LogStore) (list : LogL
   abbrev h : Geometry
   h = store.flash.geometry
 
-  pub fits_behind : (pages : List ℕ) (contents : List (List ℕ)) (new : State) (groups' : List (List Stored)) → held.Fits flash' new → IsQuiet new → held.Holds flash' new.image groups' → IsCleanOn h new.image
+  pub fits_behind : (pages : List ℕ) (contents : List (List ℕ)) (new : State) (groups' : List (List Stored)) → held.Fits flash' new → held.Holds flash' new.image groups' → IsCleanOn h new.image
       → Gives h pages contents old.image new.image → length contents ≡ length pages → AllByRecursion IsSound contents → AreChanged store pages → Fits (record store { flash = flash' }) new
-  fits_behind pages contents new groups' fits quiet holds clean gives lists sound changed = record {
+  fits_behind pages contents new groups' fits holds clean gives lists sound changed = record {
     flash = fits;
-    disk = quiet_settled Disk new quiet;
     groups = groups';
     holds = holds;
     clean = subst (λ (k : Geometry). IsCleanOn k new.image) (sym geometry) clean;

@@ -97,3 +97,7 @@ pub kept_block : (h0 h1 : ℕ) (t0 t1 : Bool) → 512 * (h1 + cond t1 1 0) ≡ 5
 kept_block h0 h1 true true end rises is = omega (arith, end, rises)
 kept_block h0 h1 false true end rises is = absurd (omega (arith, end, rises))
 kept_block h0 h1 t0 false end rises is = absurd cc
+
+-- nothing was told so far
+pub told_before : (g : Geometry) (given : ℕ → List ℕ) (wanted : Bool) (list : LogList) (old mid : State) → LeavesOnly old mid (LeavesPages g given wanted list old) → mid.told ≡ old.told
+told_before g given wanted list old mid leaves = (holds_now old mid (LeavesPages g given wanted list old) leaves).log.told

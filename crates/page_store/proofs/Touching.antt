@@ -11,10 +11,12 @@ use Rattle.buffer_pool.specs.Frames.{State as Pool, IsPool, frame_of}
 use Rattle.second_chance.specs.Queue.{has_frame}
 use Rattle.second_chance.specs.Machine.{Cache, holds, lacks_room, with_room, evict_coldest, finds, misses}
 use Rattle.log_store.specs.declared.store.LogStore.{LogStore}
+use Rattle.log_store.specs.LogList.{LogList}
 use Rattle.page_store.specs.declared.store.PageStore.{PageStore}
 use Rattle.page_store.specs.Held.{IsPage, MayGoOn, Fits}
 use Rattle.page_store.specs.Caching.{pool_page, cache_of, rules, is_full, is_pushed, with_way, pushes}
 use Rattle.page_store.specs.Ahead.{forces, evicted, pushed_for_room, pushed_by_touch}
+use Rattle.page_store.specs.Changing.{eviction_changes, room_changes, touch_changes}
 use Rattle.page_store.proofs.Pools.{is_held, not_held}
 use Rattle.page_store.proofs.Evictions.{not_forced}
 
@@ -31,6 +33,9 @@ module _ (store : PageStore) (page : ℕ) (none : frame_of store.pool.frames pag
 
   pub pushed_same : pushed_for_room store ≡ pushed_by_touch store page
   pushed_same = sym (ap (λ b. cond b (evicted store) []) lacks)
+
+  pub changes_same : (log : LogStore) (list : LogList) → room_changes log list store ≡ touch_changes log list store page
+  changes_same log list = sym (ap (λ b. cond b (eviction_changes log list store) []) lacks)
 
   pub pushes_same : (is_full store && is_pushed (cache_of store)) ≡ pushes (rules store) page (cache_of store)
   pushes_same = ap (λ b. b && is_pushed (cache_of store)) (sym lacks)
@@ -65,6 +70,9 @@ module _ (store : PageStore) (page : ℕ) (frame : Frame) (found : frame_of stor
   pub nothing_forced : (log : LogStore) → forces log (pushed_by_touch store page) ≡ false
   nothing_forced log = ap (forces log) (ap (λ b. cond b (evicted store) []) no_lack) ∙ not_forced log
 
+  pub nothing_changes : (log : LogStore) (list : LogList) → touch_changes log list store page ≡ []
+  nothing_changes log list = ap (λ b. cond b (eviction_changes log list store) []) no_lack
+
   pub nothing_pushed : pushes (rules store) page (cache_of store) ≡ false
   nothing_pushed = ap (λ b. b && is_pushed (cache_of store)) no_lack
 
@@ -93,7 +101,6 @@ all_touched P frames page frame found all =
 pub order_fits : (store : PageStore) (pool : Pool) (site : State) → ((n : ℕ) → frame_of pool.frames n ≡ frame_of store.pool.frames n) → Fits store site → Fits (record store { pool = pool }) site
 order_fits store pool site same fits = record {
   flash = fits.flash;
-  disk = fits.disk;
   groups = fits.groups;
   holds = fits.holds;
   clean = fits.clean;

@@ -3,7 +3,7 @@ use Rattle.std.proofs.Common.{◌≡◌, ℕ, ◌<◌, ◌==◌, Bool, true, fal
 use Rattle.std.specs.List.{AllByRecursion}
 use Rattle.site.specs.declared.outside.Dev.TheVariants.{Log, Flash, Disk}
 use Rattle.site.specs.declared.geometry.Geometry.{Geometry}
-use Rattle.site.specs.State.{State, Image, Loose}
+use Rattle.site.specs.State.{State, Image}
 use Rattle.site.specs.Calls.{Goes, IsUnchanged}
 use Rattle.sealed_ring.specs.Ring.{FitsIn}
 use Rattle.slotted_page.specs.Layout.{IsSound}
@@ -70,7 +70,6 @@ pub fits_with : (store : PageStore) (cache : FlashCache) (old new : State) (fits
     → Fits (record store { flash = cache }) new
 fits_with store cache old new fits geometry same flash holds = record {
   flash = flash;
-  disk = ap (λ (l : Loose). l.disk) same.loose ∙ fits.disk;
   groups = fits.groups;
   holds = holds;
   clean = subst (λ (h : Geometry). IsCleanOn h new.image) (sym geometry) (subst (IsCleanOn store.flash.geometry) (sym same.image) fits.clean);

@@ -1,8 +1,7 @@
 -- What a page store holds, in memory and on a site.
 use Rattle.std.specs.Prelude.{◌≡◌, ℕ, ◌≤◌, ◌<◌, false, List, Option, Some, None}
 use Rattle.std.specs.List.{AllByRecursion}
-use Rattle.site.specs.declared.outside.Dev.TheVariants.{Disk}
-use Rattle.site.specs.State.{State, Image, IsSettled}
+use Rattle.site.specs.State.{State, Image}
 use Rattle.slotted_page.specs.Layout.{IsSound}
 use Rattle.frame_group.specs.Groups.{Frame as Stored}
 use Rattle.flash_cache.specs.Held as held
@@ -36,11 +35,10 @@ content_by (Some frame) version = frame.content
 abbrev pub current : PageStore → Image → ℕ → List ℕ
 current store image page = content_by (frame_of store.pool.frames page) (version_on store.flash.geometry image page)
 
--- Of an honest site: nothing of flash and disk is loose, the cache holds the queue on the flash, clean frames are as on the disk,
--- each page's version is sound, and a page of the pool that isn't changed is its version.
+-- Of an honest site, whatever is loose: the cache holds the queue on the flash, clean frames are as on the disk, each page's version is
+-- sound, and a page of the pool that isn't changed is its version.
 pub record Fits (store : PageStore) (site : State) : Type 0 where
   pub flash : held.Fits store.flash site
-  pub disk : IsSettled Disk site
   pub groups : List (List Stored)
   pub holds : held.Holds store.flash site.image groups
   pub clean : IsCleanOn store.flash.geometry site.image

@@ -37,7 +37,7 @@ CurrentBeside = (store : PageStore) (old new : State) (page : ℕ) → ChangesOn
 abbrev pub AheadBeside : Type 0
 AheadBeside =
     (store : PageStore) (log log' : LogStore) (old new : State) → log.geometry ≡ store.flash.geometry → log'.geometry ≡ log.geometry →
-    log_held.Fits log old → log_held.Fits log' new → log.ring.hi ≤ log'.ring.hi → end_forced log ≤ end_forced log' →
+    log_held.Finds log old → log_held.Finds log' new → log.ring.hi ≤ log'.ring.hi → end_forced log ≤ end_forced log' →
     ChangesOnly Log old new → IsAhead log store old.image → IsAhead log' store new.image
 
 -- Calls on the log alone leave each page's version.

@@ -1,7 +1,7 @@
 -- What a call on pages leaves.
 use Rattle.std.specs.Prelude.{◌≡◌, ◌≢◌, ◌⊎◌, ℕ, ◌<◌, Bool, true, false, List, length, [], ◌∷◌, Some, slice_index, slice_index_or, Contains}
 use Rattle.site.specs.declared.geometry.Geometry.{Geometry}
-use Rattle.site.specs.State.{State, Image, Snapshot, IsQuiet}
+use Rattle.site.specs.State.{State, Image, Snapshot}
 use Rattle.image_changes.specs.Rings.{RingName, Blocks, Groups, shape_of, KeepsUnits}
 use Rattle.frame_group.specs.Groups.{Frame as Stored}
 use Rattle.flash_cache.specs.Held.{HasGroups, version_on, IsCleanOn}
@@ -15,12 +15,11 @@ use Rattle.image_meaning.specs.Beside.{AreRingsSound}
 use Rattle.page_store.specs.declared.store.PageStore.{PageStore}
 use Rattle.page_store.specs.Held.{Fits, current}
 
--- Of an honest site: the store fits it, the log fits it and has these records, and nothing is loose.
+-- Of an honest site, whatever is loose: the store fits it, the log is the one that stands there, and it has these records.
 pub record AreReady (store : PageStore) (log : LogStore) (list : LogList) (site : State) : Type 0 where
   pub pages : Fits store site
-  pub blocks : log_held.Fits log site
+  pub blocks : log_held.Finds log site
   pub records : log_held.Holds log site.image list
-  pub quiet : IsQuiet site
 
 -- the queue on the flash of an image is of the form
 pub record HasQueue (g : Geometry) (image : Image) : Type 0 where

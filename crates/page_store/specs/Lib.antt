@@ -1,5 +1,6 @@
 pub mod Held
 pub mod Caching
+pub mod Changing
 pub mod Ahead
 pub mod Leaves
 pub mod Stopping

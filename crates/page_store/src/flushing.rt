@@ -3,10 +3,14 @@ ghost use Rattle.std.specs.Prelude.{nat_lt, ◌≡◌, ◌≢◌, ◌+◌, ◌*�
 ghost use Rattle.std.specs.List.{All};
 ghost use Rattle.site.specs.declared.outside.Dev.{Dev};
 ghost use Rattle.site.specs.declared.outside.Stop.{Stop};
-ghost use Rattle.site.specs.State.{State, reads_of};
+ghost use Rattle.site.specs.State.{State, reads_of, IsQuiet};
 ghost use Rattle.site.specs.Calls.{Goes, FaultRose};
 ghost use Rattle.site.specs.Moments.{LeavesOnly};
-ghost use Rattle.flash_cache.specs.Pushed.{staged_marks};
+ghost use Rattle.image_changes.specs.Changes.{Reaches};
+ghost use Rattle.image_changes.specs.Reached.{LeavesFront};
+ghost use Rattle.flash_cache.specs.Held.{IsWorn};
+ghost use Rattle.flash_cache.specs.Pushed.{staged_marks, pushed_queue};
+ghost use Rattle.second_chance.specs.Queue.{frame_of as known_of};
 ghost use Rattle.second_chance.specs.Machine.{wants_flush, push_changed, flushed};
 ghost use Rattle.second_chance.specs.Laws.{changed_count};
 ghost use Rattle.buffer_pool.specs.declared.frame.Frame.{Frame};
@@ -21,12 +25,14 @@ ghost use Rattle.page_store.specs.Caching.{cache_of, rules};
 ghost use Rattle.page_store.specs.Ahead.{IsAhead, AreLogged, LeavesSealed, end_forced, forces};
 ghost use Rattle.page_store.specs.Leaves.{AreReady, LeavesPages, LeavesRings, KeepsCurrent};
 ghost use Rattle.page_store.specs.Flushing.{chosen, mark_for, content_in, cleared_all, flushed_first, flushed_contents};
+ghost use Rattle.page_store.specs.Changing.{standing, push_changes, flush_changes};
 ghost use Rattle.page_store.specs.Stopping.{MayStop};
 
 use crate::pushing::{NO_MARK, leaving};
 use crate::store::PageStore;
 use buffer_pool::frames_of_pages;
 use flash_cache::unframed_is_disk;
+use image_changes::{changes_add_up, fronts_add_up};
 use log_store::LogStore;
 use second_chance::{Places, Plan, PoolMark, flushes_save_all, plan_flush};
 use site::{Site, Stop};
@@ -175,26 +181,39 @@ impl PageStore {
         requires room { has_tail log.old ≡ true → HasRoom log.old }
 
         // Of an honest site.
-        ensures any_moment { (list : LogList) → AreReady self.old log.old list (S.state site.old)
+        ensures any_moment { (list : LogList) → AreReady self.old log.old list (S.state site.old) → IsQuiet (S.state site.old)
             → LeavesOnly (S.state site.old) (S.state site.new) (LeavesPages self.old.flash.geometry
             (current self.old (S.state site.old).image) (forces log.old (flushed_first self.old)) list (S.state site.old)) }
-        ensures ahead_moment { (list : LogList) → AreReady self.old log.old list (S.state site.old)
+        ensures ahead_moment { (list : LogList) → AreReady self.old log.old list (S.state site.old) → IsQuiet (S.state site.old)
             → IsAhead log.old self.old (S.state site.old).image
             → LeavesOnly (S.state site.old) (S.state site.new) (LeavesSealed self.old.flash.geometry) }
-        ensures rings_moment { (list : LogList) → AreReady self.old log.old list (S.state site.old)
+        ensures rings_moment { (list : LogList) → AreReady self.old log.old list (S.state site.old) → IsQuiet (S.state site.old)
             → AreRingsSound self.old.flash.geometry (S.state site.old).image
             → LeavesOnly (S.state site.old) (S.state site.new) (LeavesRings self.old.flash.geometry) }
+        ensures front_moment { (list : LogList) → AreReady self.old log.old list (S.state site.old) → IsQuiet (S.state site.old)
+            → LeavesFront self.old.flash.geometry (push_changes (standing log.old list self.old) (chosen self.old.pool.frames))
+            (S.state site.old) (S.state site.new) }
+        ensures reaches { (list : LogList) → AreReady self.old log.old list (S.state site.old)
+            → OnOk result (Reaches self.old.flash.geometry (push_changes (standing log.old list self.old) (chosen self.old.pool.frames))
+            (S.state site.old).image (S.state site.new).image) }
         ensures ready { (list : LogList) → AreReady self.old log.old list (S.state site.old)
             → OnOk result (AreReady self.new log.new (sealed_if (forces log.old (flushed_first self.old)) list) (S.state site.new)) }
+        ensures stays_quiet { IsTrue (S.state site.old).honest → IsQuiet (S.state site.old)
+            → OnOk result (IsQuiet (S.state site.new)) }
         ensures current { (list : LogList) → AreReady self.old log.old list (S.state site.old)
             → OnOk result (KeepsCurrent self.old (S.state site.old).image self.new (S.state site.new).image) }
         ensures ahead { AreLogged (end_forced log.old) self.old.pool.frames
             → OnOk result (AreLogged (end_forced log.new) self.new.pool.frames) }
+        ensures left { IsTrue (S.state site.old).honest → (S.state site.new).left ≡ (S.state site.old).left }
+        ensures quiet { (list : LogList) → AreReady self.old log.old list (S.state site.old) → IsQuiet (S.state site.old)
+            → IfErr result (λ stop. ((d : Dev) → stop ≢ Stop.Device d) → IsQuiet (S.state site.new)) }
 
         // Of every site.
         ensures machine { OnOk result (cache_of self.new ≡ push_changed (rules self.old) (cache_of self.old)) }
         ensures frames { OnOk result (self.new.pool.frames
             ≡ cleared_all (map (λ f. f.page) (chosen self.old.pool.frames)) self.old.pool.frames) }
+        ensures directory { OnOk result (self.new.flash.directory ≡ pushed_queue self.old.flash
+            (map (λ f. known_of f.page true) (chosen self.old.pool.frames))) }
         ensures size { self.new.pool.size ≡ self.old.pool.size }
         ensures ended { self.new.ended ≡ self.old.ended }
         ensures rises { log.old.ring.hi ≤ log.new.ring.hi }
@@ -219,6 +238,8 @@ impl PageStore {
         ensures worn_flash { IsErrOf result (Stop.Worn Dev.Flash)
             → self.old.flash.ring.hi ≡ 2 ^ 40 }
         ensures worn_at { IsErrOf result (Stop.Worn Dev.Flash) → self.new.flash.ring.hi ≡ 2 ^ 40 }
+        ensures worn_end { (list : LogList) → AreReady self.old log.old list (S.state site.old)
+            → IsErrOf result (Stop.Worn Dev.Flash) → IsWorn self.old.flash.geometry (S.state site.new).image }
         ensures never_past { self.old.flash.ring.hi ≡ 2 ^ 40 → OnOk result ⊥ }
         ensures device { (d : Dev) → IsErrOf result (Stop.Device d)
             → FaultRose d (S.state site.old) (S.state site.new) }
@@ -245,26 +266,39 @@ impl PageStore {
         requires room { has_tail log.old ≡ true → HasRoom log.old }
 
         // Of an honest site.
-        ensures any_moment { (list : LogList) → AreReady self.old log.old list (S.state site.old)
+        ensures any_moment { (list : LogList) → AreReady self.old log.old list (S.state site.old) → IsQuiet (S.state site.old)
             → LeavesOnly (S.state site.old) (S.state site.new) (LeavesPages self.old.flash.geometry
             (current self.old (S.state site.old).image) (forces log.old (flushed_first self.old)) list (S.state site.old)) }
-        ensures ahead_moment { (list : LogList) → AreReady self.old log.old list (S.state site.old)
+        ensures ahead_moment { (list : LogList) → AreReady self.old log.old list (S.state site.old) → IsQuiet (S.state site.old)
             → IsAhead log.old self.old (S.state site.old).image
             → LeavesOnly (S.state site.old) (S.state site.new) (LeavesSealed self.old.flash.geometry) }
-        ensures rings_moment { (list : LogList) → AreReady self.old log.old list (S.state site.old)
+        ensures rings_moment { (list : LogList) → AreReady self.old log.old list (S.state site.old) → IsQuiet (S.state site.old)
             → AreRingsSound self.old.flash.geometry (S.state site.old).image
             → LeavesOnly (S.state site.old) (S.state site.new) (LeavesRings self.old.flash.geometry) }
+        ensures front_moment { (list : LogList) → AreReady self.old log.old list (S.state site.old) → IsQuiet (S.state site.old)
+            → LeavesFront self.old.flash.geometry (push_changes (standing log.old list self.old) (chosen self.old.pool.frames))
+            (S.state site.old) (S.state site.new) }
+        ensures reaches { (list : LogList) → AreReady self.old log.old list (S.state site.old)
+            → OnOk result (Reaches self.old.flash.geometry (push_changes (standing log.old list self.old) (chosen self.old.pool.frames))
+            (S.state site.old).image (S.state site.new).image) }
         ensures ready { (list : LogList) → AreReady self.old log.old list (S.state site.old)
             → OnOk result (AreReady self.new log.new (sealed_if (forces log.old (flushed_first self.old)) list) (S.state site.new)) }
+        ensures stays_quiet { IsTrue (S.state site.old).honest → IsQuiet (S.state site.old)
+            → OnOk result (IsQuiet (S.state site.new)) }
         ensures current { (list : LogList) → AreReady self.old log.old list (S.state site.old)
             → OnOk result (KeepsCurrent self.old (S.state site.old).image self.new (S.state site.new).image) }
         ensures ahead { AreLogged (end_forced log.old) self.old.pool.frames
             → OnOk result (AreLogged (end_forced log.new) self.new.pool.frames) }
+        ensures left { IsTrue (S.state site.old).honest → (S.state site.new).left ≡ (S.state site.old).left }
+        ensures quiet { (list : LogList) → AreReady self.old log.old list (S.state site.old) → IsQuiet (S.state site.old)
+            → IfErr result (λ stop. ((d : Dev) → stop ≢ Stop.Device d) → IsQuiet (S.state site.new)) }
 
         // Of every site.
         ensures machine { OnOk result (cache_of self.new ≡ push_changed (rules self.old) (cache_of self.old)) }
         ensures frames { OnOk result (self.new.pool.frames
             ≡ cleared_all (map (λ f. f.page) (chosen self.old.pool.frames)) self.old.pool.frames) }
+        ensures directory { OnOk result (self.new.flash.directory ≡ pushed_queue self.old.flash
+            (map (λ f. known_of f.page true) (chosen self.old.pool.frames))) }
         ensures size { self.new.pool.size ≡ self.old.pool.size }
         ensures ended { self.new.ended ≡ self.old.ended }
         ensures rises { log.old.ring.hi ≤ log.new.ring.hi }
@@ -289,6 +323,8 @@ impl PageStore {
         ensures worn_flash { IsErrOf result (Stop.Worn Dev.Flash)
             → self.old.flash.ring.hi ≡ 2 ^ 40 }
         ensures worn_at { IsErrOf result (Stop.Worn Dev.Flash) → self.new.flash.ring.hi ≡ 2 ^ 40 }
+        ensures worn_end { (list : LogList) → AreReady self.old log.old list (S.state site.old)
+            → IsErrOf result (Stop.Worn Dev.Flash) → IsWorn self.old.flash.geometry (S.state site.new).image }
         ensures never_past { self.old.flash.ring.hi ≡ 2 ^ 40 → OnOk result ⊥ }
         ensures device { (d : Dev) → IsErrOf result (Stop.Device d)
             → FaultRose d (S.state site.old) (S.state site.new) }
@@ -313,21 +349,32 @@ impl PageStore {
         requires room { has_tail log.old ≡ true → HasRoom log.old }
 
         // Of an honest site.
-        ensures any_moment { (list : LogList) → AreReady self.old log.old list (S.state site.old)
+        ensures any_moment { (list : LogList) → AreReady self.old log.old list (S.state site.old) → IsQuiet (S.state site.old)
             → LeavesOnly (S.state site.old) (S.state site.new) (LeavesPages self.old.flash.geometry
             (current self.old (S.state site.old).image) (forces log.old (flushed_contents self.old)) list (S.state site.old)) }
-        ensures ahead_moment { (list : LogList) → AreReady self.old log.old list (S.state site.old)
+        ensures ahead_moment { (list : LogList) → AreReady self.old log.old list (S.state site.old) → IsQuiet (S.state site.old)
             → IsAhead log.old self.old (S.state site.old).image
             → LeavesOnly (S.state site.old) (S.state site.new) (LeavesSealed self.old.flash.geometry) }
-        ensures rings_moment { (list : LogList) → AreReady self.old log.old list (S.state site.old)
+        ensures rings_moment { (list : LogList) → AreReady self.old log.old list (S.state site.old) → IsQuiet (S.state site.old)
             → AreRingsSound self.old.flash.geometry (S.state site.old).image
             → LeavesOnly (S.state site.old) (S.state site.new) (LeavesRings self.old.flash.geometry) }
+        ensures front_moment { (list : LogList) → AreReady self.old log.old list (S.state site.old) → IsQuiet (S.state site.old)
+            → LeavesFront self.old.flash.geometry (flush_changes log.old list self.old)
+            (S.state site.old) (S.state site.new) }
+        ensures reaches { (list : LogList) → AreReady self.old log.old list (S.state site.old) → IsQuiet (S.state site.old)
+            → OnOk result (Reaches self.old.flash.geometry (flush_changes log.old list self.old)
+            (S.state site.old).image (S.state site.new).image) }
         ensures ready { (list : LogList) → AreReady self.old log.old list (S.state site.old)
             → OnOk result (AreReady self.new log.new (sealed_if (nat_lt log.old.ring.hi log.new.ring.hi) list) (S.state site.new)) }
+        ensures stays_quiet { IsTrue (S.state site.old).honest → IsQuiet (S.state site.old)
+            → OnOk result (IsQuiet (S.state site.new)) }
         ensures current { (list : LogList) → AreReady self.old log.old list (S.state site.old)
             → OnOk result (KeepsCurrent self.old (S.state site.old).image self.new (S.state site.new).image) }
         ensures ahead { AreLogged (end_forced log.old) self.old.pool.frames
             → OnOk result (AreLogged (end_forced log.new) self.new.pool.frames) }
+        ensures left { IsTrue (S.state site.old).honest → (S.state site.new).left ≡ (S.state site.old).left }
+        ensures quiet { (list : LogList) → AreReady self.old log.old list (S.state site.old) → IsQuiet (S.state site.old)
+            → IfErr result (λ stop. ((d : Dev) → stop ≢ Stop.Device d) → IsQuiet (S.state site.new)) }
 
         // Of every site.
         ensures machine { OnOk result (cache_of self.new ≡ flushed (rules self.old) (cache_of self.old)) }
@@ -353,6 +400,8 @@ impl PageStore {
         ensures worn_log { IsErrOf result (Stop.Worn Dev.Log)
             → (forces log.old (flushed_contents self.old) ≡ true) × (log.old.ring.hi ≡ 2 ^ 40) }
         ensures worn_flash { IsErrOf result (Stop.Worn Dev.Flash) → self.new.flash.ring.hi ≡ 2 ^ 40 }
+        ensures worn_end { (list : LogList) → AreReady self.old log.old list (S.state site.old)
+            → IsErrOf result (Stop.Worn Dev.Flash) → IsWorn self.old.flash.geometry (S.state site.new).image }
         ensures never_past { wants_flush (cache_of self.old) ≡ true → self.old.flash.ring.hi ≡ 2 ^ 40
             → OnOk result ⊥ }
         ensures device { (d : Dev) → IsErrOf result (Stop.Device d)
@@ -361,6 +410,8 @@ impl PageStore {
         ensures foreign { IfErr result (λ stop. stop ≢ Stop.Foreign) }
     {
         flushes_save_all();
+        changes_add_up();
+        fronts_add_up();
         while self.has_changed() {
             if let Err(stop) = self.push_changed(site, log) {
                 return Err(stop);

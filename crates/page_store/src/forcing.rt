@@ -1,5 +1,5 @@
 // The log is sealed before pages leave for the devices.
-ghost use Rattle.std.specs.Prelude.{◌≡◌, ◌⊎◌, ◌↔◌, ◌+◌, ◌*◌, ◌^◌, ◌≤◌, Bool, true, false, if◌then◌else◌, IsTrue, OnOk, OnErr, IfErr, IsErrOf};
+ghost use Rattle.std.specs.Prelude.{◌≡◌, ◌≢◌, ◌⊎◌, ◌↔◌, ◌+◌, ◌*◌, ◌^◌, ◌≤◌, Bool, true, false, if◌then◌else◌, IsTrue, OnOk, OnErr, IfErr, IsErrOf};
 ghost use Rattle.std.specs.List.{AllByRecursion, list_any};
 ghost use Rattle.site.specs.declared.outside.Dev.{Dev};
 ghost use Rattle.site.specs.declared.outside.Stop.{Stop};
@@ -9,7 +9,7 @@ ghost use Rattle.site.specs.Moments.{LeavesOnly, ChangesOnly};
 ghost use Rattle.image_changes.specs.Changes.{Reaches};
 ghost use Rattle.image_changes.specs.Reached.{LeavesFront};
 ghost use Rattle.log_store.specs.LogList.{LogList, sealed_if, changes_if};
-ghost use Rattle.log_store.specs.Held.{MayGoOn, HasRoom, has_tail, Fits, Holds, LeavesLog};
+ghost use Rattle.log_store.specs.Held.{MayGoOn, HasRoom, has_tail, end_of, Fits, Finds, Holds, LeavesLog};
 ghost use Rattle.page_store.specs.Ahead.{IsLogged, end_now, end_forced, is_unsealed, forces};
 
 use log_store::LogStore;
@@ -49,7 +49,7 @@ pub fn force_for<S: Site>(site: &mut S, log: &mut LogStore, contents: &[Page]) -
 
     // Of an honest site that the log fits.
     ensures holds { (list : LogList)
-        → Fits log.old (S.state site.old) → Holds log.old (S.state site.old).image list
+        → Finds log.old (S.state site.old) → Holds log.old (S.state site.old).image list
         → OnOk result (Holds log.new (S.state site.new).image (sealed_if (forces log.old contents.now) list)) }
     ensures any_moment { (list : LogList)
         → Fits log.old (S.state site.old) → Holds log.old (S.state site.old).image list
@@ -60,14 +60,17 @@ pub fn force_for<S: Site>(site: &mut S, log: &mut LogStore, contents: &[Page]) -
         → IsQuiet (S.state site.old) → LeavesFront log.old.geometry
         (changes_if (forces log.old contents.now) list) (S.state site.old) (S.state site.new) }
     ensures reaches { (list : LogList)
-        → Fits log.old (S.state site.old) → Holds log.old (S.state site.old).image list
+        → Finds log.old (S.state site.old) → Holds log.old (S.state site.old).image list
         → OnOk result (Reaches log.old.geometry (changes_if (forces log.old contents.now) list)
         (S.state site.old).image (S.state site.new).image) }
+    ensures finds { Finds log.old (S.state site.old) → OnOk result (Finds log.new (S.state site.new)) }
     ensures fits { Fits log.old (S.state site.old) → OnOk result (Fits log.new (S.state site.new)) }
     ensures changes { IsTrue (S.state site.old).honest
         → ChangesOnly Dev.Log (S.state site.old) (S.state site.new) }
     ensures quiet { IsTrue (S.state site.old).honest → IsQuiet (S.state site.old)
         → OnOk result (IsQuiet (S.state site.new)) }
+    ensures quiet_err { IsTrue (S.state site.old).honest → IsQuiet (S.state site.old)
+        → IfErr result (λ stop. ((d : Dev) → stop ≢ Stop.Device d) → IsQuiet (S.state site.new)) }
 
     // Of every site.
     ensures sealed { AllByRecursion (IsLogged (end_forced log.old)) contents.now
@@ -75,6 +78,7 @@ pub fn force_for<S: Site>(site: &mut S, log: &mut LogStore, contents: &[Page]) -
     ensures next { OnOk result (log.new.ring.hi
         ≡ (if forces log.old contents.now then log.old.ring.hi + 1 else log.old.ring.hi)) }
     ensures end { OnOk result (end_forced log.new ≡ end_forced log.old) }
+    ensures grows { OnOk result (end_of log.old ≤ end_of log.new) }
     ensures rises { log.old.ring.hi ≤ log.new.ring.hi }
     ensures ended { OnOk result (log.new.ring.ended ≡ log.old.ring.ended) }
     ensures err { OnErr result (log.new.ring.ended ≡ true) }

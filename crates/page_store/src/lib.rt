@@ -5,6 +5,7 @@
 mod flushing;
 mod forcing;
 mod laws;
+mod listing;
 mod pushing;
 mod reading;
 mod store;

@@ -3,10 +3,13 @@ ghost use Rattle.std.specs.Prelude.{◌≡◌, ◌≢◌, ◌↔◌, ◌+◌, �
 ghost use Rattle.std.specs.List.{All, AllByRecursion};
 ghost use Rattle.site.specs.declared.outside.Dev.{Dev};
 ghost use Rattle.site.specs.declared.outside.Stop.{Stop};
-ghost use Rattle.site.specs.State.{State, reads_of};
+ghost use Rattle.site.specs.State.{State, reads_of, IsQuiet, snapshot_of};
 ghost use Rattle.site.specs.Calls.{Goes, FaultRose};
 ghost use Rattle.site.specs.Moments.{LeavesOnly};
 ghost use Rattle.slotted_page.specs.Layout.{IsSound};
+ghost use Rattle.image_changes.specs.Changes.{Reaches};
+ghost use Rattle.image_changes.specs.Reached.{LeavesFront};
+ghost use Rattle.flash_cache.specs.Held.{IsWorn};
 ghost use Rattle.flash_cache.specs.Pushed.{staged_marks, known_given, pushed_queue};
 ghost use Rattle.flash_cache.specs.Kept.{AreCleanGiven};
 ghost use Rattle.second_chance.specs.Machine.{rules_of, leaving, evict_coldest, must_be_pushed};
@@ -14,12 +17,13 @@ ghost use Rattle.buffer_pool.specs.Frames.{frame_of};
 ghost use Rattle.log_store.specs.declared.store.LogStore.{LogStore};
 ghost use Rattle.log_store.specs.LogList.{LogList, sealed_if};
 ghost use Rattle.log_store.specs.Held as log_held;
-ghost use Rattle.log_store.specs.Held.{has_tail, HasRoom};
+ghost use Rattle.log_store.specs.Held.{has_tail, end_of, HasRoom};
 ghost use Rattle.image_meaning.specs.Beside.{AreRingsSound};
 ghost use Rattle.page_store.specs.Held.{MayGoOn, current};
 ghost use Rattle.page_store.specs.Caching.{cache_of, rules, is_full, is_pushed};
 ghost use Rattle.page_store.specs.Ahead.{IsAhead, IsLogged, AreLogged, AreSealed, LeavesSealed, end_forced, forces, evicted, pushed_for_room};
 ghost use Rattle.page_store.specs.Leaves.{AreReady, LeavesPages, LeavesRings, AreGiven, Gives, AreChanged, KeepsCurrent};
+ghost use Rattle.page_store.specs.Changing.{given_changes, eviction_changes, room_changes};
 ghost use Rattle.page_store.specs.Stopping.{MayStop};
 
 use crate::forcing::force_for;
@@ -27,7 +31,7 @@ use crate::store::PageStore;
 use buffer_pool::frames_of_pages;
 use byte_fields::Mark;
 use flash_cache::{FlashCache, unframed_is_disk};
-use image_changes::ring_kept;
+use image_changes::{changes_add_up, fronts_add_up, ring_kept};
 use image_meaning::rings_kept;
 use log_store::{LogStore, stays_beside};
 use second_chance::{Plan, plan_evict};
@@ -99,18 +103,25 @@ impl PageStore {
 
         // Of an honest site.
         ensures any_moment { (list : LogList) (given : ℕ → List ℕ)
-            → AreReady self.old log.old list (S.state site.old) → AreGiven given pages.now contents.now
+            → AreReady self.old log.old list (S.state site.old) → IsQuiet (S.state site.old)
+            → AreGiven given pages.now contents.now
             → AreCleanGiven self.old.flash pages.now changed.now contents.now (S.state site.old).image
             → LeavesOnly (S.state site.old) (S.state site.new) (LeavesPages self.old.flash.geometry
             given (forces log.old contents.now) list (S.state site.old)) }
-        ensures ahead_moment { (list : LogList) → AreReady self.old log.old list (S.state site.old)
+        ensures ahead_moment { (list : LogList) → AreReady self.old log.old list (S.state site.old) → IsQuiet (S.state site.old)
             → AreSealed self.old.flash.geometry (S.state site.old).image
             → AllByRecursion (IsLogged (end_forced log.old)) contents.now
             → LeavesOnly (S.state site.old) (S.state site.new) (LeavesSealed self.old.flash.geometry) }
-        ensures rings_moment { (list : LogList) → AreReady self.old log.old list (S.state site.old)
+        ensures rings_moment { (list : LogList) → AreReady self.old log.old list (S.state site.old) → IsQuiet (S.state site.old)
             → AreRingsSound self.old.flash.geometry (S.state site.old).image
             → AllByRecursion IsSound contents.now
             → LeavesOnly (S.state site.old) (S.state site.new) (LeavesRings self.old.flash.geometry) }
+        ensures front_moment { (list : LogList) → AreReady self.old log.old list (S.state site.old) → IsQuiet (S.state site.old)
+            → LeavesFront self.old.flash.geometry (given_changes log.old list self.old pages.now changed.now contents.now)
+            (S.state site.old) (S.state site.new) }
+        ensures reaches { (list : LogList) → AreReady self.old log.old list (S.state site.old)
+            → OnOk result (Reaches self.old.flash.geometry (given_changes log.old list self.old pages.now changed.now contents.now)
+            (S.state site.old).image (S.state site.new).image) }
         ensures gives { (list : LogList) → AreReady self.old log.old list (S.state site.old)
             → OnOk result (Gives self.old.flash.geometry pages.now contents.now
             (S.state site.old).image (S.state site.new).image) }
@@ -118,6 +129,24 @@ impl PageStore {
             → AreCleanGiven self.old.flash pages.now changed.now contents.now (S.state site.old).image
             → AllByRecursion IsSound contents.now → AreChanged self.old pages.now
             → OnOk result (AreReady self.new log.new (sealed_if (forces log.old contents.now) list) (S.state site.new)) }
+        ensures left { IsTrue (S.state site.old).honest → (S.state site.new).left ≡ (S.state site.old).left }
+        ensures quiet { (list : LogList) → AreReady self.old log.old list (S.state site.old) → IsQuiet (S.state site.old)
+            → IfErr result (λ stop. ((d : Dev) → stop ≢ Stop.Device d) → IsQuiet (S.state site.new)) }
+        ensures leaves { (list : LogList) (given : ℕ → List ℕ)
+            → AreReady self.old log.old list (S.state site.old) → AreGiven given pages.now contents.now
+            → AreCleanGiven self.old.flash pages.now changed.now contents.now (S.state site.old).image
+            → OnOk result (LeavesPages self.old.flash.geometry given (forces log.old contents.now) list
+            (S.state site.old) (snapshot_of (S.state site.new))) }
+        ensures sealed { (list : LogList) → AreReady self.old log.old list (S.state site.old)
+            → AreSealed self.old.flash.geometry (S.state site.old).image
+            → AllByRecursion (IsLogged (end_forced log.old)) contents.now
+            → OnOk result (AreSealed self.old.flash.geometry (S.state site.new).image) }
+        ensures rings { (list : LogList) → AreReady self.old log.old list (S.state site.old)
+            → AreRingsSound self.old.flash.geometry (S.state site.old).image
+            → AllByRecursion IsSound contents.now
+            → OnOk result (AreRingsSound self.old.flash.geometry (S.state site.new).image) }
+        ensures stays_quiet { IsTrue (S.state site.old).honest → IsQuiet (S.state site.old)
+            → OnOk result (IsQuiet (S.state site.new)) }
 
         // Of every site.
         ensures directory { OnOk result (self.new.flash.directory
@@ -131,6 +160,7 @@ impl PageStore {
         ensures kept { log.new.kept ≡ log.old.kept }
         ensures room { OnOk result (has_tail log.new ≡ true → HasRoom log.new) }
         ensures end { OnOk result (end_forced log.new ≡ end_forced log.old) }
+        ensures grows { OnOk result (end_of log.old ≤ end_of log.new) }
         ensures next { OnOk result (log.new.ring.hi
             ≡ (if forces log.old contents.now then log.old.ring.hi + 1 else log.old.ring.hi)) }
         ensures rises { log.old.ring.hi ≤ log.new.ring.hi }
@@ -144,6 +174,8 @@ impl PageStore {
             ↔ ((forces log.old contents.now ≡ true) × (log.old.ring.hi ≡ 2 ^ 40)) }
         ensures worn_flash { IsErrOf result (Stop.Worn Dev.Flash) → self.old.flash.ring.hi ≡ 2 ^ 40 }
         ensures worn_at { IsErrOf result (Stop.Worn Dev.Flash) → self.new.flash.ring.hi ≡ 2 ^ 40 }
+        ensures worn_end { (list : LogList) → AreReady self.old log.old list (S.state site.old)
+            → IsErrOf result (Stop.Worn Dev.Flash) → IsWorn self.old.flash.geometry (S.state site.new).image }
         ensures never_past { self.old.flash.ring.hi ≡ 2 ^ 40 → OnOk result ⊥ }
         ensures device { (d : Dev) → IsErrOf result (Stop.Device d)
             → FaultRose d (S.state site.old) (S.state site.new) }
@@ -152,6 +184,8 @@ impl PageStore {
     {
         stays_beside();
         ring_kept();
+        changes_add_up();
+        fronts_add_up();
         rings_kept();
         match force_for(site, log, contents) {
             Ok(()) => self.flash.push_group(site, plan, pages, changed, contents),
@@ -167,21 +201,41 @@ impl PageStore {
         requires room { has_tail log.old ≡ true → HasRoom log.old }
 
         // Of an honest site.
-        ensures any_moment { (list : LogList) → AreReady self.old log.old list (S.state site.old)
+        ensures any_moment { (list : LogList) → AreReady self.old log.old list (S.state site.old) → IsQuiet (S.state site.old)
             → LeavesOnly (S.state site.old) (S.state site.new) (LeavesPages self.old.flash.geometry
             (current self.old (S.state site.old).image) (forces log.old (evicted self.old)) list (S.state site.old)) }
-        ensures ahead_moment { (list : LogList) → AreReady self.old log.old list (S.state site.old)
+        ensures ahead_moment { (list : LogList) → AreReady self.old log.old list (S.state site.old) → IsQuiet (S.state site.old)
             → IsAhead log.old self.old (S.state site.old).image
             → LeavesOnly (S.state site.old) (S.state site.new) (LeavesSealed self.old.flash.geometry) }
-        ensures rings_moment { (list : LogList) → AreReady self.old log.old list (S.state site.old)
+        ensures rings_moment { (list : LogList) → AreReady self.old log.old list (S.state site.old) → IsQuiet (S.state site.old)
             → AreRingsSound self.old.flash.geometry (S.state site.old).image
             → LeavesOnly (S.state site.old) (S.state site.new) (LeavesRings self.old.flash.geometry) }
+        ensures front_moment { (list : LogList) → AreReady self.old log.old list (S.state site.old) → IsQuiet (S.state site.old)
+            → LeavesFront self.old.flash.geometry (eviction_changes log.old list self.old)
+            (S.state site.old) (S.state site.new) }
+        ensures reaches { (list : LogList) → AreReady self.old log.old list (S.state site.old)
+            → OnOk result (Reaches self.old.flash.geometry (eviction_changes log.old list self.old)
+            (S.state site.old).image (S.state site.new).image) }
         ensures ready { (list : LogList) → AreReady self.old log.old list (S.state site.old)
             → OnOk result (AreReady self.new log.new (sealed_if (forces log.old (evicted self.old)) list) (S.state site.new)) }
+        ensures leaves { (list : LogList) → AreReady self.old log.old list (S.state site.old)
+            → OnOk result (LeavesPages self.old.flash.geometry (current self.old (S.state site.old).image)
+            (forces log.old (evicted self.old)) list (S.state site.old) (snapshot_of (S.state site.new))) }
+        ensures sealed { (list : LogList) → AreReady self.old log.old list (S.state site.old)
+            → IsAhead log.old self.old (S.state site.old).image
+            → OnOk result (AreSealed self.old.flash.geometry (S.state site.new).image) }
+        ensures rings { (list : LogList) → AreReady self.old log.old list (S.state site.old)
+            → AreRingsSound self.old.flash.geometry (S.state site.old).image
+            → OnOk result (AreRingsSound self.old.flash.geometry (S.state site.new).image) }
+        ensures stays_quiet { IsTrue (S.state site.old).honest → IsQuiet (S.state site.old)
+            → OnOk result (IsQuiet (S.state site.new)) }
         ensures current { (list : LogList) → AreReady self.old log.old list (S.state site.old)
             → OnOk result (KeepsCurrent self.old (S.state site.old).image self.new (S.state site.new).image) }
         ensures ahead { IsAhead log.old self.old (S.state site.old).image
             → OnOk result (AreLogged (end_forced log.new) self.new.pool.frames) }
+        ensures left { IsTrue (S.state site.old).honest → (S.state site.new).left ≡ (S.state site.old).left }
+        ensures quiet { (list : LogList) → AreReady self.old log.old list (S.state site.old) → IsQuiet (S.state site.old)
+            → IfErr result (λ stop. ((d : Dev) → stop ≢ Stop.Device d) → IsQuiet (S.state site.new)) }
 
         // Of every site.
         ensures machine { OnOk result (cache_of self.new ≡ evict_coldest (rules self.old) (cache_of self.old)) }
@@ -198,6 +252,7 @@ impl PageStore {
         ensures kept { log.new.kept ≡ log.old.kept }
         ensures room { OnOk result (has_tail log.new ≡ true → HasRoom log.new) }
         ensures end { OnOk result (end_forced log.new ≡ end_forced log.old) }
+        ensures grows { OnOk result (end_of log.old ≤ end_of log.new) }
         ensures next { OnOk result (log.new.ring.hi
             ≡ (if forces log.old (evicted self.old) then log.old.ring.hi + 1 else log.old.ring.hi)) }
         ensures goes { Goes (S.state site.old) (S.state site.new) }
@@ -211,6 +266,8 @@ impl PageStore {
             ↔ ((forces log.old (evicted self.old) ≡ true) × (log.old.ring.hi ≡ 2 ^ 40)) }
         ensures worn_flash { IsErrOf result (Stop.Worn Dev.Flash)
             → (is_pushed (cache_of self.old) ≡ true) × (self.old.flash.ring.hi ≡ 2 ^ 40) }
+        ensures worn_end { (list : LogList) → AreReady self.old log.old list (S.state site.old)
+            → IsErrOf result (Stop.Worn Dev.Flash) → IsWorn self.old.flash.geometry (S.state site.new).image }
         ensures never_past { is_pushed (cache_of self.old) ≡ true → self.old.flash.ring.hi ≡ 2 ^ 40
             → OnOk result ⊥ }
         ensures device { (d : Dev) → IsErrOf result (Stop.Device d)
@@ -242,21 +299,41 @@ impl PageStore {
         requires room { has_tail log.old ≡ true → HasRoom log.old }
 
         // Of an honest site.
-        ensures any_moment { (list : LogList) → AreReady self.old log.old list (S.state site.old)
+        ensures any_moment { (list : LogList) → AreReady self.old log.old list (S.state site.old) → IsQuiet (S.state site.old)
             → LeavesOnly (S.state site.old) (S.state site.new) (LeavesPages self.old.flash.geometry
             (current self.old (S.state site.old).image) (forces log.old (pushed_for_room self.old)) list (S.state site.old)) }
-        ensures ahead_moment { (list : LogList) → AreReady self.old log.old list (S.state site.old)
+        ensures ahead_moment { (list : LogList) → AreReady self.old log.old list (S.state site.old) → IsQuiet (S.state site.old)
             → IsAhead log.old self.old (S.state site.old).image
             → LeavesOnly (S.state site.old) (S.state site.new) (LeavesSealed self.old.flash.geometry) }
-        ensures rings_moment { (list : LogList) → AreReady self.old log.old list (S.state site.old)
+        ensures rings_moment { (list : LogList) → AreReady self.old log.old list (S.state site.old) → IsQuiet (S.state site.old)
             → AreRingsSound self.old.flash.geometry (S.state site.old).image
             → LeavesOnly (S.state site.old) (S.state site.new) (LeavesRings self.old.flash.geometry) }
+        ensures front_moment { (list : LogList) → AreReady self.old log.old list (S.state site.old) → IsQuiet (S.state site.old)
+            → LeavesFront self.old.flash.geometry (room_changes log.old list self.old)
+            (S.state site.old) (S.state site.new) }
+        ensures reaches { (list : LogList) → AreReady self.old log.old list (S.state site.old)
+            → OnOk result (Reaches self.old.flash.geometry (room_changes log.old list self.old)
+            (S.state site.old).image (S.state site.new).image) }
         ensures ready { (list : LogList) → AreReady self.old log.old list (S.state site.old)
             → OnOk result (AreReady self.new log.new (sealed_if (forces log.old (pushed_for_room self.old)) list) (S.state site.new)) }
+        ensures leaves { (list : LogList) → AreReady self.old log.old list (S.state site.old)
+            → OnOk result (LeavesPages self.old.flash.geometry (current self.old (S.state site.old).image)
+            (forces log.old (pushed_for_room self.old)) list (S.state site.old) (snapshot_of (S.state site.new))) }
+        ensures sealed { (list : LogList) → AreReady self.old log.old list (S.state site.old)
+            → IsAhead log.old self.old (S.state site.old).image
+            → OnOk result (AreSealed self.old.flash.geometry (S.state site.new).image) }
+        ensures rings { (list : LogList) → AreReady self.old log.old list (S.state site.old)
+            → AreRingsSound self.old.flash.geometry (S.state site.old).image
+            → OnOk result (AreRingsSound self.old.flash.geometry (S.state site.new).image) }
+        ensures stays_quiet { IsTrue (S.state site.old).honest → IsQuiet (S.state site.old)
+            → OnOk result (IsQuiet (S.state site.new)) }
         ensures current { (list : LogList) → AreReady self.old log.old list (S.state site.old)
             → OnOk result (KeepsCurrent self.old (S.state site.old).image self.new (S.state site.new).image) }
         ensures ahead { IsAhead log.old self.old (S.state site.old).image
             → OnOk result (AreLogged (end_forced log.new) self.new.pool.frames) }
+        ensures left { IsTrue (S.state site.old).honest → (S.state site.new).left ≡ (S.state site.old).left }
+        ensures quiet { (list : LogList) → AreReady self.old log.old list (S.state site.old) → IsQuiet (S.state site.old)
+            → IfErr result (λ stop. ((d : Dev) → stop ≢ Stop.Device d) → IsQuiet (S.state site.new)) }
 
         // Of every site.
         ensures machine { OnOk result (cache_of self.new ≡ (if is_full self.old then evict_coldest (rules self.old) (cache_of self.old) else cache_of self.old)) }
@@ -272,6 +349,7 @@ impl PageStore {
         ensures kept { log.new.kept ≡ log.old.kept }
         ensures room { OnOk result (has_tail log.new ≡ true → HasRoom log.new) }
         ensures end { OnOk result (end_forced log.new ≡ end_forced log.old) }
+        ensures grows { OnOk result (end_of log.old ≤ end_of log.new) }
         ensures next { OnOk result (log.new.ring.hi
             ≡ (if forces log.old (pushed_for_room self.old) then log.old.ring.hi + 1 else log.old.ring.hi)) }
         ensures goes { Goes (S.state site.old) (S.state site.new) }
@@ -285,6 +363,8 @@ impl PageStore {
             ↔ ((forces log.old (pushed_for_room self.old) ≡ true) × (log.old.ring.hi ≡ 2 ^ 40)) }
         ensures worn_flash { IsErrOf result (Stop.Worn Dev.Flash)
             → ((is_full self.old && is_pushed (cache_of self.old)) ≡ true) × (self.old.flash.ring.hi ≡ 2 ^ 40) }
+        ensures worn_end { (list : LogList) → AreReady self.old log.old list (S.state site.old)
+            → IsErrOf result (Stop.Worn Dev.Flash) → IsWorn self.old.flash.geometry (S.state site.new).image }
         ensures never_past { (is_full self.old && is_pushed (cache_of self.old)) ≡ true → self.old.flash.ring.hi ≡ 2 ^ 40
             → OnOk result ⊥ }
         ensures device { (d : Dev) → IsErrOf result (Stop.Device d)

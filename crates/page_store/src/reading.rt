@@ -1,24 +1,27 @@
 // Pages come into the pool.
-ghost use Rattle.std.specs.Prelude.{None, length, ◌↔◌, ◌^◌, ◌&&◌, ◌≡◌, ◌⊎◌, ◌+◌, ◌≤◌, ◌<◌, Bool, true, false, if◌then◌else◌, IsTrue, IfOk, OnOk, OnErr, IfErr, IsErrOf};
+ghost use Rattle.std.specs.Prelude.{None, length, ◌↔◌, ◌^◌, ◌&&◌, ◌≡◌, ◌≢◌, ◌⊎◌, ◌+◌, ◌≤◌, ◌<◌, Bool, true, false, if◌then◌else◌, IsTrue, IfOk, OnOk, OnErr, IfErr, IsErrOf};
 ghost use Rattle.site.specs.declared.outside.Dev.{Dev};
 ghost use Rattle.site.specs.declared.outside.Stop.{Stop};
-ghost use Rattle.site.specs.State.{State};
+ghost use Rattle.site.specs.State.{State, IsQuiet, snapshot_of};
 ghost use Rattle.site.specs.Moments.{LeavesOnly};
 ghost use Rattle.site.specs.Calls.{Goes, FaultRose, IsUnchanged};
+ghost use Rattle.image_changes.specs.Changes.{Reaches};
+ghost use Rattle.image_changes.specs.Reached.{LeavesFront};
 ghost use Rattle.slotted_page.specs.Layout.{IsSound};
 ghost use Rattle.disk_pages.specs.Pages.{LiesOn, page_on};
-ghost use Rattle.flash_cache.specs.Held.{version_on};
+ghost use Rattle.flash_cache.specs.Held.{IsWorn, version_on};
 ghost use Rattle.second_chance.specs.Queue.{has_frame, with_read};
 ghost use Rattle.second_chance.specs.Machine.{in_front};
 ghost use Rattle.buffer_pool.specs.Frames.{frame_of, front_of};
 ghost use Rattle.log_store.specs.LogList.{LogList, sealed_if};
 ghost use Rattle.log_store.specs.Held as log_held;
-ghost use Rattle.log_store.specs.Held.{has_tail, HasRoom};
+ghost use Rattle.log_store.specs.Held.{has_tail, end_of, HasRoom};
 ghost use Rattle.image_meaning.specs.Beside.{AreRingsSound};
 ghost use Rattle.page_store.specs.Held.{MayGoOn, Fits, current};
 ghost use Rattle.page_store.specs.Caching.{cache_of, is_full, is_pushed, with_way};
-ghost use Rattle.page_store.specs.Ahead.{IsAhead, LeavesSealed, end_forced, forces, pushed_for_room};
+ghost use Rattle.page_store.specs.Ahead.{AreSealed, IsAhead, LeavesSealed, end_forced, forces, pushed_for_room};
 ghost use Rattle.page_store.specs.Leaves.{AreReady, LeavesPages, LeavesRings, KeepsCurrent, PutsIn};
+ghost use Rattle.page_store.specs.Changing.{room_changes};
 ghost use Rattle.page_store.specs.Stopping.{MayStop};
 
 use crate::store::PageStore;
@@ -169,22 +172,42 @@ impl PageStore {
         requires absent { frame_of self.old.pool.frames page ≡ None }
 
         // Of an honest site.
-        ensures any_moment { (list : LogList) → AreReady self.old log.old list (S.state site.old)
+        ensures any_moment { (list : LogList) → AreReady self.old log.old list (S.state site.old) → IsQuiet (S.state site.old)
             → LeavesOnly (S.state site.old) (S.state site.new) (LeavesPages self.old.flash.geometry
             (current self.old (S.state site.old).image) (forces log.old (pushed_for_room self.old)) list (S.state site.old)) }
-        ensures ahead_moment { (list : LogList) → AreReady self.old log.old list (S.state site.old)
+        ensures ahead_moment { (list : LogList) → AreReady self.old log.old list (S.state site.old) → IsQuiet (S.state site.old)
             → IsAhead log.old self.old (S.state site.old).image
             → LeavesOnly (S.state site.old) (S.state site.new) (LeavesSealed self.old.flash.geometry) }
-        ensures rings_moment { (list : LogList) → AreReady self.old log.old list (S.state site.old)
+        ensures rings_moment { (list : LogList) → AreReady self.old log.old list (S.state site.old) → IsQuiet (S.state site.old)
             → AreRingsSound self.old.flash.geometry (S.state site.old).image
             → LeavesOnly (S.state site.old) (S.state site.new) (LeavesRings self.old.flash.geometry) }
+        ensures front_moment { (list : LogList) → AreReady self.old log.old list (S.state site.old) → IsQuiet (S.state site.old)
+            → LeavesFront self.old.flash.geometry (room_changes log.old list self.old)
+            (S.state site.old) (S.state site.new) }
+        ensures reaches { (list : LogList) → AreReady self.old log.old list (S.state site.old)
+            → OnOk result (Reaches self.old.flash.geometry (room_changes log.old list self.old)
+            (S.state site.old).image (S.state site.new).image) }
         ensures ready { (list : LogList) → AreReady self.old log.old list (S.state site.old)
             → OnOk result (AreReady self.new log.new (sealed_if (forces log.old (pushed_for_room self.old)) list) (S.state site.new)) }
+        ensures leaves { (list : LogList) → AreReady self.old log.old list (S.state site.old)
+            → OnOk result (LeavesPages self.old.flash.geometry (current self.old (S.state site.old).image)
+            (forces log.old (pushed_for_room self.old)) list (S.state site.old) (snapshot_of (S.state site.new))) }
+        ensures sealed { (list : LogList) → AreReady self.old log.old list (S.state site.old)
+            → IsAhead log.old self.old (S.state site.old).image
+            → OnOk result (AreSealed self.old.flash.geometry (S.state site.new).image) }
+        ensures rings { (list : LogList) → AreReady self.old log.old list (S.state site.old)
+            → AreRingsSound self.old.flash.geometry (S.state site.old).image
+            → OnOk result (AreRingsSound self.old.flash.geometry (S.state site.new).image) }
+        ensures stays_quiet { IsTrue (S.state site.old).honest → IsQuiet (S.state site.old)
+            → OnOk result (IsQuiet (S.state site.new)) }
         ensures current { (list : LogList) → AreReady self.old log.old list (S.state site.old)
             → OnOk result (KeepsCurrent self.old (S.state site.old).image self.new (S.state site.new).image) }
         ensures ahead { (list : LogList) → AreReady self.old log.old list (S.state site.old)
             → IsAhead log.old self.old (S.state site.old).image
             → OnOk result (IsAhead log.new self.new (S.state site.new).image) }
+        ensures left { IsTrue (S.state site.old).honest → (S.state site.new).left ≡ (S.state site.old).left }
+        ensures quiet { (list : LogList) → AreReady self.old log.old list (S.state site.old) → IsQuiet (S.state site.old)
+            → IfErr result (λ stop. ((d : Dev) → stop ≢ Stop.Device d) → IsQuiet (S.state site.new)) }
 
         // Of every site.
         ensures machine { OnOk result (cache_of self.new ≡ in_front page false (with_way self.old)) }
@@ -199,6 +222,7 @@ impl PageStore {
         ensures kept { log.new.kept ≡ log.old.kept }
         ensures room { OnOk result (has_tail log.new ≡ true → HasRoom log.new) }
         ensures end { OnOk result (end_forced log.new ≡ end_forced log.old) }
+        ensures grows { OnOk result (end_of log.old ≤ end_of log.new) }
         ensures next { OnOk result (log.new.ring.hi ≡ (if forces log.old (pushed_for_room self.old)
             then log.old.ring.hi + 1 else log.old.ring.hi)) }
         ensures goes { Goes (S.state site.old) (S.state site.new) }
@@ -214,6 +238,8 @@ impl PageStore {
             ↔ ((forces log.old (pushed_for_room self.old) ≡ true) × (log.old.ring.hi ≡ 2 ^ 40)) }
         ensures worn_flash { IsErrOf result (Stop.Worn Dev.Flash)
             → ((is_full self.old && is_pushed (cache_of self.old)) ≡ true) × (self.old.flash.ring.hi ≡ 2 ^ 40) }
+        ensures worn_end { (list : LogList) → AreReady self.old log.old list (S.state site.old)
+            → IsErrOf result (Stop.Worn Dev.Flash) → IsWorn self.old.flash.geometry (S.state site.new).image }
         ensures never_past { (is_full self.old && is_pushed (cache_of self.old)) ≡ true
             → self.old.flash.ring.hi ≡ 2 ^ 40 → OnOk result ⊥ }
         ensures device { (d : Dev) → IsErrOf result (Stop.Device d)

@@ -4,25 +4,28 @@ ghost use Rattle.std.specs.List.{All, AllPairs, AllByRecursion};
 ghost use Rattle.site.specs.declared.outside.Dev.{Dev};
 ghost use Rattle.site.specs.declared.outside.Stop.{Stop};
 ghost use Rattle.site.specs.Geometry.{HasLimits, HasLengths};
-ghost use Rattle.site.specs.State.{State, Image, reads_of, IsSettled, IsQuiet};
+ghost use Rattle.site.specs.State.{State, Image, reads_of, IsQuiet, snapshot_of};
 ghost use Rattle.site.specs.Calls.{Goes, FaultRose, IsUnchanged};
 ghost use Rattle.site.specs.Moments.{LeavesOnly};
+ghost use Rattle.image_changes.specs.Changes.{Reaches};
+ghost use Rattle.image_changes.specs.Reached.{LeavesFront};
 ghost use Rattle.slotted_page.specs.Layout.{lsn_of, slots_of, content_length, IsSound, Fits as FitsPage};
 ghost use Rattle.frame_group.specs.Groups.{Frame as Stored};
-ghost use Rattle.flash_cache.specs.Held.{HasGroups, version_on, IsCleanOn, queue_of};
+ghost use Rattle.flash_cache.specs.Held.{IsWorn, HasGroups, version_on, IsCleanOn, queue_of};
 ghost use Rattle.second_chance.specs.Machine.{touched, holds, finds, misses, wants_flush, flushed};
 ghost use Rattle.second_chance.specs.Laws.{changed_count};
 ghost use Rattle.buffer_pool.specs.Frames.{front_of, ChangesFront};
 ghost use Rattle.log_store.specs.LogList.{LogList, sealed_if};
-ghost use Rattle.log_store.specs.Held.{has_tail, HasRoom};
+ghost use Rattle.log_store.specs.Held.{has_tail, end_of, HasRoom};
 ghost use Rattle.log_store.specs.declared.store.LogStore.{LogStore};
 ghost use Rattle.log_store.specs.Held as log_held;
 ghost use Rattle.image_meaning.specs.Beside.{AreRingsSound};
 ghost use Rattle.page_store.specs.Held.{IsStore, MayGoOn, Fits, current};
 ghost use Rattle.page_store.specs.Caching.{cache_of, rules, with_change, pushes};
-ghost use Rattle.page_store.specs.Ahead.{IsAhead, LeavesSealed, end_forced, forces, pushed_by_touch};
+ghost use Rattle.page_store.specs.Ahead.{AreSealed, IsAhead, LeavesSealed, end_forced, forces, pushed_by_touch};
 ghost use Rattle.page_store.specs.Leaves.{AreReady, LeavesPages, LeavesRings, KeepsCurrent};
 ghost use Rattle.page_store.specs.Flushing.{flushed_contents};
+ghost use Rattle.page_store.specs.Changing.{touch_changes, flush_changes};
 ghost use Rattle.page_store.specs.Stopping.{MayStop};
 
 use buffer_pool::{Pool, frames_of_pages};
@@ -65,7 +68,6 @@ impl PageStore {
             → HasGroups geometry.now first groups (S.state site.old).image
             → IfOk result (λ store. cache_of store ≡ record { pool = []; queue = queue_of first groups }) }
         ensures fits { IsTrue (S.state site.old).honest
-            → IsSettled Dev.Flash (S.state site.old) → IsSettled Dev.Disk (S.state site.old)
             → (first : ℕ) (groups : List (List Stored))
             → HasGroups geometry.now first groups (S.state site.old).image
             → IsCleanOn geometry.now (S.state site.old).image
@@ -185,22 +187,42 @@ impl PageStore {
         requires exists { page < self.old.flash.geometry.pages }
 
         // Of an honest site.
-        ensures any_moment { (list : LogList) → AreReady self.old log.old list (S.state site.old)
+        ensures any_moment { (list : LogList) → AreReady self.old log.old list (S.state site.old) → IsQuiet (S.state site.old)
             → LeavesOnly (S.state site.old) (S.state site.new) (LeavesPages self.old.flash.geometry
             (current self.old (S.state site.old).image) (forces log.old (pushed_by_touch self.old page)) list (S.state site.old)) }
-        ensures ahead_moment { (list : LogList) → AreReady self.old log.old list (S.state site.old)
+        ensures ahead_moment { (list : LogList) → AreReady self.old log.old list (S.state site.old) → IsQuiet (S.state site.old)
             → IsAhead log.old self.old (S.state site.old).image
             → LeavesOnly (S.state site.old) (S.state site.new) (LeavesSealed self.old.flash.geometry) }
-        ensures rings_moment { (list : LogList) → AreReady self.old log.old list (S.state site.old)
+        ensures rings_moment { (list : LogList) → AreReady self.old log.old list (S.state site.old) → IsQuiet (S.state site.old)
             → AreRingsSound self.old.flash.geometry (S.state site.old).image
             → LeavesOnly (S.state site.old) (S.state site.new) (LeavesRings self.old.flash.geometry) }
+        ensures front_moment { (list : LogList) → AreReady self.old log.old list (S.state site.old) → IsQuiet (S.state site.old)
+            → LeavesFront self.old.flash.geometry (touch_changes log.old list self.old page)
+            (S.state site.old) (S.state site.new) }
+        ensures reaches { (list : LogList) → AreReady self.old log.old list (S.state site.old)
+            → OnOk result (Reaches self.old.flash.geometry (touch_changes log.old list self.old page)
+            (S.state site.old).image (S.state site.new).image) }
         ensures ready { (list : LogList) → AreReady self.old log.old list (S.state site.old)
             → OnOk result (AreReady self.new log.new (sealed_if (forces log.old (pushed_by_touch self.old page)) list) (S.state site.new)) }
+        ensures leaves { (list : LogList) → AreReady self.old log.old list (S.state site.old)
+            → OnOk result (LeavesPages self.old.flash.geometry (current self.old (S.state site.old).image)
+            (forces log.old (pushed_by_touch self.old page)) list (S.state site.old) (snapshot_of (S.state site.new))) }
+        ensures sealed { (list : LogList) → AreReady self.old log.old list (S.state site.old)
+            → IsAhead log.old self.old (S.state site.old).image
+            → OnOk result (AreSealed self.old.flash.geometry (S.state site.new).image) }
+        ensures rings { (list : LogList) → AreReady self.old log.old list (S.state site.old)
+            → AreRingsSound self.old.flash.geometry (S.state site.old).image
+            → OnOk result (AreRingsSound self.old.flash.geometry (S.state site.new).image) }
+        ensures stays_quiet { IsTrue (S.state site.old).honest → IsQuiet (S.state site.old)
+            → OnOk result (IsQuiet (S.state site.new)) }
         ensures current { (list : LogList) → AreReady self.old log.old list (S.state site.old)
             → OnOk result (KeepsCurrent self.old (S.state site.old).image self.new (S.state site.new).image) }
         ensures ahead { (list : LogList) → AreReady self.old log.old list (S.state site.old)
             → IsAhead log.old self.old (S.state site.old).image
             → OnOk result (IsAhead log.new self.new (S.state site.new).image) }
+        ensures left { IsTrue (S.state site.old).honest → (S.state site.new).left ≡ (S.state site.old).left }
+        ensures quiet { (list : LogList) → AreReady self.old log.old list (S.state site.old) → IsQuiet (S.state site.old)
+            → IfErr result (λ stop. ((d : Dev) → stop ≢ Stop.Device d) → IsQuiet (S.state site.new)) }
 
         // Of every site.
         ensures machine { OnOk result (cache_of self.new ≡ touched (rules self.old) page false (cache_of self.old)) }
@@ -217,6 +239,7 @@ impl PageStore {
         ensures log_geometry { log.new.geometry ≡ log.old.geometry }
         ensures kept { log.new.kept ≡ log.old.kept }
         ensures room { OnOk result (has_tail log.new ≡ true → HasRoom log.new) }
+        ensures grows { OnOk result (end_of log.old ≤ end_of log.new) }
         ensures end { OnOk result (end_forced log.new ≡ end_forced log.old) }
         ensures next { OnOk result (log.new.ring.hi ≡ (if forces log.old (pushed_by_touch self.old page)
             then log.old.ring.hi + 1 else log.old.ring.hi)) }
@@ -233,6 +256,8 @@ impl PageStore {
             ↔ ((forces log.old (pushed_by_touch self.old page) ≡ true) × (log.old.ring.hi ≡ 2 ^ 40)) }
         ensures worn_flash { IsErrOf result (Stop.Worn Dev.Flash)
             → (pushes (rules self.old) page (cache_of self.old) ≡ true) × (self.old.flash.ring.hi ≡ 2 ^ 40) }
+        ensures worn_end { (list : LogList) → AreReady self.old log.old list (S.state site.old)
+            → IsErrOf result (Stop.Worn Dev.Flash) → IsWorn self.old.flash.geometry (S.state site.new).image }
         ensures never_past { pushes (rules self.old) page (cache_of self.old) ≡ true
             → self.old.flash.ring.hi ≡ 2 ^ 40 → OnOk result ⊥ }
         ensures device { (d : Dev) → IsErrOf result (Stop.Device d)
@@ -262,22 +287,33 @@ impl PageStore {
         requires room { has_tail log.old ≡ true → HasRoom log.old }
 
         // Of an honest site.
-        ensures any_moment { (list : LogList) → AreReady self.old log.old list (S.state site.old)
+        ensures any_moment { (list : LogList) → AreReady self.old log.old list (S.state site.old) → IsQuiet (S.state site.old)
             → LeavesOnly (S.state site.old) (S.state site.new) (LeavesPages self.old.flash.geometry
             (current self.old (S.state site.old).image) (forces log.old (flushed_contents self.old)) list (S.state site.old)) }
-        ensures ahead_moment { (list : LogList) → AreReady self.old log.old list (S.state site.old)
+        ensures ahead_moment { (list : LogList) → AreReady self.old log.old list (S.state site.old) → IsQuiet (S.state site.old)
             → IsAhead log.old self.old (S.state site.old).image
             → LeavesOnly (S.state site.old) (S.state site.new) (LeavesSealed self.old.flash.geometry) }
-        ensures rings_moment { (list : LogList) → AreReady self.old log.old list (S.state site.old)
+        ensures rings_moment { (list : LogList) → AreReady self.old log.old list (S.state site.old) → IsQuiet (S.state site.old)
             → AreRingsSound self.old.flash.geometry (S.state site.old).image
             → LeavesOnly (S.state site.old) (S.state site.new) (LeavesRings self.old.flash.geometry) }
+        ensures front_moment { (list : LogList) → AreReady self.old log.old list (S.state site.old) → IsQuiet (S.state site.old)
+            → LeavesFront self.old.flash.geometry (flush_changes log.old list self.old)
+            (S.state site.old) (S.state site.new) }
+        ensures reaches { (list : LogList) → AreReady self.old log.old list (S.state site.old) → IsQuiet (S.state site.old)
+            → OnOk result (Reaches self.old.flash.geometry (flush_changes log.old list self.old)
+            (S.state site.old).image (S.state site.new).image) }
         ensures ready { (list : LogList) → AreReady self.old log.old list (S.state site.old)
             → OnOk result (AreReady self.new log.new (sealed_if (forces log.old (flushed_contents self.old)) list) (S.state site.new)) }
+        ensures stays_quiet { IsTrue (S.state site.old).honest → IsQuiet (S.state site.old)
+            → OnOk result (IsQuiet (S.state site.new)) }
         ensures current { (list : LogList) → AreReady self.old log.old list (S.state site.old)
             → OnOk result (KeepsCurrent self.old (S.state site.old).image self.new (S.state site.new).image) }
-        ensures ahead { (list : LogList) → AreReady self.old log.old list (S.state site.old)
+        ensures ahead { (list : LogList) → AreReady self.old log.old list (S.state site.old) → IsQuiet (S.state site.old)
             → IsAhead log.old self.old (S.state site.old).image
             → OnOk result (IsAhead log.new self.new (S.state site.new).image) }
+        ensures left { IsTrue (S.state site.old).honest → (S.state site.new).left ≡ (S.state site.old).left }
+        ensures quiet { (list : LogList) → AreReady self.old log.old list (S.state site.old) → IsQuiet (S.state site.old)
+            → IfErr result (λ stop. ((d : Dev) → stop ≢ Stop.Device d) → IsQuiet (S.state site.new)) }
 
         // Of every site.
         ensures machine { OnOk result (cache_of self.new ≡ flushed (rules self.old) (cache_of self.old)) }
@@ -304,7 +340,11 @@ impl PageStore {
         // When each answer comes.
         ensures worn_log { IsErrOf result (Stop.Worn Dev.Log)
             → (forces log.old (flushed_contents self.old) ≡ true) × (log.old.ring.hi ≡ 2 ^ 40) }
+        ensures never_past_log { forces log.old (flushed_contents self.old) ≡ true → log.old.ring.hi ≡ 2 ^ 40
+            → OnOk result ⊥ }
         ensures worn_flash { IsErrOf result (Stop.Worn Dev.Flash) → self.new.flash.ring.hi ≡ 2 ^ 40 }
+        ensures worn_end { (list : LogList) → AreReady self.old log.old list (S.state site.old)
+            → IsErrOf result (Stop.Worn Dev.Flash) → IsWorn self.old.flash.geometry (S.state site.new).image }
         ensures never_past { wants_flush (cache_of self.old) ≡ true → self.old.flash.ring.hi ≡ 2 ^ 40
             → OnOk result ⊥ }
         ensures device { (d : Dev) → IsErrOf result (Stop.Device d)

@@ -14,7 +14,7 @@ use byte_fields::Mark;
 use flash_cache::FlashCache;
 use log_records::LogRecord;
 use log_store::LogStore;
-use record_model::Octets;
+use record_model::{CacheLine, Listing, Octets};
 use site::{Call, Dev, Geometry, MemSite, Stop};
 use std::alloc::Global;
 use std::test::Fail;
@@ -315,6 +315,58 @@ fn a_hit_makes_no_call(rt: HostRuntime) -> Result<(), Fail> {
     assert_eq!(rt; site.reads(Dev::Disk), 2);
     assert_eq!(rt; site.reads(Dev::Flash), reads);
     assert_eq!(rt; site.changes(), 0);
+    Ok(())
+}
+
+// Nine pages change in a pool of one page; page 0 is read again behind page 1.
+const NINE: [(u32, Work); 10] = [
+    (0, Work::Change),
+    (1, Work::Change),
+    (0, Work::Touch),
+    (2, Work::Change),
+    (3, Work::Change),
+    (4, Work::Change),
+    (5, Work::Change),
+    (6, Work::Change),
+    (7, Work::Change),
+    (8, Work::Change),
+];
+
+// The listing of a store over a site.
+fn listed(pages: &PageStore, _site: &MemSite) -> Result<Listing, Stop>
+    requires going { MayGoOn pages.now (state_of _site.now) }
+{
+    pages.listing()
+}
+
+// Whether the line at a place is this one.
+fn has_line(lines: &Listing, place: usize, wanted: CacheLine) -> bool {
+    place < lines.len() && *lines.at(place) == wanted
+}
+
+#[test]
+fn nine_pages_are_listed(rt: HostRuntime) -> Result<(), Fail> {
+    let mut site = MemSite::new(rt.alloc(), &SMALL)?;
+    let (mut pages, mut log) = opened(rt.alloc(), &mut site, 1)?;
+    assert!(rt; play(&mut pages, &mut log, &mut site, &NINE)?);
+    let lines = listed(&pages, &site)?;
+    assert_eq!(rt; lines.len(), 8);
+    for place in 0..7 {
+        let wanted = CacheLine::Frame {
+            group: place as u64 + 1,
+            index: 0,
+            page: place as u32 + 1,
+            valid: true,
+            dirty: true,
+            referenced: false,
+        };
+        assert!(rt; has_line(&lines, place, wanted));
+    }
+    let last = CacheLine::Pool {
+        page: 8,
+        changed: true,
+    };
+    assert!(rt; has_line(&lines, 7, last));
     Ok(())
 }
 

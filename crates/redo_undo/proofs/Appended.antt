@@ -1,5 +1,5 @@
 -- A record is appended beside the pages.
-use Rattle.std.proofs.Common.{◌≡◌, ℕ, ◌+◌, ◌*◌, ◌≤◌, ◌<◌, Bool, true, false, List, [], ◌∷◌, ◌++◌, length, map, refl, sym, ap, subst, arith}
+use Rattle.std.proofs.Common.{◌≡◌, ℕ, ◌+◌, ◌*◌, ◌≤◌, ◌<◌, Bool, true, false, List, [], ◌∷◌, ◌++◌, length, map, refl, sym, ap, subst, ◌∙◌, arith}
 use Rattle.std.specs.Prelude.{if◌then◌else◌, Result, Ok, Err, OnOk, IfOk}
 use Rattle.std.specs.List.{AllByRecursion, range_with_len}
 use Rattle.std.proofs.lemmas.Bool.{lt-ltb}
@@ -9,11 +9,12 @@ use Rattle.site.specs.declared.geometry.Geometry.{Geometry}
 use Rattle.site.specs.State.{State, IsQuiet}
 use Rattle.site.specs.Calls.{Goes}
 use Rattle.site.specs.Moments.{LeavesOnly, ChangesOnly}
-use Rattle.site.specs.Laws.{leaves_weaker}
+use Rattle.site.specs.Laws.{leaves_weaker, quiet_settled}
 use Rattle.record_model.specs.State.{Content}
 use Rattle.log_records.specs.declared.log_record.LogRecord.{LogRecord}
 use Rattle.log_records.specs.Spelling.{AreBlock, block_len}
 use Rattle.log_records.specs.Log.{Entry, Version, log_from}
+use Rattle.image_changes.specs.Changes.{Reaches}
 use Rattle.image_changes.specs.Reached.{IsReached, IsFrontOf, LeavesFront}
 use Rattle.log_store.specs.declared.store.LogStore.{LogStore}
 use Rattle.log_store.specs.LogList.{LogList, sealed_if, changes_if, with_record}
@@ -23,16 +24,20 @@ use Rattle.buffer_pool.specs.declared.frame.Frame.{Frame}
 use Rattle.page_store.specs.declared.store.PageStore.{PageStore}
 use Rattle.page_store.specs.Held.{IsStore, current, content_by}
 use Rattle.buffer_pool.specs.Frames.{frame_of}
-use Rattle.page_store.specs.Ahead.{IsLogged, AreSealed, LeavesSealed, IsAhead, end_forced}
+use Rattle.page_store.specs.Ahead.{IsLogged, AreSealed, LeavesSealed, IsAhead, sealed_end, end_forced}
 use Rattle.page_store.specs.Leaves.{HasQueue, LeavesRings}
 use Rattle.image_meaning.specs.Meaning.{picture, blank_master, versions_on, version_in}
 use Rattle.image_meaning.specs.Moments.{LeavesTable}
 use Rattle.image_meaning.specs.Beside.{AreRingsSound, KeepsRings}
 use Rattle.redo_undo.specs.Running.{RunsOn}
-use Rattle.redo_undo.specs.Holding.{HoldsLog, Holds, MayGrow, blocks_to}
+use Rattle.slotted_page.specs.Layout.{lsn_of}
+use Rattle.log_records.specs.Unfinished.{owed}
+use Rattle.redo_undo.specs.Holding.{HoldsLog, Holds, MayGrow, KeepsPages, blocks_to}
+use Rattle.redo_undo.specs.Committing.{EndsWith}
 use Rattle.redo_undo.specs.Laws.{LogLaws, PageLaws, BesideLaws}
 use Rattle.redo_undo.proofs.Runs.{one_more}
 use Rattle.redo_undo.proofs.Standing.{last_of_all}
+use Rattle.redo_undo.proofs.Changed.{shows_same}
 use Rattle.redo_undo.proofs.Touched.{tail_blocks, hi_is, runs_sealed, leaves_table}
 
 -- the numbers of an append, on every site
@@ -47,10 +52,13 @@ pub record IsNumbered (log log' : LogStore) (lsn : ℕ) (sealing : Bool) : Type 
 pub record IsAppended (g : Geometry) (log log' : LogStore) (list : LogList) (site new : State) (rec : LogRecord) (lsn : ℕ) (sealing : Bool) : Type 0 where
   pub numbers : IsNumbered log log' lsn sealing
   pub holds : log_held.Holds log' new.image (with_record rec (sealed_if sealing list))
-  pub fits : log_held.Fits log' new
-  pub quiet : IsQuiet new
+  pub finds : log_held.Finds log' new
   pub changes : ChangesOnly Log site new
   pub goes : Goes site new
+
+-- the log that was found, where nothing of its device is loose
+pub found_fits : (log : LogStore) (site : State) → IsQuiet site → log_held.Finds log site → log_held.Fits log site
+found_fits log site quiet finds = record { honest = finds.honest; settled = quiet_settled Log site quiet; form = finds.form; hi = finds.hi }
 
 few_blocks : (b : Bool) → tail_blocks b ≤ 1
 few_blocks true = omega arith
@@ -62,8 +70,11 @@ module _ (log log' : LogStore) (lsn : ℕ) where
   some_now true is = let a = is.lsn_is in let b = is.next in let c = is.below in omega (arith, a, b, c)
   some_now false is = let a = is.lsn_is in let b = is.next in let c = is.below in let d = is.low in omega (arith, a, b, c, d)
 
+  pub has_now : (sealing : Bool) → IsNumbered log log' lsn sealing → has_tail log' ≡ true
+  has_now sealing is = lt-ltb 2 log'.used (some_now sealing is)
+
   pub one_now : (sealing : Bool) → IsNumbered log log' lsn sealing → tail_blocks (has_tail log') ≡ 1
-  one_now sealing is = ap tail_blocks (lt-ltb 2 log'.used (some_now sealing is))
+  one_now sealing is = ap tail_blocks (has_now sealing is)
 
   pub most_blocks : (sealing : Bool) → (sealing ≡ true → has_tail log ≡ true) → IsNumbered log log' lsn sealing → blocks_to log' ≤ blocks_to log + 1
   most_blocks true full is = let a = one_now true is in let b = is.next in let c = ap tail_blocks (full refl) in omega (arith, a, b, c)
@@ -76,15 +87,15 @@ module _ (log log' : LogStore) (lsn : ℕ) where
   pub before_end : (sealing : Bool) → IsNumbered log log' lsn sealing → lsn < end_forced log'
   before_end sealing is = let a = one_now sealing is in let b = is.below in let c = is.high in omega (arith, a, b, c)
 
-logged_more : (end end' : ℕ) → end ≤ end' → (frames : List Frame) → AllByRecursion (λ frame. IsLogged end frame.content) frames → AllByRecursion (λ frame. IsLogged end' frame.content) frames
+pub logged_more : (end end' : ℕ) → end ≤ end' → (frames : List Frame) → AllByRecursion (λ frame. IsLogged end frame.content) frames → AllByRecursion (λ frame. IsLogged end' frame.content) frames
 logged_more end end' more [] all = tt
 logged_more end end' more (frame ∷ frames) all = (record { below = λ some. let below = all.0.below some in omega (arith, below, more) }, logged_more end end' more frames all.1)
 
-all_front : {X : Type 0} (P : X → Type 0) (front left : List X) → AllByRecursion P (front ++ left) → AllByRecursion P front
+pub all_front : {X : Type 0} (P : X → Type 0) (front left : List X) → AllByRecursion P (front ++ left) → AllByRecursion P front
 all_front P [] left all = tt
 all_front P (x ∷ front) left all = (all.0, all_front P front left all.1)
 
-sealing_keeps : (g : Geometry) (sealing : Bool) (list : LogList) → AllByRecursion (KeepsRings g) (changes_if sealing list)
+pub sealing_keeps : (g : Geometry) (sealing : Bool) (list : LogList) → AllByRecursion (KeepsRings g) (changes_if sealing list)
 sealing_keeps g true list = (tt, tt)
 sealing_keeps g false list = tt
 
@@ -96,6 +107,22 @@ module _ (beside : BesideLaws) (pages : PageStore) (site new : State) (changes :
   pub current_same : (number : ℕ) → current pages new.image number ≡ current pages site.image number
   current_same number = ap (content_by (frame_of pages.pool.frames number)) (beside.versions pages.flash.geometry site new number changes)
 
+  -- the LSN of each version is sealed still, where the log grew
+  pub more_sealed : (log log' : LogStore) → log.geometry ≡ pages.flash.geometry → log'.geometry ≡ log.geometry → log_held.Finds log site → log_held.Finds log' new → log.ring.hi ≤ log'.ring.hi →
+      AreSealed pages.flash.geometry site.image → AreSealed pages.flash.geometry new.image
+  more_sealed log log' sizes same finds finds' more sealed =
+      let g = pages.flash.geometry in
+      let before : 512 * log.ring.hi ≡ sealed_end g site.image = ap (λ (n : ℕ). 512 * n) finds.hi ∙ ap (λ (k : Geometry). sealed_end k site.image) sizes in
+      let after : 512 * log'.ring.hi ≡ sealed_end g new.image = ap (λ (n : ℕ). 512 * n) finds'.hi ∙ ap (λ (k : Geometry). sealed_end k new.image) (same ∙ sizes) in
+      record {
+        each = λ page exists. record {
+          below = λ some.
+              let was = (sealed.each page exists).below (subst (λ (c : List ℕ). 0 < lsn_of c) (beside.versions g site new page changes) some) in
+              let same_lsn = ap lsn_of (beside.versions g site new page changes) in
+              omega (arith, was, before, after, more, same_lsn);
+        };
+      }
+
 module _ (logs : LogLaws) (laws : PageLaws) (beside : BesideLaws) (log : LogStore) (pages : PageStore) (site : State) (records : List Entry) (table : List Content) (commits : ℕ) (h : Holds log pages site records table commits) (sizes : log.geometry ≡ pages.flash.geometry) where
   abbrev g : Geometry
   g = pages.flash.geometry
@@ -104,7 +131,7 @@ module _ (logs : LogLaws) (laws : PageLaws) (beside : BesideLaws) (log : LogStor
   list = record { first = 0; blocks = h.log_holds.blocks; tail = h.log_holds.tail }
 
   -- At each moment.
-  module _ (new : State) (sealing : Bool) (changes : ChangesOnly Log site new) (leaves : LeavesOnly site new (LeavesLog log.geometry sealing list site.told)) (front : LeavesFront log.geometry (changes_if sealing list) site new) where
+  module _ (new : State) (sealing : Bool) (quiet : IsQuiet site) (changes : ChangesOnly Log site new) (leaves : LeavesOnly site new (LeavesLog log.geometry sealing list site.told)) (front : LeavesFront log.geometry (changes_if sealing list) site new) where
     at_log : LeavesOnly site new (LeavesLog g sealing list site.told)
     at_log = subst (λ (k : Geometry). LeavesOnly site new (LeavesLog k sealing list site.told)) sizes leaves
 
@@ -122,20 +149,30 @@ module _ (logs : LogLaws) (laws : PageLaws) (beside : BesideLaws) (log : LogStor
 
     pub sealed_stay : LeavesOnly site new (LeavesSealed g)
     sealed_stay =
-        beside.are_sealed g sealing list site new h.log_holds.ready.quiet (subst (λ (k : Geometry). HasBlocks k 0 h.log_holds.blocks site.image) sizes h.log_holds.ready.records.blocks) h.log_holds.ahead.versions changes at_log
+        beside.are_sealed g sealing list site new quiet (subst (λ (k : Geometry). HasBlocks k 0 h.log_holds.blocks site.image) sizes h.log_holds.ready.records.blocks) h.log_holds.ahead.versions changes at_log
 
     pub append_leaves : IsStore pages → (sealing ≡ true → has_tail log ≡ true) → LeavesOnly site new (LeavesTable g table commits site.told)
     append_leaves own some =
         leaves_table logs laws log pages site records table commits h own sealing some new
-        (beside.leaves g sealing list (current pages site.image) site new h.log_holds.ready.quiet queue_is h.log_holds.ready.pages.clean changes at_log at_front) sealed_stay rings_stay
+        (beside.leaves g sealing list (current pages site.image) site new quiet queue_is h.log_holds.ready.pages.clean changes at_log at_front) sealed_stay rings_stay
+
+  -- At its end.
+  module _ (new : State) (sealing : Bool) where
+    pub rings_now : Reaches log.geometry (changes_if sealing list) site.image new.image → AreRingsSound g new.image
+    rings_now reaches =
+        beside.rings g (changes_if sealing list) site.image new.image h.log_holds.rings (sealing_keeps g sealing list)
+        (subst (λ (k : Geometry). Reaches k (changes_if sealing list) site.image new.image) sizes reaches)
+
+    pub sealed_now : (log' : LogStore) → ChangesOnly Log site new → log'.geometry ≡ log.geometry → log_held.Finds log' new → log.ring.hi ≤ log'.ring.hi → AreSealed g new.image
+    sealed_now log' changes same finds more = more_sealed beside pages site new changes log log' sizes same h.log_holds.ready.blocks finds more h.log_holds.ahead.versions
 
   -- Behind it.
   module _ (new : State) (changes : ChangesOnly Log site new) where
-    moved : (blocks : List (List LogRecord)) (tail : List LogRecord) (records' : List Entry) → RunsOn (picture g site.image blocks) tail records' table commits → RunsOn (picture g new.image blocks) tail records' table commits
+    pub moved : (blocks : List (List LogRecord)) (tail : List LogRecord) (records' : List Entry) → RunsOn (picture g site.image blocks) tail records' table commits → RunsOn (picture g new.image blocks) tail records' table commits
     moved blocks tail records' runs =
         subst (λ (versions : List Version). RunsOn (record { master = blank_master; log = log_from 0 blocks; hi = length blocks; blocks = g.blocks; pages = versions }) tail records' table commits) (sym (versions_same beside pages site new changes)) runs
 
-  module _ (log' : LogStore) (new : State) (rec : LogRecord) (lsn : ℕ) (rings : AreRingsSound g new.image) (are_sealed : AreSealed g new.image) (may : MayGrow log pages site.image records (record { lsn = lsn; rec = rec })) where
+  module _ (log' : LogStore) (new : State) (rec : LogRecord) (lsn : ℕ) (rings : AreRingsSound g new.image) (are_sealed : AreSealed g new.image) where
     ahead_still : (sealing : Bool) → IsAppended g log log' list site new rec lsn sealing → IsAhead log' pages new.image
     ahead_still sealing is =
         let more = least_blocks log log' lsn sealing is.numbers in
@@ -144,8 +181,59 @@ module _ (logs : LogLaws) (laws : PageLaws) (beside : BesideLaws) (log : LogStor
           versions = are_sealed;
         }
 
-    pub appended : (sealing : Bool) → (sealing ≡ true → has_tail log ≡ true) → IsAppended g log log' list site new rec lsn sealing → HoldsLog g log' pages new (records ++ record { lsn = lsn; rec = rec } ∷ []) table commits
-    appended false full is =
+    -- The record comes last in the tail.
+    module _ (keeps : KeepsPages g pages site.image new.image) (behind : end_of log ≤ lsn) where
+      below_end : (sealing : Bool) → IsAppended g log log' list site new rec lsn sealing → (number : ℕ) → number < g.pages → lsn_of (current pages new.image number) < end_of log'
+      below_end sealing is number exists =
+          let before = h.below number exists in
+          let next = is.numbers.below in
+          subst (λ (c : List ℕ). lsn_of c < end_of log') (sym (keeps.current number)) (omega (arith, before, behind, next))
+
+      room_left : (sealing : Bool) → (sealing ≡ true → has_tail log ≡ true) → IsAppended g log log' list site new rec lsn sealing → blocks_to log' + owed records ≤ g.blocks
+      room_left sealing full is =
+          let most = most_blocks log log' lsn sealing full is.numbers in
+          let room = h.log_holds.room in
+          let blocks = h.log_holds.rings.limits.blocks in
+          omega (arith, most, room, blocks)
+
+      pub ends_with : (sealing : Bool) → (sealing ≡ true → has_tail log ≡ true) → IsAppended g log log' list site new rec lsn sealing → EndsWith g log' pages new records table commits (record { lsn = lsn; rec = rec })
+      ends_with false full is =
+          let hi = hi_is logs laws log pages site records table commits h in
+          let used = h.log_holds.ready.records.tail.end in
+          let number = is.numbers.lsn_is in
+          record {
+            blocks = h.log_holds.blocks;
+            front = h.log_holds.tail;
+            ready = record { pages = beside.fits pages site new is.changes is.goes h.log_holds.ready.pages; blocks = is.finds; records = is.holds };
+            rings = rings;
+            runs_on = moved new is.changes h.log_holds.blocks h.log_holds.tail records h.log_holds.runs_on;
+            next = omega (arith, hi, used, number);
+            ahead = ahead_still false is;
+            shows = record { each = shows_same logs g log log' pages site new records table commits h keeps };
+            below = below_end false is;
+            room = room_left false full is;
+          }
+      ends_with true full is =
+          let hi = hi_is logs laws log pages site records table commits h in
+          let number = is.numbers.lsn_is in
+          let more : List (List LogRecord) = h.log_holds.blocks ++ h.log_holds.tail ∷ [] in
+          let runs = runs_sealed logs laws log pages site records table commits h (full refl) (last_of_all AreBlock h.log_holds.blocks h.log_holds.tail is.holds.blocks.are_blocks) in
+          record {
+            blocks = more;
+            front = [];
+            ready = record { pages = beside.fits pages site new is.changes is.goes h.log_holds.ready.pages; blocks = is.finds; records = is.holds };
+            rings = rings;
+            runs_on = moved new is.changes more [] records runs;
+            next = omega (arith, hi, number, length-append h.log_holds.blocks (h.log_holds.tail ∷ []));
+            ahead = ahead_still true is;
+            shows = record { each = shows_same logs g log log' pages site new records table commits h keeps };
+            below = below_end true is;
+            room = room_left true full is;
+          }
+
+    -- where it may follow, log and pages hold together with it
+    pub appended : MayGrow log pages site.image records (record { lsn = lsn; rec = rec }) → (sealing : Bool) → (sealing ≡ true → has_tail log ≡ true) → IsAppended g log log' list site new rec lsn sealing → HoldsLog g log' pages new (records ++ record { lsn = lsn; rec = rec } ∷ []) table commits
+    appended may false full is =
         let most = most_blocks log log' lsn false full is.numbers in
         let room = may.room in
         let hi = hi_is logs laws log pages site records table commits h in
@@ -154,14 +242,14 @@ module _ (logs : LogLaws) (laws : PageLaws) (beside : BesideLaws) (log : LogStor
         record {
           blocks = h.log_holds.blocks;
           tail = h.log_holds.tail ++ rec ∷ [];
-          ready = record { pages = beside.fits pages site new is.changes is.goes h.log_holds.ready.pages; blocks = is.fits; records = is.holds; quiet = is.quiet };
+          ready = record { pages = beside.fits pages site new is.changes is.goes h.log_holds.ready.pages; blocks = is.finds; records = is.holds };
           rings = rings;
           runs_on = moved new is.changes h.log_holds.blocks (h.log_holds.tail ++ rec ∷ []) (records ++ record { lsn = lsn; rec = rec } ∷ [])
               (one_more logs (picture g site.image h.log_holds.blocks) h.log_holds.tail rec lsn records table commits h.log_holds.runs_on (omega (arith, hi, used, number)) may.follows may.no_commit);
           ahead = ahead_still false is;
           room = omega (arith, most, room);
         }
-    appended true full is =
+    appended may true full is =
         let most = most_blocks log log' lsn true full is.numbers in
         let room = may.room in
         let hi = hi_is logs laws log pages site records table commits h in
@@ -171,7 +259,7 @@ module _ (logs : LogLaws) (laws : PageLaws) (beside : BesideLaws) (log : LogStor
         record {
           blocks = more;
           tail = rec ∷ [];
-          ready = record { pages = beside.fits pages site new is.changes is.goes h.log_holds.ready.pages; blocks = is.fits; records = is.holds; quiet = is.quiet };
+          ready = record { pages = beside.fits pages site new is.changes is.goes h.log_holds.ready.pages; blocks = is.finds; records = is.holds };
           rings = rings;
           runs_on = moved new is.changes more (rec ∷ []) (records ++ record { lsn = lsn; rec = rec } ∷ [])
               (one_more logs (picture g site.image more) [] rec lsn records table commits runs (omega (arith, hi, number, length-append h.log_holds.blocks (h.log_holds.tail ∷ []))) may.follows may.no_commit);
@@ -194,3 +282,7 @@ if_ok_two (Err e) P R Q f p s = tt
 pub if_ok_three : {A E : Type 0} (r : Result A E) (N : Type 0) (P R Q : A → Type 0) → ((x : A) → N → P x → R x → Q x) → OnOk r N → IfOk r P → IfOk r R → IfOk r Q
 if_ok_three (Ok x) N P R Q f n p s = f x n p s
 if_ok_three (Err e) N P R Q f n p s = tt
+
+pub ok_two : {A E : Type 0} (r : Result A E) (N : Type 0) (P R : A → Type 0) (Z : Type 0) → ((x : A) → N → P x → R x → Z) → OnOk r N → IfOk r P → IfOk r R → OnOk r Z
+ok_two (Ok x) N P R Z f n p s = f x n p s
+ok_two (Err e) N P R Z f n p s = tt

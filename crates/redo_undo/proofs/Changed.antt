@@ -126,7 +126,7 @@ pub other_pages : (g : Geometry) (log : LogStore) (pages pages' : PageStore) (si
 other_pages g log pages pages' site records table commits fits are_ahead h = record {
   blocks = h.blocks;
   tail = h.tail;
-  ready = record { pages = fits; blocks = h.ready.blocks; records = h.ready.records; quiet = h.ready.quiet };
+  ready = record { pages = fits; blocks = h.ready.blocks; records = h.ready.records };
   rings = h.rings;
   runs_on = h.runs_on;
   ahead = are_ahead;

@@ -29,12 +29,12 @@ found_by : (b : Bool) (e u : Entry) (rest : Option Entry) (last : Option LogReco
 found_by true e u rest last later found = let same : e ≡ u = cc in ap (λ (x : Entry). Some x.rec) same
 found_by false e u rest last later found = later found
 
-found_at : (lsn : ℕ) (log : List Entry) (u : Entry) → find (λ e. e.lsn == lsn) log ≡ Some u → at_lsn lsn log ≡ Some u.rec
+pub found_at : (lsn : ℕ) (log : List Entry) (u : Entry) → find (λ e. e.lsn == lsn) log ≡ Some u → at_lsn lsn log ≡ Some u.rec
 found_at lsn [] u found = cc
 found_at lsn (e ∷ log) u found = found_by (e.lsn == lsn) e u (find (λ e. e.lsn == lsn) log) (at_lsn lsn log) (found_at lsn log u) found
 
 -- the store's list is the whole log
-entries_are : (g : Geometry) (image : Image) (blocks : List (List LogRecord)) (tail : List LogRecord) → entries (record { first = 0; blocks = blocks; tail = tail }) ≡ whole (picture g image blocks) tail
+pub entries_are : (g : Geometry) (image : Image) (blocks : List (List LogRecord)) (tail : List LogRecord) → entries (record { first = 0; blocks = blocks; tail = tail }) ≡ whole (picture g image blocks) tail
 entries_are g image blocks tail = ap (λ (n : ℕ). log_from 0 blocks ++ entries_from (512 * n + 2) tail) (zero-add (length blocks))
 
 -- undoing goes on at or before the transaction's last record
@@ -122,7 +122,7 @@ may_moved laws log log' pages pages' old new records e other geometry blocks may
 
 -- A CLR of an unfinished transaction may be logged: with it there is less to undo.
 module _ (pages_laws : PageLaws) (laws : UndoLaws) (log : LogStore) (pages : PageStore) (site : State) (records : List Entry) (table : List Content) (commits : ℕ) (h : Holds log pages site records table commits) (x : Unfinished) (unfinished : IsUnfinished records x) where
-  owes_less : (e : Entry) → is_clr e.rec ≡ true → txn_of e ≡ x.txn → 0 < x.remaining → owed records ≡ owed (records ++ e ∷ []) + 1
+  pub owes_less : (e : Entry) → is_clr e.rec ≡ true → txn_of e ≡ x.txn → 0 < x.remaining → owed records ≡ owed (records ++ e ∷ []) + 1
   owes_less e clr own some =
       let remains = unfinished.remaining_is in
       laws.owed_clr records e clr (subst (λ t. is_closed records t ≡ false) (sym own) (laws.lives records x.txn unfinished.loser))
@@ -153,15 +153,20 @@ module _ (pages_laws : PageLaws) (laws : UndoLaws) (log : LogStore) (pages : Pag
 -- it was logged
 pub undone : UndoLaws → (log : LogStore) (pages : PageStore) (site : State) (records : List Entry) (table : List Content) (commits : ℕ) (x : Unfinished) (at : Undoing) (w : Wanted) (lsn : ℕ) →
     IsUnfinished records x → IsAt at x → 0 < x.remaining → Holds log pages site (records ++ record { lsn = lsn; rec = Clr at.txn at.last w.prev w.page w.slot w.before } ∷ []) table commits →
-    Undone log pages site records table commits x (record { txn = at.txn; last = lsn; next = w.prev })
-undone laws log pages site records table commits x at w lsn unfinished is some holds =
+    owed records ≡ owed (records ++ record { lsn = lsn; rec = Clr at.txn at.last w.prev w.page w.slot w.before } ∷ []) + 1 → Undone log pages site records table commits x (record { txn = at.txn; last = lsn; next = w.prev })
+undone laws log pages site records table commits x at w lsn unfinished is some holds owes =
     let e : Entry = record { lsn = lsn; rec = Clr at.txn at.last w.prev w.page w.slot w.before } in
     record {
       e = e;
+      page = w.page;
+      slot = w.slot;
+      before = w.before;
+      e_is = λ i. record { lsn = lsn; rec = Clr (is.txn i) (is.last i) w.prev w.page w.slot w.before };
       clr = refl;
       own = is.txn;
       holds = holds;
       left = laws.unfinished records e x unfinished (sym is.txn) refl;
       at = record { txn = is.txn; last = refl; next = refl };
       fewer = omega (arith, some);
+      owes = owes;
     }

@@ -7,3 +7,15 @@ pub mod Compensations
 pub mod Sames
 pub mod Rollbacks
 pub mod Empties
+pub mod Committed
+pub mod Forced
+pub mod Sessions
+pub mod Opens
+pub mod Found
+pub mod Lasts
+pub mod Redoings
+pub mod BlockRecords
+pub mod LogBlocks
+pub mod NextRecords
+pub mod Names
+pub mod TakenRecords

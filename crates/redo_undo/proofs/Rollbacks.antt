@@ -2,6 +2,7 @@
 use Rattle.std.proofs.Common.{◌≡◌, ◌≢◌, ℕ, zero, suc, ◌+◌, ◌-◌, ◌*◌, ◌<◌, ◌≤◌, true, List, [], ◌∷◌, ◌++◌, length, refl, sym, ap, subst, ◌∙◌, arith, append_assoc, append-nil}
 use Rattle.std.specs.List.{AllByRecursion}
 use Rattle.std.proofs.lemmas.Bool.{ne_eqb}
+use Rattle.std.proofs.lemmas.List.{length-append}
 use Rattle.site.specs.State.{State}
 use Rattle.record_model.specs.State.{Content}
 use Rattle.log_records.specs.declared.log_record.LogRecord.{LogRecord}
@@ -33,7 +34,7 @@ none_left (x ∷ xs) is = absurd (omega (arith, is))
 
 -- nothing is compensated yet
 pub starts : (log : LogStore) (pages : PageStore) (site : State) (records : List Entry) (table : List Content) (commits : ℕ) (x : Unfinished) (first : Undoing) → Holds log pages site records table commits → IsUnfinished records x → IsAt first x →
-    Compensates log pages site records table commits x.txn first
+    Compensates log pages site records table commits x.txn (blocks_to log) site.log_reads first
 starts log pages site records table commits x first holds unfinished at =
     let same : x ≡ left_of first x.remaining = λ i. record { txn = sym at.txn i; last = sym at.last i; next = sym at.next i; remaining = x.remaining } in
     record {
@@ -43,9 +44,13 @@ starts log pages site records table commits x first holds unfinished at =
       remaining = x.remaining;
       left = subst (λ (l : List Entry). IsUnfinished l (left_of first x.remaining)) (sym (append-nil records)) (subst (IsUnfinished records) same unfinished);
       same = at.txn;
+      count = let remains = unfinished.remaining_is in omega (arith, remains);
+      owes = let none = ap owed (append-nil records) in omega (arith, none);
+      few = omega arith;
+      read = omega arith;
     }
 
-module _ (pages_laws : PageLaws) (laws : UndoLaws) (log : LogStore) (pages : PageStore) (site : State) (records : List Entry) (table : List Content) (commits txn : ℕ) (now : Undoing) (c : Compensates log pages site records table commits txn now) where
+module _ (pages_laws : PageLaws) (laws : UndoLaws) (log : LogStore) (pages : PageStore) (site : State) (records : List Entry) (table : List Content) (commits txn blocks reads : ℕ) (now : Undoing) (c : Compensates log pages site records table commits txn blocks reads now) where
   -- as long as undoing hasn't come to the Begin an Update remains
   pub remains : now.next ≢ now.txn → 0 < c.remaining
   remains differ = by c.remaining refl
@@ -77,8 +82,9 @@ module _ (pages_laws : PageLaws) (laws : UndoLaws) (log : LogStore) (pages : Pag
           absurd (omega (arith, more, same))
 
   -- one more CLR
-  pub goes_on : (log' : LogStore) (pages' : PageStore) (new : State) (next : Undoing) → Undone log' pages' new (records ++ c.clrs) table commits (left_of now c.remaining) next → Compensates log' pages' new records table commits txn next
-  goes_on log' pages' new next u =
+  pub goes_on : (log' : LogStore) (pages' : PageStore) (new : State) (next : Undoing) → Undone log' pages' new (records ++ c.clrs) table commits (left_of now c.remaining) next → blocks_to log' ≤ blocks_to log + 1 → new.log_reads ≤ site.log_reads + 1 →
+      Compensates log' pages' new records table commits txn blocks reads next
+  goes_on log' pages' new next u one one_read =
       let y = after_record (left_of now c.remaining) u.e in
       let is : y ≡ left_of next y.remaining = λ i. record { txn = sym u.at.txn i; last = sym u.at.last i; next = sym u.at.next i; remaining = y.remaining } in
       let all = append_assoc records c.clrs (u.e ∷ []) in
@@ -89,6 +95,10 @@ module _ (pages_laws : PageLaws) (laws : UndoLaws) (log : LogStore) (pages : Pag
         remaining = y.remaining;
         left = subst (λ (l : List Entry). IsUnfinished l (left_of next y.remaining)) all (subst (IsUnfinished ((records ++ c.clrs) ++ u.e ∷ [])) is u.left);
         same = u.at.txn ∙ c.same;
+        count = let count = c.count in let fewer = u.fewer in omega (arith, count, fewer, length-append c.clrs (u.e ∷ []));
+        owes = let owes = c.owes in let less = u.owes in let same = ap owed all in omega (arith, owes, less, same, length-append c.clrs (u.e ∷ []));
+        few = let few = c.few in omega (arith, few, one, length-append c.clrs (u.e ∷ []));
+        read = let read = c.read in omega (arith, read, one_read, length-append c.clrs (u.e ∷ []));
       }
 
   -- Where none remains, the End may be logged.
@@ -97,6 +107,12 @@ module _ (pages_laws : PageLaws) (laws : UndoLaws) (log : LogStore) (pages : Pag
     owes_less lsn =
         laws.owed_closing (records ++ c.clrs) (record { lsn = lsn; rec = End now.txn }) refl (laws.lives (records ++ c.clrs) now.txn c.left.loser)
         (chain pages_laws laws log pages site (records ++ c.clrs) table commits c.holds (left_of now c.remaining) c.left)
+
+    -- then nothing of it is owed
+    pub owes_all : (lsn : ℕ) → owed ((records ++ c.clrs) ++ record { lsn = lsn; rec = End txn } ∷ []) + (length c.clrs + 1) ≡ owed records
+    owes_all lsn =
+        subst (λ (t : ℕ). owed ((records ++ c.clrs) ++ record { lsn = lsn; rec = End t } ∷ []) + (length c.clrs + 1) ≡ owed records) c.same
+        (let less = owes_less lsn in let owes = c.owes in let left = c.left.remaining_is in omega (arith, less, owes, left, none))
 
     pub room_for_end : blocks_to log + 1 ≤ pages.flash.geometry.blocks - 1
     room_for_end = let owes = owes_less 0 in let room = c.holds.log_holds.room in omega (arith, owes, room)
@@ -122,14 +138,17 @@ others_stay laws records (e ∷ clrs) txn t differ own =
     ∙ laws.stays records e t (ne_eqb (txn_of e) t (λ same. differ (sym same ∙ own.0.1)))
 
 -- it is logged
-pub rolls_back : UndoLaws → (log : LogStore) (pages : PageStore) (site : State) (records : List Entry) (table : List Content) (commits txn : ℕ) (clrs : List Entry) (lsn : ℕ) → AreClrsOf txn clrs →
+pub rolls_back : UndoLaws → (log : LogStore) (pages : PageStore) (site : State) (records : List Entry) (table : List Content) (commits txn : ℕ) (clrs : List Entry) (lsn : ℕ) → AreClrsOf txn clrs → length clrs ≡ length (left_open records txn) →
+    owed ((records ++ clrs) ++ record { lsn = lsn; rec = End txn } ∷ []) + (length clrs + 1) ≡ owed records →
     Holds log pages site ((records ++ clrs) ++ record { lsn = lsn; rec = End txn } ∷ []) table commits → RollsBack log pages site records table commits txn
-rolls_back laws log pages site records table commits txn clrs lsn own holds =
+rolls_back laws log pages site records table commits txn clrs lsn own count owes holds =
     let e : Entry = record { lsn = lsn; rec = End txn } in
     record {
       clrs = clrs;
       lsn = lsn;
       own = own;
+      count = count;
+      owes = owes;
       holds = holds;
       closed = laws.closed (records ++ clrs) e refl;
       others = λ t differ. laws.stays (records ++ clrs) e t (ne_eqb txn t (λ same. differ (sym same))) ∙ others_stay laws records clrs txn t differ own;

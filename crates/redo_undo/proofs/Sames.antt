@@ -3,7 +3,7 @@ use Rattle.std.proofs.Common.{◌≡◌, ℕ, ◌<◌, Bool, false, nat_lt, arit
 use Rattle.std.specs.Prelude.{if◌then◌else◌}
 use Rattle.site.specs.declared.outside.Dev.TheVariants.{Log, Flash, Disk}
 use Rattle.site.specs.declared.geometry.Geometry.{Geometry}
-use Rattle.site.specs.State.{State, Image, Loose}
+use Rattle.site.specs.State.{State, Image, IsQuiet}
 use Rattle.site.specs.Calls.{Goes, IsUnchanged}
 use Rattle.site.specs.Laws.{in_sequence, holds_now, no_call, unchanged_calm, stays_honest, quiet_leaves}
 use Rattle.site.specs.Moments.{Leaves, LeavesOnly, SameBut, ChangesOnly}
@@ -54,12 +54,10 @@ holds_still fits log pages old new records table commits goes same h =
           pages = fits pages old new (only_read old new same) goes ready.pages;
           blocks = record {
             honest = stays_honest old new goes ready.blocks.honest;
-            settled = ap (λ (l : Loose). l.log) same.loose ∙ ready.blocks.settled;
             form = subst (λ (i : Image). IsRing (log_shape log.geometry) i.log) (sym same.image) ready.blocks.form;
             hi = subst (λ (i : Image). log.ring.hi ≡ hi_of (log_shape log.geometry) i.log) (sym same.image) ready.blocks.hi;
           };
           records = subst (λ (i : Image). log_held.Holds log i (record { first = 0; blocks = h.log_holds.blocks; tail = h.log_holds.tail })) (sym same.image) ready.records;
-          quiet = same.loose ∙ ready.quiet;
         };
         rings = subst (AreRingsSound pages.flash.geometry) (sym same.image) h.log_holds.rings;
         runs_on = subst (λ (i : Image). RunsOn (picture pages.flash.geometry i h.log_holds.blocks) h.log_holds.tail records table commits) (sym same.image) h.log_holds.runs_on;
@@ -122,17 +120,17 @@ stands_there log pages site records table commits sizes h =
       means = h.log_holds.runs_on.means;
     }
 
-pub nothing_happens : (log : LogStore) (pages : PageStore) (site : State) (records : List Entry) (table : List Content) (commits : ℕ) → log.geometry ≡ pages.flash.geometry → Holds log pages site records table commits →
+pub nothing_happens : (log : LogStore) (pages : PageStore) (site : State) (records : List Entry) (table : List Content) (commits : ℕ) → log.geometry ≡ pages.flash.geometry → Holds log pages site records table commits → IsQuiet site →
     LeavesOnly site site (LeavesTable pages.flash.geometry table commits site.told)
-nothing_happens log pages site records table commits sizes h =
+nothing_happens log pages site records table commits sizes h quiet =
     no_call site (Leaves (LeavesTable pages.flash.geometry table commits site.told))
-    (λ snapshot left. subst (LeavesTable pages.flash.geometry table commits site.told) (sym (quiet_leaves site snapshot h.log_holds.ready.quiet left)) (record { told = refl; stands = stands_there log pages site records table commits sizes h }))
+    (λ snapshot left. subst (LeavesTable pages.flash.geometry table commits site.told) (sym (quiet_leaves site snapshot quiet left)) (record { told = refl; stands = stands_there log pages site records table commits sizes h }))
 
 -- a crash while only was read leaves it
-pub leaves_still : (log : LogStore) (pages : PageStore) (old new : State) (records : List Entry) (table : List Content) (commits : ℕ) → log.geometry ≡ pages.flash.geometry → IsUnchanged old new → Holds log pages old records table commits →
+pub leaves_still : (log : LogStore) (pages : PageStore) (old new : State) (records : List Entry) (table : List Content) (commits : ℕ) → log.geometry ≡ pages.flash.geometry → IsUnchanged old new → Holds log pages old records table commits → IsQuiet old →
     LeavesOnly old new (LeavesTable pages.flash.geometry table commits old.told)
-leaves_still log pages old new records table commits sizes same h =
-    unchanged_calm old old new (Leaves (LeavesTable pages.flash.geometry table commits old.told)) (nothing_happens log pages old records table commits sizes h) same
+leaves_still log pages old new records table commits sizes same h quiet =
+    unchanged_calm old old new (Leaves (LeavesTable pages.flash.geometry table commits old.told)) (nothing_happens log pages old records table commits sizes h quiet) same
 
 -- where the tail is empty all records are sealed ones
 pub opened_holds : LogLaws → OpenedHolds

@@ -33,7 +33,7 @@ pub record MayGoOn (log : LogStore) (pages : PageStore) (site : State) : Type 0 
   pub sizes : log.geometry ≡ pages.flash.geometry
   pub room : blocks_to log < log.kept + log.geometry.blocks
 
--- Of an honest site, but for what the pages show: log and pages fit it, and the log has these records. What is sealed of them stands
+-- Of an honest site, whatever is loose, but for what the pages show: log and pages fit it, and the log has these records. What is sealed of them stands
 -- for this table after so many commits. The log is ahead of the pages, and has room to undo all.
 pub record HoldsLog (g : Geometry) (log : LogStore) (pages : PageStore) (site : State) (records : List Entry) (table : List Content) (commits : ℕ) : Type 0 where
   pub blocks : List (List LogRecord)

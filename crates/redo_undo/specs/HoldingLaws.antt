@@ -1,6 +1,6 @@
 -- Laws on log and pages that hold together.
 use Rattle.std.specs.Prelude.{◌≡◌, ℕ, ◌+◌, ◌*◌, ◌<◌, List, [], length}
-use Rattle.site.specs.State.{State}
+use Rattle.site.specs.State.{State, IsQuiet}
 use Rattle.site.specs.Calls.{Goes, IsUnchanged}
 use Rattle.site.specs.Moments.{LeavesOnly}
 use Rattle.record_model.specs.State.{Content, content_at}
@@ -26,11 +26,11 @@ HoldsStands =
     (log : LogStore) (pages : PageStore) (site : State) (records : List Entry) (table : List Content) (commits : ℕ) → log.geometry ≡ pages.flash.geometry →
     Holds log pages site records table commits → Stands pages.flash.geometry site.image table commits
 
--- and so does what a crash leaves where nothing is called
+-- and so does what a crash leaves where nothing is loose and nothing is called
 abbrev pub HoldsMoment : Type 0
 HoldsMoment =
     (log : LogStore) (pages : PageStore) (site : State) (records : List Entry) (table : List Content) (commits : ℕ) → log.geometry ≡ pages.flash.geometry →
-    Holds log pages site records table commits → LeavesOnly site site (LeavesTable pages.flash.geometry table commits site.told)
+    Holds log pages site records table commits → IsQuiet site → LeavesOnly site site (LeavesTable pages.flash.geometry table commits site.told)
 
 -- calls that only read change nothing of it
 abbrev pub HoldsStill : Type 0

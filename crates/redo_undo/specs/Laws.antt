@@ -1,11 +1,13 @@
 -- The laws of the layers below that the proofs rest on, in one place.
 use Rattle.log_laws.specs.TailLaws.{CarriesNothing, CarriesMore, WholeMore, CommitsStay, TailWithoutCommit, SealedTail, SealedCount, PlainSealed, WholeSealed}
 use Rattle.log_laws.specs.ShownLaws.{ShownPush}
-use Rattle.log_laws.specs.TailLaws.{WholeIsUndoable, WholeInOrder}
-use Rattle.log_laws.specs.UndoLaws.{NextOfUndone}
+use Rattle.log_laws.specs.TailLaws.{WholeIsUndoable, WholeInOrder, WholeIsOrderly, OrderlyAt}
+use Rattle.log_laws.specs.UndoLaws.{NextOfUndone, NextToUndo, FoundByLsn}
+use Rattle.log_laws.specs.LoserLaws.{ListedIsLoser, LoserIsListed}
+use Rattle.analysis.specs.Laws.{ActiveIsUnfinished}
 use Rattle.log_laws.specs.UndoSteps.{UndoStep, UndoEnd, UnfinishedStep}
 use Rattle.log_laws.specs.ActiveLaws.{LoserStays, LoserIsClosed, LoserIsNotClosed}
-use Rattle.log_laws.specs.RoomLaws.{OwedClr, OwedClosing}
+use Rattle.log_laws.specs.RoomLaws.{OwedClr, OwedClosing, OwedNone}
 use Rattle.log_store.specs.Laws.{FullTail}
 use Rattle.page_store.specs.Laws.{FitsBeside, VersionsBeside, LeavesBeside, SealedBeside}
 use Rattle.image_meaning.specs.Beside.{RingsKept}
@@ -59,3 +61,14 @@ pub record UndoLaws : Type 0 where
   pub lives : LoserIsNotClosed
   pub owed_clr : OwedClr
   pub owed_closing : OwedClosing
+
+-- on what analysis knows of unfinished transactions
+pub record FoundLaws : Type 0 where
+  pub active : ActiveIsUnfinished
+  pub loser : ListedIsLoser
+  pub listed : LoserIsListed
+  pub next : NextToUndo
+  pub nothing : OwedNone
+  pub by_lsn : FoundByLsn
+  pub orderly : WholeIsOrderly
+  pub at : OrderlyAt

@@ -3,4 +3,9 @@ pub mod Holding
 pub mod Laws
 pub mod Undoing
 pub mod Rollback
+pub mod UndoingAll
 pub mod HoldingLaws
+pub mod Committing
+pub mod SessionLaws
+pub mod Redoing
+pub mod RedoLaws

@@ -5,7 +5,7 @@ use Rattle.site.specs.State.{State, Image}
 use Rattle.record_model.specs.State.{Content}
 use Rattle.log_records.specs.declared.log_record.LogRecord.TheVariants.{Clr}
 use Rattle.log_records.specs.Log.{Entry, txn_of}
-use Rattle.log_records.specs.Unfinished.{is_clr}
+use Rattle.log_records.specs.Unfinished.{is_clr, owed}
 use Rattle.log_laws.specs.Follow.{Follows}
 use Rattle.log_laws.specs.Analysis.{Unfinished, IsUnfinished, after_record}
 use Rattle.log_store.specs.declared.store.LogStore.{LogStore}
@@ -31,9 +31,14 @@ pub record IsWanted (g : Geometry) (image : Image) (records : List Entry) (x : U
 -- a CLR of the transaction was logged, and its page has what stood there before
 pub record Undone (log : LogStore) (pages : PageStore) (site : State) (records : List Entry) (table : List Content) (commits : ℕ) (x : Unfinished) (now : Undoing) : Type 0 where
   pub e : Entry
+  pub page : ℕ
+  pub slot : ℕ
+  pub before : Content
+  pub e_is : e ≡ record { lsn = now.last; rec = Clr x.txn x.last now.next page slot before }
   pub clr : is_clr e.rec ≡ true
   pub own : txn_of e ≡ x.txn
   pub holds : Holds log pages site (records ++ e ∷ []) table commits
   pub left : IsUnfinished (records ++ e ∷ []) (after_record x e)
   pub at : IsAt now (after_record x e)
   pub fewer : (after_record x e).remaining + 1 ≡ x.remaining
+  pub owes : owed records ≡ owed (records ++ e ∷ []) + 1

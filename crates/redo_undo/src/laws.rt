@@ -1,14 +1,16 @@
 // Laws on log and pages that hold together, and those of the layers below that the proofs rest on. The functions do nothing.
 ghost use Rattle.redo_undo.specs.HoldingLaws.{OpenedHolds, EmptyHolds, HoldsStands, HoldsMoment, HoldsStill, FrontShows};
-ghost use Rattle.redo_undo.specs.Laws.{LogLaws, PageLaws, BesideLaws, UndoLaws};
+ghost use Rattle.redo_undo.specs.Laws.{LogLaws, PageLaws, BesideLaws, UndoLaws, FoundLaws};
 
+use analysis::table_of_records;
 use image_meaning::{
     new_versions, pictures, rings_kept, versions_beside_the_tail, versions_by_page, write_ahead,
 };
 use log_laws::{
-    carries_more, carries_nothing, commits_more, losers_after, next_of_undone, owed_closing,
-    owed_clr, plain_sealed, sealed_count, sealed_tail, shown_push, tail_without_commit, undo_end,
-    undo_step, unfinished_step, whole_in_order, whole_is_undoable, whole_more, whole_sealed,
+    carries_more, carries_nothing, commits_more, found_by_lsn, losers_after, losers_listed,
+    next_of_undone, next_to_undo, orderly_at, owed_closing, owed_clr, owed_none, plain_sealed,
+    sealed_count, sealed_tail, shown_push, tail_without_commit, undo_end, undo_step,
+    unfinished_step, whole_in_order, whole_is_orderly, whole_is_undoable, whole_more, whole_sealed,
 };
 use log_store::full_tail;
 use page_store::{pages_beside_the_log, stays_beside};
@@ -63,6 +65,19 @@ pub(crate) fn undo_laws()
     losers_after();
     owed_clr();
     owed_closing();
+}
+
+// On what analysis knows of unfinished transactions.
+pub(crate) fn found_laws()
+    ensures { FoundLaws }
+{
+    table_of_records();
+    losers_listed();
+    next_to_undo();
+    owed_none();
+    found_by_lsn();
+    whole_is_orderly();
+    orderly_at();
 }
 
 /// Law: log and pages that fit a sound image hold together where the pages show all records; where they do the devices stand for the table, now and as long as nothing is called; they do still after

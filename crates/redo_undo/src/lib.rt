@@ -2,12 +2,24 @@
 #![tactic(auto)]
 
 mod changing;
+mod committing;
+mod forcing;
 mod laws;
 mod logging;
+mod redo_pass;
+mod session_laws;
 #[cfg(test)]
 mod tests;
 mod undo;
+mod undo_losers;
+#[cfg(test)]
+mod undo_tests;
 
+pub use committing::commit;
+pub use forcing::force;
 pub use laws::hold_together;
 pub use logging::{log_change, log_record, touch};
+pub use redo_pass::{Redone, redo};
+pub use session_laws::{sessions_go_on, sessions_see};
 pub use undo::undo_one;
+pub use undo_losers::undo_all;

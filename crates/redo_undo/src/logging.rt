@@ -1,15 +1,17 @@
 // A page is touched, a record is logged, and the page is changed.
-ghost use Rattle.std.specs.Prelude.{◌≡◌, ◌⊎◌, ◌+◌, ◌^◌, ◌<◌, ◌≤◌, ◌++◌, ◌∷◌, [], ℕ, List, length, None, IfOk, IsTrue, true, false, OnOk, OnErr, IfErr, IsErrOf};
+ghost use Rattle.std.specs.Prelude.{◌≡◌, ◌≢◌, ◌⊎◌, ◌+◌, ◌^◌, ◌<◌, ◌≤◌, ◌++◌, ◌∷◌, [], ℕ, List, length, None, IfOk, IsTrue, true, false, OnOk, OnErr, IfErr, IsErrOf};
 ghost use Rattle.site.specs.declared.outside.Dev.{Dev};
 ghost use Rattle.site.specs.declared.outside.Stop.{Stop};
+ghost use Rattle.site.specs.State.{IsQuiet};
 ghost use Rattle.site.specs.Calls.{Goes, SameReads, FaultRose};
 ghost use Rattle.site.specs.Moments.{LeavesOnly};
 ghost use Rattle.record_model.specs.State.{Content};
 ghost use Rattle.log_records.specs.declared.log_record.LogRecord.{LogRecord};
 ghost use Rattle.log_records.specs.Log.{Entry, number_of};
 ghost use Rattle.log_records.specs.Spelling.{HasForm};
+ghost use Rattle.flash_cache.specs.Held.{IsWorn};
 ghost use Rattle.log_store.specs.Held as log_held;
-ghost use Rattle.log_store.specs.Held.{end_of};
+ghost use Rattle.log_store.specs.Held.{end_of, has_tail};
 ghost use Rattle.page_store.specs.declared.store.PageStore.{PageStore};
 ghost use Rattle.second_chance.specs.Machine.{touched, holds};
 ghost use Rattle.buffer_pool.specs.Frames.{front_of};
@@ -18,6 +20,7 @@ ghost use Rattle.page_store.specs.Ahead.{end_forced};
 ghost use Rattle.page_store.specs.Stopping.{MayStop};
 ghost use Rattle.image_meaning.specs.Moments.{LeavesTable};
 ghost use Rattle.redo_undo.specs.Holding.{MayGoOn, HoldsLog, Holds, MayGrow, KeepsPages, IsOnPage, blocks_to};
+ghost use Rattle.redo_undo.specs.Committing.{EndsWith};
 
 use crate::changing::change_front;
 use crate::laws::{beside_laws, log_laws, page_laws};
@@ -43,11 +46,22 @@ pub fn touch<S: Site>(
         → OnOk result (Holds log.new pages.new (S.state site.new) records table commits) }
     ensures any_moment { (records : List Entry) (table : List Content) (commits : ℕ)
         → Holds log.old pages.old (S.state site.old) records table commits
+        → IsQuiet (S.state site.old)
         → LeavesOnly (S.state site.old) (S.state site.new)
         (LeavesTable pages.old.flash.geometry table commits (S.state site.old).told) }
     ensures readable { (records : List Entry) (table : List Content) (commits : ℕ)
         → Holds log.old pages.old (S.state site.old) records table commits
         → IsErrOf result Stop.Foreign → ⊥ }
+    ensures worn_end { (records : List Entry) (table : List Content) (commits : ℕ)
+        → Holds log.old pages.old (S.state site.old) records table commits
+        → IsErrOf result (Stop.Worn Dev.Flash) → IsWorn pages.old.flash.geometry (S.state site.new).image }
+    ensures left { IsTrue (S.state site.old).honest → (S.state site.new).left ≡ (S.state site.old).left }
+    ensures stays_quiet { IsTrue (S.state site.old).honest → IsQuiet (S.state site.old)
+        → OnOk result (IsQuiet (S.state site.new)) }
+    ensures quiet { (records : List Entry) (table : List Content) (commits : ℕ)
+        → Holds log.old pages.old (S.state site.old) records table commits
+        → IsQuiet (S.state site.old)
+        → IfErr result (λ stop. ((d : Dev) → stop ≢ Stop.Device d) → IsQuiet (S.state site.new)) }
 
     // Of every site.
     ensures machine { OnOk result (cache_of pages.new ≡ touched (rules pages.old) page false (cache_of pages.old)) }
@@ -56,9 +70,12 @@ pub fn touch<S: Site>(
     ensures going { OnOk result (MayGoOn log.new pages.new (S.state site.new)) }
     ensures blocks { OnOk result (blocks_to log.new ≡ blocks_to log.old) }
     ensures kept { log.new.kept ≡ log.old.kept }
+    ensures log_geometry { log.new.geometry ≡ log.old.geometry }
     ensures geometry { pages.new.flash.geometry ≡ pages.old.flash.geometry }
     ensures size { pages.new.pool.size ≡ pages.old.pool.size }
+    ensures rises { OnOk result (end_of log.old ≤ end_of log.new) }
     ensures goes { Goes (S.state site.old) (S.state site.new) }
+    ensures log_reads { (S.state site.new).log_reads ≡ (S.state site.old).log_reads }
 
     // When each answer comes.
     ensures worn_log { IsErrOf result (Stop.Worn Dev.Log) → log.old.ring.hi ≡ 2 ^ 40 }
@@ -96,18 +113,34 @@ pub fn log_record<S: Site>(site: &mut S, log: &mut LogStore, rec: &LogRecord) ->
         → IfOk result (λ lsn. MayGrow log.old pages (S.state site.old).image records (record { lsn = lsn; rec = rec.now })
         → Holds log.new pages (S.state site.new)
         (records ++ record { lsn = lsn; rec = rec.now } ∷ []) table commits) }
+    ensures last { (pages : PageStore) (records : List Entry) (table : List Content) (commits : ℕ)
+        → log.old.geometry ≡ pages.flash.geometry
+        → Holds log.old pages (S.state site.old) records table commits
+        → IfOk result (λ lsn. EndsWith pages.flash.geometry log.new pages (S.state site.new) records table commits
+        (record { lsn = lsn; rec = rec.now })) }
     ensures any_moment { (pages : PageStore) (records : List Entry) (table : List Content) (commits : ℕ)
         → MayGoOn log.old pages (S.state site.old)
         → Holds log.old pages (S.state site.old) records table commits
+        → IsQuiet (S.state site.old)
         → LeavesOnly (S.state site.old) (S.state site.new)
         (LeavesTable pages.flash.geometry table commits (S.state site.old).told) }
+    ensures left { IsTrue (S.state site.old).honest → (S.state site.new).left ≡ (S.state site.old).left }
+    ensures stays_quiet { IsTrue (S.state site.old).honest → IsQuiet (S.state site.old)
+        → OnOk result (IsQuiet (S.state site.new)) }
+    ensures quiet { (pages : PageStore) (records : List Entry) (table : List Content) (commits : ℕ)
+        → Holds log.old pages (S.state site.old) records table commits
+        → IsQuiet (S.state site.old)
+        → IfErr result (λ stop. ((d : Dev) → stop ≢ Stop.Device d) → IsQuiet (S.state site.new)) }
 
     // Of every site.
     ensures rises { IfOk result (λ lsn. (end_of log.old ≤ lsn) × (lsn < end_of log.new)) }
     ensures forced { IfOk result (λ lsn. lsn < end_forced log.new) }
     ensures going { (pages : PageStore) → MayGoOn log.old pages (S.state site.old)
         → OnOk result (MayGoOn log.new pages (S.state site.new)) }
+    ensures log_going { log_held.MayGoOn log.new (S.state site.new) }
+    ensures some { OnOk result (has_tail log.new ≡ true) }
     ensures blocks { OnOk result (blocks_to log.new ≤ blocks_to log.old + 1) }
+    ensures hi { log.new.ring.hi ≤ log.old.ring.hi + 1 }
     ensures kept { log.new.kept ≡ log.old.kept }
     ensures geometry { log.new.geometry ≡ log.old.geometry }
     ensures goes { Goes (S.state site.old) (S.state site.new) }
@@ -148,11 +181,19 @@ pub fn log_change<S: Site>(
         (records ++ record { lsn = lsn; rec = rec.now } ∷ []) table commits) }
     ensures any_moment { (records : List Entry) (table : List Content) (commits : ℕ)
         → Holds log.old pages.old (S.state site.old) records table commits
+        → IsQuiet (S.state site.old)
         → LeavesOnly (S.state site.old) (S.state site.new)
         (LeavesTable pages.old.flash.geometry table commits (S.state site.old).told) }
     ensures readable { (records : List Entry) (table : List Content) (commits : ℕ)
         → Holds log.old pages.old (S.state site.old) records table commits
         → IsErrOf result Stop.Foreign → ⊥ }
+    ensures left { IsTrue (S.state site.old).honest → (S.state site.new).left ≡ (S.state site.old).left }
+    ensures stays_quiet { IsTrue (S.state site.old).honest → IsQuiet (S.state site.old)
+        → OnOk result (IsQuiet (S.state site.new)) }
+    ensures quiet { (records : List Entry) (table : List Content) (commits : ℕ)
+        → Holds log.old pages.old (S.state site.old) records table commits
+        → IsQuiet (S.state site.old)
+        → IfErr result (λ stop. ((d : Dev) → stop ≢ Stop.Device d) → IsQuiet (S.state site.new)) }
 
     // Of every site.
     ensures machine { OnOk result (cache_of pages.new ≡ with_change (cache_of pages.old)) }
@@ -160,6 +201,7 @@ pub fn log_change<S: Site>(
     ensures going { OnOk result (MayGoOn log.new pages.new (S.state site.new)) }
     ensures blocks { OnOk result (blocks_to log.new ≤ blocks_to log.old + 1) }
     ensures kept { log.new.kept ≡ log.old.kept }
+    ensures log_geometry { log.new.geometry ≡ log.old.geometry }
     ensures geometry { pages.new.flash.geometry ≡ pages.old.flash.geometry }
     ensures size { pages.new.pool.size ≡ pages.old.pool.size }
     ensures goes { Goes (S.state site.old) (S.state site.new) }

@@ -3,10 +3,12 @@ ghost use Rattle.std.specs.Prelude.{◌≡◌, ◌+◌, ◌<◌, length, IfOk, O
 ghost use Rattle.site.specs.Geometry.{HasLengths};
 ghost use Rattle.site.specs.MemState.{state_of};
 ghost use Rattle.log_records.specs.Spelling.{HasForm};
+ghost use Rattle.log_store.specs.Held as log_held;
 ghost use Rattle.log_store.specs.Held.{end_of};
 ghost use Rattle.redo_undo.specs.Holding.{MayGoOn, IsOnPage, blocks_to};
 
-use crate::{log_change, log_record, touch, undo_one};
+use crate::{Redone, commit, log_change, log_record, redo, touch, undo_one};
+use checkpoint::Master;
 use log_records::LogRecord;
 use log_store::LogStore;
 use page_store::PageStore;
@@ -41,7 +43,9 @@ fn opened(alloc: Global, site: &mut MemSite) -> Result<(LogStore, PageStore), St
     requires { HasLengths (record { pages = 1; groups = 8; blocks = 16 }) (state_of site.old).image }
     ensures going { IfOk result (λ both. MayGoOn both.0 both.1 (state_of site.new)) }
     ensures room { IfOk result (λ both. blocks_to both.0 + 5 < both.0.kept + both.0.geometry.blocks) }
+    ensures geometry { IfOk result (λ both. both.0.geometry ≡ record { pages = 1; groups = 8; blocks = 16 }) }
     ensures pages { IfOk result (λ both. both.1.flash.geometry.pages ≡ 1) }
+    ensures sizes { IfOk result (λ both. both.0.geometry ≡ record { pages = 1; groups = 8; blocks = 16 }) }
 {
     let pages = PageStore::start(alloc, site, &SMALL, 4)?;
     let mut log = LogStore::start(site, &SMALL)?;
@@ -54,6 +58,8 @@ fn changed(alloc: Global, site: &mut MemSite) -> Result<(LogStore, PageStore, u6
     requires { HasLengths (record { pages = 1; groups = 8; blocks = 16 }) (state_of site.old).image }
     ensures going { IfOk result (λ all. MayGoOn all.0 all.1 (state_of site.new)) }
     ensures last { IfOk result (λ all. all.2 < end_of all.0) }
+    ensures room { IfOk result (λ all. blocks_to all.0 + 1 < all.0.kept + all.0.geometry.blocks) }
+    ensures geometry { IfOk result (λ all. all.0.geometry ≡ record { pages = 1; groups = 8; blocks = 16 }) }
     ensures pages { IfOk result (λ all. all.1.flash.geometry.pages ≡ 1) }
 {
     let (mut log, mut pages) = opened(alloc, site)?;
@@ -108,5 +114,102 @@ fn an_update_of_another_is_foreign(rt: HostRuntime) -> Result<(), Fail> {
     let (mut log, mut pages, last) = changed(rt.alloc(), &mut site)?;
     let undone = undo_one(&mut site, &mut log, &mut pages, 1, last);
     assert_eq!(rt; undone, Err(Stop::Foreign));
+    Ok(())
+}
+
+// What a crash leaves.
+fn crashed(site: MemSite) -> MemSite
+    requires { HasLengths (record { pages = 1; groups = 8; blocks = 16 }) (state_of site).image }
+    ensures { HasLengths (record { pages = 1; groups = 8; blocks = 16 }) (state_of result).image }
+{
+    site.crash(7)
+}
+
+// Whether the record with LSN 29 is sealed, and is the Commit of transaction 2 as commit 1.
+fn is_committed(log: &LogStore, site: &mut MemSite) -> Result<bool, Stop>
+    requires going { log_held.MayGoOn log.now (state_of site.old) }
+{
+    if log.kept() > 0 {
+        return Ok(false);
+    }
+    if log.sealed_end() < 512 {
+        return Ok(false);
+    }
+    match log.read_at(site, 29)? {
+        LogRecord::Commit { txn, number } => Ok(txn == 2 && number == 1),
+        _ => Ok(false),
+    }
+}
+
+// The Update stands at LSN 3 and takes 26 octets.
+#[test]
+fn a_commit_outlives_a_crash(rt: HostRuntime) -> Result<(), Fail> {
+    let mut site = MemSite::new(rt.alloc(), &SMALL)?;
+    let (mut log, _pages, _last) = changed(rt.alloc(), &mut site)?;
+    assert_eq!(rt; commit(&mut site, &mut log, 2, 1)?, 29);
+    let mut site = crashed(site);
+    let log = LogStore::start(&mut site, &SMALL)?;
+    assert!(rt; is_committed(&log, &mut site)?);
+    Ok(())
+}
+
+// A life in which a transaction changes record 5, and all of its log is sealed.
+fn earlier(alloc: Global, site: &mut MemSite) -> Result<(), Stop>
+    requires { HasLengths (record { pages = 1; groups = 8; blocks = 16 }) (state_of site.old).image }
+    ensures { OnOk result (HasLengths (record { pages = 1; groups = 8; blocks = 16 }) (state_of site.new).image) }
+{
+    let (mut log, mut pages) = opened(alloc, site)?;
+    log_record(site, &mut log, &LogRecord::Begin)?;
+    touch(site, &mut log, &mut pages, 0)?;
+    log_change(site, &mut log, &mut pages, &update())?;
+    log.force(site)
+}
+
+// Log and pages after analysis and redo of what stands on a site.
+fn reopened(alloc: Global, site: &mut MemSite) -> Result<(LogStore, PageStore, Redone), Stop>
+    requires { HasLengths (record { pages = 1; groups = 8; blocks = 16 }) (state_of site.old).image }
+    ensures going { IfOk result (λ all. MayGoOn all.0 all.1 (state_of site.new)) }
+    ensures pages { IfOk result (λ all. all.1.flash.geometry.pages ≡ 1) }
+    ensures lengths { OnOk result (HasLengths (record { pages = 1; groups = 8; blocks = 16 }) (state_of site.new).image) }
+{
+    let mut pages = PageStore::start(alloc, site, &SMALL, 4)?;
+    let mut log = LogStore::start(site, &SMALL)?;
+    let redone = redo(alloc, site, &mut log, &mut pages, &Master::blank())?;
+    Ok((log, pages, redone))
+}
+
+// The changes that a restart and then a flush of its pages make.
+fn flushed(alloc: Global, site: &mut MemSite) -> Result<u64, Stop>
+    requires { HasLengths (record { pages = 1; groups = 8; blocks = 16 }) (state_of site.old).image }
+    ensures { OnOk result (HasLengths (record { pages = 1; groups = 8; blocks = 16 }) (state_of site.new).image) }
+{
+    let before = site.changes();
+    let (mut log, mut pages, _redone) = reopened(alloc, site)?;
+    pages.flush_all(site, &mut log)?;
+    Ok(site.changes().saturating_sub(before))
+}
+
+// The page has the value that its Update wrote, with the Update's LSN, and the transaction is found as unfinished.
+#[test]
+fn an_earlier_life_is_redone(rt: HostRuntime) -> Result<(), Fail> {
+    let mut site = MemSite::new(rt.alloc(), &SMALL)?;
+    earlier(rt.alloc(), &mut site)?;
+    let (mut log, mut pages, redone) = reopened(rt.alloc(), &mut site)?;
+    assert_eq!(rt; redone.records, 2);
+    assert_eq!(rt; redone.found.losers(), 1);
+    assert!(rt; has_value(&mut site, &mut log, &mut pages, 0x0a)?);
+    assert_eq!(rt; pages.front_lsn(), 3);
+    Ok(())
+}
+
+// Once the page is on the flash a second restart finds its LSN there, and leaves it unchanged.
+#[test]
+fn a_record_is_redone_once(rt: HostRuntime) -> Result<(), Fail> {
+    let mut site = MemSite::new(rt.alloc(), &SMALL)?;
+    earlier(rt.alloc(), &mut site)?;
+    let first = flushed(rt.alloc(), &mut site)?;
+    let second = flushed(rt.alloc(), &mut site)?;
+    assert!(rt; first > 0);
+    assert_eq!(rt; second, 0);
     Ok(())
 }

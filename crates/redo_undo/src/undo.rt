@@ -1,14 +1,17 @@
 // Undoing an Update: a compensation record, and what stood before it.
-ghost use Rattle.std.specs.Prelude.{◌≡◌, ◌≢◌, ◌⊎◌, ◌↔◌, ◌+◌, ◌*◌, ◌<◌, ◌≤◌, ◌++◌, ◌∷◌, [], ◌^◌, ℕ, List, length, IsTrue, IfOk, IfErr, OnOk, IsErrOf};
+ghost use Rattle.std.specs.Prelude.{◌≡◌, ◌≢◌, ◌⊎◌, ◌↔◌, ◌+◌, ◌*◌, ◌<◌, ◌≤◌, ◌++◌, ◌∷◌, [], ◌^◌, ℕ, List, length, IsTrue, true, false, IfOk, IfErr, IfSome, IfNone, OnOk, IsErrOf};
 ghost use Rattle.site.specs.declared.outside.Dev.{Dev};
 ghost use Rattle.site.specs.declared.outside.Stop.{Stop};
+ghost use Rattle.site.specs.State.{IsQuiet};
 ghost use Rattle.site.specs.Calls.{Goes, IsUnchanged, FaultRose};
 ghost use Rattle.site.specs.Moments.{LeavesOnly};
 ghost use Rattle.record_model.specs.State.{Content};
 ghost use Rattle.log_records.specs.declared.log_record.LogRecord.{LogRecord};
-ghost use Rattle.log_records.specs.Log.{Entry};
+ghost use Rattle.log_records.specs.Log.{Entry, txn_by, is_closing};
 ghost use Rattle.log_records.specs.Spelling.{IsShort};
 ghost use Rattle.log_laws.specs.Analysis.{Unfinished, IsUnfinished};
+ghost use Rattle.log_laws.specs.UndoLaws.{next_by};
+ghost use Rattle.flash_cache.specs.Held.{IsWorn};
 ghost use Rattle.log_store.specs.Held as log_held;
 ghost use Rattle.log_store.specs.Held.{end_of};
 ghost use Rattle.page_store.specs.declared.store.PageStore.{PageStore};
@@ -18,7 +21,7 @@ ghost use Rattle.redo_undo.specs.Holding.{MayGoOn, Holds, MayGrow, blocks_to};
 ghost use Rattle.redo_undo.specs.Undoing.{IsAt, IsWanted, Undone};
 ghost use Rattle.redo_undo.specs.Rollback.{Compensates, RollsBack};
 
-use crate::laws::{beside_laws, page_laws, undo_laws};
+use crate::laws::{beside_laws, found_laws, page_laws, undo_laws};
 use crate::logging::{log_change, log_record, touch};
 use log_records::LogRecord;
 use log_store::LogStore;
@@ -47,7 +50,7 @@ struct Wanted {
 }
 
 // Whether from the kept block on there is room for one block more, besides the tail.
-fn has_room(log: &LogStore) -> bool
+pub(crate) fn has_room(log: &LogStore) -> bool
     requires limits { log.now.geometry.blocks < 2 ^ 32 }
     requires bounded { log.now.ring.hi ≤ 2 ^ 40 }
     requires kept { log.now.kept ≤ log.now.ring.hi }
@@ -84,6 +87,7 @@ fn read_update<S: Site>(log: &LogStore, site: &mut S, at: &Undoing) -> Result<Wa
     ensures same { IsTrue (S.state site.old).honest
         → IsUnchanged (S.state site.old) (S.state site.new) }
     ensures goes { Goes (S.state site.old) (S.state site.new) }
+    ensures log_reads { (S.state site.new).log_reads ≤ (S.state site.old).log_reads + 1 }
     ensures device { IsErrOf result (Stop.Device Dev.Log)
         → FaultRose Dev.Log (S.state site.old) (S.state site.new) }
     ensures stops { IfErr result (λ stop. (stop ≡ Stop.Device Dev.Log) ⊎ (stop ≡ Stop.Foreign)) }
@@ -152,20 +156,36 @@ fn compensate<S: Site>(
         table commits) }
     ensures any_moment { (records : List Entry) (table : List Content) (commits : ℕ)
         → Holds log.old pages.old (S.state site.old) records table commits
+        → IsQuiet (S.state site.old)
         → LeavesOnly (S.state site.old) (S.state site.new)
         (LeavesTable pages.old.flash.geometry table commits (S.state site.old).told) }
     ensures readable { (records : List Entry) (table : List Content) (commits : ℕ)
         → Holds log.old pages.old (S.state site.old) records table commits
         → IsErrOf result Stop.Foreign → ⊥ }
+    ensures worn_end { (records : List Entry) (table : List Content) (commits : ℕ)
+        → Holds log.old pages.old (S.state site.old) records table commits
+        → IsErrOf result (Stop.Worn Dev.Flash) → IsWorn pages.old.flash.geometry (S.state site.new).image }
+    ensures left { IsTrue (S.state site.old).honest → (S.state site.new).left ≡ (S.state site.old).left }
+    ensures stays_quiet { IsTrue (S.state site.old).honest → IsQuiet (S.state site.old)
+        → OnOk result (IsQuiet (S.state site.new)) }
+    ensures quiet { (records : List Entry) (table : List Content) (commits : ℕ)
+        → Holds log.old pages.old (S.state site.old) records table commits
+        → IsQuiet (S.state site.old)
+        → IfErr result (λ stop. ((d : Dev) → stop ≢ Stop.Device d) → IsQuiet (S.state site.new)) }
 
     // Of every site.
     ensures before { IfOk result (λ lsn. lsn < end_of log.new) }
     ensures going { OnOk result (MayGoOn log.new pages.new (S.state site.new)) }
     ensures blocks { OnOk result (blocks_to log.new ≤ blocks_to log.old + 1) }
     ensures kept { log.new.kept ≡ log.old.kept }
+    ensures log_geometry { log.new.geometry ≡ log.old.geometry }
     ensures geometry { pages.new.flash.geometry ≡ pages.old.flash.geometry }
     ensures size { pages.new.pool.size ≡ pages.old.pool.size }
+    ensures rises { OnOk result (end_of log.old ≤ end_of log.new) }
     ensures goes { Goes (S.state site.old) (S.state site.new) }
+    ensures log_reads { (S.state site.new).log_reads ≡ (S.state site.old).log_reads }
+    ensures worn_log { IsErrOf result (Stop.Worn Dev.Log) → 2 ^ 40 ≤ blocks_to log.old }
+    ensures worn_flash { IsErrOf result (Stop.Worn Dev.Flash) → pages.old.flash.ring.hi ≡ 2 ^ 40 }
     ensures device { (d : Dev) → IsErrOf result (Stop.Device d)
         → FaultRose d (S.state site.old) (S.state site.new) }
     ensures stops { IfErr result (λ stop. MayStop stop) }
@@ -204,22 +224,40 @@ pub(crate) fn undo_update<S: Site>(
         → IfOk result (Undone log.new pages.new (S.state site.new) records table commits x) }
     ensures any_moment { (records : List Entry) (table : List Content) (commits : ℕ)
         → Holds log.old pages.old (S.state site.old) records table commits
+        → IsQuiet (S.state site.old)
         → LeavesOnly (S.state site.old) (S.state site.new)
         (LeavesTable pages.old.flash.geometry table commits (S.state site.old).told) }
     ensures readable { (records : List Entry) (table : List Content) (commits : ℕ) (x : Unfinished)
         → Holds log.old pages.old (S.state site.old) records table commits
         → IsUnfinished records x → IsAt at x → 0 < x.remaining
         → IfErr result (λ stop. stop ≢ Stop.Foreign) }
+    ensures worn_end { (records : List Entry) (table : List Content) (commits : ℕ)
+        → Holds log.old pages.old (S.state site.old) records table commits
+        → IsErrOf result (Stop.Worn Dev.Flash) → IsWorn pages.old.flash.geometry (S.state site.new).image }
+    ensures left { IsTrue (S.state site.old).honest → (S.state site.new).left ≡ (S.state site.old).left }
+    ensures stays_quiet { IsTrue (S.state site.old).honest → IsQuiet (S.state site.old)
+        → OnOk result (IsQuiet (S.state site.new)) }
+    ensures quiet { (records : List Entry) (table : List Content) (commits : ℕ)
+        → Holds log.old pages.old (S.state site.old) records table commits
+        → IsQuiet (S.state site.old)
+        → IfErr result (λ stop. ((d : Dev) → stop ≢ Stop.Device d) → IsQuiet (S.state site.new)) }
 
     // Of every site.
     ensures last { IfOk result (λ now. now.last < end_of log.new) }
     ensures falls { IfOk result (λ now. now.next < at.next) }
     ensures same { IfOk result (λ now. now.txn ≡ at.txn) }
     ensures going { OnOk result (MayGoOn log.new pages.new (S.state site.new)) }
+    ensures blocks { OnOk result (blocks_to log.new ≤ blocks_to log.old + 1) }
     ensures kept { log.new.kept ≡ log.old.kept }
+    ensures log_geometry { log.new.geometry ≡ log.old.geometry }
     ensures geometry { pages.new.flash.geometry ≡ pages.old.flash.geometry }
     ensures size { pages.new.pool.size ≡ pages.old.pool.size }
+    ensures rises { OnOk result (end_of log.old ≤ end_of log.new) }
     ensures goes { Goes (S.state site.old) (S.state site.new) }
+    ensures log_reads { (S.state site.new).log_reads ≤ (S.state site.old).log_reads + 1 }
+    ensures worn_log { IsErrOf result (Stop.Worn Dev.Log) → 2 ^ 40 ≤ blocks_to log.old }
+    ensures worn_flash { IsErrOf result (Stop.Worn Dev.Flash) → pages.old.flash.ring.hi ≡ 2 ^ 40 }
+    ensures worn_room { IsErrOf result (Stop.Worn Dev.Log) → 2 ^ 40 < log.old.kept + log.old.geometry.blocks }
     ensures device { (d : Dev) → IsErrOf result (Stop.Device d)
         → FaultRose d (S.state site.old) (S.state site.new) }
     ensures stops { IfErr result (λ stop. MayStop stop) }
@@ -260,25 +298,50 @@ fn undo_updates<S: Site>(
     ensures undone { (records : List Entry) (table : List Content) (commits : ℕ) (x : Unfinished)
         → Holds log.old pages.old (S.state site.old) records table commits
         → IsUnfinished records x → IsAt first x
-        → IfOk result (Compensates log.new pages.new (S.state site.new) records table commits x.txn) }
+        → IfOk result (Compensates log.new pages.new (S.state site.new) records table commits x.txn
+        (blocks_to log.old) (S.state site.old).log_reads) }
     ensures any_moment { (records : List Entry) (table : List Content) (commits : ℕ) (x : Unfinished)
         → Holds log.old pages.old (S.state site.old) records table commits
         → IsUnfinished records x → IsAt first x
+        → IsQuiet (S.state site.old)
         → LeavesOnly (S.state site.old) (S.state site.new)
         (LeavesTable pages.old.flash.geometry table commits (S.state site.old).told) }
     ensures readable { (records : List Entry) (table : List Content) (commits : ℕ) (x : Unfinished)
         → Holds log.old pages.old (S.state site.old) records table commits
         → IsUnfinished records x → IsAt first x
         → IfErr result (λ stop. stop ≢ Stop.Foreign) }
+    ensures worn_end { (records : List Entry) (table : List Content) (commits : ℕ) (x : Unfinished)
+        → Holds log.old pages.old (S.state site.old) records table commits
+        → IsUnfinished records x → IsAt first x
+        → IsErrOf result (Stop.Worn Dev.Flash) → IsWorn pages.old.flash.geometry (S.state site.new).image }
+    ensures left { IsTrue (S.state site.old).honest → (S.state site.new).left ≡ (S.state site.old).left }
+    ensures stays_quiet { IsTrue (S.state site.old).honest → IsQuiet (S.state site.old)
+        → OnOk result (IsQuiet (S.state site.new)) }
+    ensures quiet { (records : List Entry) (table : List Content) (commits : ℕ) (x : Unfinished)
+        → Holds log.old pages.old (S.state site.old) records table commits
+        → IsUnfinished records x → IsAt first x
+        → IsQuiet (S.state site.old)
+        → IfErr result (λ stop. ((d : Dev) → stop ≢ Stop.Device d) → IsQuiet (S.state site.new)) }
+    ensures log_reads { (records : List Entry) (table : List Content) (commits : ℕ) (x : Unfinished)
+        → Holds log.old pages.old (S.state site.old) records table commits
+        → IsUnfinished records x → IsAt first x
+        → (S.state site.new).log_reads ≤ (S.state site.old).log_reads + x.remaining }
+    ensures worn_log { (records : List Entry) (table : List Content) (commits : ℕ) (x : Unfinished)
+        → Holds log.old pages.old (S.state site.old) records table commits
+        → IsUnfinished records x → IsAt first x
+        → IsErrOf result (Stop.Worn Dev.Log) → 2 ^ 40 ≤ blocks_to log.old + x.remaining }
 
     // Of every site.
     ensures none { IfOk result (λ now. now.next ≡ now.txn) }
     ensures same { IfOk result (λ now. now.txn ≡ first.txn) }
     ensures going { OnOk result (MayGoOn log.new pages.new (S.state site.new)) }
     ensures kept { log.new.kept ≡ log.old.kept }
+    ensures log_geometry { log.new.geometry ≡ log.old.geometry }
     ensures geometry { pages.new.flash.geometry ≡ pages.old.flash.geometry }
     ensures size { pages.new.pool.size ≡ pages.old.pool.size }
+    ensures rises { OnOk result (end_of log.old ≤ end_of log.new) }
     ensures goes { Goes (S.state site.old) (S.state site.new) }
+    ensures worn_room { IsErrOf result (Stop.Worn Dev.Log) → 2 ^ 40 < log.old.kept + log.old.geometry.blocks }
     ensures device { (d : Dev) → IsErrOf result (Stop.Device d)
         → FaultRose d (S.state site.old) (S.state site.new) }
     ensures stops { IfErr result (λ stop. MayStop stop) }
@@ -295,10 +358,74 @@ fn undo_updates<S: Site>(
     Ok(at)
 }
 
-/// Undoes a transaction as a whole: a CLR for each of its Updates, the last one first, and its End. `txn` is the LSN of its Begin and
-/// `last` that of its last record, which is its Begin or an Update: none of its Updates was compensated before. Undo reads no record
-/// outside of the kept log, and follows a transaction to falling LSNs only. Where what it reads is no Update of the transaction, or there
-/// is no room for what it logs, it answers Foreign.
+// The transaction of its last record at an LSN, and where undoing it goes on. A record that closes it says none.
+fn goes_on(rec: &LogRecord, lsn: u64) -> Option<(u64, u64)>
+    ensures open { IfSome result (λ at. (is_closing rec.now ≡ false) × (at.0 ≡ txn_by lsn rec.now)
+        × (at.1 ≡ next_by (txn_by lsn rec.now) lsn rec.now)) }
+    ensures closed { IfNone result (is_closing rec.now ≡ true) }
+{
+    match rec {
+        LogRecord::Begin => Some((lsn, lsn)),
+        LogRecord::Update { txn, .. } => Some((*txn, lsn)),
+        LogRecord::Clr { txn, undo_next, .. } => Some((*txn, *undo_next)),
+        _ => None,
+    }
+}
+
+// Reads the last record of a transaction, which says where undoing it goes on: with an Update itself, behind a CLR with the record that
+// this names, and with a Begin nowhere. The record is of the transaction, and what a CLR names stands before it.
+fn read_last<S: Site>(log: &LogStore, site: &mut S, txn: u64, last: u64) -> Result<Undoing, Stop>
+    requires going { log_held.MayGoOn log.now (S.state site.old) }
+    requires last { last < end_of log.now }
+
+    // Of an honest site on which log and pages hold together, and of an unfinished transaction.
+    ensures at { (pages : PageStore) (records : List Entry) (table : List Content) (commits : ℕ) (x : Unfinished)
+        → log.now.geometry ≡ pages.flash.geometry
+        → Holds log.now pages (S.state site.old) records table commits
+        → IsUnfinished records x → x.txn ≡ txn → x.last ≡ last
+        → IfOk result (λ at. IsAt at x) }
+    ensures readable { (pages : PageStore) (records : List Entry) (table : List Content) (commits : ℕ) (x : Unfinished)
+        → log.now.geometry ≡ pages.flash.geometry
+        → Holds log.now pages (S.state site.old) records table commits
+        → IsUnfinished records x → x.txn ≡ txn → x.last ≡ last
+        → IfErr result (λ stop. stop ≢ Stop.Foreign) }
+
+    // Of every site.
+    ensures own { IfOk result (λ at. (at.txn ≡ txn) × (at.last ≡ last)) }
+    ensures falls { IfOk result (λ at. at.next ≤ last) }
+    ensures same { IsTrue (S.state site.old).honest
+        → IsUnchanged (S.state site.old) (S.state site.new) }
+    ensures goes { Goes (S.state site.old) (S.state site.new) }
+    ensures log_reads { (S.state site.new).log_reads ≤ (S.state site.old).log_reads + 1 }
+    ensures device { IsErrOf result (Stop.Device Dev.Log)
+        → FaultRose Dev.Log (S.state site.old) (S.state site.new) }
+    ensures stops { IfErr result (λ stop. (stop ≡ Stop.Device Dev.Log) ⊎ (stop ≡ Stop.Foreign)) }
+{
+    page_laws();
+    undo_laws();
+    found_laws();
+    if last < 512 * log.kept() {
+        return Err(Stop::Foreign);
+    }
+    let rec = match log.read_at(site, last) {
+        Ok(rec) => rec,
+        Err(stop) => return Err(stop),
+    };
+    let Some((own, next)) = goes_on(&rec, last) else {
+        return Err(Stop::Foreign);
+    };
+    if own != txn {
+        return Err(Stop::Foreign);
+    }
+    if next > last {
+        return Err(Stop::Foreign);
+    }
+    Ok(Undoing { txn, last, next })
+}
+
+/// Undoes a transaction as a whole: a CLR for each of its Updates that has none, the last one first, and its End. `txn` is the LSN of its
+/// Begin and `last` that of its last record. Undo reads no record outside of the kept log, and follows a transaction to falling LSNs only.
+/// Where what it reads is no such record of the transaction, or there is no room for what it logs, it answers Foreign.
 pub fn undo_one<S: Site>(
     site: &mut S,
     log: &mut LogStore,
@@ -312,36 +439,65 @@ pub fn undo_one<S: Site>(
     // Of an honest site on which log and pages hold together, and of an unfinished transaction.
     ensures undone { (records : List Entry) (table : List Content) (commits : ℕ) (x : Unfinished)
         → Holds log.old pages.old (S.state site.old) records table commits
-        → IsUnfinished records x → x.txn ≡ txn → x.last ≡ last → x.next ≡ last
+        → IsUnfinished records x → x.txn ≡ txn → x.last ≡ last
         → OnOk result (RollsBack log.new pages.new (S.state site.new) records table commits txn) }
     ensures any_moment { (records : List Entry) (table : List Content) (commits : ℕ) (x : Unfinished)
         → Holds log.old pages.old (S.state site.old) records table commits
-        → IsUnfinished records x → x.txn ≡ txn → x.last ≡ last → x.next ≡ last
+        → IsUnfinished records x → x.txn ≡ txn → x.last ≡ last
+        → IsQuiet (S.state site.old)
         → LeavesOnly (S.state site.old) (S.state site.new)
         (LeavesTable pages.old.flash.geometry table commits (S.state site.old).told) }
     ensures readable { (records : List Entry) (table : List Content) (commits : ℕ) (x : Unfinished)
         → Holds log.old pages.old (S.state site.old) records table commits
-        → IsUnfinished records x → x.txn ≡ txn → x.last ≡ last → x.next ≡ last
+        → IsUnfinished records x → x.txn ≡ txn → x.last ≡ last
         → IfErr result (λ stop. stop ≢ Stop.Foreign) }
+    ensures worn_end { (records : List Entry) (table : List Content) (commits : ℕ) (x : Unfinished)
+        → Holds log.old pages.old (S.state site.old) records table commits
+        → IsUnfinished records x → x.txn ≡ txn → x.last ≡ last
+        → IsErrOf result (Stop.Worn Dev.Flash) → IsWorn pages.old.flash.geometry (S.state site.new).image }
+
+    ensures blocks { (records : List Entry) (table : List Content) (commits : ℕ) (x : Unfinished)
+        → Holds log.old pages.old (S.state site.old) records table commits
+        → IsUnfinished records x → x.txn ≡ txn → x.last ≡ last
+        → OnOk result (blocks_to log.new ≤ blocks_to log.old + (x.remaining + 1)) }
+    ensures left { IsTrue (S.state site.old).honest → (S.state site.new).left ≡ (S.state site.old).left }
+    ensures stays_quiet { IsTrue (S.state site.old).honest → IsQuiet (S.state site.old)
+        → OnOk result (IsQuiet (S.state site.new)) }
+    ensures quiet { (records : List Entry) (table : List Content) (commits : ℕ) (x : Unfinished)
+        → Holds log.old pages.old (S.state site.old) records table commits
+        → IsUnfinished records x → x.txn ≡ txn → x.last ≡ last
+        → IsQuiet (S.state site.old)
+        → IfErr result (λ stop. ((d : Dev) → stop ≢ Stop.Device d) → IsQuiet (S.state site.new)) }
+    ensures log_reads { (records : List Entry) (table : List Content) (commits : ℕ) (x : Unfinished)
+        → Holds log.old pages.old (S.state site.old) records table commits
+        → IsUnfinished records x → x.txn ≡ txn → x.last ≡ last
+        → (S.state site.new).log_reads ≤ (S.state site.old).log_reads + (x.remaining + 1) }
+    ensures worn_log { (records : List Entry) (table : List Content) (commits : ℕ) (x : Unfinished)
+        → Holds log.old pages.old (S.state site.old) records table commits
+        → IsUnfinished records x → x.txn ≡ txn → x.last ≡ last
+        → IsErrOf result (Stop.Worn Dev.Log) → 2 ^ 40 ≤ blocks_to log.old + (x.remaining + 1) }
 
     // Of every site.
     ensures going { OnOk result (MayGoOn log.new pages.new (S.state site.new)) }
     ensures kept { log.new.kept ≡ log.old.kept }
+    ensures log_geometry { log.new.geometry ≡ log.old.geometry }
     ensures geometry { pages.new.flash.geometry ≡ pages.old.flash.geometry }
     ensures size { pages.new.pool.size ≡ pages.old.pool.size }
+    ensures rises { OnOk result (end_of log.old ≤ end_of log.new) }
     ensures goes { Goes (S.state site.old) (S.state site.new) }
 
     // When each answer comes.
+    ensures worn_room { IsErrOf result (Stop.Worn Dev.Log) → 2 ^ 40 < log.old.kept + log.old.geometry.blocks }
     ensures device { (d : Dev) → IsErrOf result (Stop.Device d)
         → FaultRose d (S.state site.old) (S.state site.new) }
     ensures stops { IfErr result (λ stop. MayStop stop) }
 {
     page_laws();
     undo_laws();
-    let first = Undoing {
-        txn,
-        last,
-        next: last,
+    beside_laws();
+    let first = match read_last(log, site, txn, last) {
+        Ok(first) => first,
+        Err(stop) => return Err(stop),
     };
     let _undone = match undo_updates(site, log, pages, first) {
         Ok(at) => at,

@@ -45,3 +45,6 @@ returns-clause-holds g c records table commits h may =
     c.requires.on_page.1 c.requires.on_page.2 (omega (arith, is, c.front_lsn.ensures, c.if-front_lsn-lsn.false)) (c.change_front.ensures.redoes new.image c.requires.on_page.0 c.requires.on_page.1)
     (c.change_front.ensures.others new.image) c.in-Ok.ensures.rises.0 c.in-Ok.ensures.rises.1
     (other_pages k log' pages pages' new (records ++ record { lsn = lsn; rec = rec } ∷ []) table commits (c.change_front.ensures.fit new holds.ready.pages) (c.change_front.ensures.ahead log' new.image holds.ahead c.in-Ok.ensures.forced) holds))
+
+pub returns-then-front_lsn-lsn-clause-quiet : goal.returns-then-front_lsn-lsn-clause-quiet
+returns-then-front_lsn-lsn-clause-quiet g c records table commits h quiet other = c.in-Ok.ensures.stays_quiet h.log_holds.ready.blocks.honest quiet

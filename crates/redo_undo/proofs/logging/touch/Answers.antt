@@ -1,16 +1,13 @@
 use Rattle.std.proofs.Common.{Bool, sym, subst, ◌∙◌}
 use Rattle.site.specs.declared.geometry.Geometry.{Geometry}
-use Rattle.site.specs.Laws.{holds_now}
-use Rattle.page_store.specs.Held.{current}
-use Rattle.page_store.specs.Ahead.{forces, pushed_by_touch, LeavesSealed}
-use Rattle.page_store.specs.Leaves.{LeavesPages, LeavesRings}
+use Rattle.page_store.specs.Ahead.{forces, pushed_by_touch}
 use Rattle.log_store.specs.LogList.{LogList}
 use Rattle.redo_undo.specs.Holding.{HoldsIn, Holds}
-use Rattle.redo_undo.proofs.Touched.{forced_tail, leaves_table, touched_holds, ok_four}
+use Rattle.redo_undo.proofs.Touched.{forced_tail, leaves_table, touched_holds, ok_seven}
 use Rattle.redo_undo.proofs.logging.touch.Goals as goal
 
 pub returns-clause-any_moment : goal.returns-clause-any_moment
-returns-clause-any_moment g c records table commits h =
+returns-clause-any_moment g c records table commits h quiet =
     let site = g.S.Site.state c.args.site.now in
     let log = c.args.log.now in
     let pages = c.args.pages.now in
@@ -18,7 +15,7 @@ returns-clause-any_moment g c records table commits h =
     let list : LogList = record { first = 0; blocks = h.log_holds.blocks; tail = h.log_holds.tail } in
     leaves_table c.log_laws.ensures c.page_laws.ensures log pages site records table commits h c.requires.going.pages_going.own (forces log (pushed_by_touch pages c.args.page))
     (forced_tail log (pushed_by_touch pages c.args.page)) (g.S.Site.state c.touch.new.site)
-    (c.touch.ensures.any_moment list ready) (c.touch.ensures.ahead_moment list ready h.log_holds.ahead) (c.touch.ensures.rings_moment list ready h.log_holds.rings)
+    (c.touch.ensures.any_moment list ready quiet) (c.touch.ensures.ahead_moment list ready quiet h.log_holds.ahead) (c.touch.ensures.rings_moment list ready quiet h.log_holds.rings)
 
 pub returns-clause-holds : goal.returns-clause-holds
 returns-clause-holds g c records table commits h =
@@ -30,13 +27,18 @@ returns-clause-holds g c records table commits h =
     let list : LogList = record { first = 0; blocks = h.log_holds.blocks; tail = h.log_holds.tail } in
     let sealing : Bool = forces log (pushed_by_touch pages c.args.page) in
     let k = pages.flash.geometry in
-    ok_four c.touch.result _ _ _ _ (Holds c.touch.new.log c.touch.new.self new records table commits)
-    (λ ready' kept are_ahead end. subst (λ (x : Geometry). HoldsIn x c.touch.new.log c.touch.new.self new records table commits) (sym c.touch.ensures.geometry)
+    ok_seven c.touch.result _ _ _ _ _ _ _ (Holds c.touch.new.log c.touch.new.self new records table commits)
+    (λ ready' kept are_ahead end are_sealed rings leaves. subst (λ (x : Geometry). HoldsIn x c.touch.new.log c.touch.new.self new records table commits) (sym c.touch.ensures.geometry)
     (touched_holds c.log_laws.ensures c.page_laws.ensures log pages site records table commits h c.touch.new.log c.touch.new.self new (c.touch.ensures.log_geometry ∙ c.requires.going.sizes) kept are_ahead end
-    (holds_now site new (LeavesSealed k) (c.touch.ensures.ahead_moment list ready h.log_holds.ahead)) (holds_now site new (LeavesRings k) (c.touch.ensures.rings_moment list ready h.log_holds.rings)) c.requires.going.log_going.high
-    sealing (forced_tail log (pushed_by_touch pages c.args.page)) ready'
-    (holds_now site new (LeavesPages k (current pages site.image) sealing list site) (c.touch.ensures.any_moment list ready))))
+    are_sealed rings c.requires.going.log_going.high sealing (forced_tail log (pushed_by_touch pages c.args.page)) ready' leaves))
     (c.touch.ensures.ready list ready) (c.touch.ensures.current list ready) (c.touch.ensures.ahead list ready h.log_holds.ahead) c.touch.ensures.end
+    (c.touch.ensures.sealed list ready h.log_holds.ahead) (c.touch.ensures.rings list ready h.log_holds.rings) (c.touch.ensures.leaves list ready)
 
 pub returns-clause-readable : goal.returns-clause-readable
 returns-clause-readable g c records table commits h is = c.touch.ensures.foreign is (record { first = 0; blocks = h.log_holds.blocks; tail = h.log_holds.tail }) h.log_holds.ready
+
+pub returns-clause-quiet : goal.returns-clause-quiet
+returns-clause-quiet g c records table commits h quiet = c.touch.ensures.quiet (record { first = 0; blocks = h.log_holds.blocks; tail = h.log_holds.tail }) h.log_holds.ready quiet
+
+pub returns-clause-worn_end : goal.returns-clause-worn_end
+returns-clause-worn_end g c records table commits h = c.touch.ensures.worn_end (record { first = 0; blocks = h.log_holds.blocks; tail = h.log_holds.tail }) h.log_holds.ready

@@ -1,5 +1,7 @@
-use Rattle.std.proofs.Common.{◌≡◌, ◌+◌, ◌*◌, ◌++◌, ◌∷◌, [], ℕ, Err, ap, refl, arith}
-use Rattle.site.specs.declared.outside.Stop.TheVariants.{Foreign}
+use Rattle.std.proofs.Common.{◌≡◌, ◌∙◌, ◌+◌, ◌*◌, ◌++◌, ◌∷◌, [], ℕ, Err, ap, refl, arith}
+use Rattle.site.specs.declared.outside.Dev.TheVariants.{Log, Flash}
+use Rattle.site.specs.Laws.{stays_honest}
+use Rattle.site.specs.declared.outside.Stop.TheVariants.{Foreign, Worn}
 use Rattle.log_records.specs.declared.log_record.LogRecord.TheVariants.{Clr}
 use Rattle.log_records.specs.Log.{Entry}
 use Rattle.redo_undo.specs.Holding.{Holds, MayGrow}
@@ -9,9 +11,9 @@ use Rattle.redo_undo.proofs.Appended.{if_ok_one}
 use Rattle.redo_undo.proofs.undo.compensate.Goals as goal
 
 pub returns-in-Ok-clause-any_moment : goal.returns-in-Ok-clause-any_moment
-returns-in-Ok-clause-any_moment g c records table commits h =
+returns-in-Ok-clause-any_moment g c records table commits h quiet =
     and_then c.args.pages.now.flash.geometry c.touch.new.pages.flash.geometry (g.S.Site.state c.args.site.now) (g.S.Site.state c.touch.new.site) (g.S.Site.state c.log_change.new.site) table commits c.touch.ensures.geometry
-    (c.touch.ensures.any_moment records table commits h) (c.log_change.ensures.any_moment records table commits (c.in-Ok.ensures.holds records table commits h))
+    (c.touch.ensures.any_moment records table commits h quiet) (c.log_change.ensures.any_moment records table commits (c.in-Ok.ensures.holds records table commits h) (c.in-Ok.ensures.stays_quiet h.log_holds.ready.blocks.honest quiet))
 
 pub log_change-requires-clause-on_page : goal.log_change-requires-clause-on_page
 log_change-requires-clause-on_page g c = (32 * c.args.wanted.page + c.args.wanted.slot, refl, let front = c.in-Ok.ensures.front in let form = c.requires.form.0 in omega (arith, front, form))
@@ -37,3 +39,16 @@ returns-in-Ok-clause-holds g c records table commits h =
     (λ lsn. MayGrow log pages site.image records (entry lsn) → Holds c.log_change.new.log c.log_change.new.pages new (records ++ entry lsn ∷ []) table commits)
     (λ lsn grown may. grown (may_moved c.page_laws.ensures log c.touch.new.log pages c.touch.new.pages site.image mid.image records (entry lsn) refl c.touch.ensures.geometry c.in-Ok.ensures.blocks may))
     (c.log_change.ensures.holds records table commits (c.in-Ok.ensures.holds records table commits h))
+
+pub returns-in-Ok-clause-quiet : goal.returns-in-Ok-clause-quiet
+returns-in-Ok-clause-quiet g c records table commits h quiet = c.log_change.ensures.quiet records table commits (c.in-Ok.ensures.holds records table commits h) (c.in-Ok.ensures.stays_quiet h.log_holds.ready.blocks.honest quiet)
+
+pub returns-in-Ok-clause-left : goal.returns-in-Ok-clause-left
+returns-in-Ok-clause-left g c honest =
+    c.log_change.ensures.left (stays_honest (g.S.Site.state c.args.site.now) (g.S.Site.state c.touch.new.site) c.touch.ensures.goes honest) ∙ c.touch.ensures.left honest
+
+pub returns-in-Ok-clause-log_reads : goal.returns-in-Ok-clause-log_reads
+returns-in-Ok-clause-log_reads g c = c.log_change.ensures.reads Log ∙ c.touch.ensures.log_reads
+
+pub returns-in-Err-clause-worn_end : goal.returns-in-Err-clause-worn_end
+returns-in-Err-clause-worn_end g c records table commits h worn = let same : c.in-Err.stop ≡ Worn Flash = cc in c.in-Err.ensures.worn_end records table commits h (ap Err same)

@@ -1,63 +1,307 @@
-use Rattle.std.proofs.Common.{◌++◌, ℕ, true≢false, refl, sym, ap, subst, ◌∙◌, arith}
+use Rattle.std.proofs.Common.{Err, ◌≡◌, ◌+◌, ◌++◌, ◌∷◌, [], ℕ, length, true≢false, refl, sym, ap, subst, ◌∙◌, arith}
 use Rattle.site.specs.declared.geometry.Geometry.{Geometry}
-use Rattle.redo_undo.specs.Undoing.{IsAt}
+use Rattle.site.specs.declared.outside.Dev.TheVariants.{Log, Flash}
+use Rattle.site.specs.declared.outside.Stop.TheVariants.{Worn}
+use Rattle.site.specs.Laws.{stays_honest}
 use Rattle.log_records.specs.declared.log_record.LogRecord.TheVariants.{End}
-use Rattle.redo_undo.specs.Holding.{MayGrow}
+use Rattle.log_records.specs.Unfinished.{left_open, owed}
+use Rattle.redo_undo.specs.Holding.{MayGrow, blocks_to}
 use Rattle.redo_undo.specs.Rollback.{AreClrsOf}
-use Rattle.redo_undo.proofs.Sames.{and_then}
-use Rattle.redo_undo.proofs.Rollbacks.{none_remains, room_for_end, may_end, rolls_back}
+use Rattle.redo_undo.proofs.Sames.{and_then, holds_still, going_still, leaves_still}
+use Rattle.redo_undo.proofs.Rollbacks.{none_remains, room_for_end, may_end, owes_all, rolls_back}
 use Rattle.redo_undo.proofs.undo.undo_one.Goals as goal
 
 pub returns-in-Err-clause-any_moment : goal.returns-in-Err-clause-any_moment
-returns-in-Err-clause-any_moment g c records table commits x h unfinished own last next =
-    c.undo_updates.ensures.any_moment records table commits x h unfinished (record { txn = sym own; last = sym last; next = sym next })
+returns-in-Err-clause-any_moment g c records table commits x h unfinished own last quiet =
+    leaves_still c.args.log.now c.args.pages.now (g.S.Site.state c.args.site.now) (g.S.Site.state c.read_last.new.site) records table commits c.requires.going.sizes (c.read_last.ensures.same h.log_holds.ready.blocks.honest) h quiet
 
 pub returns-in-Err-clause-readable : goal.returns-in-Err-clause-readable
-returns-in-Err-clause-readable g c records table commits x h unfinished own last next =
-    c.in-Err.ensures.readable records table commits x h unfinished (record { txn = sym own; last = sym last; next = sym next })
+returns-in-Err-clause-readable g c records table commits x h unfinished own last =
+    c.in-Err.ensures.readable c.args.pages.now records table commits x c.requires.going.sizes h unfinished own last
+
+pub undo_updates-requires-clause-going : goal.undo_updates-requires-clause-going
+undo_updates-requires-clause-going g c = going_still c.args.log.now c.args.pages.now (g.S.Site.state c.args.site.now) (g.S.Site.state c.read_last.new.site) c.read_last.ensures.goes c.requires.going
+
+pub undo_updates-requires-clause-last : goal.undo_updates-requires-clause-last
+undo_updates-requires-clause-last g c = let same = c.in-Ok.ensures.own.1 in let before = c.requires.last in omega (arith, same, before)
+
+pub returns-in-Err-undo_updates-clause-any_moment : goal.returns-in-Err-undo_updates-clause-any_moment
+returns-in-Err-undo_updates-clause-any_moment g c records table commits x h unfinished own last quiet =
+    let log = c.args.log.now in
+    let pages = c.args.pages.now in
+    let old = g.S.Site.state c.args.site.now in
+    let mid = g.S.Site.state c.read_last.new.site in
+    let same = c.read_last.ensures.same h.log_holds.ready.blocks.honest in
+    let still = holds_still c.beside_laws.ensures.fits log pages old mid records table commits c.read_last.ensures.goes same h in
+    let at = c.in-Ok.ensures.at pages records table commits x c.requires.going.sizes h unfinished own last in
+    and_then pages.flash.geometry pages.flash.geometry old mid (g.S.Site.state c.undo_updates.new.site) table commits refl
+    (leaves_still log pages old mid records table commits c.requires.going.sizes same h quiet) (c.undo_updates.ensures.any_moment records table commits x still unfinished at (same.loose ∙ quiet))
 
 pub returns-then-not-has_room-clause-any_moment : goal.returns-then-not-has_room-clause-any_moment
-returns-then-not-has_room-clause-any_moment g c records table commits x h unfinished own last next =
-    c.undo_updates.ensures.any_moment records table commits x h unfinished (record { txn = sym own; last = sym last; next = sym next })
+returns-then-not-has_room-clause-any_moment g c records table commits x h unfinished own last quiet =
+    let log = c.args.log.now in
+    let pages = c.args.pages.now in
+    let old = g.S.Site.state c.args.site.now in
+    let mid = g.S.Site.state c.read_last.new.site in
+    let same = c.read_last.ensures.same h.log_holds.ready.blocks.honest in
+    let still = holds_still c.beside_laws.ensures.fits log pages old mid records table commits c.read_last.ensures.goes same h in
+    let at = c.in-Ok.ensures.at pages records table commits x c.requires.going.sizes h unfinished own last in
+    and_then pages.flash.geometry pages.flash.geometry old mid (g.S.Site.state c.undo_updates.new.site) table commits refl
+    (leaves_still log pages old mid records table commits c.requires.going.sizes same h quiet) (c.undo_updates.ensures.any_moment records table commits x still unfinished at (same.loose ∙ quiet))
+
+pub returns-in-Err-undo_updates-clause-readable : goal.returns-in-Err-undo_updates-clause-readable
+returns-in-Err-undo_updates-clause-readable g c records table commits x h unfinished own last =
+    let log = c.args.log.now in
+    let pages = c.args.pages.now in
+    let old = g.S.Site.state c.args.site.now in
+    let mid = g.S.Site.state c.read_last.new.site in
+    let same = c.read_last.ensures.same h.log_holds.ready.blocks.honest in
+    let still = holds_still c.beside_laws.ensures.fits log pages old mid records table commits c.read_last.ensures.goes same h in
+    let at = c.in-Ok.ensures.at pages records table commits x c.requires.going.sizes h unfinished own last in
+    c.in-Err-undo_updates.ensures.readable records table commits x still unfinished at
 
 pub returns-then-not-has_room-clause-readable : goal.returns-then-not-has_room-clause-readable
-returns-then-not-has_room-clause-readable g c records table commits x h unfinished own last next = λ same.
-    let log = c.undo_updates.new.log in
-    let pages = c.undo_updates.new.pages in
+returns-then-not-has_room-clause-readable g c records table commits x h unfinished own last = λ foreign.
+    let log = c.args.log.now in
+    let pages = c.args.pages.now in
+    let old = g.S.Site.state c.args.site.now in
+    let mid = g.S.Site.state c.read_last.new.site in
     let site = g.S.Site.state c.undo_updates.new.site in
-    let done = c.in-Ok.ensures.undone records table commits x h unfinished (record { txn = sym own; last = sym last; next = sym next }) in
-    let none = none_remains c.page_laws.ensures c.undo_laws.ensures log pages site records table commits x.txn c.in-Ok.at done c.in-Ok.ensures.none in
-    let room = room_for_end c.page_laws.ensures c.undo_laws.ensures log pages site records table commits x.txn c.in-Ok.at done none in
-    let all = ap (λ (k : Geometry). k.blocks) c.in-Ok.ensures.going.sizes in
-    let many = c.in-Ok.ensures.going.log_going.limits.blocks in
+    let same = c.read_last.ensures.same h.log_holds.ready.blocks.honest in
+    let still = holds_still c.beside_laws.ensures.fits log pages old mid records table commits c.read_last.ensures.goes same h in
+    let at = c.in-Ok.ensures.at pages records table commits x c.requires.going.sizes h unfinished own last in
+    let done = c.in-Ok-undo_updates.ensures.undone records table commits x still unfinished at in
+    let none = none_remains c.page_laws.ensures c.undo_laws.ensures c.undo_updates.new.log c.undo_updates.new.pages site records table commits x.txn (blocks_to log) mid.log_reads c.in-Ok-undo_updates.at done c.in-Ok-undo_updates.ensures.none in
+    let room = room_for_end c.page_laws.ensures c.undo_laws.ensures c.undo_updates.new.log c.undo_updates.new.pages site records table commits x.txn (blocks_to log) mid.log_reads c.in-Ok-undo_updates.at done none in
+    let all = ap (λ (k : Geometry). k.blocks) c.in-Ok-undo_updates.ensures.going.sizes in
+    let many = c.in-Ok-undo_updates.ensures.going.log_going.limits.blocks in
     true≢false (sym (c.has_room.ensures.1 (omega (arith, room, all, many))) ∙ c.if-not-has_room.true)
 
 pub returns-in-Ok-log_record-clause-any_moment : goal.returns-in-Ok-log_record-clause-any_moment
-returns-in-Ok-log_record-clause-any_moment g c records table commits x h unfinished own last next =
-    let at : IsAt (record { txn = c.args.txn; last = c.args.last; next = c.args.last }) x = record { txn = sym own; last = sym last; next = sym next } in
-    let done = c.in-Ok.ensures.undone records table commits x h unfinished at in
-    and_then c.args.pages.now.flash.geometry c.undo_updates.new.pages.flash.geometry (g.S.Site.state c.args.site.now) (g.S.Site.state c.undo_updates.new.site) (g.S.Site.state c.log_record.new.site) table commits c.undo_updates.ensures.geometry
-    (c.undo_updates.ensures.any_moment records table commits x h unfinished at) (c.log_record.ensures.any_moment c.undo_updates.new.pages (records ++ done.clrs) table commits c.in-Ok.ensures.going done.holds)
+returns-in-Ok-log_record-clause-any_moment g c records table commits x h unfinished own last quiet =
+    let log = c.args.log.now in
+    let pages = c.args.pages.now in
+    let old = g.S.Site.state c.args.site.now in
+    let mid = g.S.Site.state c.read_last.new.site in
+    let site = g.S.Site.state c.undo_updates.new.site in
+    let same = c.read_last.ensures.same h.log_holds.ready.blocks.honest in
+    let still = holds_still c.beside_laws.ensures.fits log pages old mid records table commits c.read_last.ensures.goes same h in
+    let at = c.in-Ok.ensures.at pages records table commits x c.requires.going.sizes h unfinished own last in
+    let done = c.in-Ok-undo_updates.ensures.undone records table commits x still unfinished at in
+    and_then pages.flash.geometry c.undo_updates.new.pages.flash.geometry old site (g.S.Site.state c.log_record.new.site) table commits c.undo_updates.ensures.geometry
+    (and_then pages.flash.geometry pages.flash.geometry old mid site table commits refl
+    (leaves_still log pages old mid records table commits c.requires.going.sizes same h quiet) (c.undo_updates.ensures.any_moment records table commits x still unfinished at (same.loose ∙ quiet)))
+    (c.log_record.ensures.any_moment c.undo_updates.new.pages (records ++ done.clrs) table commits c.in-Ok-undo_updates.ensures.going done.holds (c.in-Ok-undo_updates.ensures.stays_quiet (stays_honest old mid c.read_last.ensures.goes h.log_holds.ready.blocks.honest) (same.loose ∙ quiet)))
 
 pub returns-in-Err-log_record-clause-any_moment : goal.returns-in-Err-log_record-clause-any_moment
-returns-in-Err-log_record-clause-any_moment g c records table commits x h unfinished own last next =
-    let at : IsAt (record { txn = c.args.txn; last = c.args.last; next = c.args.last }) x = record { txn = sym own; last = sym last; next = sym next } in
-    let done = c.in-Ok.ensures.undone records table commits x h unfinished at in
-    and_then c.args.pages.now.flash.geometry c.undo_updates.new.pages.flash.geometry (g.S.Site.state c.args.site.now) (g.S.Site.state c.undo_updates.new.site) (g.S.Site.state c.log_record.new.site) table commits c.undo_updates.ensures.geometry
-    (c.undo_updates.ensures.any_moment records table commits x h unfinished at) (c.log_record.ensures.any_moment c.undo_updates.new.pages (records ++ done.clrs) table commits c.in-Ok.ensures.going done.holds)
+returns-in-Err-log_record-clause-any_moment g c records table commits x h unfinished own last quiet =
+    let log = c.args.log.now in
+    let pages = c.args.pages.now in
+    let old = g.S.Site.state c.args.site.now in
+    let mid = g.S.Site.state c.read_last.new.site in
+    let site = g.S.Site.state c.undo_updates.new.site in
+    let same = c.read_last.ensures.same h.log_holds.ready.blocks.honest in
+    let still = holds_still c.beside_laws.ensures.fits log pages old mid records table commits c.read_last.ensures.goes same h in
+    let at = c.in-Ok.ensures.at pages records table commits x c.requires.going.sizes h unfinished own last in
+    let done = c.in-Ok-undo_updates.ensures.undone records table commits x still unfinished at in
+    and_then pages.flash.geometry c.undo_updates.new.pages.flash.geometry old site (g.S.Site.state c.log_record.new.site) table commits c.undo_updates.ensures.geometry
+    (and_then pages.flash.geometry pages.flash.geometry old mid site table commits refl
+    (leaves_still log pages old mid records table commits c.requires.going.sizes same h quiet) (c.undo_updates.ensures.any_moment records table commits x still unfinished at (same.loose ∙ quiet)))
+    (c.log_record.ensures.any_moment c.undo_updates.new.pages (records ++ done.clrs) table commits c.in-Ok-undo_updates.ensures.going done.holds (c.in-Ok-undo_updates.ensures.stays_quiet (stays_honest old mid c.read_last.ensures.goes h.log_holds.ready.blocks.honest) (same.loose ∙ quiet)))
 
 pub returns-in-Ok-log_record-clause-undone : goal.returns-in-Ok-log_record-clause-undone
-returns-in-Ok-log_record-clause-undone g c records table commits x h unfinished own last next =
-    let log = c.undo_updates.new.log in
-    let pages = c.undo_updates.new.pages in
+returns-in-Ok-log_record-clause-undone g c records table commits x h unfinished own last =
+    let old = g.S.Site.state c.args.site.now in
+    let mid = g.S.Site.state c.read_last.new.site in
     let site = g.S.Site.state c.undo_updates.new.site in
     let new = g.S.Site.state c.log_record.new.site in
-    let at : IsAt (record { txn = c.args.txn; last = c.args.last; next = c.args.last }) x = record { txn = sym own; last = sym last; next = sym next } in
-    let done = c.in-Ok.ensures.undone records table commits x h unfinished at in
-    let none = none_remains c.page_laws.ensures c.undo_laws.ensures log pages site records table commits x.txn c.in-Ok.at done c.in-Ok.ensures.none in
+    let start = blocks_to c.args.log.now in
+    let log = c.undo_updates.new.log in
+    let pages = c.undo_updates.new.pages in
+    let same = c.read_last.ensures.same h.log_holds.ready.blocks.honest in
+    let still = holds_still c.beside_laws.ensures.fits c.args.log.now c.args.pages.now old mid records table commits c.read_last.ensures.goes same h in
+    let at = c.in-Ok.ensures.at c.args.pages.now records table commits x c.requires.going.sizes h unfinished own last in
+    let done = c.in-Ok-undo_updates.ensures.undone records table commits x still unfinished at in
+    let none = none_remains c.page_laws.ensures c.undo_laws.ensures log pages site records table commits x.txn start mid.log_reads c.in-Ok-undo_updates.at done c.in-Ok-undo_updates.ensures.none in
     let lsn = c.in-Ok-log_record.field-0 in
     let may : MayGrow log pages site.image (records ++ done.clrs) (record { lsn = lsn; rec = End c.args.txn }) =
     subst (λ (t : ℕ). MayGrow log pages site.image (records ++ done.clrs) (record { lsn = lsn; rec = End t })) own
-    (may_end c.page_laws.ensures c.undo_laws.ensures log pages site records table commits x.txn c.in-Ok.at done none lsn) in
+    (may_end c.page_laws.ensures c.undo_laws.ensures log pages site records table commits x.txn start mid.log_reads c.in-Ok-undo_updates.at done none lsn) in
+    let count = done.count in
     rolls_back c.undo_laws.ensures c.log_record.new.log pages new records table commits c.args.txn done.clrs lsn (subst (λ (t : ℕ). AreClrsOf t done.clrs) own done.own)
-    (c.in-Ok-log_record.ensures.holds pages (records ++ done.clrs) table commits c.in-Ok.ensures.going.sizes done.holds refl may)
+    (subst (λ (t : ℕ). length done.clrs ≡ length (left_open records t)) own (omega (arith, count, none)))
+    (subst (λ (t : ℕ). owed ((records ++ done.clrs) ++ record { lsn = lsn; rec = End t } ∷ []) + (length done.clrs + 1) ≡ owed records) own
+    (owes_all c.page_laws.ensures c.undo_laws.ensures log pages site records table commits x.txn start mid.log_reads c.in-Ok-undo_updates.at done none lsn))
+    (c.in-Ok-log_record.ensures.holds pages (records ++ done.clrs) table commits c.in-Ok-undo_updates.ensures.going.sizes done.holds refl may)
+
+pub returns-in-Ok-log_record-clause-blocks : goal.returns-in-Ok-log_record-clause-blocks
+returns-in-Ok-log_record-clause-blocks g c records table commits x h unfinished own last =
+    let old = g.S.Site.state c.args.site.now in
+    let mid = g.S.Site.state c.read_last.new.site in
+    let same = c.read_last.ensures.same h.log_holds.ready.blocks.honest in
+    let still = holds_still c.beside_laws.ensures.fits c.args.log.now c.args.pages.now old mid records table commits c.read_last.ensures.goes same h in
+    let at = c.in-Ok.ensures.at c.args.pages.now records table commits x c.requires.going.sizes h unfinished own last in
+    let done = c.in-Ok-undo_updates.ensures.undone records table commits x still unfinished at in
+    let count = done.count in
+    let few = done.few in
+    let one = c.in-Ok-log_record.ensures.blocks in
+    let remains = unfinished.remaining_is in
+    omega (arith, count, few, one, remains)
+
+pub returns-in-Err-clause-quiet : goal.returns-in-Err-clause-quiet
+returns-in-Err-clause-quiet g c records table commits x h unfinished own last quiet =
+    λ other. (c.read_last.ensures.same h.log_holds.ready.blocks.honest).loose ∙ quiet
+
+pub returns-in-Err-undo_updates-clause-quiet : goal.returns-in-Err-undo_updates-clause-quiet
+returns-in-Err-undo_updates-clause-quiet g c records table commits x h unfinished own last quiet =
+    let log = c.args.log.now in
+    let pages = c.args.pages.now in
+    let old = g.S.Site.state c.args.site.now in
+    let mid = g.S.Site.state c.read_last.new.site in
+    let same = c.read_last.ensures.same h.log_holds.ready.blocks.honest in
+    let still = holds_still c.beside_laws.ensures.fits log pages old mid records table commits c.read_last.ensures.goes same h in
+    let at = c.in-Ok.ensures.at pages records table commits x c.requires.going.sizes h unfinished own last in
+    c.in-Err-undo_updates.ensures.quiet records table commits x still unfinished at (same.loose ∙ quiet)
+
+pub returns-then-not-has_room-clause-quiet : goal.returns-then-not-has_room-clause-quiet
+returns-then-not-has_room-clause-quiet g c records table commits x h unfinished own last quiet =
+    let log = c.args.log.now in
+    let pages = c.args.pages.now in
+    let old = g.S.Site.state c.args.site.now in
+    let mid = g.S.Site.state c.read_last.new.site in
+    let same = c.read_last.ensures.same h.log_holds.ready.blocks.honest in
+    let still = holds_still c.beside_laws.ensures.fits log pages old mid records table commits c.read_last.ensures.goes same h in
+    let at = c.in-Ok.ensures.at pages records table commits x c.requires.going.sizes h unfinished own last in
+    λ other. c.in-Ok-undo_updates.ensures.stays_quiet (stays_honest old mid c.read_last.ensures.goes h.log_holds.ready.blocks.honest) (same.loose ∙ quiet)
+
+pub returns-in-Err-log_record-clause-quiet : goal.returns-in-Err-log_record-clause-quiet
+returns-in-Err-log_record-clause-quiet g c records table commits x h unfinished own last quiet =
+    let log = c.args.log.now in
+    let pages = c.args.pages.now in
+    let old = g.S.Site.state c.args.site.now in
+    let mid = g.S.Site.state c.read_last.new.site in
+    let same = c.read_last.ensures.same h.log_holds.ready.blocks.honest in
+    let still = holds_still c.beside_laws.ensures.fits log pages old mid records table commits c.read_last.ensures.goes same h in
+    let at = c.in-Ok.ensures.at pages records table commits x c.requires.going.sizes h unfinished own last in
+    let done = c.in-Ok-undo_updates.ensures.undone records table commits x still unfinished at in
+    c.in-Err-log_record.ensures.quiet c.undo_updates.new.pages (records ++ done.clrs) table commits done.holds (c.in-Ok-undo_updates.ensures.stays_quiet (stays_honest old mid c.read_last.ensures.goes h.log_holds.ready.blocks.honest) (same.loose ∙ quiet))
+
+pub returns-in-Err-undo_updates-clause-left : goal.returns-in-Err-undo_updates-clause-left
+returns-in-Err-undo_updates-clause-left g c honest =
+    c.undo_updates.ensures.left (stays_honest (g.S.Site.state c.args.site.now) (g.S.Site.state c.read_last.new.site) c.read_last.ensures.goes honest) ∙ (c.read_last.ensures.same honest).left
+
+pub returns-then-not-has_room-clause-left : goal.returns-then-not-has_room-clause-left
+returns-then-not-has_room-clause-left g c honest =
+    c.undo_updates.ensures.left (stays_honest (g.S.Site.state c.args.site.now) (g.S.Site.state c.read_last.new.site) c.read_last.ensures.goes honest) ∙ (c.read_last.ensures.same honest).left
+
+pub returns-in-Ok-log_record-clause-left : goal.returns-in-Ok-log_record-clause-left
+returns-in-Ok-log_record-clause-left g c honest =
+    let old = g.S.Site.state c.args.site.now in
+    let mid = g.S.Site.state c.read_last.new.site in
+    let site = g.S.Site.state c.undo_updates.new.site in
+    let honest' = stays_honest old mid c.read_last.ensures.goes honest in
+    c.log_record.ensures.left (stays_honest mid site c.undo_updates.ensures.goes honest') ∙ c.undo_updates.ensures.left honest' ∙ (c.read_last.ensures.same honest).left
+
+pub returns-in-Err-log_record-clause-left : goal.returns-in-Err-log_record-clause-left
+returns-in-Err-log_record-clause-left g c honest =
+    let old = g.S.Site.state c.args.site.now in
+    let mid = g.S.Site.state c.read_last.new.site in
+    let site = g.S.Site.state c.undo_updates.new.site in
+    let honest' = stays_honest old mid c.read_last.ensures.goes honest in
+    c.log_record.ensures.left (stays_honest mid site c.undo_updates.ensures.goes honest') ∙ c.undo_updates.ensures.left honest' ∙ (c.read_last.ensures.same honest).left
+
+pub returns-in-Err-undo_updates-clause-log_reads : goal.returns-in-Err-undo_updates-clause-log_reads
+returns-in-Err-undo_updates-clause-log_reads g c records table commits x h unfinished own last =
+    let log = c.args.log.now in
+    let pages = c.args.pages.now in
+    let old = g.S.Site.state c.args.site.now in
+    let mid = g.S.Site.state c.read_last.new.site in
+    let same = c.read_last.ensures.same h.log_holds.ready.blocks.honest in
+    let still = holds_still c.beside_laws.ensures.fits log pages old mid records table commits c.read_last.ensures.goes same h in
+    let at = c.in-Ok.ensures.at pages records table commits x c.requires.going.sizes h unfinished own last in
+    let one = c.read_last.ensures.log_reads in
+    let more = c.undo_updates.ensures.log_reads records table commits x still unfinished at in
+    omega (arith, one, more)
+
+pub returns-then-not-has_room-clause-log_reads : goal.returns-then-not-has_room-clause-log_reads
+returns-then-not-has_room-clause-log_reads g c records table commits x h unfinished own last =
+    let log = c.args.log.now in
+    let pages = c.args.pages.now in
+    let old = g.S.Site.state c.args.site.now in
+    let mid = g.S.Site.state c.read_last.new.site in
+    let same = c.read_last.ensures.same h.log_holds.ready.blocks.honest in
+    let still = holds_still c.beside_laws.ensures.fits log pages old mid records table commits c.read_last.ensures.goes same h in
+    let at = c.in-Ok.ensures.at pages records table commits x c.requires.going.sizes h unfinished own last in
+    let one = c.read_last.ensures.log_reads in
+    let more = c.undo_updates.ensures.log_reads records table commits x still unfinished at in
+    omega (arith, one, more)
+
+pub returns-in-Ok-log_record-clause-log_reads : goal.returns-in-Ok-log_record-clause-log_reads
+returns-in-Ok-log_record-clause-log_reads g c records table commits x h unfinished own last =
+    let log = c.args.log.now in
+    let pages = c.args.pages.now in
+    let old = g.S.Site.state c.args.site.now in
+    let mid = g.S.Site.state c.read_last.new.site in
+    let same = c.read_last.ensures.same h.log_holds.ready.blocks.honest in
+    let still = holds_still c.beside_laws.ensures.fits log pages old mid records table commits c.read_last.ensures.goes same h in
+    let at = c.in-Ok.ensures.at pages records table commits x c.requires.going.sizes h unfinished own last in
+    let one = c.read_last.ensures.log_reads in
+    let more = c.undo_updates.ensures.log_reads records table commits x still unfinished at in
+    let none = c.log_record.ensures.reads Log in
+    omega (arith, one, more, none)
+
+pub returns-in-Err-log_record-clause-log_reads : goal.returns-in-Err-log_record-clause-log_reads
+returns-in-Err-log_record-clause-log_reads g c records table commits x h unfinished own last =
+    let log = c.args.log.now in
+    let pages = c.args.pages.now in
+    let old = g.S.Site.state c.args.site.now in
+    let mid = g.S.Site.state c.read_last.new.site in
+    let same = c.read_last.ensures.same h.log_holds.ready.blocks.honest in
+    let still = holds_still c.beside_laws.ensures.fits log pages old mid records table commits c.read_last.ensures.goes same h in
+    let at = c.in-Ok.ensures.at pages records table commits x c.requires.going.sizes h unfinished own last in
+    let one = c.read_last.ensures.log_reads in
+    let more = c.undo_updates.ensures.log_reads records table commits x still unfinished at in
+    let none = c.log_record.ensures.reads Log in
+    omega (arith, one, more, none)
+
+pub returns-in-Err-undo_updates-clause-worn_log : goal.returns-in-Err-undo_updates-clause-worn_log
+returns-in-Err-undo_updates-clause-worn_log g c records table commits x h unfinished own last worn =
+    let log = c.args.log.now in
+    let pages = c.args.pages.now in
+    let old = g.S.Site.state c.args.site.now in
+    let mid = g.S.Site.state c.read_last.new.site in
+    let same = c.read_last.ensures.same h.log_holds.ready.blocks.honest in
+    let still = holds_still c.beside_laws.ensures.fits log pages old mid records table commits c.read_last.ensures.goes same h in
+    let at = c.in-Ok.ensures.at pages records table commits x c.requires.going.sizes h unfinished own last in
+    let same' : c.in-Err-undo_updates.stop ≡ Worn Log = cc in
+    let full = c.in-Err-undo_updates.ensures.worn_log records table commits x still unfinished at (ap Err same') in
+    omega (arith, full)
+
+pub returns-in-Err-log_record-clause-worn_log : goal.returns-in-Err-log_record-clause-worn_log
+returns-in-Err-log_record-clause-worn_log g c records table commits x h unfinished own last worn =
+    let log = c.args.log.now in
+    let pages = c.args.pages.now in
+    let old = g.S.Site.state c.args.site.now in
+    let mid = g.S.Site.state c.read_last.new.site in
+    let same = c.read_last.ensures.same h.log_holds.ready.blocks.honest in
+    let still = holds_still c.beside_laws.ensures.fits log pages old mid records table commits c.read_last.ensures.goes same h in
+    let at = c.in-Ok.ensures.at pages records table commits x c.requires.going.sizes h unfinished own last in
+    let done = c.in-Ok-undo_updates.ensures.undone records table commits x still unfinished at in
+    let same' : c.in-Err-log_record.stop ≡ Worn Log = cc in
+    let full = c.in-Err-log_record.ensures.worn (ap Err same') in
+    let count = done.count in
+    let few = done.few in
+    let all = unfinished.remaining_is in
+    omega (arith, full, count, few, all)
+
+pub returns-in-Err-undo_updates-clause-worn_end : goal.returns-in-Err-undo_updates-clause-worn_end
+returns-in-Err-undo_updates-clause-worn_end g c records table commits x h unfinished own last worn =
+    let log = c.args.log.now in
+    let pages = c.args.pages.now in
+    let old = g.S.Site.state c.args.site.now in
+    let mid = g.S.Site.state c.read_last.new.site in
+    let same = c.read_last.ensures.same h.log_holds.ready.blocks.honest in
+    let still = holds_still c.beside_laws.ensures.fits log pages old mid records table commits c.read_last.ensures.goes same h in
+    let at = c.in-Ok.ensures.at pages records table commits x c.requires.going.sizes h unfinished own last in
+    let same' : c.in-Err-undo_updates.stop ≡ Worn Flash = cc in
+    c.in-Err-undo_updates.ensures.worn_end records table commits x still unfinished at (ap Err same')

@@ -1,21 +1,25 @@
-use Rattle.std.proofs.Common.{true≢false, Err, refl, sym, ap, subst, ◌∙◌, arith}
+use Rattle.std.proofs.Common.{true≢false, Err, refl, sym, ap, subst, ◌∙◌, arith, ◌≡◌}
 use Rattle.site.specs.declared.geometry.Geometry.{Geometry}
 use Rattle.site.specs.State.{Image}
+use Rattle.site.specs.Laws.{stays_honest}
+use Rattle.log_records.specs.declared.log_record.LogRecord.TheVariants.{Clr}
 use Rattle.redo_undo.specs.Undoing.{IsWanted}
 use Rattle.redo_undo.proofs.Sames.{and_then, holds_still, going_still, leaves_still}
-use Rattle.redo_undo.proofs.Compensations.{may_compensate, room_for_clr, undone}
+use Rattle.redo_undo.proofs.Compensations.{may_compensate, room_for_clr, owes_less, undone}
+use Rattle.site.specs.declared.outside.Stop.TheVariants.{Worn}
+use Rattle.site.specs.declared.outside.Dev.TheVariants.{Flash}
 use Rattle.redo_undo.proofs.undo.undo_update.Goals as goal
 
 pub returns-in-Err-clause-any_moment : goal.returns-in-Err-clause-any_moment
-returns-in-Err-clause-any_moment g c records table commits h =
-    leaves_still c.args.log.now c.args.pages.now (g.S.Site.state c.args.site.now) (g.S.Site.state c.read_update.new.site) records table commits c.requires.going.sizes (c.read_update.ensures.same h.log_holds.ready.blocks.honest) h
+returns-in-Err-clause-any_moment g c records table commits h quiet =
+    leaves_still c.args.log.now c.args.pages.now (g.S.Site.state c.args.site.now) (g.S.Site.state c.read_update.new.site) records table commits c.requires.going.sizes (c.read_update.ensures.same h.log_holds.ready.blocks.honest) h quiet
 
 pub returns-in-Err-clause-readable : goal.returns-in-Err-clause-readable
 returns-in-Err-clause-readable g c records table commits x h unfinished at some = c.in-Err.ensures.readable c.args.pages.now records table commits x c.requires.going.sizes h unfinished at some
 
 pub returns-then-not-has_room-clause-any_moment : goal.returns-then-not-has_room-clause-any_moment
-returns-then-not-has_room-clause-any_moment g c records table commits h =
-    leaves_still c.args.log.now c.args.pages.now (g.S.Site.state c.args.site.now) (g.S.Site.state c.read_update.new.site) records table commits c.requires.going.sizes (c.read_update.ensures.same h.log_holds.ready.blocks.honest) h
+returns-then-not-has_room-clause-any_moment g c records table commits h quiet =
+    leaves_still c.args.log.now c.args.pages.now (g.S.Site.state c.args.site.now) (g.S.Site.state c.read_update.new.site) records table commits c.requires.going.sizes (c.read_update.ensures.same h.log_holds.ready.blocks.honest) h quiet
 
 pub returns-then-not-has_room-clause-readable : goal.returns-then-not-has_room-clause-readable
 returns-then-not-has_room-clause-readable g c records table commits x h unfinished at some = λ same.
@@ -28,24 +32,24 @@ pub compensate-requires-clause-going : goal.compensate-requires-clause-going
 compensate-requires-clause-going g c = going_still c.args.log.now c.args.pages.now (g.S.Site.state c.args.site.now) (g.S.Site.state c.read_update.new.site) c.read_update.ensures.goes c.requires.going
 
 pub returns-in-Err-compensate-clause-any_moment : goal.returns-in-Err-compensate-clause-any_moment
-returns-in-Err-compensate-clause-any_moment g c records table commits h =
+returns-in-Err-compensate-clause-any_moment g c records table commits h quiet =
     let old = g.S.Site.state c.args.site.now in
     let mid = g.S.Site.state c.read_update.new.site in
     let same = c.read_update.ensures.same h.log_holds.ready.blocks.honest in
     let k = c.args.pages.now.flash.geometry in
     and_then k k old mid (g.S.Site.state c.compensate.new.site) table commits refl
-    (leaves_still c.args.log.now c.args.pages.now old mid records table commits c.requires.going.sizes same h)
-    (c.compensate.ensures.any_moment records table commits (holds_still c.beside_laws.ensures.fits c.args.log.now c.args.pages.now old mid records table commits c.read_update.ensures.goes same h))
+    (leaves_still c.args.log.now c.args.pages.now old mid records table commits c.requires.going.sizes same h quiet)
+    (c.compensate.ensures.any_moment records table commits (holds_still c.beside_laws.ensures.fits c.args.log.now c.args.pages.now old mid records table commits c.read_update.ensures.goes same h) (same.loose ∙ quiet))
 
 pub returns-clause-any_moment : goal.returns-clause-any_moment
-returns-clause-any_moment g c records table commits h =
+returns-clause-any_moment g c records table commits h quiet =
     let old = g.S.Site.state c.args.site.now in
     let mid = g.S.Site.state c.read_update.new.site in
     let same = c.read_update.ensures.same h.log_holds.ready.blocks.honest in
     let k = c.args.pages.now.flash.geometry in
     and_then k k old mid (g.S.Site.state c.compensate.new.site) table commits refl
-    (leaves_still c.args.log.now c.args.pages.now old mid records table commits c.requires.going.sizes same h)
-    (c.compensate.ensures.any_moment records table commits (holds_still c.beside_laws.ensures.fits c.args.log.now c.args.pages.now old mid records table commits c.read_update.ensures.goes same h))
+    (leaves_still c.args.log.now c.args.pages.now old mid records table commits c.requires.going.sizes same h quiet)
+    (c.compensate.ensures.any_moment records table commits (holds_still c.beside_laws.ensures.fits c.args.log.now c.args.pages.now old mid records table commits c.read_update.ensures.goes same h) (same.loose ∙ quiet))
 
 pub returns-in-Err-compensate-clause-readable : goal.returns-in-Err-compensate-clause-readable
 returns-in-Err-compensate-clause-readable g c records table commits x h unfinished at some = λ same.
@@ -68,3 +72,33 @@ returns-clause-undone g c records table commits x h unfinished at some =
     let may = may_compensate c.page_laws.ensures c.undo_laws.ensures log pages mid records table commits still x unfinished c.args.at w c.in-Ok-compensate.last at some there in
     undone c.undo_laws.ensures c.compensate.new.log c.compensate.new.pages (g.S.Site.state c.compensate.new.site) records table commits x c.args.at w c.in-Ok-compensate.last unfinished at some
     (c.in-Ok-compensate.ensures.holds records table commits still may)
+    (owes_less c.page_laws.ensures c.undo_laws.ensures log pages mid records table commits still x unfinished (record { lsn = c.in-Ok-compensate.last; rec = Clr c.args.at.txn c.args.at.last w.prev w.page w.slot w.before }) refl at.txn some)
+
+pub returns-in-Err-clause-quiet : goal.returns-in-Err-clause-quiet
+returns-in-Err-clause-quiet g c records table commits h quiet = λ other. (c.read_update.ensures.same h.log_holds.ready.blocks.honest).loose ∙ quiet
+
+pub returns-then-not-has_room-clause-quiet : goal.returns-then-not-has_room-clause-quiet
+returns-then-not-has_room-clause-quiet g c records table commits h quiet = λ other. (c.read_update.ensures.same h.log_holds.ready.blocks.honest).loose ∙ quiet
+
+pub returns-in-Err-compensate-clause-quiet : goal.returns-in-Err-compensate-clause-quiet
+returns-in-Err-compensate-clause-quiet g c records table commits h quiet =
+    let old = g.S.Site.state c.args.site.now in
+    let mid = g.S.Site.state c.read_update.new.site in
+    c.in-Err-compensate.ensures.quiet records table commits
+    (holds_still c.beside_laws.ensures.fits c.args.log.now c.args.pages.now old mid records table commits c.read_update.ensures.goes (c.read_update.ensures.same h.log_holds.ready.blocks.honest) h) ((c.read_update.ensures.same h.log_holds.ready.blocks.honest).loose ∙ quiet)
+
+pub returns-in-Err-compensate-clause-left : goal.returns-in-Err-compensate-clause-left
+returns-in-Err-compensate-clause-left g c honest =
+    c.compensate.ensures.left (stays_honest (g.S.Site.state c.args.site.now) (g.S.Site.state c.read_update.new.site) c.read_update.ensures.goes honest) ∙ (c.read_update.ensures.same honest).left
+
+pub returns-clause-left : goal.returns-clause-left
+returns-clause-left g c honest =
+    c.compensate.ensures.left (stays_honest (g.S.Site.state c.args.site.now) (g.S.Site.state c.read_update.new.site) c.read_update.ensures.goes honest) ∙ (c.read_update.ensures.same honest).left
+
+pub returns-in-Err-compensate-clause-worn_end : goal.returns-in-Err-compensate-clause-worn_end
+returns-in-Err-compensate-clause-worn_end g c records table commits h worn =
+    let old = g.S.Site.state c.args.site.now in
+    let mid = g.S.Site.state c.read_update.new.site in
+    let same : c.in-Err-compensate.stop ≡ Worn Flash = cc in
+    c.in-Err-compensate.ensures.worn_end records table commits
+    (holds_still c.beside_laws.ensures.fits c.args.log.now c.args.pages.now old mid records table commits c.read_update.ensures.goes (c.read_update.ensures.same h.log_holds.ready.blocks.honest) h) (ap Err same)

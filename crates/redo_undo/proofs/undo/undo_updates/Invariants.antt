@@ -1,4 +1,5 @@
-use Rattle.std.proofs.Common.{◌≡◌, ◌<◌, ℕ, List}
+use Rattle.std.proofs.Common.{◌≡◌, ◌<◌, ◌≤◌, ℕ, List, IsTrue}
+use Rattle.site.specs.State.{IsQuiet}
 use Rattle.site.specs.Calls.{Goes}
 use Rattle.site.specs.Moments.{LeavesOnly}
 use Rattle.record_model.specs.State.{Content}
@@ -6,7 +7,7 @@ use Rattle.log_records.specs.Log.{Entry}
 use Rattle.log_laws.specs.Analysis.{Unfinished, IsUnfinished}
 use Rattle.log_store.specs.Held.{end_of}
 use Rattle.image_meaning.specs.Moments.{LeavesTable}
-use Rattle.redo_undo.specs.Holding.{MayGoOn, Holds}
+use Rattle.redo_undo.specs.Holding.{MayGoOn, Holds, blocks_to}
 use Rattle.redo_undo.specs.Undoing.{IsAt}
 use Rattle.redo_undo.specs.Rollback.{Compensates}
 use Rattle.redo_undo.proofs.undo.undo_updates.Given as goal
@@ -18,13 +19,17 @@ invariant-loop-at g l =
     record {
       going : MayGoOn l.log l.pages now;
       last : l.at.last < end_of l.log;
+      rises : end_of l.fn.log ≤ end_of l.log;
       same : l.at.txn ≡ l.fn.first.txn;
       kept : l.log.kept ≡ l.fn.log.kept;
       geometry : l.pages.flash.geometry ≡ l.fn.pages.flash.geometry;
       size : l.pages.pool.size ≡ l.fn.pages.pool.size;
+      log_geometry : l.log.geometry ≡ l.fn.log.geometry;
       goes : Goes old now;
-      undone : (records : List Entry) (table : List Content) (commits : ℕ) (x : Unfinished) → Holds l.fn.log l.fn.pages old records table commits → IsUnfinished records x → IsAt l.fn.first x → Compensates l.log l.pages now records table commits x.txn l.at;
-      any_moment : (records : List Entry) (table : List Content) (commits : ℕ) (x : Unfinished) → Holds l.fn.log l.fn.pages old records table commits → IsUnfinished records x → IsAt l.fn.first x → LeavesOnly old now (LeavesTable l.fn.pages.flash.geometry table commits old.told);
+      left : IsTrue old.honest → now.left ≡ old.left;
+      stays_quiet : IsTrue old.honest → IsQuiet old → IsQuiet now;
+      undone : (records : List Entry) (table : List Content) (commits : ℕ) (x : Unfinished) → Holds l.fn.log l.fn.pages old records table commits → IsUnfinished records x → IsAt l.fn.first x → Compensates l.log l.pages now records table commits x.txn (blocks_to l.fn.log) old.log_reads l.at;
+      any_moment : (records : List Entry) (table : List Content) (commits : ℕ) (x : Unfinished) → Holds l.fn.log l.fn.pages old records table commits → IsUnfinished records x → IsAt l.fn.first x → IsQuiet old → LeavesOnly old now (LeavesTable l.fn.pages.flash.geometry table commits old.told);
     }
 
 abbrev pub decreases-loop-at : goal.decreases-loop-at

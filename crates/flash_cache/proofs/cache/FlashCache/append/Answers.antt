@@ -1,10 +1,9 @@
 use Rattle.std.proofs.Common.{Bool, refl, ◌∙◌, ap}
 use Rattle.site.specs.Laws.{stays_honest}
 use Rattle.sealed_ring.specs.declared.ring.Ring.{Ring}
-use Rattle.sealed_ring.specs.Ready.{Finds}
 use Rattle.second_chance.specs.Queue.{pushed}
 use Rattle.flash_directory.specs.Heads.{frames_in}
-use Rattle.flash_cache.proofs.Pushing.{goes_on_same, goes_on_pushed, full_is, ring_ready, fits_again, append_is}
+use Rattle.flash_cache.proofs.Pushing.{goes_on_same, goes_on_pushed, full_is, ring_found, fits_again, append_is}
 use Rattle.flash_cache.proofs.cache.FlashCache.append.Goals as goal
 
 pub returns-in_err-append-clause-going : goal.returns-in_err-append-clause-going
@@ -34,8 +33,7 @@ pub returns-clause-appends : goal.returns-clause-appends
 returns-clause-appends g c fits =
     let cache = c.args.self.now in
     let old = g.S.Site.state c.args.site.now in
-    let ready = ring_ready cache old c.requires.going.shape fits in
-    let finds : Finds cache.ring old = record { form = ready.form; hi = ready.hi } in
+    let finds = ring_found cache old c.requires.going.shape fits in
     append_is cache c.append.new.self c.args.content.now old (g.S.Site.state c.append.new.site) c.requires.going c.requires.room c.append.ensures.goes c.append.ensures.shape
     (c.in_ok-append.ensures.ready fits.honest finds) (c.in_ok-append.ensures.outside fits.honest) (c.append.ensures.changes fits.honest).only (c.in_ok-append.ensures.stands fits.honest finds)
 
@@ -44,6 +42,5 @@ returns-clause-fits g c fits =
     let cache = c.args.self.now in
     let old = g.S.Site.state c.args.site.now in
     let new = g.S.Site.state c.append.new.site in
-    let ready = ring_ready cache old c.requires.going.shape fits in
-    let finds : Finds cache.ring old = record { form = ready.form; hi = ready.hi } in
+    let finds = ring_found cache old c.requires.going.shape fits in
     fits_again cache c.append.new.self c.push_group.new.self new (c.append.ensures.shape ∙ c.requires.going.shape) (stays_honest old new c.append.ensures.goes fits.honest) (c.in_ok-append.ensures.ready fits.honest finds)

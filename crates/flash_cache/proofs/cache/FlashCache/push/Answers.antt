@@ -18,7 +18,7 @@ use Rattle.flash_cache.proofs.Standing.{group_exists}
 use Rattle.flash_cache.proofs.Staging.{goes_on_later, fits_read, pages_read, read_untouched, pages_in_sequence, none_pushed, pushed_since}
 use Rattle.flash_cache.proofs.StagedMarks.{places_inside, places_low, places_few, pages_are, pages_exist, pages_apart}
 use Rattle.flash_cache.proofs.StagedContents.{contents_are, given_group, given_known, with_parts}
-use Rattle.flash_cache.proofs.Pushing.{ring_ready}
+use Rattle.flash_cache.proofs.Pushing.{ring_found}
 use Rattle.flash_cache.specs.Leaving.{page_at}
 use Rattle.flash_cache.proofs.cache.FlashCache.push.Goals as goal
 
@@ -94,7 +94,7 @@ returns-clause-any_moment g c groups fits holds quiet =
     let items : c.as_slice.result.now ≡ c.in_ok-staged.staged.items = search rules in
     let pages = items ∙ c.in_ok-staged.ensures.pages ∙ pages_are cache c.args.plan.now.staged c.requires.staged in
     let octets : c.as_slice-2.result.now ≡ c.in-Ok-contents_at.octets.items = search rules in
-    let contents = octets ∙ c.in-Ok-contents_at.ensures.contents fits.honest (ring_ready cache old c.requires.going.shape fits).hi
+    let contents = octets ∙ c.in-Ok-contents_at.ensures.contents fits.honest (ring_found cache old c.requires.going.shape fits).hi
     ∙ ap (λ (n : ℕ). map (page_at (unit_at cache.ring.shape (units_in cache.ring.shape old) n)) c.args.plan.now.staged) c.first-first.ensures.first
     ∙ contents_are cache old groups c.requires.going holds c.args.plan.now.staged c.requires.staged in
     with_parts (λ a b d. LeavesOnly old new (LeavesPush cache.geometry a b d old)) _ _ _ _ _ _ pages contents c.group_content-content.ensures.content
@@ -125,7 +125,7 @@ returns-clause-staged g c groups fits holds =
     let items : c.as_slice.result.now ≡ c.in_ok-staged.staged.items = search rules in
     let pages = items ∙ c.in_ok-staged.ensures.pages ∙ pages_are cache c.args.plan.now.staged c.requires.staged in
     let octets : c.as_slice-2.result.now ≡ c.in-Ok-contents_at.octets.items = search rules in
-    let contents = octets ∙ c.in-Ok-contents_at.ensures.contents fits.honest (ring_ready cache old c.requires.going.shape fits).hi
+    let contents = octets ∙ c.in-Ok-contents_at.ensures.contents fits.honest (ring_found cache old c.requires.going.shape fits).hi
     ∙ ap (λ (n : ℕ). map (page_at (unit_at cache.ring.shape (units_in cache.ring.shape old) n)) c.args.plan.now.staged) c.first-first.ensures.first
     ∙ contents_are cache old groups c.requires.going holds c.args.plan.now.staged c.requires.staged in
     on_ok_weaker c.write.result (λ staged.

@@ -2,7 +2,7 @@ use Rattle.std.proofs.Common.{◌≡◌, sym, ap, subst}
 use Rattle.std.proofs.lemmas.Result.{on_ok_weaker}
 use Rattle.site.specs.declared.outside.Dev.TheVariants.{Flash, Disk}
 use Rattle.site.specs.State.{State}
-use Rattle.site.specs.Laws.{stays_honest, others_untouched}
+use Rattle.site.specs.Laws.{stays_honest, others_untouched, quiet_settled}
 use Rattle.site.specs.Moments.{Untouched}
 use Rattle.stage_out.specs.Staged.{HasStaged}
 use Rattle.flash_cache.proofs.Queues.{on_ok}
@@ -36,7 +36,7 @@ returns-clause-any_moment g c fits quiet =
     push_leaves cache.geometry c.args.staged.now c.args.octets.now c.args.content.now old mid new c.requires.going.limits
     (lengths_later cache.geometry old mid c.stage.ensures.goes c.requires.going.lengths) (c.in_default.ensures.quiet fits.honest quiet) c.requires.room
     (c.stage.ensures.front cache.geometry fits.honest c.requires.going.lengths quiet) (c.in_default.ensures.reaches cache.geometry fits.honest c.requires.going.lengths)
-    (c.in_default.ensures.staged fits.honest) (c.stage.ensures.changes fits.honest).only.now.told (c.append.ensures.any_moment fits_mid) (c.append.ensures.changes fits_mid.honest).only
+    (c.in_default.ensures.staged fits.honest) (c.stage.ensures.changes fits.honest).only.now.told (c.append.ensures.any_moment fits_mid (quiet_settled Flash mid (c.in_default.ensures.quiet fits.honest quiet))) (c.append.ensures.changes fits_mid.honest).only
 
 pub returns-clause-reaches : goal.returns-clause-reaches
 returns-clause-reaches g c fits =

@@ -28,10 +28,10 @@ returns-clause-ready g c list ready =
     is_sealed false h0 h1 is = grind (arith, nat_tests)
 
 pub returns-clause-ahead : goal.returns-clause-ahead
-returns-clause-ahead g c list ready ahead =
+returns-clause-ahead g c list ready quiet ahead =
     let old = g.S.Site.state c.args.site.now in
     let new = g.S.Site.state c.push_all_changed.new.site in
-    let sealed = holds_now old new (LeavesSealed c.args.self.now.flash.geometry) (c.push_all_changed.ensures.ahead_moment list ready ahead) in
+    let sealed = holds_now old new (LeavesSealed c.args.self.now.flash.geometry) (c.push_all_changed.ensures.ahead_moment list ready quiet ahead) in
     record {
       pool = c.in_default.ensures.ahead ahead.pool;
       versions = subst (λ (h : Geometry). AreSealed h new.image) (sym c.push_all_changed.ensures.geometry) sealed;

@@ -1,10 +1,10 @@
-use Rattle.std.proofs.Common.{◌≡◌, ℕ, Bool, ◌+◌, true, false, refl, sym, ap, subst, ◌∙◌, arith}
+use Rattle.std.proofs.Common.{List, [], ◌≡◌, ℕ, Bool, ◌+◌, true, false, refl, sym, ap, subst, ◌∙◌, arith}
 use Rattle.std.specs.Prelude.{nat_lt, map, ◌||◌, if◌then◌else◌}
 use Rattle.std.proofs.lemmas.Bool.{true≢false}
 use Rattle.std.proofs.lemmas.Bool.Decides.{nat_tests}
 use Rattle.site.specs.declared.geometry.Geometry.{Geometry}
 use Rattle.site.specs.Moments.{Leaves, LeavesOnly}
-use Rattle.site.specs.Laws.{in_sequence, holds_now, goes_in_sequence, goes_nowhere}
+use Rattle.site.specs.Laws.{in_sequence, holds_now, goes_in_sequence, goes_nowhere, stays_honest}
 use Rattle.second_chance.specs.Machine.{Rules, rules_of, Cache, push_changed, flushed, wants_flush}
 use Rattle.second_chance.specs.Laws.{changed_count}
 use Rattle.log_store.specs.LogList.{LogList, sealed_if}
@@ -16,12 +16,18 @@ use Rattle.page_store.specs.Caching.{cache_of, rules as rules_for}
 use Rattle.page_store.specs.Ahead.{IsAhead, AreSealed, LeavesSealed, forces, is_unsealed, end_now}
 use Rattle.page_store.specs.Leaves.{AreReady, LeavesPages, LeavesRings}
 use Rattle.buffer_pool.specs.declared.frame.Frame.{Frame}
-use Rattle.page_store.specs.Flushing.{flushed_first, flushed_contents, changed_frames}
+use Rattle.page_store.specs.Flushing.{chosen, flushed_first, flushed_contents, changed_frames}
 use Rattle.page_store.proofs.Unsealed.{next_round, nothing_forced, risen_to, forced_by_first, or_first, or_second}
 use Rattle.page_store.proofs.Evictions.{stays_pages, stays_sealed}
 use Rattle.page_store.proofs.Bringing.{current_again}
-use Rattle.page_store.proofs.Rounds.{kept_block, no_tail, risen, sealed_again, and_left, not_forced, one_more_push}
+use Rattle.page_store.proofs.Rounds.{told_before, kept_block, no_tail, risen, sealed_again, and_left, not_forced, one_more_push}
+use Rattle.image_changes.specs.Changes.{Change, Reaches}
+use Rattle.image_changes.specs.Reached.{LeavesFront}
+use Rattle.page_store.specs.Changing.{standing, push_changes, flush_changes}
+use Rattle.page_store.proofs.Changing.{HasMade, standing_after, none_to_come, within_push, behind_push}
+use Rattle.page_store.proofs.Sealing.{none_front, reads_itself}
 use Rattle.page_store.proofs.Rings.{stays_rings}
+use Rattle.flash_cache.specs.Held.{IsWorn}
 use Rattle.page_store.proofs.store.PageStore.push_all_changed.Goals as goal
 
 pub loop-self-init : goal.loop-self-init
@@ -31,12 +37,22 @@ loop-self-init g c =
     let log = c.args.log.now in
     let none : nat_lt log.ring.hi log.ring.hi ≡ false = grind (arith, nat_tests) in
     record {
-      moment = λ list ready. stays_pages store log (current store site.image) (forces log (flushed_contents store)) list site c.requires.sizes ready;
-      ahead_moment = λ list ready ahead. stays_sealed store.flash.geometry site ready.quiet ahead.versions;
-      rings_moment = λ list ready rings. stays_rings store.flash.geometry site ready.quiet rings;
+      moment = λ list ready quiet. stays_pages store log (current store site.image) (forces log (flushed_contents store)) list site c.requires.sizes ready quiet;
+      ahead_moment = λ list ready quiet ahead. stays_sealed store.flash.geometry site quiet ahead.versions;
+      rings_moment = λ list ready quiet rings. stays_rings store.flash.geometry site quiet rings;
+      stays_quiet = λ honest quiet. quiet;
+      made = λ list ready quiet. subst (λ (b : Bool). HasMade store.flash.geometry (flush_changes log list store) site site (standing log (sealed_if b list) store) (changed_count (cache_of store).pool)) (sym none) (record {
+        made = [];
+        pushes = changed_count (cache_of store).pool;
+        enough = omega arith;
+        split = refl;
+        front = none_front store.flash.geometry [] site quiet;
+        reaches = reads_itself store.flash.geometry site.image;
+      });
       ready = λ list ready. subst (λ (b : Bool). AreReady store log (sealed_if b list) site) (sym none) ready;
       current = λ list ready. record { each = λ page exists. refl };
       ahead = λ ahead. ahead;
+      left = λ honest. refl;
       forced = sym (ap (λ (t : Bool). t || forces log (flushed_contents store)) none);
       untouched = λ wants past. refl;
       machine = refl;
@@ -56,7 +72,7 @@ loop-self-init g c =
     }
 
 pub returns-in-Err-clause-any_moment : goal.returns-in-Err-clause-any_moment
-returns-in-Err-clause-any_moment g c list ready =
+returns-in-Err-clause-any_moment g c list ready quiet =
     let old = g.S.Site.state c.args.site.now in
     let mid = g.S.Site.state c.loop-self.site in
     let new = g.S.Site.state c.push_changed.new.site in
@@ -70,27 +86,28 @@ returns-in-Err-clause-any_moment g c list ready =
     let forced : Bool = forces log (flushed_first store) in
     let list' = sealed_if b list in
     let there = inv.ready list ready in
+    let honest = ready.blocks.honest in
     let once = λ (is : b ≡ true). not_forced (has_tail log) _ (no_tail log0.ring.hi log.ring.hi (has_tail log0) (has_tail log) inv.end is) in
     let had = λ (is : b ≡ true). inv.forced ∙ or_first b _ is in
     let also = λ (is : forced ≡ true). inv.forced ∙ or_second b _ (forced_by_first (has_tail log) (is_unsealed (end_now log)) store.pool.frames is) in
-    one_more_push h (current first old.image) (current store mid.image) (forces log0 (flushed_contents first)) b forced list old mid new had also once (inv.current list ready).each (inv.moment list ready)
-    (subst (λ (k : Geometry). LeavesOnly mid new (LeavesPages k (current store mid.image) forced list' mid)) inv.geometry (c.push_changed.ensures.any_moment list' there))
+    one_more_push h (current first old.image) (current store mid.image) (forces log0 (flushed_contents first)) b forced list old mid new had also once (inv.current list ready).each (inv.moment list ready quiet)
+    (subst (λ (k : Geometry). LeavesOnly mid new (LeavesPages k (current store mid.image) forced list' mid)) inv.geometry (c.push_changed.ensures.any_moment list' there (inv.stays_quiet honest quiet)))
 
 pub returns-in-Err-clause-rings_moment : goal.returns-in-Err-clause-rings_moment
-returns-in-Err-clause-rings_moment g c list ready rings =
+returns-in-Err-clause-rings_moment g c list ready quiet rings =
     let old = g.S.Site.state c.args.site.now in
     let mid = g.S.Site.state c.loop-self.site in
     let new = g.S.Site.state c.push_changed.new.site in
     let inv = c.loop-self.invariant in
     let h = c.args.self.now.flash.geometry in
-    let sound = inv.rings_moment list ready rings in
+    let sound = inv.rings_moment list ready quiet rings in
     in_sequence old mid new (Leaves (LeavesRings h)) sound
     (subst (λ (k : Geometry). LeavesOnly mid new (LeavesRings k)) inv.geometry
-    (c.push_changed.ensures.rings_moment (sealed_if (nat_lt c.args.log.now.ring.hi c.loop-self.log.ring.hi) list) (inv.ready list ready)
+    (c.push_changed.ensures.rings_moment (sealed_if (nat_lt c.args.log.now.ring.hi c.loop-self.log.ring.hi) list) (inv.ready list ready) (inv.stays_quiet ready.blocks.honest quiet)
     (subst (λ (k : Geometry). AreRingsSound k mid.image) (sym inv.geometry) (holds_now old mid (LeavesRings h) sound))))
 
 pub returns-in-Err-clause-ahead_moment : goal.returns-in-Err-clause-ahead_moment
-returns-in-Err-clause-ahead_moment g c list ready ahead =
+returns-in-Err-clause-ahead_moment g c list ready quiet ahead =
     let old = g.S.Site.state c.args.site.now in
     let mid = g.S.Site.state c.loop-self.site in
     let new = g.S.Site.state c.push_changed.new.site in
@@ -102,10 +119,10 @@ returns-in-Err-clause-ahead_moment g c list ready ahead =
     let h = first.flash.geometry in
     let b : Bool = nat_lt log0.ring.hi log.ring.hi in
     let forced : Bool = forces log (flushed_first store) in
-    let sealed = inv.ahead_moment list ready ahead in
+    let sealed = inv.ahead_moment list ready quiet ahead in
     let here : IsAhead log store mid.image = record { pool = inv.ahead ahead.pool; versions = subst (λ (k : Geometry). AreSealed k mid.image) (sym inv.geometry) (holds_now old mid (LeavesSealed h) sealed) } in
     in_sequence old mid new (Leaves (LeavesSealed h)) sealed
-    (subst (λ (k : Geometry). LeavesOnly mid new (LeavesSealed k)) inv.geometry (c.push_changed.ensures.ahead_moment (sealed_if b list) (inv.ready list ready) here))
+    (subst (λ (k : Geometry). LeavesOnly mid new (LeavesSealed k)) inv.geometry (c.push_changed.ensures.ahead_moment (sealed_if b list) (inv.ready list ready) (inv.stays_quiet ready.blocks.honest quiet) here))
 
 pub returns-in-Err-clause-reads : goal.returns-in-Err-clause-reads
 returns-in-Err-clause-reads g c =
@@ -148,29 +165,43 @@ loop-self-preserved g c =
     let once = λ (is : b ≡ true). not_forced (has_tail log) _ (no_tail log0.ring.hi log.ring.hi (has_tail log0) (has_tail log) inv.end is) in
     let now : nat_lt log0.ring.hi c.push_changed.new.log.ring.hi ≡ (b || forced) = risen log0.ring.hi log.ring.hi c.push_changed.new.log.ring.hi forced inv.rises c.in_default.ensures.next in
     record {
-      moment = λ list ready.
+      moment = λ list ready quiet.
           let list' = sealed_if b list in
           let there = inv.ready list ready in
+          let honest = ready.blocks.honest in
           let once = λ (is : b ≡ true). not_forced (has_tail log) _ (no_tail log0.ring.hi log.ring.hi (has_tail log0) (has_tail log) inv.end is) in
           let had = λ (is : b ≡ true). inv.forced ∙ or_first b _ is in
           let also = λ (is : forced ≡ true). inv.forced ∙ or_second b _ (forced_by_first (has_tail log) (is_unsealed (end_now log)) store.pool.frames is) in
-          one_more_push h (current first old.image) (current store mid.image) (forces log0 (flushed_contents first)) b forced list old mid new had also once (inv.current list ready).each (inv.moment list ready)
-          (subst (λ (k : Geometry). LeavesOnly mid new (LeavesPages k (current store mid.image) forced list' mid)) inv.geometry (c.push_changed.ensures.any_moment list' there));
-      ahead_moment = λ list ready ahead.
-          let sealed = inv.ahead_moment list ready ahead in
+          one_more_push h (current first old.image) (current store mid.image) (forces log0 (flushed_contents first)) b forced list old mid new had also once (inv.current list ready).each (inv.moment list ready quiet)
+          (subst (λ (k : Geometry). LeavesOnly mid new (LeavesPages k (current store mid.image) forced list' mid)) inv.geometry (c.push_changed.ensures.any_moment list' there (inv.stays_quiet honest quiet)));
+      ahead_moment = λ list ready quiet ahead.
+          let sealed = inv.ahead_moment list ready quiet ahead in
           let here : IsAhead log store mid.image = record { pool = inv.ahead ahead.pool; versions = subst (λ (k : Geometry). AreSealed k mid.image) (sym inv.geometry) (holds_now old mid (LeavesSealed h) sealed) } in
           in_sequence old mid new (Leaves (LeavesSealed h)) sealed
-          (subst (λ (k : Geometry). LeavesOnly mid new (LeavesSealed k)) inv.geometry (c.push_changed.ensures.ahead_moment (sealed_if b list) (inv.ready list ready) here));
-      rings_moment = λ list ready rings.
-          let sound = inv.rings_moment list ready rings in
+          (subst (λ (k : Geometry). LeavesOnly mid new (LeavesSealed k)) inv.geometry (c.push_changed.ensures.ahead_moment (sealed_if b list) (inv.ready list ready) (inv.stays_quiet ready.blocks.honest quiet) here));
+      rings_moment = λ list ready quiet rings.
+          let sound = inv.rings_moment list ready quiet rings in
           in_sequence old mid new (Leaves (LeavesRings h)) sound
           (subst (λ (k : Geometry). LeavesOnly mid new (LeavesRings k)) inv.geometry
-          (c.push_changed.ensures.rings_moment (sealed_if b list) (inv.ready list ready) (subst (λ (k : Geometry). AreRingsSound k mid.image) (sym inv.geometry) (holds_now old mid (LeavesRings h) sound))));
+          (c.push_changed.ensures.rings_moment (sealed_if b list) (inv.ready list ready) (inv.stays_quiet ready.blocks.honest quiet) (subst (λ (k : Geometry). AreRingsSound k mid.image) (sym inv.geometry) (holds_now old mid (LeavesRings h) sound))));
+      made = λ list ready quiet.
+          let list' = sealed_if b list in
+          let there = inv.ready list ready in
+          let s = standing log list' store in
+          behind_push h (flush_changes log0 list first) old mid s (changed_count (cache_of store).pool) (inv.made list ready quiet) c.fronts_add_up.ensures c.changes_add_up.ensures new
+          (standing c.push_changed.new.log (sealed_if (nat_lt log0.ring.hi c.push_changed.new.log.ring.hi) list) c.push_changed.new.self) (changed_count (cache_of c.push_changed.new.self).pool) wants (omega (arith, saves, count))
+          (standing_after log c.push_changed.new.log list' (sealed_if (nat_lt log0.ring.hi c.push_changed.new.log.ring.hi) list) store c.push_changed.new.self _ refl c.in_default.ensures.next c.in_default.ensures.end
+          (sym (sealed_again list b forced once ∙ ap (λ (t : Bool). sealed_if t list) (sym now))) c.push_changed.ensures.geometry c.in_default.ensures.directory c.in_default.ensures.frames)
+          (told_before h (current first old.image) (forces log0 (flushed_contents first)) list old mid (inv.moment list ready quiet))
+          (subst (λ (k : Geometry). LeavesFront k (push_changes s (chosen store.pool.frames)) mid new) inv.geometry (c.push_changed.ensures.front_moment list' there (inv.stays_quiet ready.blocks.honest quiet)))
+          (subst (λ (k : Geometry). Reaches k (push_changes s (chosen store.pool.frames)) mid.image new.image) inv.geometry (c.in_default.ensures.reaches list' there));
       ready = λ list ready.
           subst (λ (l : LogList). AreReady c.push_changed.new.self c.push_changed.new.log l new) (sealed_again list b forced once ∙ ap (λ (t : Bool). sealed_if t list) (sym now))
           (c.in_default.ensures.ready (sealed_if b list) (inv.ready list ready));
       current = λ list ready. current_again first store c.push_changed.new.self old.image mid.image new.image inv.geometry (inv.current list ready) (c.in_default.ensures.current (sealed_if b list) (inv.ready list ready));
       ahead = λ ahead. c.in_default.ensures.ahead (inv.ahead ahead);
+      left = λ honest. c.push_changed.ensures.left (stays_honest old mid inv.goes honest) ∙ inv.left honest;
+      stays_quiet = λ honest quiet. c.in_default.ensures.stays_quiet (stays_honest old mid inv.goes honest) (inv.stays_quiet honest quiet);
       forced = inv.forced
           ∙ next_round is_unsealed store.pool.frames inv.going.own.pool.distinct b (has_tail log) (has_tail c.push_changed.new.log) log.ring.hi c.push_changed.new.log.ring.hi c.in_default.ensures.next c.in_default.ensures.end
           ∙ (λ i. sym now i || forces c.push_changed.new.log (map (λ (f : Frame). f.content) (changed_frames (sym c.in_default.ensures.frames i))));
@@ -223,3 +254,65 @@ returns-in-Err-clause-worn_log g c says =
     let tail = and_left (has_tail log) _ both.0 in
     let kept : log0.ring.hi ≡ log.ring.hi = kept_block log0.ring.hi log.ring.hi (has_tail log0) (has_tail log) inv.end inv.rises tail in
     (inv.forced ∙ or_second b _ (forced_by_first (has_tail log) (is_unsealed (end_now log)) store.pool.frames both.0), kept ∙ both.1)
+
+pub returns-in-Err-clause-left : goal.returns-in-Err-clause-left
+returns-in-Err-clause-left g c honest =
+    let inv = c.loop-self.invariant in
+    c.push_changed.ensures.left (stays_honest (g.S.Site.state c.args.site.now) (g.S.Site.state c.loop-self.site) inv.goes honest) ∙ inv.left honest
+
+pub returns-in-Err-clause-quiet : goal.returns-in-Err-clause-quiet
+returns-in-Err-clause-quiet g c list ready quiet =
+    c.in-Err.ensures.quiet (sealed_if (nat_lt c.args.log.now.ring.hi c.loop-self.log.ring.hi) list) (c.loop-self.invariant.ready list ready) (c.loop-self.invariant.stays_quiet ready.blocks.honest quiet)
+
+pub returns-in-Err-clause-front_moment : goal.returns-in-Err-clause-front_moment
+returns-in-Err-clause-front_moment g c list ready quiet =
+    let old = g.S.Site.state c.args.site.now in
+    let mid = g.S.Site.state c.loop-self.site in
+    let new = g.S.Site.state c.push_changed.new.site in
+    let first = c.args.self.now in
+    let store = c.loop-self.self in
+    let log0 = c.args.log.now in
+    let log = c.loop-self.log in
+    let inv = c.loop-self.invariant in
+    let h = first.flash.geometry in
+    let list' = sealed_if (nat_lt log0.ring.hi log.ring.hi) list in
+    let s = standing log list' store in
+    let wants : wants_flush (cache_of store) ≡ true = sym c.has_changed.ensures ∙ c.loop-self-test.true in
+    let saves = c.flushes_save_all.ensures.saves_a_page (rules_for store) (cache_of store) wants in
+    within_push h (flush_changes log0 list first) old mid s (changed_count (cache_of store).pool) (inv.made list ready quiet) c.fronts_add_up.ensures new wants (omega (arith, saves))
+    (told_before h (current first old.image) (forces log0 (flushed_contents first)) list old mid (inv.moment list ready quiet))
+    (subst (λ (k : Geometry). LeavesFront k (push_changes s (chosen store.pool.frames)) mid new) inv.geometry (c.push_changed.ensures.front_moment list' (inv.ready list ready) (inv.stays_quiet ready.blocks.honest quiet)))
+
+pub returns-clause-front_moment : goal.returns-clause-front_moment
+returns-clause-front_moment g c list ready quiet =
+    let old = g.S.Site.state c.args.site.now in
+    let now = g.S.Site.state c.loop-self.site in
+    let first = c.args.self.now in
+    let store = c.loop-self.self in
+    let log0 = c.args.log.now in
+    let log = c.loop-self.log in
+    let h = first.flash.geometry in
+    let so_far = c.loop-self.invariant.made list ready quiet in
+    let none : wants_flush (cache_of store) ≡ false = sym c.has_changed.ensures ∙ c.loop-self-test.false in
+    subst (λ (changes : List Change). LeavesFront h changes old now)
+    (none_to_come h (flush_changes log0 list first) old now (standing log (sealed_if (nat_lt log0.ring.hi log.ring.hi) list) store) (changed_count (cache_of store).pool) so_far none) so_far.front
+
+pub returns-clause-reaches : goal.returns-clause-reaches
+returns-clause-reaches g c list ready quiet =
+    let old = g.S.Site.state c.args.site.now in
+    let now = g.S.Site.state c.loop-self.site in
+    let first = c.args.self.now in
+    let store = c.loop-self.self in
+    let log0 = c.args.log.now in
+    let log = c.loop-self.log in
+    let h = first.flash.geometry in
+    let so_far = c.loop-self.invariant.made list ready quiet in
+    let none : wants_flush (cache_of store) ≡ false = sym c.has_changed.ensures ∙ c.loop-self-test.false in
+    subst (λ (changes : List Change). Reaches h changes old.image now.image)
+    (none_to_come h (flush_changes log0 list first) old now (standing log (sealed_if (nat_lt log0.ring.hi log.ring.hi) list) store) (changed_count (cache_of store).pool) so_far none) so_far.reaches
+
+pub returns-in-Err-clause-worn_end : goal.returns-in-Err-clause-worn_end
+returns-in-Err-clause-worn_end g c list ready says =
+    let inv = c.loop-self.invariant in
+    subst (λ (h : Geometry). IsWorn h (g.S.Site.state c.push_changed.new.site).image) inv.geometry
+    (c.in-Err.ensures.worn_end (sealed_if (nat_lt c.args.log.now.ring.hi c.loop-self.log.ring.hi) list) (inv.ready list ready) says)

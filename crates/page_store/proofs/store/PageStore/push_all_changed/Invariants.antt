@@ -1,9 +1,9 @@
-use Rattle.std.proofs.Common.{◌≡◌, ◌≢◌, ◌+◌, ◌*◌, ◌≤◌, true}
+use Rattle.std.proofs.Common.{IsTrue, ◌≡◌, ◌≢◌, ◌+◌, ◌*◌, ◌≤◌, true}
 use Rattle.std.specs.Prelude.{◌||◌, ◌^◌}
 use Rattle.std.specs.Prelude.{nat_lt}
 use Rattle.site.specs.declared.outside.Dev.{Dev}
 use Rattle.site.specs.declared.outside.Dev.TheVariants.{Flash}
-use Rattle.site.specs.State.{reads_of}
+use Rattle.site.specs.State.{reads_of, IsQuiet}
 use Rattle.site.specs.Calls.{Goes}
 use Rattle.site.specs.Moments.{LeavesOnly}
 use Rattle.second_chance.specs.Machine.{flushed, wants_flush}
@@ -17,6 +17,8 @@ use Rattle.page_store.specs.Caching.{cache_of, rules}
 use Rattle.page_store.specs.Ahead.{IsAhead, AreLogged, LeavesSealed, end_forced, forces}
 use Rattle.page_store.specs.Flushing.{flushed_contents}
 use Rattle.page_store.specs.Leaves.{AreReady, LeavesPages, LeavesRings, KeepsCurrent}
+use Rattle.page_store.specs.Changing.{standing, flush_changes}
+use Rattle.page_store.proofs.Changing.{HasMade}
 use Rattle.page_store.proofs.store.PageStore.push_all_changed.Given as goal
 
 abbrev pub invariant-loop-self : goal.invariant-loop-self
@@ -25,12 +27,15 @@ invariant-loop-self g l =
     let now = g.S.Site.state l.site in
     let first = l.fn.self in
     record {
-      moment : (list : LogList) → AreReady first l.fn.log list old → LeavesOnly old now (LeavesPages first.flash.geometry (current first old.image) (forces l.fn.log (flushed_contents first)) list old);
-      ahead_moment : (list : LogList) → AreReady first l.fn.log list old → IsAhead l.fn.log first old.image → LeavesOnly old now (LeavesSealed first.flash.geometry);
-      rings_moment : (list : LogList) → AreReady first l.fn.log list old → AreRingsSound first.flash.geometry old.image → LeavesOnly old now (LeavesRings first.flash.geometry);
+      moment : (list : LogList) → AreReady first l.fn.log list old → IsQuiet old → LeavesOnly old now (LeavesPages first.flash.geometry (current first old.image) (forces l.fn.log (flushed_contents first)) list old);
+      ahead_moment : (list : LogList) → AreReady first l.fn.log list old → IsQuiet old → IsAhead l.fn.log first old.image → LeavesOnly old now (LeavesSealed first.flash.geometry);
+      rings_moment : (list : LogList) → AreReady first l.fn.log list old → IsQuiet old → AreRingsSound first.flash.geometry old.image → LeavesOnly old now (LeavesRings first.flash.geometry);
+      made : (list : LogList) → AreReady first l.fn.log list old → IsQuiet old → HasMade first.flash.geometry (flush_changes l.fn.log list first) old now (standing l.log (sealed_if (nat_lt l.fn.log.ring.hi l.log.ring.hi) list) l.self) (changed_count (cache_of l.self).pool);
       ready : (list : LogList) → AreReady first l.fn.log list old → AreReady l.self l.log (sealed_if (nat_lt l.fn.log.ring.hi l.log.ring.hi) list) now;
       current : (list : LogList) → AreReady first l.fn.log list old → KeepsCurrent first old.image l.self now.image;
       ahead : AreLogged (end_forced l.fn.log) first.pool.frames → AreLogged (end_forced l.log) l.self.pool.frames;
+      stays_quiet : IsTrue old.honest → IsQuiet old → IsQuiet now;
+      left : IsTrue old.honest → now.left ≡ old.left;
       forced : forces l.fn.log (flushed_contents first) ≡ (nat_lt l.fn.log.ring.hi l.log.ring.hi || forces l.log (flushed_contents l.self));
       untouched : wants_flush (cache_of first) ≡ true → first.flash.ring.hi ≡ 2 ^ 40 → l.self ≡ first;
       machine : flushed (rules first) (cache_of first) ≡ flushed (rules first) (cache_of l.self);

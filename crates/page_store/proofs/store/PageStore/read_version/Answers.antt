@@ -1,6 +1,5 @@
 use Rattle.std.proofs.Common.{◌≡◌, true, false, arith, sym, ap, ◌∙◌}
-use Rattle.site.specs.declared.outside.Dev.TheVariants.{Log, Flash, Disk}
-use Rattle.site.specs.State.{loose_of}
+use Rattle.site.specs.declared.outside.Dev.TheVariants.{Log, Disk}
 use Rattle.site.specs.Laws.{unchanged_in_sequence, stays_honest}
 use Rattle.second_chance.specs.Queue.{has_frame, with_read}
 use Rattle.flash_cache.specs.declared.cache.FlashCache.{FlashCache}
@@ -43,7 +42,7 @@ returns-in-Ok-read_disk-clause-fits g c fits =
     let second = c.read_disk.ensures.same honest in
     let flash = ap (λ i. i.flash) second.image in
     let after = fits_with store c.fetch.new.self old new fits (ap (λ (f : FlashCache). f.geometry) (c.fetch.ensures.none has).1) (unchanged_in_sequence old mid new first second)
-    (flash_fits_same c.fetch.new.self mid new flash (ap (loose_of Flash) second.loose) (stays_honest mid new c.read_disk.ensures.goes honest) (c.in-Ok.ensures.fits fits.flash))
+    (flash_fits_same c.fetch.new.self mid new flash (stays_honest mid new c.read_disk.ensures.goes honest) (c.in-Ok.ensures.fits fits.flash))
     (flash_holds_same c.fetch.new.self mid.image new.image fits.groups flash (c.in-Ok.ensures.holds fits.groups fits.flash fits.holds)) in
     ok_then c.sound_page-in-Ok-read_disk.result _ (Fits (record store { flash = c.fetch.new.self }) new) (λ x. after) c.sound_page-in-Ok-read_disk.ensures.sound
 

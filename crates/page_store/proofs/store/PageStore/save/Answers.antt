@@ -19,10 +19,14 @@ use Rattle.page_store.specs.Ahead.{IsLogged, end_forced, forces}
 use Rattle.page_store.specs.Leaves.{AreReady, LeavesPages, KeepsCurrent}
 use Rattle.page_store.specs.Flushing.{chosen, flushed_first, cleared_all}
 use Rattle.page_store.proofs.Saving.{pages_there, pages_exist, pages_apart, distinct_chosen, some_chosen, all_true, known_changed, all_weaker, has_chosen, chosen_contents}
-use Rattle.page_store.proofs.Choosing.{few_chosen}
+use Rattle.page_store.proofs.Choosing.{few_chosen, chosen_changed}
 use Rattle.page_store.proofs.Touching.{pool_going}
 use Rattle.page_store.proofs.Clearing.{all_contents}
 use Rattle.page_store.proofs.Flushes.{saved_fits, saved_current, machine_saved, pages_cleared}
+use Rattle.image_changes.specs.Changes.{Change, Reaches}
+use Rattle.image_changes.specs.Reached.{LeavesFront}
+use Rattle.flash_cache.specs.Pushed.{pushed_queue}
+use Rattle.page_store.proofs.Changing.{given_is, known_pages}
 use Rattle.page_store.proofs.store.PageStore.save.Goals as goal
 
 pub push-requires-clause-some : goal.push-requires-clause-some
@@ -45,7 +49,7 @@ clear_all-requires-clause-there g c =
     (subst (All (λ (page : ℕ). IsSome (frame_of frames page))) (sym c.requires.pages) (pages_there frames c.requires.going.own.pool.distinct))
 
 pub returns-in-Err-clause-any_moment : goal.returns-in-Err-clause-any_moment
-returns-in-Err-clause-any_moment g c list ready =
+returns-in-Err-clause-any_moment g c list ready quiet =
     let store = c.args.self.now in
     let log = c.args.log.now in
     let pages = c.args.pages.now in
@@ -58,10 +62,10 @@ returns-in-Err-clause-any_moment g c list ready =
     let old = g.S.Site.state c.args.site.now in
     let new = g.S.Site.state c.push.new.site in
     subst (λ (l : List (List ℕ)). LeavesOnly old new (LeavesPages store.flash.geometry (current store old.image) (forces log l) list old)) facts.first
-    (c.push.ensures.any_moment list (current store old.image) ready (facts.given old.image) (facts.clean old.image))
+    (c.push.ensures.any_moment list (current store old.image) ready quiet (facts.given old.image) (facts.clean old.image))
 
 pub returns-in-Err-clause-ahead_moment : goal.returns-in-Err-clause-ahead_moment
-returns-in-Err-clause-ahead_moment g c list ready ahead =
+returns-in-Err-clause-ahead_moment g c list ready quiet ahead =
     let store = c.args.self.now in
     let log = c.args.log.now in
     let pages = c.args.pages.now in
@@ -71,10 +75,10 @@ returns-in-Err-clause-ahead_moment g c list ready ahead =
     let changed : List Bool = take (length pages) (replicate 8 true) in
     let short : length pages ≤ 8 = let count = ap length c.requires.pages in omega (arith, count, few_chosen frames, length-map (chosen frames) (λ (f : Frame). f.page)) in
     let facts = has_chosen store pages changed contents apart c.requires.pages c.requires.contents (length-take-le (length pages) (replicate 8 true) short) (all_true (length pages)) in
-    c.push.ensures.ahead_moment list ready ahead.versions (chosen_contents (IsLogged (end_forced log)) frames pages contents apart c.requires.pages c.requires.contents ahead.pool)
+    c.push.ensures.ahead_moment list ready quiet ahead.versions (chosen_contents (IsLogged (end_forced log)) frames pages contents apart c.requires.pages c.requires.contents ahead.pool)
 
 pub returns-in-Ok-clause-any_moment : goal.returns-in-Ok-clause-any_moment
-returns-in-Ok-clause-any_moment g c list ready =
+returns-in-Ok-clause-any_moment g c list ready quiet =
     let store = c.args.self.now in
     let log = c.args.log.now in
     let pages = c.args.pages.now in
@@ -87,10 +91,10 @@ returns-in-Ok-clause-any_moment g c list ready =
     let old = g.S.Site.state c.args.site.now in
     let new = g.S.Site.state c.push.new.site in
     subst (λ (l : List (List ℕ)). LeavesOnly old new (LeavesPages store.flash.geometry (current store old.image) (forces log l) list old)) facts.first
-    (c.push.ensures.any_moment list (current store old.image) ready (facts.given old.image) (facts.clean old.image))
+    (c.push.ensures.any_moment list (current store old.image) ready quiet (facts.given old.image) (facts.clean old.image))
 
 pub returns-in-Ok-clause-ahead_moment : goal.returns-in-Ok-clause-ahead_moment
-returns-in-Ok-clause-ahead_moment g c list ready ahead =
+returns-in-Ok-clause-ahead_moment g c list ready quiet ahead =
     let store = c.args.self.now in
     let log = c.args.log.now in
     let pages = c.args.pages.now in
@@ -100,7 +104,7 @@ returns-in-Ok-clause-ahead_moment g c list ready ahead =
     let changed : List Bool = take (length pages) (replicate 8 true) in
     let short : length pages ≤ 8 = let count = ap length c.requires.pages in omega (arith, count, few_chosen frames, length-map (chosen frames) (λ (f : Frame). f.page)) in
     let facts = has_chosen store pages changed contents apart c.requires.pages c.requires.contents (length-take-le (length pages) (replicate 8 true) short) (all_true (length pages)) in
-    c.push.ensures.ahead_moment list ready ahead.versions (chosen_contents (IsLogged (end_forced log)) frames pages contents apart c.requires.pages c.requires.contents ahead.pool)
+    c.push.ensures.ahead_moment list ready quiet ahead.versions (chosen_contents (IsLogged (end_forced log)) frames pages contents apart c.requires.pages c.requires.contents ahead.pool)
 
 pub returns-in-Err-clause-worn_log : goal.returns-in-Err-clause-worn_log
 returns-in-Err-clause-worn_log g c says =
@@ -137,7 +141,6 @@ returns-in-Ok-clause-ready g c list ready =
       pages = fits;
       blocks = after.blocks;
       records = subst (λ (l : List (List ℕ)). log_held.Holds c.push.new.log new.image (sealed_if (forces log l) list)) facts.first after.records;
-      quiet = after.quiet;
     })
 
 pub returns-in-Ok-clause-current : goal.returns-in-Ok-clause-current
@@ -227,15 +230,77 @@ returns-in-Ok-clause-frames g c =
     ∙ ap (λ (l : List ℕ). cleared_all l frames) c.requires.pages
 
 pub returns-in-Err-clause-rings_moment : goal.returns-in-Err-clause-rings_moment
-returns-in-Err-clause-rings_moment g c list ready rings =
+returns-in-Err-clause-rings_moment g c list ready quiet rings =
     let store = c.args.self.now in
     let frames = store.pool.frames in
-    c.push.ensures.rings_moment list ready rings (chosen_contents IsSound frames c.args.pages.now c.args.contents.now c.requires.going.own.pool.distinct c.requires.pages c.requires.contents
+    c.push.ensures.rings_moment list ready quiet rings (chosen_contents IsSound frames c.args.pages.now c.args.contents.now c.requires.going.own.pool.distinct c.requires.pages c.requires.contents
     (all_weaker (IsPage store.flash.geometry.pages) (λ (f : Frame). IsSound f.content) (λ f p. p.sound) frames c.requires.going.own.pages))
 
 pub returns-in-Ok-clause-rings_moment : goal.returns-in-Ok-clause-rings_moment
-returns-in-Ok-clause-rings_moment g c list ready rings =
+returns-in-Ok-clause-rings_moment g c list ready quiet rings =
     let store = c.args.self.now in
     let frames = store.pool.frames in
-    c.push.ensures.rings_moment list ready rings (chosen_contents IsSound frames c.args.pages.now c.args.contents.now c.requires.going.own.pool.distinct c.requires.pages c.requires.contents
+    c.push.ensures.rings_moment list ready quiet rings (chosen_contents IsSound frames c.args.pages.now c.args.contents.now c.requires.going.own.pool.distinct c.requires.pages c.requires.contents
     (all_weaker (IsPage store.flash.geometry.pages) (λ (f : Frame). IsSound f.content) (λ f p. p.sound) frames c.requires.going.own.pages))
+
+pub returns-in-Err-clause-front_moment : goal.returns-in-Err-clause-front_moment
+returns-in-Err-clause-front_moment g c list ready quiet =
+    let store = c.args.self.now in
+    let log = c.args.log.now in
+    let pages = c.args.pages.now in
+    let contents = c.args.contents.now in
+    let frames = store.pool.frames in
+    let apart = c.requires.going.own.pool.distinct in
+    let changed : List Bool = take (length pages) (replicate 8 true) in
+    let short : length pages ≤ 8 = let count = ap length c.requires.pages in omega (arith, count, few_chosen frames, length-map (chosen frames) (λ (f : Frame). f.page)) in
+    let lists = length-take-le (length pages) (replicate 8 true) short in
+    let facts = has_chosen store pages changed contents apart c.requires.pages c.requires.contents lists (all_true (length pages)) in
+    let old = g.S.Site.state c.args.site.now in
+    let new = g.S.Site.state c.push.new.site in
+    let is = given_is log list store pages changed contents (chosen frames) c.requires.pages facts.first lists (all_true (length pages)) (chosen_changed frames) in
+    subst (λ (changes : List Change). LeavesFront store.flash.geometry changes old new) is (c.push.ensures.front_moment list ready quiet)
+
+pub returns-in-Ok-clause-front_moment : goal.returns-in-Ok-clause-front_moment
+returns-in-Ok-clause-front_moment g c list ready quiet =
+    let store = c.args.self.now in
+    let log = c.args.log.now in
+    let pages = c.args.pages.now in
+    let contents = c.args.contents.now in
+    let frames = store.pool.frames in
+    let apart = c.requires.going.own.pool.distinct in
+    let changed : List Bool = take (length pages) (replicate 8 true) in
+    let short : length pages ≤ 8 = let count = ap length c.requires.pages in omega (arith, count, few_chosen frames, length-map (chosen frames) (λ (f : Frame). f.page)) in
+    let lists = length-take-le (length pages) (replicate 8 true) short in
+    let facts = has_chosen store pages changed contents apart c.requires.pages c.requires.contents lists (all_true (length pages)) in
+    let old = g.S.Site.state c.args.site.now in
+    let new = g.S.Site.state c.push.new.site in
+    let is = given_is log list store pages changed contents (chosen frames) c.requires.pages facts.first lists (all_true (length pages)) (chosen_changed frames) in
+    subst (λ (changes : List Change). LeavesFront store.flash.geometry changes old new) is (c.push.ensures.front_moment list ready quiet)
+
+pub returns-in-Ok-clause-reaches : goal.returns-in-Ok-clause-reaches
+returns-in-Ok-clause-reaches g c list ready =
+    let store = c.args.self.now in
+    let log = c.args.log.now in
+    let pages = c.args.pages.now in
+    let contents = c.args.contents.now in
+    let frames = store.pool.frames in
+    let apart = c.requires.going.own.pool.distinct in
+    let changed : List Bool = take (length pages) (replicate 8 true) in
+    let short : length pages ≤ 8 = let count = ap length c.requires.pages in omega (arith, count, few_chosen frames, length-map (chosen frames) (λ (f : Frame). f.page)) in
+    let lists = length-take-le (length pages) (replicate 8 true) short in
+    let facts = has_chosen store pages changed contents apart c.requires.pages c.requires.contents lists (all_true (length pages)) in
+    let old = g.S.Site.state c.args.site.now in
+    let new = g.S.Site.state c.push.new.site in
+    let is = given_is log list store pages changed contents (chosen frames) c.requires.pages facts.first lists (all_true (length pages)) (chosen_changed frames) in
+    subst (λ (changes : List Change). Reaches store.flash.geometry changes old.image new.image) is (c.in-Ok.ensures.reaches list ready)
+
+pub returns-in-Ok-clause-directory : goal.returns-in-Ok-clause-directory
+returns-in-Ok-clause-directory g c =
+    let store = c.args.self.now in
+    let pages = c.args.pages.now in
+    let frames = store.pool.frames in
+    let changed : List Bool = take (length pages) (replicate 8 true) in
+    let short : length pages ≤ 8 = let count = ap length c.requires.pages in omega (arith, count, few_chosen frames, length-map (chosen frames) (λ (f : Frame). f.page)) in
+    let known = known_changed pages changed (length-take-le (length pages) (replicate 8 true) short) (all_true (length pages)) in
+    ap (λ (s : PageStore). s.flash.directory) c.clear_all.ensures.cleared ∙ c.in-Ok.ensures.directory
+    ∙ ap (λ (l : List Known). pushed_queue store.flash l) (known ∙ ap (map (λ page. known_of page true)) c.requires.pages ∙ known_pages (chosen frames))

@@ -16,9 +16,9 @@ returns-clause-machine g c honest first groups has = λ i. let cache : Cache = r
 } in cache
 
 pub returns-clause-fits : goal.returns-clause-fits
-returns-clause-fits g c honest flash disk first groups has clean sound =
+returns-clause-fits g c honest first groups has clean sound =
     let old = g.S.Site.state c.args.site.now in
     let new = g.S.Site.state c.start.new.site in
     let store : PageStore = record { alloc = c.args.alloc; pool = c.in_ok-pool.pool; flash = c.in-Ok.flash; ended = false } in
     fits_at_start store c.args.geometry.now old new groups c.in-Ok.ensures.geometry (ap (λ (p : Pool). p.frames) c.in_ok-pool.ensures.empty) (c.start.ensures.same honest).image
-    (c.start.ensures.same honest).loose disk (c.in-Ok.ensures.fits honest flash has.form) (c.in-Ok.ensures.holds honest first groups has) clean sound
+    (c.in-Ok.ensures.fits honest has.form) (c.in-Ok.ensures.holds honest first groups has) clean sound

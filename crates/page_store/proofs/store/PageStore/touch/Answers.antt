@@ -15,16 +15,20 @@ use Rattle.page_store.specs.Caching.{pool_page, rules as rules_for, cache_of, wi
 use Rattle.page_store.specs.Ahead.{IsLogged, end_forced, forces}
 use Rattle.page_store.specs.Leaves.{AreReady, LeavesPages}
 use Rattle.page_store.proofs.Pools.{page_is, touched_held}
-use Rattle.page_store.proofs.Evictions.{stays_pages, stays_sealed}
-use Rattle.page_store.proofs.Touching.{way, pushed_same, pushes_same, finds_same, misses_same, not_there, count_if, count_unless, other_count, nothing_forced, nothing_pushed, all_touched, order_fits, pool_going}
+use Rattle.site.specs.State.{snapshot_of}
+use Rattle.page_store.proofs.Evictions.{same_pages, stays_pages, stays_sealed}
+use Rattle.page_store.proofs.Touching.{way, pushed_same, pushes_same, finds_same, misses_same, not_there, count_if, count_unless, other_count, nothing_forced, nothing_pushed, all_touched, order_fits, pool_going, changes_same, nothing_changes}
 use Rattle.page_store.proofs.Rings.{stays_rings}
+use Rattle.image_changes.specs.Changes.{Change, Reaches}
+use Rattle.image_changes.specs.Reached.{LeavesFront}
+use Rattle.page_store.proofs.Sealing.{none_front, reads_itself}
 use Rattle.page_store.proofs.store.PageStore.touch.Goals as goal
 
 pub returns-then-is_some-clause-any_moment : goal.returns-then-is_some-clause-any_moment
-returns-then-is_some-clause-any_moment g c list ready = stays_pages c.args.self.now c.args.log.now _ _ list (g.S.Site.state c.args.site.now) c.requires.sizes ready
+returns-then-is_some-clause-any_moment g c list ready quiet = stays_pages c.args.self.now c.args.log.now _ _ list (g.S.Site.state c.args.site.now) c.requires.sizes ready quiet
 
 pub returns-then-is_some-clause-ahead_moment : goal.returns-then-is_some-clause-ahead_moment
-returns-then-is_some-clause-ahead_moment g c list ready ahead = stays_sealed _ (g.S.Site.state c.args.site.now) ready.quiet ahead.versions
+returns-then-is_some-clause-ahead_moment g c list ready quiet ahead = stays_sealed _ (g.S.Site.state c.args.site.now) quiet ahead.versions
 
 pub returns-then-is_some-clause-front : goal.returns-then-is_some-clause-front
 returns-then-is_some-clause-front g c =
@@ -43,7 +47,6 @@ returns-then-is_some-clause-ready g c list ready =
       pages = order_fits store c.touch.new.self site (λ n. ap (λ (p : Pool). frame_of p.frames n) after ∙ c.frames_of_pages.ensures.touched store.pool.frames page n) ready.pages;
       blocks = ready.blocks;
       records = ready.records;
-      quiet = ready.quiet;
     })
 
 pub returns-then-is_some-clause-ahead : goal.returns-then-is_some-clause-ahead
@@ -103,14 +106,14 @@ returns-then-is_some-clause-never_past g c pushed past =
     true≢false (sym pushed ∙ nothing_pushed store page frame is)
 
 pub returns-in-Err-clause-any_moment : goal.returns-in-Err-clause-any_moment
-returns-in-Err-clause-any_moment g c list ready =
+returns-in-Err-clause-any_moment g c list ready quiet =
     let store = c.args.self.now in
     let page = c.args.page in
     let none : frame_of store.pool.frames page ≡ None = search rules in
     let old = g.S.Site.state c.args.site.now in
     let new = g.S.Site.state c.bring_in.new.site in
     subst (λ (contents : List (List ℕ)). LeavesOnly old new (LeavesPages store.flash.geometry (current store old.image) (forces c.args.log.now contents) list old)) (pushed_same store page none)
-    (c.bring_in.ensures.any_moment list ready)
+    (c.bring_in.ensures.any_moment list ready quiet)
 
 pub returns-in-Err-clause-held : goal.returns-in-Err-clause-held
 returns-in-Err-clause-held g c there =
@@ -138,14 +141,14 @@ returns-in-Err-clause-disk_reads g c =
     omega (arith, c.bring_in.ensures.disk_reads, one)
 
 pub returns-clause-any_moment : goal.returns-clause-any_moment
-returns-clause-any_moment g c list ready =
+returns-clause-any_moment g c list ready quiet =
     let store = c.args.self.now in
     let page = c.args.page in
     let none : frame_of store.pool.frames page ≡ None = search rules in
     let old = g.S.Site.state c.args.site.now in
     let new = g.S.Site.state c.bring_in.new.site in
     subst (λ (contents : List (List ℕ)). LeavesOnly old new (LeavesPages store.flash.geometry (current store old.image) (forces c.args.log.now contents) list old)) (pushed_same store page none)
-    (c.bring_in.ensures.any_moment list ready)
+    (c.bring_in.ensures.any_moment list ready quiet)
 
 pub returns-clause-held : goal.returns-clause-held
 returns-clause-held g c there =
@@ -212,4 +215,59 @@ returns-clause-next g c =
     c.in_default.ensures.next ∙ ap {B = ℕ} (λ (contents : List (List ℕ)). if forces c.args.log.now contents then hi + 1 else hi) (pushed_same store page none)
 
 pub returns-then-is_some-clause-rings_moment : goal.returns-then-is_some-clause-rings_moment
-returns-then-is_some-clause-rings_moment g c list ready rings = stays_rings _ (g.S.Site.state c.args.site.now) ready.quiet rings
+returns-then-is_some-clause-rings_moment g c list ready quiet rings = stays_rings _ (g.S.Site.state c.args.site.now) quiet rings
+
+pub returns-then-is_some-clause-leaves : goal.returns-then-is_some-clause-leaves
+returns-then-is_some-clause-leaves g c list ready = same_pages c.args.self.now c.args.log.now _ _ list (g.S.Site.state c.args.site.now) c.requires.sizes ready
+
+pub returns-then-is_some-clause-sealed : goal.returns-then-is_some-clause-sealed
+returns-then-is_some-clause-sealed g c list ready ahead = ahead.versions
+
+pub returns-clause-leaves : goal.returns-clause-leaves
+returns-clause-leaves g c list ready =
+    let store = c.args.self.now in
+    let page = c.args.page in
+    let none : frame_of store.pool.frames page ≡ None = search rules in
+    let old = g.S.Site.state c.args.site.now in
+    let new = g.S.Site.state c.bring_in.new.site in
+    subst (λ (contents : List (List ℕ)). LeavesPages store.flash.geometry (current store old.image) (forces c.args.log.now contents) list old (snapshot_of new)) (pushed_same store page none)
+    (c.in_default.ensures.leaves list ready)
+
+pub returns-then-is_some-clause-front_moment : goal.returns-then-is_some-clause-front_moment
+returns-then-is_some-clause-front_moment g c list ready quiet = none_front _ _ (g.S.Site.state c.args.site.now) quiet
+
+pub returns-then-is_some-clause-reaches : goal.returns-then-is_some-clause-reaches
+returns-then-is_some-clause-reaches g c list ready =
+    let store = c.args.self.now in
+    let page = c.args.page in
+    let frame = front_of c.touch.new.self.frames in
+    let is : frame_of store.pool.frames page ≡ Some frame = c.touch.ensures.front (search rules) in
+    let site = g.S.Site.state c.args.site.now in
+    subst (λ (changes : List Change). Reaches store.flash.geometry changes site.image site.image) (sym (nothing_changes store page frame is c.args.log.now list)) (reads_itself store.flash.geometry site.image)
+
+pub returns-in-Err-clause-front_moment : goal.returns-in-Err-clause-front_moment
+returns-in-Err-clause-front_moment g c list ready quiet =
+    let store = c.args.self.now in
+    let page = c.args.page in
+    let none : frame_of store.pool.frames page ≡ None = search rules in
+    let old = g.S.Site.state c.args.site.now in
+    let new = g.S.Site.state c.bring_in.new.site in
+    subst (λ (changes : List Change). LeavesFront store.flash.geometry changes old new) (changes_same store page none c.args.log.now list) (c.bring_in.ensures.front_moment list ready quiet)
+
+pub returns-clause-front_moment : goal.returns-clause-front_moment
+returns-clause-front_moment g c list ready quiet =
+    let store = c.args.self.now in
+    let page = c.args.page in
+    let none : frame_of store.pool.frames page ≡ None = search rules in
+    let old = g.S.Site.state c.args.site.now in
+    let new = g.S.Site.state c.bring_in.new.site in
+    subst (λ (changes : List Change). LeavesFront store.flash.geometry changes old new) (changes_same store page none c.args.log.now list) (c.bring_in.ensures.front_moment list ready quiet)
+
+pub returns-clause-reaches : goal.returns-clause-reaches
+returns-clause-reaches g c list ready =
+    let store = c.args.self.now in
+    let page = c.args.page in
+    let none : frame_of store.pool.frames page ≡ None = search rules in
+    let old = g.S.Site.state c.args.site.now in
+    let new = g.S.Site.state c.bring_in.new.site in
+    subst (λ (changes : List Change). Reaches store.flash.geometry changes old.image new.image) (changes_same store page none c.args.log.now list) (c.in_default.ensures.reaches list ready)

@@ -1,0 +1,142 @@
+-- Lists of changes, call by call.
+use Rattle.std.proofs.Common.{◌≡◌, ℕ, zero, suc, ◌+◌, ◌*◌, ◌<◌, ◌≤◌, Bool, true, false, not, ◌&&◌, cond, List, [], ◌∷◌, ◌++◌, length, map, reverse, refl, sym, ap, subst, ◌∙◌, arith, append_assoc, append-nil}
+use Rattle.std.specs.List.{AllByRecursion}
+use Rattle.std.proofs.lemmas.List.{length-map}
+use Rattle.site.specs.declared.geometry.Geometry.{Geometry}
+use Rattle.site.specs.State.{State}
+use Rattle.site.specs.Laws.{leaves_weaker}
+use Rattle.image_changes.specs.Laws.{ChangesAddUp, FrontsAddUp}
+use Rattle.image_changes.specs.Changes.{Change, Reaches}
+use Rattle.image_changes.specs.Reached.{IsReached, IsFrontOf, LeavesFront}
+use Rattle.frame_group.specs.Groups.{Frame as Stored, group}
+use Rattle.flash_cache.specs.Pushed.{staged_pages, frames_given, pushed_queue, changes_of_push}
+use Rattle.buffer_pool.specs.declared.frame.Frame.{Frame}
+use Rattle.log_store.specs.declared.store.LogStore.{LogStore}
+use Rattle.log_store.specs.LogList.{LogList, sealed_if, changes_if}
+use Rattle.page_store.specs.declared.store.PageStore.{PageStore}
+use Rattle.log_store.specs.Held.{has_tail}
+use Rattle.page_store.specs.Ahead.{forces}
+use Rattle.page_store.specs.Flushing.{chosen, cleared_all, flushed_first}
+use Rattle.second_chance.specs.Queue.{frame_of as known_of}
+use Rattle.second_chance.specs.declared.frame.Frame.{Frame as Known}
+use Rattle.second_chance.specs.Machine.{must_be_pushed, wants_flush}
+use Rattle.page_store.specs.Caching.{pool_page}
+use Rattle.page_store.specs.Changing.{Standing, stored, push_changes, standing, given_changes, first_changes, eviction_changes, cache_at, after_push, pushes_changes}
+use Rattle.page_store.proofs.Evictions.{reverse_last}
+
+-- What the first changes leave, more changes may leave too.
+pub front_more : (g : Geometry) (first more : List Change) (old new : State) → LeavesFront g first old new → LeavesFront g (first ++ more) old new
+front_more g first more old new leaves = leaves_weaker old new (IsReached g (IsFrontOf first) old) (IsReached g (IsFrontOf (first ++ more)) old)
+    (λ s is. record {
+      told = is.told;
+      changes = is.changes;
+      made = (is.made.0 ++ more, ap (λ (l : List Change). l ++ more) is.made.1 ∙ append_assoc is.changes is.made.0 more);
+      reaches = is.reaches;
+    }) leaves
+
+-- Pages that are given as changed, with what the pool has of them, are frames of the pool.
+frames_changed : (xs : List Frame) (changed : List Bool) → length changed ≡ length xs → AllByRecursion (λ (b : Bool). b ≡ true) changed → AllByRecursion (λ (f : Frame). f.changed ≡ true) xs
+    → frames_given (map (λ (f : Frame). f.page) xs) changed (map (λ (f : Frame). f.content) xs) ≡ map stored xs
+frames_changed [] changed lists marks all = refl
+frames_changed (x ∷ xs) [] lists marks all = absurd (omega (arith, lists))
+frames_changed (x ∷ xs) (b ∷ bs) lists marks all =
+    λ i. (let f : Stored = record { page = x.page; dirty = (marks.0 ∙ sym all.0) i; octets = x.content } in f) ∷ frames_changed xs bs (omega (arith, lists)) marks.1 all.1 i
+
+pub given_is : (log : LogStore) (list : LogList) (store : PageStore) (pages : List ℕ) (changed : List Bool) (contents : List (List ℕ)) (xs : List Frame) → pages ≡ map (λ (f : Frame). f.page) xs
+    → contents ≡ map (λ (f : Frame). f.content) xs → length changed ≡ length pages → AllByRecursion (λ (b : Bool). b ≡ true) changed → AllByRecursion (λ (f : Frame). f.changed ≡ true) xs
+    → given_changes log list store pages changed contents ≡ push_changes (standing log list store) xs
+given_is log list store pages changed contents xs are have lists marks all =
+    (λ i. given_changes log list store (are i) changed (have i))
+    ∙ ap (λ (l : List Stored). changes_if (forces log (map (λ (f : Frame). f.content) xs)) list ++ changes_of_push (staged_pages store.flash) (group l))
+    (frames_changed xs changed (let count = ap length are in omega (arith, lists, count, length-map xs (λ (f : Frame). f.page))) marks all)
+
+-- An eviction pushes the coldest page, or nothing.
+pub eviction_is : (log : LogStore) (list : LogList) (store : PageStore) (rest : List Frame) (last : Frame) (b : Bool) → store.pool.frames ≡ rest ++ last ∷ [] → must_be_pushed store.flash.directory (pool_page last) ≡ b
+    → eviction_changes log list store ≡ cond b (push_changes (standing log list store) (last ∷ [])) []
+eviction_is log list store rest last b is must =
+    ap (first_changes (standing log list store)) (ap reverse is ∙ reverse_last rest last)
+    ∙ ap (λ (t : Bool). cond t (push_changes (standing log list store) (last ∷ [])) []) must
+
+-- A flush, push by push.
+
+-- the queue's new group, of pages that are changed
+pub known_pages : (xs : List Frame) → map (λ page. known_of page true) (map (λ (f : Frame). f.page) xs) ≡ map (λ (f : Frame). known_of f.page true) xs
+known_pages [] = refl
+known_pages (x ∷ xs) = ap (λ (l : List Known). known_of x.page true ∷ l) (known_pages xs)
+
+-- Where the log was forced there is no tail, else it is as it was.
+tail_after : (tail tail' any : Bool) (next next' : ℕ) → next' ≡ cond (tail && any) (next + 1) next → 512 * (next' + cond tail' 1 0) ≡ 512 * (next + cond tail 1 0) → tail' ≡ (tail && not (tail && any))
+tail_after true true true next next' is end = absurd (omega (arith, is, end))
+tail_after true true false next next' is end = refl
+tail_after true false true next next' is end = refl
+tail_after true false false next next' is end = absurd (omega (arith, is, end))
+tail_after false true any next next' is end = absurd (omega (arith, is, end))
+tail_after false false any next next' is end = refl
+
+pub standing_after : (log log' : LogStore) (list list' : LogList) (store store' : PageStore) (any : Bool) → forces log (flushed_first store) ≡ (has_tail log && any)
+    → log'.ring.hi ≡ cond (forces log (flushed_first store)) (log.ring.hi + 1) log.ring.hi → 512 * (log'.ring.hi + cond (has_tail log') 1 0) ≡ 512 * (log.ring.hi + cond (has_tail log) 1 0)
+    → list' ≡ sealed_if (forces log (flushed_first store)) list → store'.flash.geometry ≡ store.flash.geometry
+    → store'.flash.directory ≡ pushed_queue store.flash (map (λ (f : Frame). known_of f.page true) (chosen store.pool.frames))
+    → store'.pool.frames ≡ cleared_all (map (λ (f : Frame). f.page) (chosen store.pool.frames)) store.pool.frames → standing log' list' store' ≡ after_push (standing log list store)
+standing_after log log' list list' store store' any is next end sealed geometry queue frames =
+    let tail : has_tail log' ≡ (has_tail log && not (forces log (flushed_first store))) =
+    tail_after (has_tail log) (has_tail log') any log.ring.hi log'.ring.hi (next ∙ ap {B = ℕ} (λ (b : Bool). cond b (log.ring.hi + 1) log.ring.hi) is) end ∙ sym (ap (λ (b : Bool). has_tail log && not b) is) in
+    λ i. record { tail = tail i; next = next i; list = sealed i; groups = (geometry i).groups; queue = queue i; frames = frames i }
+
+-- What the pushes so far have made: the first of all changes, with those left that are still to come.
+pub record HasMade (g : Geometry) (all : List Change) (old now : State) (s : Standing) (count : ℕ) : Type 0 where
+  pub made : List Change
+  pub pushes : ℕ
+  pub enough : count ≤ pushes
+  pub split : all ≡ made ++ pushes_changes pushes s
+  pub front : LeavesFront g made old now
+  pub reaches : Reaches g made old.image now.image
+
+module _ (g : Geometry) (all : List Change) (old mid : State) (s : Standing) (count : ℕ) (so_far : HasMade g all old mid s count) where
+  -- no page is changed
+  pub none_to_come : wants_flush (cache_at s) ≡ false → so_far.made ≡ all
+  none_to_come none = sym (append-nil so_far.made) ∙ ap (λ (l : List Change). so_far.made ++ l) (sym (by so_far.pushes)) ∙ sym so_far.split
+    where
+      by : (n : ℕ) → pushes_changes n s ≡ []
+      by zero = refl
+      by (suc n) = ap (λ (b : Bool). cond b (push_changes s (chosen s.frames) ++ pushes_changes n (after_push s)) []) none
+
+  -- some page is
+  record IsNext : Type 0 where
+    pushes : ℕ
+    one_less : so_far.pushes ≡ suc pushes
+    split : all ≡ (so_far.made ++ push_changes s (chosen s.frames)) ++ pushes_changes pushes (after_push s)
+
+  next : wants_flush (cache_at s) ≡ true → 0 < count → IsNext
+  next some more = by so_far.pushes refl
+    where
+      by : (n : ℕ) → so_far.pushes ≡ n → IsNext
+      by zero is = absurd (omega (arith, more, so_far.enough, is))
+      by (suc n) is = record {
+        pushes = n;
+        one_less = is;
+        split = so_far.split ∙ ap (λ (k : ℕ). so_far.made ++ pushes_changes k s) is
+            ∙ ap (λ (b : Bool). so_far.made ++ cond b (push_changes s (chosen s.frames) ++ pushes_changes n (after_push s)) []) some
+            ∙ sym (append_assoc so_far.made (push_changes s (chosen s.frames)) (pushes_changes n (after_push s)));
+      }
+
+  -- a push within, and behind it
+  pub within_push : FrontsAddUp → (new : State) → wants_flush (cache_at s) ≡ true → 0 < count → mid.told ≡ old.told → LeavesFront g (push_changes s (chosen s.frames)) mid new → LeavesFront g all old new
+  within_push law new some more told front =
+      let n = next some more in
+      subst (λ (l : List Change). LeavesFront g l old new) (sym n.split)
+      (front_more g (so_far.made ++ push_changes s (chosen s.frames)) (pushes_changes n.pushes (after_push s)) old new
+      (law g so_far.made (push_changes s (chosen s.frames)) old mid new so_far.front so_far.reaches told front))
+
+  pub behind_push : FrontsAddUp → ChangesAddUp → (new : State) (s' : Standing) (count' : ℕ) → wants_flush (cache_at s) ≡ true → count' < count → s' ≡ after_push s → mid.told ≡ old.told
+      → LeavesFront g (push_changes s (chosen s.frames)) mid new → Reaches g (push_changes s (chosen s.frames)) mid.image new.image → HasMade g all old new s' count'
+  behind_push law changes new s' count' some fewer is told front reaches =
+      let n = next some (omega (arith, fewer)) in
+      record {
+        made = so_far.made ++ push_changes s (chosen s.frames);
+        pushes = n.pushes;
+        enough = omega (arith, fewer, so_far.enough, n.one_less);
+        split = n.split ∙ ap (λ (t : Standing). (so_far.made ++ push_changes s (chosen s.frames)) ++ pushes_changes n.pushes t) (sym is);
+        front = law g so_far.made (push_changes s (chosen s.frames)) old mid new so_far.front so_far.reaches told front;
+        reaches = changes g so_far.made (push_changes s (chosen s.frames)) old.image mid.image new.image so_far.reaches reaches;
+      }

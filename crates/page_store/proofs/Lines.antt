@@ -1,0 +1,77 @@
+-- The lines of a listing, one by one.
+use Rattle.std.proofs.Common.{◌≡◌, ℕ, suc, ◌+◌, List, [], ◌∷◌, ◌++◌, Bool, length, take, map, Option, Some, None, option_map, arith, refl, sym, ap, ◌∙◌, append_assoc, append-nil}
+use Rattle.std.specs.Prelude.{slice_get}
+use Rattle.std.proofs.lemmas.Option.{slice_get_within, slice_get-get_or, same_Some, none-some}
+use Rattle.std.proofs.lemmas.List.{length-take-le, map-append}
+use Rattle.std.proofs.Math.Seq.{take-suc}
+use Rattle.byte_fields.specs.declared.frame_head.Mark.{Mark}
+use Rattle.record_model.specs.declared.words.CacheLine.{CacheLine}
+use Rattle.record_model.specs.declared.words.CacheLine.TheVariants as line
+use Rattle.second_chance.specs.declared.frame.Frame.{Frame}
+use Rattle.second_chance.specs.Queue.{marks_of_groups}
+use Rattle.second_chance.specs.Machine.{PoolPage, frame_lines, group_lines}
+use Rattle.buffer_pool.specs.declared.frame.Frame.{Frame as Page}
+use Rattle.buffer_pool.specs.Frames.{mark_of}
+use Rattle.page_store.specs.Caching.{pool_page}
+
+-- the first ones with one more
+pub taken_more : {X : Type 0} (xs : List X) (k : ℕ) (x : X) → slice_get xs k ≡ Some x → take (k + 1) xs ≡ take k xs ++ x ∷ []
+taken_more xs k x is =
+    let less = slice_get_within xs k x is in
+    let next : k + 1 ≡ suc k = omega arith in
+    ap (λ n. take n xs) next ∙ take-suc xs k x less ∙ ap (λ y. take k xs ++ y ∷ []) (same_Some _ _ (sym (slice_get-get_or xs k x less) ∙ is))
+
+pub more_frames : (group index : ℕ) (xs ys : List Mark) → frame_lines group index (xs ++ ys) ≡ frame_lines group index xs ++ frame_lines group (index + length xs) ys
+more_frames group index [] ys = ap (λ n. frame_lines group n ys) (let e : index ≡ index + 0 = omega arith in e)
+more_frames group index (x ∷ xs) ys =
+    let e : index + 1 + length xs ≡ index + length (x ∷ xs) = omega arith in
+    ap (λ (l : List CacheLine). line.Frame group index x.page x.valid x.dirty x.referenced ∷ l)
+    (more_frames group (index + 1) xs ys ∙ ap (λ n. frame_lines group (index + 1) xs ++ frame_lines group n ys) e)
+
+pub more_groups : (first : ℕ) (xs ys : List (List Mark)) → group_lines first (xs ++ ys) ≡ group_lines first xs ++ group_lines (first + length xs) ys
+more_groups first [] ys = ap (λ n. group_lines n ys) (let e : first ≡ first + 0 = omega arith in e)
+more_groups first (x ∷ xs) ys =
+    let e : first + 1 + length xs ≡ first + length (x ∷ xs) = omega arith in
+    ap (λ (l : List CacheLine). frame_lines first 0 x ++ l) (more_groups (first + 1) xs ys ∙ ap (λ n. group_lines (first + 1) xs ++ group_lines n ys) e)
+    ∙ sym (append_assoc (frame_lines first 0 x) (group_lines (first + 1) xs) (group_lines (first + length (x ∷ xs)) ys))
+
+pub count_marks : (groups : List (List Frame)) → length (marks_of_groups groups) ≡ length groups
+count_marks [] = refl
+count_marks (group ∷ later) = ap suc (count_marks later)
+
+pub next_frame : (group group' : ℕ) (ms : List Mark) (k : ℕ) (m : Mark) (one : CacheLine) (old before after : List CacheLine) → slice_get ms k ≡ Some m → before ≡ old ++ frame_lines group 0 (take k ms) → after ≡ before ++ one ∷ []
+    → group' ≡ group → one ∷ [] ≡ frame_lines group' k (m ∷ []) → after ≡ old ++ frame_lines group 0 (take (k + 1) ms)
+next_frame group group' ms k m one old before after at is more same line_is =
+    let count : 0 + length (take k ms) ≡ k = let less = slice_get_within ms k m at in omega (arith, length-take-le k ms (omega (arith, less))) in
+    let split : frame_lines group 0 (take (k + 1) ms) ≡ frame_lines group 0 (take k ms) ++ one ∷ [] =
+    ap (frame_lines group 0) (taken_more ms k m at) ∙ more_frames group 0 (take k ms) (m ∷ [])
+    ∙ ap (λ n. frame_lines group 0 (take k ms) ++ frame_lines group n (m ∷ [])) count ∙ ap (λ (l : List CacheLine). frame_lines group 0 (take k ms) ++ l) (sym (line_is ∙ ap (λ n. frame_lines n k (m ∷ [])) same)) in
+    more ∙ ap (λ (l : List CacheLine). l ++ one ∷ []) is ∙ append_assoc old (frame_lines group 0 (take k ms)) (one ∷ []) ∙ ap (λ (l : List CacheLine). old ++ l) (sym split)
+
+pub next_group : (first : ℕ) (all : List (List Mark)) (k : ℕ) (ms : List Mark) (old before after : List CacheLine) → slice_get all k ≡ Some ms → before ≡ old ++ group_lines first (take k all)
+    → after ≡ before ++ frame_lines (first + k) 0 ms → after ≡ old ++ group_lines first (take (k + 1) all)
+next_group first all k ms old before after at is more =
+    let count : length (take k all) ≡ k = length-take-le k all (let less = slice_get_within all k ms at in omega (arith, less)) in
+    let split : group_lines first (take (k + 1) all) ≡ group_lines first (take k all) ++ frame_lines (first + k) 0 ms =
+    ap (group_lines first) (taken_more all k ms at) ∙ more_groups first (take k all) (ms ∷ [])
+    ∙ ap (λ n. group_lines first (take k all) ++ group_lines (first + n) (ms ∷ [])) count ∙ ap (λ (l : List CacheLine). group_lines first (take k all) ++ l) (append-nil (frame_lines (first + k) 0 ms)) in
+    more ∙ ap (λ (l : List CacheLine). l ++ frame_lines (first + k) 0 ms) is ∙ append_assoc old (group_lines first (take k all)) (frame_lines (first + k) 0 ms) ∙ ap (λ (l : List CacheLine). old ++ l) (sym split)
+
+pub next_page : (frames : List Page) (k p : ℕ) (b : Bool) (old before after : List CacheLine) → option_map mark_of (slice_get frames k) ≡ Some (p, b) → before ≡ old ++ map (λ (f : Page). line.Pool f.page f.changed) (take k frames)
+    → after ≡ before ++ line.Pool p b ∷ [] → after ≡ old ++ map (λ (f : Page). line.Pool f.page f.changed) (take (k + 1) frames)
+next_page frames k p b old before after at is more = by (slice_get frames k) refl at
+  where
+    by : (o : Option Page) → slice_get frames k ≡ o → option_map mark_of o ≡ Some (p, b) → after ≡ old ++ map (λ (f : Page). line.Pool f.page f.changed) (take (k + 1) frames)
+    by None there at = absurd (none-some (p, b) at)
+    by (Some f) there at =
+        let own : line.Pool p b ≡ line.Pool f.page f.changed = ap (λ (m : ℕ × Bool). line.Pool m.0 m.1) (sym (same_Some _ _ at)) in
+        let split : map (λ (f : Page). line.Pool f.page f.changed) (take (k + 1) frames) ≡ map (λ (f : Page). line.Pool f.page f.changed) (take k frames) ++ line.Pool p b ∷ [] =
+        ap (map (λ (f : Page). line.Pool f.page f.changed)) (taken_more frames k f there) ∙ map-append (λ (f : Page). line.Pool f.page f.changed) (take k frames) (f ∷ [])
+        ∙ ap (λ l. map (λ (f : Page). line.Pool f.page f.changed) (take k frames) ++ l ∷ []) (sym own) in
+        more ∙ ap (λ (l : List CacheLine). l ++ line.Pool p b ∷ []) is ∙ append_assoc old (map (λ (f : Page). line.Pool f.page f.changed) (take k frames)) (line.Pool p b ∷ [])
+        ∙ ap (λ (l : List CacheLine). old ++ l) (sym split)
+
+-- the pool's lines are those of the machine's pages
+pub pool_lines : (frames : List Page) → map (λ (f : Page). line.Pool f.page f.changed) frames ≡ map (λ (p : PoolPage). line.Pool p.page p.changed) (map pool_page frames)
+pool_lines [] = refl
+pool_lines (f ∷ fs) = ap (λ (l : List CacheLine). line.Pool f.page f.changed ∷ l) (pool_lines fs)

@@ -1,0 +1,6 @@
+use Rattle.std.proofs.Common.{◌≡◌, ◌+◌, ◌++◌, take}
+use Rattle.second_chance.specs.Machine.{frame_lines}
+use Rattle.page_store.proofs.listing.list_group.Given as goal
+
+abbrev pub invariant-loop-index : goal.invariant-loop-index
+invariant-loop-index l = l.lines ≡ l.fn.lines ++ frame_lines (l.fn.flash.directory.first + l.fn.place) 0 (take l.index l.marks)

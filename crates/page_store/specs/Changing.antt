@@ -1,0 +1,97 @@
+-- Which changes of an image the calls on pages make.
+use Rattle.std.specs.Prelude.{ℕ, zero, suc, ◌+◌, ◌*◌, Bool, true, not, ◌&&◌, List, [], ◌∷◌, ◌++◌, map, reverse, if◌then◌else◌}
+use Rattle.std.specs.List.{list_any}
+use Rattle.image_changes.specs.Changes.{Change}
+use Rattle.frame_group.specs.Groups.{Frame as Stored, group}
+use Rattle.flash_cache.specs.Pushed.{staged_pages, frames_given, changes_of_push}
+use Rattle.buffer_pool.specs.declared.frame.Frame.{Frame}
+use Rattle.second_chance.specs.Plans.{chances_given, staged_of}
+use Rattle.second_chance.specs.Queue.{Queue, pushed, frame_of as known_of}
+use Rattle.second_chance.specs.Machine.{Cache, rules_of, leaving, is_full as queue_is_full, must_be_pushed, wants_flush, lacks_room}
+use Rattle.second_chance.specs.Laws.{changed_count}
+use Rattle.log_store.specs.declared.store.LogStore.{LogStore}
+use Rattle.log_store.specs.LogList.{LogList, sealed_if, changes_if}
+use Rattle.log_store.specs.Held.{has_tail}
+use Rattle.page_store.specs.declared.store.PageStore.{PageStore}
+use Rattle.page_store.specs.Caching.{pool_page, cache_of, rules, is_full}
+use Rattle.page_store.specs.Ahead.{is_unsealed, forces}
+use Rattle.page_store.specs.Flushing.{chosen, cleared_all}
+
+-- What the changes of a push depend on: whether the log has a tail, the number of its next block, its records, the queue on a flash of
+-- so many groups, and the pool.
+pub record Standing : Type 0 where
+  pub tail : Bool
+  pub next : ℕ
+  pub list : LogList
+  pub groups : ℕ
+  pub queue : Queue
+  pub frames : List Frame
+
+abbrev pub standing : LogStore → LogList → PageStore → Standing
+standing log list store =
+    record { tail = has_tail log; next = log.ring.hi; list = list; groups = store.flash.geometry.groups; queue = store.flash.directory; frames = store.pool.frames }
+
+-- One push.
+
+-- whether the log is forced before these pages are pushed: one of them has an LSN in the tail
+abbrev pub is_forced : Standing → List Frame → Bool
+is_forced s frames = s.tail && list_any (is_unsealed (512 * s.next)) (map (λ f. f.content) frames)
+
+-- the pages that are staged: those of the front group's valid dirty frames, where that group leaves
+abbrev pub staged_at : Standing → List ℕ
+staged_at s = map (λ f. f.1.page) (staged_of chances_given (leaving (rules_of 0 s.groups) s.queue))
+
+-- a page of the pool as a frame of a group, dirty where it is changed
+abbrev pub stored : Frame → Stored
+stored frame = record { page = frame.page; dirty = frame.changed; octets = frame.content }
+
+-- The changes of a push of these pages: the tail is sealed where the log is forced, the staged pages are rewritten if there are any,
+-- and the group is appended.
+abbrev pub push_changes : Standing → List Frame → List Change
+push_changes s frames = changes_if (is_forced s frames) s.list ++ changes_of_push (staged_at s) (group (map stored frames))
+
+-- the same of pages that are given with their marks and contents
+abbrev pub given_changes : LogStore → LogList → PageStore → List ℕ → List Bool → List (List ℕ) → List Change
+given_changes log list store pages changed contents = changes_if (forces log contents) list ++ changes_of_push (staged_pages store.flash) (group (frames_given pages changed contents))
+
+-- A touch.
+
+-- what the eviction of the coldest page changes: the push of it, where it must be pushed
+abbrev pub first_changes : Standing → List Frame → List Change
+first_changes s [] = []
+first_changes s (coldest ∷ warmer) = if must_be_pushed s.queue (pool_page coldest) then push_changes s (coldest ∷ []) else []
+
+abbrev pub eviction_changes : LogStore → LogList → PageStore → List Change
+eviction_changes log list store = first_changes (standing log list store) (reverse store.pool.frames)
+
+-- what changes where room is made for a page, and by a touch
+abbrev pub room_changes : LogStore → LogList → PageStore → List Change
+room_changes log list store = if is_full store then eviction_changes log list store else []
+
+abbrev pub touch_changes : LogStore → LogList → PageStore → ℕ → List Change
+touch_changes log list store page = if lacks_room (rules store) page (cache_of store) then eviction_changes log list store else []
+
+-- A flush.
+
+abbrev pub cache_at : Standing → Cache
+cache_at s = record { pool = map pool_page s.frames; queue = s.queue }
+
+-- Behind a push of the coldest changed pages: where the log was forced it has one block more and no tail, the queue has the group, and
+-- the pages count as unchanged.
+abbrev pub after_push : Standing → Standing
+after_push s = record {
+  tail = s.tail && not (is_forced s (chosen s.frames));
+  next = if is_forced s (chosen s.frames) then s.next + 1 else s.next;
+  list = sealed_if (is_forced s (chosen s.frames)) s.list;
+  groups = s.groups;
+  queue = pushed (queue_is_full (rules_of 0 s.groups) s.queue) (map (λ f. known_of f.page true) (chosen s.frames)) s.queue;
+  frames = cleared_all (map (λ f. f.page) (chosen s.frames)) s.frames;
+}
+
+-- the changes of a flush, push by push; each push saves at least one changed page
+abbrev pub pushes_changes : ℕ → Standing → List Change
+pushes_changes zero s = []
+pushes_changes (suc pushes) s = if wants_flush (cache_at s) then push_changes s (chosen s.frames) ++ pushes_changes pushes (after_push s) else []
+
+abbrev pub flush_changes : LogStore → LogList → PageStore → List Change
+flush_changes log list store = pushes_changes (changed_count (cache_of store).pool) (standing log list store)

@@ -1,0 +1,108 @@
+-- The tail is sealed beside the pages.
+use Rattle.std.proofs.Common.{◌≡◌, ℕ, ◌+◌, ◌*◌, ◌≤◌, ◌<◌, Bool, true, false, List, [], ◌∷◌, ◌++◌, length, true≢false, refl, sym, ap, subst, ◌∙◌, arith, nat_lt}
+use Rattle.std.specs.Prelude.{if◌then◌else◌, Result, Ok, Err, OnOk}
+use Rattle.std.proofs.lemmas.Bool.{lt-ltb}
+use Rattle.site.specs.declared.outside.Dev.TheVariants.{Log}
+use Rattle.site.specs.declared.geometry.Geometry.{Geometry}
+use Rattle.site.specs.State.{State}
+use Rattle.site.specs.Calls.{Goes}
+use Rattle.site.specs.Moments.{ChangesOnly}
+use Rattle.record_model.specs.State.{Content}
+use Rattle.log_records.specs.declared.log_record.LogRecord.{LogRecord}
+use Rattle.log_records.specs.Spelling.{AreBlock, block_len}
+use Rattle.log_records.specs.Log.{Entry, Version, log_from}
+use Rattle.slotted_page.specs.Layout.{lsn_of}
+use Rattle.image_changes.specs.Changes.{Reaches}
+use Rattle.log_store.specs.declared.store.LogStore.{LogStore}
+use Rattle.log_store.specs.LogList.{LogList, sealed_if, changes_if}
+use Rattle.log_store.specs.Held as log_held
+use Rattle.log_store.specs.Held.{has_tail, end_of}
+use Rattle.page_store.specs.declared.store.PageStore.{PageStore}
+use Rattle.page_store.specs.Held.{current}
+use Rattle.page_store.specs.Ahead.{end_forced}
+use Rattle.image_meaning.specs.Meaning.{versions_on, version_in}
+use Rattle.image_meaning.specs.Redone.{ShowsAll}
+use Rattle.redo_undo.specs.Holding.{Holds, blocks_to}
+use Rattle.redo_undo.specs.Laws.{LogLaws, PageLaws, BesideLaws}
+use Rattle.redo_undo.proofs.Standing.{last_of_all}
+use Rattle.redo_undo.proofs.Touched.{tail_blocks, runs_sealed}
+use Rattle.redo_undo.proofs.Appended.{logged_more, versions_same, current_same, moved, rings_now, sealed_now}
+
+-- what sealing a tail has done on an honest site
+pub record IsForced (log log' : LogStore) (list : LogList) (site new : State) : Type 0 where
+  pub next : log'.ring.hi ≡ (if has_tail log then log.ring.hi + 1 else log.ring.hi)
+  pub empty : log'.used ≡ 2
+  pub geometry : log'.geometry ≡ log.geometry
+  pub holds : log_held.Holds log' new.image (sealed_if (has_tail log) list)
+  pub finds : log_held.Finds log' new
+  pub reaches : Reaches log.geometry (changes_if (has_tail log) list) site.image new.image
+  pub changes : ChangesOnly Log site new
+  pub goes : Goes site new
+
+pub none_now : (log' : LogStore) → log'.used ≡ 2 → has_tail log' ≡ false
+none_now log' empty = ap (nat_lt 2) empty
+
+hi_after : (b : Bool) (hi hi' : ℕ) → b ≡ true → hi' ≡ (if b then hi + 1 else hi) → hi' ≡ hi + 1
+hi_after true hi hi' some is = is
+hi_after false hi hi' some is = absurd (true≢false (sym some))
+
+-- the blocks stay as many
+pub same_blocks : (log log' : LogStore) → has_tail log ≡ true → log'.ring.hi ≡ (if has_tail log then log.ring.hi + 1 else log.ring.hi) → log'.used ≡ 2 → blocks_to log' ≡ blocks_to log
+same_blocks log log' some next empty =
+    let hi = hi_after (has_tail log) log.ring.hi log'.ring.hi some next in
+    let one : (if has_tail log then 1 else 0) ≡ 1 = ap tail_blocks some in
+    let none : (if has_tail log' then 1 else 0) ≡ 0 = ap tail_blocks (none_now log' empty) in
+    omega (arith, hi, one, none)
+
+module _ (logs : LogLaws) (laws : PageLaws) (beside : BesideLaws) (log : LogStore) (pages : PageStore) (site : State) (records : List Entry) (table : List Content) (commits : ℕ) (h : Holds log pages site records table commits)
+    (sizes : log.geometry ≡ pages.flash.geometry) (log' : LogStore) (new : State) (some : has_tail log ≡ true) (high : log.used ≤ block_len)
+    (is : IsForced log log' (record { first = 0; blocks = h.log_holds.blocks; tail = h.log_holds.tail }) site new) where
+  abbrev more : List (List LogRecord)
+  more = h.log_holds.blocks ++ h.log_holds.tail ∷ []
+
+  hi_is : log'.ring.hi ≡ log.ring.hi + 1
+  hi_is = hi_after (has_tail log) log.ring.hi log'.ring.hi some is.next
+
+  blocks_are : blocks_to log' ≡ blocks_to log
+  blocks_are = same_blocks log log' some is.next is.empty
+
+  held : log_held.Holds log' new.image (record { first = 0; blocks = more; tail = [] })
+  held = subst (λ (b : Bool). log_held.Holds log' new.image (sealed_if b (record { first = 0; blocks = h.log_holds.blocks; tail = h.log_holds.tail }))) some is.holds
+
+  pub forced_holds : Holds log' pages new records table commits
+  forced_holds =
+      let same = versions_same beside pages site new is.changes in
+      let stays = current_same beside pages site new is.changes in
+      record {
+        log_holds = record {
+          blocks = more;
+          tail = [];
+          ready = record { pages = beside.fits pages site new is.changes is.goes h.log_holds.ready.pages; blocks = is.finds; records = held };
+          rings = rings_now logs laws beside log pages site records table commits h sizes new (has_tail log) is.reaches;
+          runs_on = moved logs laws beside log pages site records table commits h sizes new is.changes more [] records
+              (runs_sealed logs laws log pages site records table commits h some (last_of_all AreBlock h.log_holds.blocks h.log_holds.tail held.blocks.are_blocks));
+          ahead = record {
+            pool = logged_more (end_forced log) (end_forced log') (let all = blocks_are in omega (arith, all)) pages.pool.frames h.log_holds.ahead.pool;
+            versions = sealed_now logs laws beside log pages site records table commits h sizes new (has_tail log) log' is.changes is.geometry is.finds (let next = hi_is in omega (arith, next));
+          };
+          room = let room = h.log_holds.room in let all = blocks_are in omega (arith, room, all);
+        };
+        shows = record {
+          each = λ number exists.
+              subst (λ (v : List Version). ShowsAll records v number (version_in (current pages new.image number))) (sym same)
+              (subst (λ (c : List ℕ). ShowsAll records (versions_on pages.flash.geometry site.image) number (version_in c)) (sym (stays number)) (h.shows.each number exists));
+        };
+        below = λ number exists.
+            let before = h.below number exists in
+            let empty = is.empty in
+            let next = hi_is in
+            subst (λ (c : List ℕ). lsn_of c < end_of log') (sym (stays number)) (omega (arith, before, next, empty, high));
+      }
+
+-- where no record is unsealed there is no tail
+pub some_now : (log : LogStore) → 2 ≤ log.used → (log.used ≡ 2 → ⊥) → has_tail log ≡ true
+some_now log low other = lt-ltb 2 log.used (omega (arith, low, other))
+
+pub ok_five : {A E : Type 0} (r : Result A E) (P Q R S T Z : Type 0) → (P → Q → R → S → T → Z) → OnOk r P → OnOk r Q → OnOk r R → OnOk r S → OnOk r T → OnOk r Z
+ok_five (Ok x) P Q R S T Z f p q r s t = f p q r s t
+ok_five (Err e) P Q R S T Z f p q r s t = tt

@@ -1,0 +1,271 @@
+-- Undoing what analysis has found, record by record.
+use Rattle.std.proofs.Common.{◌≡◌, ℕ, ◌+◌, ◌-◌, ◌*◌, ◌≤◌, ◌<◌, Bool, true, false, List, [], ◌∷◌, ◌++◌, length, Option, None, Some, true≢false, refl, sym, ap, subst, ◌∙◌, arith, append_assoc, append-nil}
+use Rattle.std.specs.Prelude.{if◌then◌else◌, map, filter, option_map}
+use Rattle.std.proofs.lemmas.List.{length-append, length-map}
+use Rattle.std.proofs.lemmas.Option.{none-some, same_Some}
+use Rattle.site.specs.State.{State}
+use Rattle.record_model.specs.State.{Content}
+use Rattle.log_records.specs.declared.log_record.LogRecord.TheVariants.{Clr, End}
+use Rattle.log_records.specs.Log.{Entry, txn_of, is_of, is_loser}
+use Rattle.log_records.specs.Unfinished.{left_open, owed, owed_by}
+use Rattle.log_records.specs.Sound.{InTurn, IsInOrder, last_number}
+use Rattle.log_laws.specs.Follow.{Follows, IsUndoable}
+use Rattle.log_laws.specs.Tail.{next_lsn}
+use Rattle.log_laws.specs.Analysis.{Unfinished, IsUnfinished}
+use Rattle.log_laws.specs.UndoLaws.{next_of}
+use Rattle.log_store.specs.declared.store.LogStore.{LogStore}
+use Rattle.log_store.specs.Held.{has_tail}
+use Rattle.std.proofs.lemmas.Bool.{ltb-false}
+use Rattle.page_store.specs.declared.store.PageStore.{PageStore}
+use Rattle.image_meaning.specs.Meaning.{picture, blank_master, versions_on}
+use Rattle.analysis.specs.declared.analysis.Analysis.{Analysis}
+use Rattle.analysis.specs.declared.analysis.Loser.{Loser}
+use Rattle.analysis.specs.Open.{Open, found_in, IsTop, Remains}
+use Rattle.analysis.specs.Table.{listed}
+use Rattle.analysis.specs.Read.{IsAnalysis, is_active, open_at}
+use Rattle.redo_undo.specs.declared.undo.Undoing.{Undoing}
+use Rattle.redo_undo.specs.Holding.{Holds, MayGrow, blocks_to}
+use Rattle.redo_undo.specs.Undoing.{Undone}
+use Rattle.redo_undo.specs.UndoingAll.{IsOf, Remain, AreUpTo, IsUndoing, IsGreatest, IsNextUndo, UndoesSome, UndoesAll}
+use Rattle.redo_undo.specs.Laws.{PageLaws, UndoLaws, FoundLaws}
+use Rattle.redo_undo.proofs.Compensations.{chain}
+use Rattle.redo_undo.proofs.Opens.{all_found}
+
+-- LSNs.
+
+last_after : (from : ℕ) (xs : List Entry) (e : Entry) (to : ℕ) → IsInOrder from (xs ++ e ∷ []) to → from ≤ e.lsn
+last_after from [] e to order = order.0
+last_after from (x ∷ xs) e to order = let a = order.0 in let b = last_after (x.lsn + 1) xs e to order.1 in omega (arith, a, b)
+
+-- the last of records in order has the greatest LSN
+up_to_last : (from : ℕ) (xs : List Entry) (e : Entry) (to : ℕ) → IsInOrder from (xs ++ e ∷ []) to → AreUpTo e.lsn (xs ++ e ∷ [])
+up_to_last from [] e to order = (omega arith, tt)
+up_to_last from (x ∷ xs) e to order = (let a = last_after (x.lsn + 1) xs e to order.1 in omega (arith, a), up_to_last (x.lsn + 1) xs e to order.1)
+
+order_end : (from : ℕ) (xs : List Entry) (to : ℕ) → IsInOrder from xs to → from ≤ to
+order_end from [] to order = order
+order_end from (x ∷ xs) to order = let a = order.0 in let b = order_end (x.lsn + 1) xs to order.1 in omega (arith, a, b)
+
+below_end : (from : ℕ) (xs : List Entry) (to known : ℕ) → to ≤ known + 1 → IsInOrder from xs to → AreUpTo known xs
+below_end from [] to known less order = tt
+below_end from (x ∷ xs) to known less order = (let a = order_end (x.lsn + 1) xs to order.1 in omega (arith, a, less), below_end (x.lsn + 1) xs to known less order.1)
+
+last_up_to : (n known : ℕ) (test : Entry → Bool) (xs : List Entry) → n ≤ known → AreUpTo known xs → last_number n (map (λ e. e.lsn) (filter test xs)) ≤ known
+last_up_to n known test [] less all = less
+last_up_to n known test (x ∷ xs) less all = by (test x) refl (last_up_to n known test xs less all.1) (last_up_to x.lsn known test xs all.0 all.1)
+  where
+    by : (b : Bool) → test x ≡ b → last_number n (map (λ e. e.lsn) (filter test xs)) ≤ known → last_number x.lsn (map (λ e. e.lsn) (filter test xs)) ≤ known →
+        last_number n (map (λ e. e.lsn) (if b then x ∷ filter test xs else filter test xs)) ≤ known
+    by true is other own = own
+    by false is other own = other
+
+-- What a list says of a transaction is what the records say.
+
+said : (b : Bool) (x y : Open) (active : Bool) → active ≡ b → Some x ≡ (if b then Some y else None) → (active ≡ true) × (x ≡ y)
+said true x y active is says = (is, same_Some x y says)
+said false x y active is says = absurd (none-some x (sym says))
+
+head_of : (updates : List Entry) (lsn : ℕ) → IsTop lsn (map (λ u. u.lsn) updates) → (u : Entry) × (rest : List Entry) × (updates ≡ u ∷ rest) × (u.lsn ≡ lsn)
+head_of [] lsn top = absurd top
+head_of (u ∷ rest) lsn top = (u, rest, refl, top)
+
+some_at_top : (us : List ℕ) (lsn : ℕ) → IsTop lsn us → 0 < length us
+some_at_top [] lsn top = absurd top
+some_at_top (u ∷ us) lsn top = omega arith
+
+module _ (found_laws : FoundLaws) (laws : UndoLaws) (log : LogStore) (pages : PageStore) (site : State) (records : List Entry) (table : List Content) (commits : ℕ) (found : Analysis) (h : Holds log pages site records table commits) (is : IsAnalysis blank_master records found) where
+  undoable : IsUndoable records
+  undoable = subst IsUndoable h.log_holds.runs_on.records_are (laws.undoable (picture pages.flash.geometry site.image h.log_holds.blocks) h.log_holds.tail h.log_holds.runs_on.carries)
+
+  pub order : IsInOrder 0 records (next_lsn (picture pages.flash.geometry site.image h.log_holds.blocks) h.log_holds.tail)
+  order =
+      let p = picture pages.flash.geometry site.image h.log_holds.blocks in
+      subst (λ (l : List Entry). IsInOrder 0 l (next_lsn p h.log_holds.tail)) h.log_holds.runs_on.records_are (laws.in_order p h.log_holds.tail h.log_holds.runs_on.carries)
+
+  open_is : (t : ℕ) (x : Open) → found_in (listed found.table) t ≡ Some x → (is_active [] records t ≡ true) × (x ≡ open_at [] records t)
+  open_is t x there = said (is_active [] records t) x (open_at [] records t) (is_active [] records t) refl (sym there ∙ is.table.says t)
+
+  lives : (t : ℕ) (x : Open) → found_in (listed found.table) t ≡ Some x → is_loser records t ≡ true
+  lives t x there = found_laws.loser records t (sym (found_laws.active [] records t tt) ∙ (open_is t x there).0)
+
+  -- an active transaction is unfinished
+  pub unfinished_of : (t : ℕ) (x : Open) → found_in (listed found.table) t ≡ Some x → IsUnfinished records (record { txn = t; last = x.last; next = next_of records t; remaining = length x.updates })
+  unfinished_of t x there =
+      let same = (open_is t x there).1 in
+      record {
+        loser = lives t x there;
+        last_is = ap (λ (y : Open). y.last) same;
+        next_is = refl;
+        remaining_is = ap (λ (y : Open). length y.updates) same ∙ length-map (left_open records t) (λ u. u.lsn);
+      }
+
+  -- and undoing it goes on with the first of its Updates that remain
+  next_at : (t lsn : ℕ) (x : Open) → found_in (listed found.table) t ≡ Some x → IsTop lsn x.updates → next_of records t ≡ lsn
+  next_at t lsn x there top =
+      let same = (open_is t x there).1 in
+      let head = head_of (left_open records t) lsn (subst (λ (y : Open). IsTop lsn y.updates) same top) in
+      (found_laws.next 0 (next_lsn (picture pages.flash.geometry site.image h.log_holds.blocks) h.log_holds.tail) records t head.0 head.1 order (undoable.undone t (lives t x there)) head.2).next ∙ head.3
+
+  abbrev standing : Loser → ℕ → Unfinished
+  standing loser lsn = record { txn = loser.txn; last = loser.last; next = lsn; remaining = loser.remaining }
+
+  pub unfinished_loser : (loser : Loser) (lsn : ℕ) → IsOf (listed found.table) loser → Remains (listed found.table) loser.txn lsn → IsUnfinished records (standing loser lsn) × (0 < loser.remaining)
+  unfinished_loser loser lsn of remains =
+      let same : remains.x ≡ of.x = same_Some remains.x of.x (sym remains.there ∙ of.there) in
+      let top : IsTop lsn of.x.updates = subst (λ (y : Open). IsTop lsn y.updates) same remains.top in
+      let u = unfinished_of loser.txn of.x of.there in
+      let count : loser.remaining ≡ length of.x.updates = ap (λ (l : Loser). l.remaining) of.same in
+      let some = some_at_top of.x.updates lsn top in (
+        record {
+          loser = u.loser;
+          last_is = ap (λ (l : Loser). l.last) of.same ∙ u.last_is;
+          next_is = sym (next_at loser.txn lsn of.x of.there top);
+          remaining_is = count ∙ u.remaining_is;
+        },
+        omega (arith, some, count),
+      )
+
+  -- its last record stands where the others do
+  pub last_known : (known : ℕ) (loser : Loser) → AreUpTo known records → IsOf (listed found.table) loser → loser.last ≤ known
+  last_known known loser up_to of =
+      let u = unfinished_of loser.txn of.x of.there in
+      let last : loser.last ≡ of.x.last = ap (λ (l : Loser). l.last) of.same in
+      let is_last = u.last_is in
+      let less = last_up_to 0 known (is_of loser.txn) records (omega arith) up_to in
+      omega (arith, last, is_last, less)
+
+  found_some : (t : ℕ) → is_loser records t ≡ true → found_in (listed found.table) t ≡ Some (open_at [] records t)
+  found_some t loser =
+      is.table.says t ∙ ap (λ (b : Bool). if b then Some (open_at [] records t) else None) (found_laws.active [] records t tt ∙ found_laws.listed records t undoable loser)
+
+  -- where of each active transaction an Update remains, one remains of each unfinished one
+  pub each_remains : Remain (listed found.table) → (t : ℕ) → is_loser records t ≡ true → 0 < length (left_open records t)
+  each_remains all t loser =
+      let some = all_found (λ x. 0 < length x.updates) (listed found.table) t (open_at [] records t) all (found_some t loser) in
+      omega (arith, some, length-map (left_open records t) (λ u. u.lsn))
+
+  -- where none is active none is unfinished
+  pub none_unfinished : listed found.table ≡ [] → (t : ℕ) → is_loser records t ≡ false
+  none_unfinished none t = by (is_loser records t) refl
+    where
+      by : (b : Bool) → is_loser records t ≡ b → b ≡ false
+      by false loser = refl
+      by true loser = absurd (none-some (open_at [] records t) (sym (ap (λ (l : List Open). found_in l t) none) ∙ found_some t loser))
+
+-- The End of a transaction of which nothing remains.
+module _ (page_laws : PageLaws) (laws : UndoLaws) (log : LogStore) (pages : PageStore) (site : State) (records : List Entry) (table : List Content) (commits : ℕ) (h : Holds log pages site records table commits) (x : Unfinished) (unfinished : IsUnfinished records x) (none : x.remaining ≡ 0) where
+  pub owes_end : (lsn : ℕ) → owed records ≡ owed (records ++ record { lsn = lsn; rec = End x.txn } ∷ []) + 1
+  owes_end lsn =
+      let owes : owed records ≡ owed (records ++ record { lsn = lsn; rec = End x.txn } ∷ []) + owed_by records x.txn =
+      laws.owed_closing records (record { lsn = lsn; rec = End x.txn }) refl (laws.lives records x.txn unfinished.loser) (chain page_laws laws log pages site records table commits h x unfinished) in
+      let remains = unfinished.remaining_is in
+      omega (arith, owes, remains, none)
+
+  pub room_to_end : blocks_to log + 1 ≤ pages.flash.geometry.blocks - 1
+  room_to_end = let owes = owes_end 0 in let room = h.log_holds.room in omega (arith, owes, room)
+
+  pub end_may : (lsn : ℕ) → MayGrow log pages site.image records (record { lsn = lsn; rec = End x.txn })
+  end_may lsn =
+      let p = picture pages.flash.geometry site.image h.log_holds.blocks in
+      let are = h.log_holds.runs_on.records_are in
+      let owes = owes_end lsn in
+      let room = h.log_holds.room in
+      record {
+        follows = subst (λ (l : List Entry). Follows blank_master (versions_on pages.flash.geometry site.image) l (record { lsn = lsn; rec = End x.txn })) are
+            (laws.end p h.log_holds.tail x h.log_holds.runs_on.carries refl (subst (λ (l : List Entry). IsUnfinished l x) (sym are) unfinished) none lsn);
+        no_commit = refl;
+        room = omega (arith, owes, room);
+      }
+
+-- One record more.
+module _ (laws : UndoLaws) (log : LogStore) (pages : PageStore) (site : State) (records : List Entry) (table : List Content) (commits : ℕ) (found : Analysis) where
+  pub one_more : (e : Entry) → Holds log pages site (records ++ e ∷ []) table commits → IsAnalysis blank_master (records ++ e ∷ []) found → IsNextUndo records e → owed records ≡ owed (records ++ e ∷ []) + 1 →
+      UndoesSome log pages site records table commits found e.lsn
+  one_more e h is next owes =
+      let p = picture pages.flash.geometry site.image h.log_holds.blocks in
+      record {
+        more = e ∷ [];
+        now = record {
+          holds = h;
+          analysis = is;
+          up_to = up_to_last 0 records e (next_lsn p h.log_holds.tail)
+              (subst (λ (l : List Entry). IsInOrder 0 l (next_lsn p h.log_holds.tail)) h.log_holds.runs_on.records_are (laws.in_order p h.log_holds.tail h.log_holds.runs_on.carries));
+        };
+        in_turn = (next, tt);
+        count = omega (arith, owes);
+      }
+
+  -- an End
+  pub one_end : (t lsn : ℕ) → Holds log pages site (records ++ record { lsn = lsn; rec = End t } ∷ []) table commits → IsAnalysis blank_master (records ++ record { lsn = lsn; rec = End t } ∷ []) found →
+      owed records ≡ owed (records ++ record { lsn = lsn; rec = End t } ∷ []) + 1 → UndoesSome log pages site records table commits found lsn
+  one_end t lsn h is owes =
+      one_more (record { lsn = lsn; rec = End t }) h is (record { ends_first = λ clr. absurd (true≢false (sym clr)); greatest = λ clr. absurd (true≢false (sym clr)) }) owes
+
+  -- a CLR
+  pub one_clr : (x : Unfinished) (now : Undoing) (u : Undone log pages site records table commits x now) → IsAnalysis blank_master (records ++ record { lsn = now.last; rec = Clr x.txn x.last now.next u.page u.slot u.before } ∷ []) found →
+      ((t : ℕ) → is_loser records t ≡ true → 0 < length (left_open records t)) → IsGreatest records x.txn → UndoesSome log pages site records table commits found now.last
+  one_clr x now u is remain greatest =
+      subst (λ (lsn : ℕ). UndoesSome log pages site records table commits found lsn) (ap (λ (e : Entry). e.lsn) u.e_is)
+      (one_more u.e u.holds (subst (λ (e : Entry). IsAnalysis blank_master (records ++ e ∷ []) found) (sym u.e_is) is)
+      (record { ends_first = λ clr. remain; greatest = λ clr. subst (IsGreatest records) (sym u.own) greatest }) u.owes)
+
+-- Records in turn.
+
+in_turn_join : (P : List Entry → Entry → Type 0) (earlier xs ys : List Entry) → InTurn P earlier xs → InTurn P (earlier ++ xs) ys → InTurn P earlier (xs ++ ys)
+in_turn_join P earlier [] ys first second = subst (λ (l : List Entry). InTurn P l ys) (append-nil earlier) second
+in_turn_join P earlier (x ∷ xs) ys first second = (first.0, in_turn_join P (earlier ++ x ∷ []) xs ys first.1 (subst (λ (l : List Entry). InTurn P l ys) (sym (append_assoc earlier (x ∷ []) xs)) second))
+
+-- nothing is undone yet
+pub nothing_undone : (log : LogStore) (pages : PageStore) (site : State) (records : List Entry) (table : List Content) (commits : ℕ) (found : Analysis) (known : ℕ) → IsUndoing log pages site records table commits found known →
+    UndoesSome log pages site records table commits found known
+nothing_undone log pages site records table commits found known is = record {
+  more = [];
+  now = subst (λ (l : List Entry). IsUndoing log pages site l table commits found known) (sym (append-nil records)) is;
+  in_turn = tt;
+  count = omega (arith, ap owed (append-nil records));
+}
+
+-- and more is, behind what was
+pub more_undone : (log log' : LogStore) (pages pages' : PageStore) (site site' : State) (records : List Entry) (table : List Content) (commits : ℕ) (found found' : Analysis) (known known' : ℕ) →
+    (a : UndoesSome log pages site records table commits found known) → UndoesSome log' pages' site' (records ++ a.more) table commits found' known' → UndoesSome log' pages' site' records table commits found' known'
+more_undone log log' pages pages' site site' records table commits found found' known known' a b =
+    let count = a.count in
+    let count' = b.count in
+    let all = append_assoc records a.more b.more in
+    record {
+      more = a.more ++ b.more;
+      now = subst (λ (l : List Entry). IsUndoing log' pages' site' l table commits found' known') all b.now;
+      in_turn = in_turn_join IsNextUndo records a.more b.more a.in_turn b.in_turn;
+      count = omega (arith, count, count', length-append a.more b.more, ap owed all);
+    }
+
+-- until all is
+pub all_undone : FoundLaws → UndoLaws → (log : LogStore) (pages : PageStore) (site : State) (records : List Entry) (table : List Content) (commits : ℕ) (found : Analysis) (known : ℕ) →
+    UndoesSome log pages site records table commits found known → listed found.table ≡ [] → UndoesAll log pages site records table commits
+all_undone found_laws laws log pages site records table commits found known a none =
+    let done = none_unfinished found_laws laws log pages site (records ++ a.more) table commits found a.now.holds a.now.analysis none in
+    let count = a.count in
+    record {
+      more = a.more;
+      holds = a.now.holds;
+      none = done;
+      count = omega (arith, count, found_laws.nothing (records ++ a.more) done);
+      in_turn = a.in_turn;
+    }
+
+-- Where each record is sealed all of them stand before the log's next block.
+pub sealed_up_to : UndoLaws → (log : LogStore) (pages : PageStore) (site : State) (records : List Entry) (table : List Content) (commits known : ℕ) → Holds log pages site records table commits → has_tail log ≡ false → known ≡ 512 * log.ring.hi + 1 →
+    AreUpTo known records
+sealed_up_to laws log pages site records table commits known h none at =
+    let p = picture pages.flash.geometry site.image h.log_holds.blocks in
+    let order = subst (λ (l : List Entry). IsInOrder 0 l (next_lsn p h.log_holds.tail)) h.log_holds.runs_on.records_are (laws.in_order p h.log_holds.tail h.log_holds.runs_on.carries) in
+    let hi = h.log_holds.ready.blocks.hi in
+    let next = h.log_holds.ready.records.blocks.next in
+    let used = h.log_holds.ready.records.tail.end in
+    let few = ltb-false 2 log.used none in
+    below_end 0 records (next_lsn p h.log_holds.tail) known (omega (arith, hi, next, used, few, at)) order
+
+-- the Update that analysis undoes next is the last of all that remain
+pub next_is_greatest : (next : Option (ℕ × ℕ)) (at : ℕ × ℕ) (last : Option Entry) → next ≡ Some at → next ≡ option_map (λ (u : Entry). record { 0 = txn_of u; 1 = u.lsn }) last → (u : Entry) × (last ≡ Some u) × (txn_of u ≡ at.0)
+next_is_greatest next at None some is = absurd (none-some at (sym is ∙ some))
+next_is_greatest next at (Some u) some is = (u, refl, ap (λ (p : ℕ × ℕ). p.0) (same_Some (record { 0 = txn_of u; 1 = u.lsn }) at (sym is ∙ some)))

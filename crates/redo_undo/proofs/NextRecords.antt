@@ -1,0 +1,125 @@
+-- The next record of an opened log is redone.
+use Rattle.std.proofs.Common.{◌≡◌, ◌≢◌, ◌⊎◌, inl, inr, ℕ, ◌+◌, ◌*◌, ◌/◌, ◌≤◌, ◌<◌, List, [], ◌∷◌, ◌++◌, length, Some, refl, sym, ap, subst, ◌∙◌, arith}
+use Rattle.std.specs.List.{AllByRecursion}
+use Rattle.std.proofs.lemmas.Bool.{cases_eq}
+use Rattle.std.proofs.lemmas.Option.{same_Some}
+use Rattle.site.specs.State.{State, Image}
+use Rattle.log_records.specs.declared.log_record.LogRecord.{LogRecord}
+use Rattle.log_records.specs.Log.{Entry, log_from, number_of}
+use Rattle.log_records.specs.Sound.{IsInOrder, IsInTable}
+use Rattle.slotted_page.specs.Layout.{lsn_of}
+use Rattle.log_store.specs.declared.store.LogStore.{LogStore}
+use Rattle.buffer_pool.specs.Frames.{front_of}
+use Rattle.page_store.specs.declared.store.PageStore.{PageStore}
+use Rattle.page_store.specs.Held.{current, Fits}
+use Rattle.page_store.specs.Ahead.{IsAhead, end_forced}
+use Rattle.image_meaning.specs.Meaning.{versions_on, version_in}
+use Rattle.image_meaning.specs.Redone.{IsRedone, AreKnown, Redoes}
+use Rattle.analysis.specs.Taken.{Steps}
+use Rattle.redo_undo.specs.Holding.{IsOnPage}
+use Rattle.redo_undo.specs.Laws.{PageLaws}
+use Rattle.redo_undo.proofs.Changed.{front_is_current}
+use Rattle.redo_undo.specs.RedoLaws.{RedoLaws}
+use Rattle.redo_undo.specs.Redoing.{Opening, opened, IsRedoing}
+
+all_append : {X : Type 0} (P : X → Type 0) (xs ys : List X) → AllByRecursion P xs → AllByRecursion P ys → AllByRecursion P (xs ++ ys)
+all_append P [] ys front rest = rest
+all_append P (x ∷ xs) ys front rest = (front.0, all_append P xs ys front.1 rest)
+
+one_of_all : {X : Type 0} (P : X → Type 0) (front : List X) (x : X) (rest : List X) → AllByRecursion P (front ++ x ∷ rest) → P x
+one_of_all P [] x rest all = all.0
+one_of_all P (y ∷ front) x rest all = one_of_all P front x rest all.1
+
+known_more : (log : List Entry) (page from to : ℕ) → from ≤ to → AreKnown log page from → AreKnown log page to
+known_more [] page from to more known = tt
+known_more (e ∷ log) page from to more known = ((λ number is at. let known_e = known.0 number is at in omega (arith, known_e, more)), known_more log page from to more known.1)
+
+-- a record of an ordered log stands before the log's end
+order_ends : (from to : ℕ) (log : List Entry) → IsInOrder from log to → from ≤ to
+order_ends from to [] ordered = ordered
+order_ends from to (e ∷ log) ordered = let later = order_ends (e.lsn + 1) to log ordered.1 in let first = ordered.0 in omega (arith, later, first)
+
+before_end : (from to : ℕ) (front : List Entry) (e : Entry) (rest : List Entry) → IsInOrder from (front ++ e ∷ rest) to → e.lsn < to
+before_end from to [] e rest ordered = let later = order_ends (e.lsn + 1) to rest ordered.1 in omega (arith, later)
+before_end from to (x ∷ front) e rest ordered = before_end (x.lsn + 1) to front e rest ordered.1
+
+-- the page in front knows of a record on it
+pub front_knows : (pages : PageStore) (image : Image) (rec : LogRecord) (lsn page : ℕ) → 0 < length pages.pool.frames → (front_of pages.pool.frames).page ≡ page → IsOnPage page rec → lsn ≤ lsn_of (front_of pages.pool.frames).content →
+    (other number : ℕ) → number_of rec ≡ Some number → number / 32 ≡ other → lsn ≤ lsn_of (current pages image other)
+front_knows pages image rec lsn page some is on least other number own at =
+    let same_number : number ≡ on.0 = same_Some number on.0 (sym own ∙ on.1) in
+    let same : (front_of pages.pool.frames).page ≡ other = is ∙ sym on.2 ∙ ap (λ n. n / 32) (sym same_number) ∙ at in
+    subst (λ n. lsn ≤ lsn_of (current pages image n)) same (subst (λ (c : List ℕ). lsn ≤ lsn_of c) (sym (front_is_current pages image some)) least)
+
+module _ (laws : PageLaws) (redo : RedoLaws) (o : Opening) (log : LogStore) (pages : PageStore) (site : State) (front : List Entry) (h : IsRedoing o log pages site front)
+    (e : Entry) (rest : List Entry) (is : log_from 0 o.blocks ≡ front ++ e ∷ rest) where
+  -- its page exists
+  pub page_exists : (page number : ℕ) → number_of e.rec ≡ Some number → number / 32 ≡ page → page < o.sizes.pages
+  page_exists page number own at =
+      let within = one_of_all (IsInTable (versions_on o.sizes o.image)) front e rest (subst (AllByRecursion (IsInTable (versions_on o.sizes o.image))) is h.sound.in_table) in
+      let small = within number own in
+      let long = laws.count o.sizes o.image in
+      omega (arith, small, long, at)
+
+  hi_is : log.ring.hi ≡ length o.blocks
+  hi_is = let hi = h.ready.blocks.hi in let next = h.ready.records.blocks.next in omega (arith, hi, next)
+
+  -- its LSN is sealed
+  pub lsn_sealed : e.lsn < end_forced log
+  lsn_sealed =
+      let below = before_end (512 * 0) (512 * length o.blocks) front e rest (subst (λ (l : List Entry). IsInOrder (512 * 0) l (512 * length o.blocks)) is h.sound.in_order) in
+      let hi = hi_is in
+      omega (arith, below, hi)
+
+  -- analysis may take it
+  pub may_step : Steps [] front e
+  may_step = let all = redo.all_taken (opened o) h.sound refl in redo.steps (opened o) front e rest h.sound (all.0 ∙ is)
+
+  with_known : (pages' : PageStore) → pages'.flash.geometry ≡ pages.flash.geometry → Fits pages' site → IsAhead log pages' site.image →
+      ((page : ℕ) → page < o.sizes.pages → IsRedone (opened o) page (version_in (current pages' site.image page)) × AreKnown (front ++ e ∷ []) page (lsn_of (current pages' site.image page))) →
+      IsRedoing o log pages' site (front ++ e ∷ [])
+  with_known pages' same fits are_ahead each = record {
+    geometry = same ∙ h.geometry;
+    sound = h.sound;
+    means = h.means;
+    ready = record { pages = fits; blocks = h.ready.blocks; records = h.ready.records };
+    rings = h.rings;
+    ahead = are_ahead;
+    replace = h.replace;
+    redone = λ page exists. (each page exists).0;
+    known = λ page exists. (each page exists).1;
+  }
+
+  -- It is on no page, or its page knows of it.
+  pub no_change : ((page number : ℕ) → page < o.sizes.pages → number_of e.rec ≡ Some number → number / 32 ≡ page → e.lsn ≤ lsn_of (current pages site.image page)) → IsRedoing o log pages site (front ++ e ∷ [])
+  no_change knows =
+      with_known pages refl h.ready.pages h.ahead
+      (λ page exists. (
+        h.redone page exists,
+        all_append (λ (x : Entry). (number : ℕ) → number_of x.rec ≡ Some number → number / 32 ≡ page → x.lsn ≤ lsn_of (current pages site.image page)) front (e ∷ []) (h.known page exists)
+            ((λ number own at. knows page number exists own at), tt),
+      ))
+
+  -- it is on one page, whose LSN is smaller, and which is changed by it
+  module _ (pages' : PageStore) (on number : ℕ) (own : number_of e.rec ≡ Some number) (at : number / 32 ≡ on) (later : lsn_of (current pages site.image on) < e.lsn)
+      (redoes : Redoes on e number (version_in (current pages site.image on)) (version_in (current pages' site.image on)))
+      (others : (page : ℕ) → page ≢ on → current pages' site.image page ≡ current pages site.image page) where
+    each_page : (page : ℕ) → page < o.sizes.pages → (page ≡ on) ⊎ (page ≢ on) →
+        IsRedone (opened o) page (version_in (current pages' site.image page)) × AreKnown (front ++ e ∷ []) page (lsn_of (current pages' site.image page))
+    each_page page exists (inl same) =
+        let there = subst (λ n. n < o.sizes.pages) same exists in
+        let set = redoes.lsn in
+        subst (λ n. IsRedone (opened o) n (version_in (current pages' site.image n)) × AreKnown (front ++ e ∷ []) n (lsn_of (current pages' site.image n))) (sym same) (
+          redo.next (opened o) on (version_in (current pages site.image on)) (version_in (current pages' site.image on)) front rest e number h.sound is own at later (h.known on there) (h.redone on there) redoes,
+          all_append (λ (x : Entry). (n : ℕ) → number_of x.rec ≡ Some n → n / 32 ≡ on → x.lsn ≤ lsn_of (current pages' site.image on)) front (e ∷ [])
+              (known_more front on (lsn_of (current pages site.image on)) (lsn_of (current pages' site.image on)) (omega (arith, later, set)) (h.known on there)) ((λ n of_n here. omega (arith, set)), tt),
+        )
+    each_page page exists (inr other) =
+        subst (λ (c : List ℕ). IsRedone (opened o) page (version_in c) × AreKnown (front ++ e ∷ []) page (lsn_of c)) (sym (others page other)) (
+          h.redone page exists,
+          all_append (λ (x : Entry). (n : ℕ) → number_of x.rec ≡ Some n → n / 32 ≡ page → x.lsn ≤ lsn_of (current pages site.image page)) front (e ∷ []) (h.known page exists)
+              ((λ n of_n here. let same : n ≡ number = same_Some n number (sym of_n ∙ own) in absurd (other (sym here ∙ ap (λ k. k / 32) same ∙ at))), tt),
+        )
+
+    pub changed : pages'.flash.geometry ≡ pages.flash.geometry → Fits pages' site → IsAhead log pages' site.image → IsRedoing o log pages' site (front ++ e ∷ [])
+    changed same fits are_ahead = with_known pages' same fits are_ahead (λ page exists. each_page page exists (cases_eq page on))

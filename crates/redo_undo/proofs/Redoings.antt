@@ -1,0 +1,320 @@
+-- Log and pages while the records of an opened log are redone.
+use Rattle.std.proofs.Common.{◌≡◌, ◌⊎◌, inl, inr, ℕ, ◌+◌, ◌*◌, ◌≤◌, ◌<◌, ◌==◌, ◌||◌, ◌&&◌, nat_lt, Bool, true, false, true≢false, IsTrue, List, [], append-nil, length, refl, sym, ap, subst, ◌∙◌, arith}
+use Rattle.std.specs.Prelude.{if◌then◌else◌, Result, Ok, Err, OnOk}
+use Rattle.std.specs.List.{AllByRecursion}
+use Rattle.std.proofs.lemmas.Bool.Decides.{nat_tests}
+use Rattle.site.specs.declared.geometry.Geometry.{Geometry}
+use Rattle.site.specs.State.{State, Image, Snapshot, snapshot_of, IsQuiet}
+use Rattle.site.specs.Calls.{Goes, IsUnchanged}
+use Rattle.site.specs.declared.outside.Dev.TheVariants.{Log}
+use Rattle.site.specs.Moments.{Leaves, LeavesOnly, SameBut, ChangesOnly}
+use Rattle.site.specs.Laws.{each_both, each_weaker, holds_now, no_call, unchanged_calm, stays_honest, quiet_leaves, in_sequence}
+use Rattle.sealed_ring.specs.Ring.{IsRing, hi_of}
+use Rattle.image_changes.specs.Rings.{log_shape}
+use Rattle.record_model.specs.State.{Content}
+use Rattle.log_records.specs.declared.log_record.LogRecord.{LogRecord}
+use Rattle.log_records.specs.Log.{Entry, Version, log_from}
+use Rattle.log_records.specs.Sound.{Picture, Means}
+use Rattle.log_records.specs.Sound as lists
+use Rattle.log_laws.specs.NewImage.{Replaces}
+use Rattle.slotted_page.specs.Layout as page
+use Rattle.slotted_page.specs.Layout.{lsn_of}
+use Rattle.log_store.specs.declared.store.LogStore.{LogStore}
+use Rattle.log_store.specs.LogList.{LogList, sealed_if}
+use Rattle.log_store.specs.Held as log_held
+use Rattle.log_store.specs.Held.{HasBlocks, has_tail, end_of}
+use Rattle.flash_cache.specs.Held.{version_on, IsCleanOn}
+use Rattle.buffer_pool.specs.declared.frame.Frame.{Frame}
+use Rattle.buffer_pool.specs.Frames.{frame_of}
+use Rattle.page_store.specs.declared.store.PageStore.{PageStore}
+use Rattle.page_store.specs.Held.{IsStore, current, content_by}
+use Rattle.page_store.specs.Ahead.{IsAhead, IsLogged, end_forced, forces, sealed_end}
+use Rattle.page_store.specs.Leaves.{AreReady, LeavesPages, LeavesRings, KeepsCurrent}
+use Rattle.image_meaning.specs.Meaning.{IsSound, Stands, picture, versions_on, version_in}
+use Rattle.image_meaning.specs.Redone.{IsRedone, AreKnown, ShowsAll}
+use Rattle.image_meaning.specs.Pictures.{ReplaceAll}
+use Rattle.image_meaning.specs.Beside.{AreRingsSound}
+use Rattle.redo_undo.specs.Holding.{Holds, ShowRecords}
+use Rattle.redo_undo.specs.HoldingLaws.{OpenedHolds}
+use Rattle.redo_undo.specs.Laws.{PageLaws}
+use Rattle.redo_undo.specs.RedoLaws.{RedoLaws}
+use Rattle.redo_undo.specs.Redoing.{IsOpened, Opening, opened, LeavesOpened, IsRedoing}
+use Rattle.redo_undo.proofs.Standing.{current_sound}
+
+-- an empty tail is never forced
+pub never_forced : (log : LogStore) (contents : List (List ℕ)) → log.used ≡ 2 → forces log contents ≡ false
+never_forced log contents empty = by _ (ap (nat_lt 2) empty)
+  where
+    by : (c : Bool) → has_tail log ≡ false → (has_tail log && c) ≡ false
+    by c none = ap (λ b. b && c) none
+
+module _ (laws : PageLaws) (redo : RedoLaws) (o : Opening) (sound : lists.IsSound (opened o)) where
+  exists_in : (number : ℕ) → number < o.sizes.pages → number < length (opened o).pages
+  exists_in number exists = let long = laws.count o.sizes o.image in omega (arith, exists, long)
+
+  -- the versions of an image, each of which replaces that of the opened one
+  module _ (now : Image) (given : (number : ℕ) → number < o.sizes.pages → Replaces (opened o) number (version_in (version_on o.sizes now number))) where
+    pub all_replace : ReplaceAll (opened o) (versions_on o.sizes now)
+    all_replace = laws.each_replaces o.sizes o.image now o.blocks given
+
+  pub version_replaces : (image : Image) → ReplaceAll (opened o) (versions_on o.sizes image) → (number : ℕ) → number < o.sizes.pages → Replaces (opened o) number (version_in (version_on o.sizes image number))
+  version_replaces image replace number exists =
+      subst (Replaces (opened o) number) (laws.at o.sizes image number exists) (replace.each number (exists_in number exists))
+
+  -- such an image is sound, and stands for the same
+  pub sound_by : (now : Image) → ReplaceAll (opened o) (versions_on o.sizes now) → HasBlocks o.sizes 0 o.blocks now → AreRingsSound o.sizes now → IsCleanOn o.sizes now →
+      ((number : ℕ) → number < o.sizes.pages → page.IsSound (version_on o.sizes now number)) → IsSound o.sizes now o.blocks
+  sound_by now replace held rings clean sound_pages = record {
+    octets = record {
+      limits = rings.limits;
+      lengths = rings.lengths;
+      masters = rings.masters;
+      segments = rings.segments;
+      groups = rings.groups;
+      versions = sound_pages;
+      clean = clean;
+    };
+    held = held;
+    records = redo.versions_sound (opened o) (versions_on o.sizes now) sound replace;
+  }
+
+  pub means_by : (now : Image) → ReplaceAll (opened o) (versions_on o.sizes now) → Means (opened o) o.table o.commits → Means (picture o.sizes now o.blocks) o.table o.commits
+  means_by now replace means = laws.versions_mean (opened o) (versions_on o.sizes now) sound replace o.table o.commits means
+
+module _ (o : Opening) (log : LogStore) (pages : PageStore) (site : State) (front : List Entry) (h : IsRedoing o log pages site front) where
+  pub rings_given : AreRingsSound pages.flash.geometry site.image
+  rings_given = subst (λ (k : Geometry). AreRingsSound k site.image) (sym h.geometry) h.rings
+
+  pub rings_of : (new : State) → LeavesOnly site new (LeavesRings pages.flash.geometry) → LeavesOnly site new (LeavesRings o.sizes)
+  rings_of new rings = subst (λ (k : Geometry). LeavesOnly site new (LeavesRings k)) h.geometry rings
+
+module _ (laws : PageLaws) (redo : RedoLaws) (o : Opening) (log : LogStore) (pages : PageStore) (site : State) (front : List Entry) (h : IsRedoing o log pages site front) where
+  abbrev list : LogList
+  list = record { first = 0; blocks = o.blocks; tail = [] }
+
+  version_sound : (number : ℕ) → number < o.sizes.pages → page.IsSound (version_on o.sizes site.image number)
+  version_sound = subst (λ (k : Geometry). (number : ℕ) → number < k.pages → page.IsSound (version_on k site.image number)) h.geometry h.ready.pages.sound
+
+  content_sound : IsStore pages → (number : ℕ) → number < o.sizes.pages → page.IsSound (current pages site.image number)
+  content_sound own = subst (λ (k : Geometry). (number : ℕ) → number < k.pages → page.IsSound (current pages site.image number)) h.geometry
+      (λ number exists. current_sound pages site.image number own (h.ready.pages.sound number exists))
+
+  clean_now : IsCleanOn o.sizes site.image
+  clean_now = subst (λ (k : Geometry). IsCleanOn k site.image) h.geometry h.ready.pages.clean
+
+  pub held_now : log.geometry ≡ pages.flash.geometry → HasBlocks o.sizes 0 o.blocks site.image
+  held_now same = subst (λ (k : Geometry). HasBlocks k 0 o.blocks site.image) (same ∙ h.geometry) h.ready.records.blocks
+
+  -- The site itself.
+  pub sound_now : log.geometry ≡ pages.flash.geometry → IsSound o.sizes site.image o.blocks
+  sound_now same = sound_by laws redo o h.sound site.image h.replace (held_now same) h.rings clean_now version_sound
+
+  pub stands_now : log.geometry ≡ pages.flash.geometry → Stands o.sizes site.image o.table o.commits
+  stands_now same = record { blocks = o.blocks; sound = sound_now same; means = means_by laws redo o h.sound site.image h.replace h.means }
+
+  pub nothing_happens : log.geometry ≡ pages.flash.geometry → IsQuiet site → LeavesOnly site site (LeavesOpened o site.told)
+  nothing_happens same quiet =
+      no_call site (Leaves (LeavesOpened o site.told))
+      (λ snapshot left. subst (LeavesOpened o site.told) (sym (quiet_leaves site snapshot quiet left)) (record { told = refl; stands = stands_now same }))
+
+  -- Within a touch.
+  by_version : (now : Image) (number : ℕ) → number < o.sizes.pages → (version_on o.sizes now number ≡ version_on o.sizes site.image number) ⊎ (version_on o.sizes now number ≡ current pages site.image number) →
+      Replaces (opened o) number (version_in (version_on o.sizes now number))
+  by_version now number exists (inl same) = subst (λ (c : List ℕ). Replaces (opened o) number (version_in c)) (sym same) (version_replaces laws redo o h.sound site.image h.replace number exists)
+  by_version now number exists (inr same) = subst (λ (c : List ℕ). Replaces (opened o) number (version_in c)) (sym same)
+      (redo.replaces (opened o) number (version_in (current pages site.image number)) h.sound (exists_in laws redo o h.sound number exists) (h.redone number exists))
+
+  pub replaced : (s : Snapshot) → LeavesPages o.sizes (current pages site.image) false list site s → ReplaceAll (opened o) (versions_on o.sizes s.image)
+  replaced s leaves = all_replace laws redo o h.sound s.image (λ number exists. by_version s.image number exists (leaves.versions number exists))
+
+  blocks_left : (s : Snapshot) → LeavesPages o.sizes (current pages site.image) false list site s → HasBlocks o.sizes 0 o.blocks s.image
+  blocks_left s leaves = elim leaves.log.blocks [
+    | inl has ↦ has
+    | inr more ↦ absurd (true≢false (sym more.0))
+  ]
+
+  at_snapshot : IsStore pages → (s : Snapshot) → LeavesPages o.sizes (current pages site.image) false list site s → AreRingsSound o.sizes s.image → LeavesOpened o site.told s
+  at_snapshot own s leaves rings = record {
+    told = leaves.log.told;
+    stands = record {
+      blocks = o.blocks;
+      sound = sound_by laws redo o h.sound s.image (replaced s leaves) (blocks_left s leaves) rings leaves.clean (λ number exists. by_page number exists (leaves.versions number exists));
+      means = means_by laws redo o h.sound s.image (replaced s leaves) h.means;
+    };
+  }
+    where
+      by_page : (number : ℕ) → number < o.sizes.pages → (version_on o.sizes s.image number ≡ version_on o.sizes site.image number) ⊎ (version_on o.sizes s.image number ≡ current pages site.image number) → page.IsSound (version_on o.sizes s.image number)
+      by_page number exists (inl same) = subst page.IsSound (sym same) (version_sound number exists)
+      by_page number exists (inr same) = subst page.IsSound (sym same) (content_sound own number exists)
+
+  module _ (sealing : Bool) (never : sealing ≡ false) (new : State) where
+    leaves_so : LeavesOnly site new (LeavesPages pages.flash.geometry (current pages site.image) sealing list site) → LeavesOnly site new (LeavesPages o.sizes (current pages site.image) false list site)
+    leaves_so leaves = subst (λ (b : Bool). LeavesOnly site new (LeavesPages o.sizes (current pages site.image) b list site)) never
+        (subst (λ (k : Geometry). LeavesOnly site new (LeavesPages k (current pages site.image) sealing list site)) h.geometry leaves)
+
+    pub touch_leaves : LeavesOnly site new (LeavesPages pages.flash.geometry (current pages site.image) sealing list site) → LeavesOnly site new (LeavesRings o.sizes) → IsStore pages → LeavesOnly site new (LeavesOpened o site.told)
+    touch_leaves leaves rings own =
+        each_weaker site new (λ m. Leaves (LeavesPages o.sizes (current pages site.image) false list site) m × Leaves (LeavesRings o.sizes) m) (Leaves (LeavesOpened o site.told))
+        (λ m q s left. at_snapshot own s (q.0 s left) (q.1 s left))
+        (each_both site new _ _ (leaves_so leaves) rings)
+
+    left_so : LeavesPages pages.flash.geometry (current pages site.image) sealing list site (snapshot_of new) → LeavesPages o.sizes (current pages site.image) false list site (snapshot_of new)
+    left_so leaves = subst (λ (b : Bool). LeavesPages o.sizes (current pages site.image) b list site (snapshot_of new)) never
+        (subst (λ (k : Geometry). LeavesPages k (current pages site.image) sealing list site (snapshot_of new)) h.geometry leaves)
+
+    -- and behind it
+    pub touched : (log' : LogStore) (pages' : PageStore) → pages'.flash.geometry ≡ pages.flash.geometry → AreReady pages' log' (sealed_if sealing list) new → KeepsCurrent pages site.image pages' new.image →
+        IsAhead log' pages' new.image → LeavesPages pages.flash.geometry (current pages site.image) sealing list site (snapshot_of new) → AreRingsSound pages.flash.geometry new.image → IsRedoing o log' pages' new front
+    touched log' pages' same ready kept are_ahead leaves rings = record {
+      geometry = same ∙ h.geometry;
+      sound = h.sound;
+      means = h.means;
+      ready = subst (λ (b : Bool). AreReady pages' log' (sealed_if b list) new) never ready;
+      rings = subst (λ (k : Geometry). AreRingsSound k new.image) h.geometry rings;
+      ahead = are_ahead;
+      replace = replaced (snapshot_of new) (left_so leaves);
+      redone = λ number exists. subst (λ (c : List ℕ). IsRedone (opened o) number (version_in c)) (sym (kept_so number exists)) (h.redone number exists);
+      known = λ number exists. subst (λ (c : List ℕ). AreKnown front number (lsn_of c)) (sym (kept_so number exists)) (h.known number exists);
+    }
+      where
+        kept_so : (number : ℕ) → number < o.sizes.pages → current pages' new.image number ≡ current pages site.image number
+        kept_so = subst (λ (k : Geometry). (number : ℕ) → number < k.pages → current pages' new.image number ≡ current pages site.image number) h.geometry kept.each
+
+-- results
+pub ok_always : {A E : Type 0} (r : Result A E) (Z : Type 0) → Z → OnOk r Z
+ok_always (Ok x) Z z = z
+ok_always (Err e) Z z = tt
+
+pub ok_one_of : {A E : Type 0} (r : Result A E) (P Z : Type 0) → (P → Z) → OnOk r P → OnOk r Z
+ok_one_of (Ok x) P Z f p = f p
+ok_one_of (Err e) P Z f p = tt
+
+pub ok_five_of : {A E : Type 0} (r : Result A E) (P Q R S T Z : Type 0) → (P → Q → R → S → T → Z) → OnOk r P → OnOk r Q → OnOk r R → OnOk r S → OnOk r T → OnOk r Z
+ok_five_of (Ok x) P Q R S T Z f p q r s t = f p q r s t
+ok_five_of (Err e) P Q R S T Z f p q r s t = tt
+
+pub ok_three_of : {A E : Type 0} (r : Result A E) (P Q R Z : Type 0) → (P → Q → R → Z) → OnOk r P → OnOk r Q → OnOk r R → OnOk r Z
+ok_three_of (Ok x) P Q R Z f p q r = f p q r
+ok_three_of (Err e) P Q R Z f p q r = tt
+
+pub rises_by : (b : Bool) (n m : ℕ) → m ≡ (if b then n + 1 else n) → n ≤ m
+rises_by true n m is = omega (arith, is)
+rises_by false n m is = omega (arith, is)
+
+-- Nothing was redone yet.
+
+logged_number : (n end : ℕ) → IsTrue ((n == 0) || nat_lt n end) → 0 < n → n < end
+logged_number n end logged some = grind (arith, nat_tests)
+
+before_two : (n end : ℕ) → IsTrue ((n == 0) || nat_lt n end) → n < end + 2
+before_two n end logged = grind (arith, nat_tests)
+
+module _ (laws : PageLaws) (redo : RedoLaws) (log : LogStore) (pages : PageStore) (site : State) (blocks : List (List LogRecord)) (table : List Content) (commits : ℕ)
+    (h : IsOpened pages.flash.geometry log pages site blocks table commits) where
+  abbrev pub begun : Opening
+  begun = record { sizes = pages.flash.geometry; image = site.image; blocks = blocks; table = table; commits = commits }
+
+  unpooled : (number : ℕ) → current pages site.image number ≡ version_on pages.flash.geometry site.image number
+  unpooled number = ap (λ (frames : List Frame). content_by (frame_of frames number) (version_on pages.flash.geometry site.image number)) h.empty
+
+  listed_there : (number : ℕ) → number < pages.flash.geometry.pages → number < length (versions_on pages.flash.geometry site.image)
+  listed_there number exists = let long = laws.count pages.flash.geometry site.image in omega (arith, exists, long)
+
+  version_logged : (number : ℕ) → number < pages.flash.geometry.pages → IsLogged (sealed_end pages.flash.geometry site.image) (version_on pages.flash.geometry site.image number)
+  version_logged number exists =
+      let next = h.sound.held.next in
+      let end : 512 * length blocks ≡ sealed_end pages.flash.geometry site.image = omega (arith, next) in
+      let logged = (h.sound.records.versions_fit number (listed_there number exists)).logged in
+      let of_it = subst (λ (v : Version). IsTrue ((v.lsn == 0) || nat_lt v.lsn (512 * length blocks))) (laws.at pages.flash.geometry site.image number exists) logged in
+      record { below = λ some. subst (λ n. lsn_of (version_on pages.flash.geometry site.image number) < n) end (logged_number (lsn_of (version_on pages.flash.geometry site.image number)) (512 * length blocks) of_it some) }
+
+  pub begins : IsRedoing begun log pages site []
+  begins = record {
+    geometry = refl;
+    sound = h.sound.records;
+    means = h.means;
+    ready = h.ready;
+    rings = record { limits = h.sound.octets.limits; lengths = h.sound.octets.lengths; masters = h.sound.octets.masters; segments = h.sound.octets.segments; groups = h.sound.octets.groups };
+    ahead = record {
+      pool = subst (AllByRecursion (λ (frame : Frame). IsLogged (end_forced log) frame.content)) (sym h.empty) tt;
+      versions = record { each = version_logged };
+    };
+    replace = record { count = refl; each = λ number less. laws.itself (opened begun) number h.sound.records less };
+    redone = λ number exists.
+        subst (λ (c : List ℕ). IsRedone (opened begun) number (version_in c)) (sym (unpooled number))
+        (subst (IsRedone (opened begun) number) (laws.at pages.flash.geometry site.image number exists) (redo.first (opened begun) number h.sound.records (listed_there number exists)));
+    known = λ number exists. tt;
+  }
+
+-- All is redone.
+
+module _ (opens : OpenedHolds) (laws : PageLaws) (redo : RedoLaws) (o : Opening) (log : LogStore) (pages : PageStore) (site : State) (h : IsRedoing o log pages site (log_from 0 o.blocks)) (sizes : log.geometry ≡ pages.flash.geometry) where
+  shows_all : (number : ℕ) → number < o.sizes.pages → ShowsAll (log_from 0 o.blocks) (versions_on o.sizes site.image) number (version_in (current pages site.image number))
+  shows_all number exists =
+      let v = version_in (current pages site.image number) in
+      let long = laws.count o.sizes o.image in
+      let is = redo.last (opened o) number v (h.redone number exists) (h.known number exists) in
+      subst (λ (l : List Entry). ShowsAll l (versions_on o.sizes site.image) number v) (append-nil (log_from 0 o.blocks))
+      (redo.shows (opened o) (versions_on o.sizes site.image) [] number v h.replace (omega (arith, exists, long))
+      (subst (λ (l : List Entry). ShowsAll l (versions_on o.sizes o.image) number v) (sym (append-nil (log_from 0 o.blocks))) is.all))
+
+  below_end : (number : ℕ) → number < o.sizes.pages → lsn_of (current pages site.image number) < end_of log
+  below_end number exists =
+      let hi = h.ready.blocks.hi in
+      let next = h.ready.records.blocks.next in
+      let used = h.ready.records.tail.end in
+      let less = before_two (lsn_of (current pages site.image number)) (512 * length o.blocks) (h.redone number exists).logged in
+      omega (arith, hi, next, used, less)
+
+  pub holds_all : Holds log pages site (log_from 0 o.blocks) o.table o.commits
+  holds_all =
+      let back = sym h.geometry in
+      opens log pages site o.blocks o.table o.commits sizes h.ready
+      (subst (λ (k : Geometry). IsSound k site.image o.blocks) back (sound_now laws redo o log pages site (log_from 0 o.blocks) h sizes))
+      (subst (λ (k : Geometry). Means (picture k site.image o.blocks) o.table o.commits) back (means_by laws redo o h.sound site.image h.replace h.means))
+      (subst (λ (k : Geometry). ShowRecords k pages site.image (log_from 0 o.blocks)) back (record { each = shows_all }))
+      h.ahead
+      (subst (λ (k : Geometry). (number : ℕ) → number < k.pages → lsn_of (current pages site.image number) < end_of log) back below_end)
+
+-- A site of which only was read.
+
+only_read : (old new : State) → IsUnchanged old new → ChangesOnly Log old new
+only_read old new same = record {
+  only = unchanged_calm old old new (SameBut Log old) (no_call old (SameBut Log old) (record { told = refl; telling = refl; content = λ d other. refl; loose = λ d other. refl })) same;
+  left = same.left;
+}
+
+pub redoing_still : RedoLaws → (o : Opening) (log : LogStore) (pages : PageStore) (old new : State) (front : List Entry) → Goes old new → IsUnchanged old new → IsRedoing o log pages old front → IsRedoing o log pages new front
+redoing_still redo o log pages old new front goes same h =
+    let list : LogList = record { first = 0; blocks = o.blocks; tail = [] } in
+    record {
+      geometry = h.geometry;
+      sound = h.sound;
+      means = h.means;
+      ready = record {
+        pages = redo.fits pages old new (only_read old new same) goes h.ready.pages;
+        blocks = record {
+          honest = stays_honest old new goes h.ready.blocks.honest;
+          form = subst (λ (i : Image). IsRing (log_shape log.geometry) i.log) (sym same.image) h.ready.blocks.form;
+          hi = subst (λ (i : Image). log.ring.hi ≡ hi_of (log_shape log.geometry) i.log) (sym same.image) h.ready.blocks.hi;
+        };
+        records = subst (λ (i : Image). log_held.Holds log i list) (sym same.image) h.ready.records;
+      };
+      rings = subst (AreRingsSound o.sizes) (sym same.image) h.rings;
+      ahead = subst (IsAhead log pages) (sym same.image) h.ahead;
+      replace = subst (λ (i : Image). ReplaceAll (opened o) (versions_on o.sizes i)) (sym same.image) h.replace;
+      redone = subst (λ (i : Image). (page : ℕ) → page < o.sizes.pages → IsRedone (opened o) page (version_in (current pages i page))) (sym same.image) h.redone;
+      known = subst (λ (i : Image). (page : ℕ) → page < o.sizes.pages → AreKnown front page (lsn_of (current pages i page))) (sym same.image) h.known;
+    }
+
+-- one call behind others
+pub and_opened : (o : Opening) (old mid new : State) → LeavesOnly old mid (LeavesOpened o old.told) → LeavesOnly mid new (LeavesOpened o mid.told) → LeavesOnly old new (LeavesOpened o old.told)
+and_opened o old mid new first second =
+    let told : mid.told ≡ old.told = (holds_now old mid (LeavesOpened o old.told) first).told in
+    in_sequence old mid new (Leaves (LeavesOpened o old.told)) first (subst (λ (t : List ℕ). LeavesOnly mid new (LeavesOpened o t)) told second)
+
+pub read_quiet : (old new : State) → IsUnchanged old new → IsQuiet old → IsQuiet new
+read_quiet old new same quiet = same.loose ∙ quiet
+
+pub then_read : (o : Opening) (old mid new : State) → LeavesOnly old mid (LeavesOpened o old.told) → IsUnchanged mid new → LeavesOnly old new (LeavesOpened o old.told)
+then_read o old mid new first same = unchanged_calm old mid new (Leaves (LeavesOpened o old.told)) first same

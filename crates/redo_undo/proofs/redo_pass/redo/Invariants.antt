@@ -1,0 +1,38 @@
+use Rattle.std.proofs.Common.{IsTrue, ◌≡◌, ◌+◌, ◌-◌, ◌*◌, ◌≤◌, ℕ, List, length}
+use Rattle.site.specs.State.{IsQuiet}
+use Rattle.site.specs.Calls.{Goes}
+use Rattle.record_model.specs.State.{Content}
+use Rattle.log_records.specs.declared.log_record.LogRecord.{LogRecord}
+use Rattle.checkpoint.specs.Newest.{blank}
+use Rattle.analysis.specs.Open.{owed_for}
+use Rattle.analysis.specs.Table.{listed}
+use Rattle.analysis.specs.Read as read
+use Rattle.redo_undo.specs.Holding.{MayGoOn, blocks_to}
+use Rattle.redo_undo.specs.Redoing.{IsOpened}
+use Rattle.redo_undo.proofs.TakenRecords.{IsUpTo}
+use Rattle.redo_undo.proofs.redo_pass.redo.Given as goal
+
+abbrev pub invariant-loop-block : goal.invariant-loop-block
+invariant-loop-block g l =
+    let old = g.S.Site.state l.fn.site in
+    let now = g.S.Site.state l.site in
+    record {
+      going : MayGoOn l.log l.pages now;
+      found_going : read.MayGoOn l.so_far.found;
+      room : length l.content ≡ 503;
+      some : l.block ≤ l.fn.log.kept + l.so_far.records;
+      few : l.so_far.records ≤ 503 * (l.block - l.fn.log.kept);
+      owed : owed_for (listed l.so_far.found.table) ≤ l.so_far.records + length l.master.active;
+      blocks : blocks_to l.log ≡ blocks_to l.fn.log;
+      rises : l.fn.log.ring.hi ≤ l.log.ring.hi;
+      kept : l.log.kept ≡ l.fn.log.kept;
+      log_geometry : l.log.geometry ≡ l.fn.log.geometry;
+      geometry : l.pages.flash.geometry ≡ l.fn.pages.flash.geometry;
+      size : l.pages.pool.size ≡ l.fn.pages.pool.size;
+      goes : Goes old now;
+      left : IsTrue old.honest → now.left ≡ old.left;
+      stays_quiet : IsTrue old.honest → IsQuiet old → IsQuiet now;
+      log_reads : now.log_reads ≤ old.log_reads + (l.block - l.fn.log.kept);
+      up_to : (blocks : List (List LogRecord)) (table : List Content) (commits : ℕ) → l.master ≡ blank → IsOpened l.fn.pages.flash.geometry l.fn.log l.fn.pages old blocks table commits →
+          IsUpTo (record { sizes = l.fn.pages.flash.geometry; image = old.image; blocks = blocks; table = table; commits = commits }) l.log l.pages old now l.so_far l.block;
+    }

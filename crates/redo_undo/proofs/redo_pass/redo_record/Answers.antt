@@ -1,0 +1,67 @@
+use Rattle.std.proofs.Common.{◌≡◌, sym, ap, ◌∙◌, arith}
+use Rattle.std.proofs.lemmas.Option.{none-some}
+use Rattle.site.specs.declared.geometry.Geometry.{Geometry}
+use Rattle.log_records.specs.Log.{Entry}
+use Rattle.slotted_page.specs.Layout.{lsn_of}
+use Rattle.buffer_pool.specs.Frames.{front_of}
+use Rattle.flash_cache.specs.declared.cache.FlashCache.{FlashCache}
+use Rattle.page_store.specs.Held.{current}
+use Rattle.redo_undo.proofs.Changed.{front_is_current}
+use Rattle.redo_undo.proofs.Redoings.{nothing_happens}
+use Rattle.redo_undo.proofs.NextRecords.{page_exists, lsn_sealed, no_change, changed, front_knows}
+use Rattle.redo_undo.proofs.redo_pass.redo_record.Goals as goal
+
+pub returns-in_default-clause-redoing : goal.returns-in_default-clause-redoing
+returns-in_default-clause-redoing g c o front rest h is =
+    no_change c.page_laws.ensures c.redo_laws.ensures o c.args.log.now c.args.pages.now (g.S.Site.state c.args.site.now) front h (record { lsn = c.args.lsn; rec = c.args.rec.now }) rest is
+    (λ page number exists own at. absurd (none-some number (sym c.in_default.ensures.none ∙ own)))
+
+pub returns-in_default-clause-any_moment : goal.returns-in_default-clause-any_moment
+returns-in_default-clause-any_moment g c o front h quiet =
+    nothing_happens c.page_laws.ensures c.redo_laws.ensures o c.args.log.now c.args.pages.now (g.S.Site.state c.args.site.now) front h c.requires.going.sizes quiet
+
+pub returns-then-page-geometry-clause-any_moment :
+    goal.returns-then-page-geometry-clause-any_moment
+returns-then-page-geometry-clause-any_moment g c o front h quiet =
+    nothing_happens c.page_laws.ensures c.redo_laws.ensures o c.args.log.now c.args.pages.now (g.S.Site.state c.args.site.now) front h c.requires.going.sizes quiet
+
+pub returns-then-page-geometry-clause-readable : goal.returns-then-page-geometry-clause-readable
+returns-then-page-geometry-clause-readable g c o front rest h is = λ same.
+    let on = c.in-Some.ensures.on in
+    let exists = page_exists c.page_laws.ensures c.redo_laws.ensures o c.args.log.now c.args.pages.now (g.S.Site.state c.args.site.now) front h (record { lsn = c.args.lsn; rec = c.args.rec.now }) rest is
+    c.in-Some.page on.0 on.1 on.2 in
+    let all = ap (λ (k : Geometry). k.pages) (c.geometry.ensures ∙ c.requires.going.sizes ∙ h.geometry) in
+    omega (arith, exists, all, c.if-page-geometry.true)
+
+pub returns-in-Err-clause-readable : goal.returns-in-Err-clause-readable
+returns-in-Err-clause-readable g c o front rest h is = λ same. c.in-Err.ensures.readable o front h same
+
+pub returns-then-front_lsn-lsn-clause-redoing : goal.returns-then-front_lsn-lsn-clause-redoing
+returns-then-front_lsn-lsn-clause-redoing g c o front rest h is =
+    let pages = c.touch_page.new.pages in
+    let site = g.S.Site.state c.touch_page.new.site in
+    let on = c.in-Some.ensures.on in
+    no_change c.page_laws.ensures c.redo_laws.ensures o c.touch_page.new.log pages site front (c.in-Ok.ensures.redoing o front h) (record { lsn = c.args.lsn; rec = c.args.rec.now }) rest is
+    (λ page number exists own at. front_knows pages site.image c.args.rec.now c.args.lsn c.in-Some.page c.in-Ok.ensures.there c.in-Ok.ensures.front on
+    (omega (arith, c.front_lsn.ensures, c.if-front_lsn-lsn.true)) page number own at)
+
+pub returns-clause-redoing : goal.returns-clause-redoing
+returns-clause-redoing g c o front rest h is =
+    let log = c.touch_page.new.log in
+    let pages = c.touch_page.new.pages in
+    let site = g.S.Site.state c.touch_page.new.site in
+    let on = c.in-Some.ensures.on in
+    let e : Entry = record { lsn = c.args.lsn; rec = c.args.rec.now } in
+    let first = (front_of pages.pool.frames).page in
+    let now = c.in-Ok.ensures.redoing o front h in
+    let content : lsn_of (current pages site.image first) ≡ lsn_of (front_of pages.pool.frames).content = ap lsn_of (front_is_current pages site.image c.in-Ok.ensures.there) in
+    changed c.page_laws.ensures c.redo_laws.ensures o log pages site front now e rest is c.change_front.new.pages first on.0 on.1 (on.2 ∙ sym c.in-Ok.ensures.front)
+    (omega (arith, content, c.front_lsn.ensures, c.if-front_lsn-lsn.false)) (c.change_front.ensures.redoes site.image on.0 on.1) (c.change_front.ensures.others site.image)
+    (ap (λ (f : FlashCache). f.geometry) c.change_front.ensures.flash) (c.change_front.ensures.fit site now.ready.pages)
+    (c.change_front.ensures.ahead log site.image now.ahead (lsn_sealed c.page_laws.ensures c.redo_laws.ensures o log pages site front now e rest is))
+
+pub returns-in-Err-clause-quiet : goal.returns-in-Err-clause-quiet
+returns-in-Err-clause-quiet g c o front h quiet = c.in-Err.ensures.quiet o front h quiet
+
+pub returns-in-Err-clause-worn_end : goal.returns-in-Err-clause-worn_end
+returns-in-Err-clause-worn_end g c o front h = c.in-Err.ensures.worn_end o front h

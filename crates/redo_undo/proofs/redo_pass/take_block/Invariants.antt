@@ -1,0 +1,44 @@
+use Rattle.std.proofs.Common.{IsTrue, ◌-◌, ◌≡◌, ◌+◌, ◌*◌, ◌≤◌, ◌<◌, ◌++◌, List}
+use Rattle.site.specs.State.{IsQuiet}
+use Rattle.site.specs.Calls.{Goes}
+use Rattle.log_records.specs.declared.log_record.LogRecord.{LogRecord}
+use Rattle.log_records.specs.Spelling.{IsBlock, used_by}
+use Rattle.log_records.specs.Log.{Entry, log_from, entries_from}
+use Rattle.checkpoint.specs.Newest.{blank}
+use Rattle.analysis.specs.Open.{owed_for}
+use Rattle.analysis.specs.Table.{listed}
+use Rattle.analysis.specs.Read as read
+use Rattle.redo_undo.specs.Holding.{MayGoOn, blocks_to}
+use Rattle.redo_undo.specs.Redoing.{Opening, HasTaken}
+use Rattle.redo_undo.proofs.TakenRecords.{IsPartWay}
+use Rattle.redo_undo.proofs.redo_pass.take_block.Given as goal
+
+abbrev pub invariant-loop-at : goal.invariant-loop-at
+invariant-loop-at g l =
+    let old = g.S.Site.state l.fn.site in
+    let now = g.S.Site.state l.site in
+    record {
+      low : 2 ≤ l.at;
+      high : l.at ≤ l.used;
+      going : MayGoOn l.log l.pages now;
+      found_going : read.MayGoOn l.so_far.found;
+      few : l.so_far.records + 2 ≤ l.fn.so_far.records + l.at;
+      more : l.fn.so_far.records ≤ l.so_far.records;
+      some : 2 < l.at → l.fn.so_far.records < l.so_far.records;
+      owed : owed_for (listed l.so_far.found.table) + l.fn.so_far.records ≤ owed_for (listed l.fn.so_far.found.table) + l.so_far.records;
+      blocks : blocks_to l.log ≡ blocks_to l.fn.log;
+      rises : l.fn.log.ring.hi ≤ l.log.ring.hi;
+      kept : l.log.kept ≡ l.fn.log.kept;
+      log_geometry : l.log.geometry ≡ l.fn.log.geometry;
+      geometry : l.pages.flash.geometry ≡ l.fn.pages.flash.geometry;
+      size : l.pages.pool.size ≡ l.fn.pages.pool.size;
+      goes : Goes old now;
+      left : IsTrue old.honest → now.left ≡ old.left;
+      stays_quiet : IsTrue old.honest → IsQuiet old → IsQuiet now;
+      log_reads : now.log_reads ≡ old.log_reads;
+      part : (o : Opening) (front rest : List Entry) (records : List LogRecord) → l.master ≡ blank → HasTaken o l.fn.log l.fn.pages old l.fn.so_far front → IsBlock l.content records → l.used ≡ used_by records →
+          log_from 0 o.blocks ≡ front ++ (entries_from (512 * l.block + 2) records ++ rest) → IsPartWay o l.log l.pages old now l.so_far front l.block l.content l.used l.at records;
+    }
+
+abbrev pub decreases-loop-at : goal.decreases-loop-at
+decreases-loop-at g l = l.used - l.at

@@ -1,0 +1,40 @@
+use Rattle.std.proofs.Common.{◌∷◌, [], arith}
+use Rattle.std.proofs.lemmas.List.{length-append}
+use Rattle.log_records.specs.Log.{Entry}
+use Rattle.redo_undo.proofs.Redoings.{nothing_happens, ok_one_of}
+use Rattle.redo_undo.proofs.NextRecords.{may_step}
+use Rattle.redo_undo.proofs.redo_pass.take_record.Goals as goal
+
+pub returns-in-Err-clause-any_moment : goal.returns-in-Err-clause-any_moment
+returns-in-Err-clause-any_moment g c o front h quiet =
+    nothing_happens c.page_laws.ensures c.redo_laws.ensures o c.args.log.now c.args.pages.now (g.S.Site.state c.args.site.now) front h.pages_are c.requires.going.sizes quiet
+
+pub returns-in-Err-clause-readable : goal.returns-in-Err-clause-readable
+returns-in-Err-clause-readable g c o front rest blank h is = λ same.
+    c.in-Err.ensures.readable front blank h.analysis
+    (may_step c.page_laws.ensures c.redo_laws.ensures o c.args.log.now c.args.pages.now (g.S.Site.state c.args.site.now) front h.pages_are (record { lsn = c.args.lsn; rec = c.args.rec.now }) rest is) same
+
+pub returns-then-lsn-master-clause-any_moment : goal.returns-then-lsn-master-clause-any_moment
+returns-then-lsn-master-clause-any_moment g c o front h quiet =
+    nothing_happens c.page_laws.ensures c.redo_laws.ensures o c.args.log.now c.args.pages.now (g.S.Site.state c.args.site.now) front h.pages_are c.requires.going.sizes quiet
+
+pub returns-clause-taken : goal.returns-clause-taken
+returns-clause-taken g c o front rest blank h is =
+    let e : Entry = record { lsn = c.args.lsn; rec = c.args.rec.now } in
+    let heard = c.in_default.ensures.heard front blank h.analysis
+    (may_step c.page_laws.ensures c.redo_laws.ensures o c.args.log.now c.args.pages.now (g.S.Site.state c.args.site.now) front h.pages_are e rest is) in
+    let count = h.count in
+    ok_one_of c.redo_record.result _ _ (λ pages_are. record { pages_are = pages_are; analysis = heard; count = omega (arith, count, length-append front (e ∷ [])) })
+    (c.redo_record.ensures.redoing o front rest h.pages_are is)
+
+pub returns-clause-any_moment : goal.returns-clause-any_moment
+returns-clause-any_moment g c o front h quiet = c.redo_record.ensures.any_moment o front h.pages_are quiet
+
+pub returns-clause-readable : goal.returns-clause-readable
+returns-clause-readable g c o front rest blank h is same = c.redo_record.ensures.readable o front rest h.pages_are is same
+
+pub returns-clause-quiet : goal.returns-clause-quiet
+returns-clause-quiet g c o front h quiet = c.redo_record.ensures.quiet o front h.pages_are quiet
+
+pub returns-clause-worn_end : goal.returns-clause-worn_end
+returns-clause-worn_end g c o front h = c.redo_record.ensures.worn_end o front h.pages_are

@@ -1,0 +1,158 @@
+use Rattle.std.proofs.Common.{◌≡◌, ◌++◌, ◌+◌, [], true, refl, ◌∙◌, arith, Err, ap, subst}
+use Rattle.std.specs.List.{AllByRecursion}
+use Rattle.site.specs.Laws.{goes_in_sequence, stays_honest}
+use Rattle.log_records.specs.Log.{last_where}
+use Rattle.log_records.specs.Unfinished.{pending}
+use Rattle.image_meaning.specs.Meaning.{blank_master}
+use Rattle.analysis.specs.Table.{listed}
+use Rattle.redo_undo.proofs.Sames.{and_then}
+use Rattle.redo_undo.proofs.Opens.{none_listed, if_none, some_owed}
+use Rattle.redo_undo.proofs.Found.{order, more_undone, all_undone, sealed_up_to, next_is_greatest}
+use Rattle.site.specs.declared.outside.Stop.TheVariants.{Worn}
+use Rattle.site.specs.declared.outside.Dev.TheVariants.{Flash}
+use Rattle.flash_cache.specs.Held.{IsWorn}
+use Rattle.site.specs.declared.geometry.Geometry.{Geometry}
+use Rattle.redo_undo.proofs.undo_losers.undo_all.Goals as goal
+
+pub loop-next-init : goal.loop-next-init
+loop-next-init g c =
+    let old = g.S.Site.state c.args.site.now in
+    record {
+      going = c.in-Ok.ensures.going c.args.pages.now c.requires.going;
+      found_going = c.end_undone.ensures.found_going;
+      before = c.in-Ok.ensures.before;
+      remain = c.in-Ok.ensures.remain;
+      commits = c.end_undone.ensures.commits;
+      blocks = c.in-Ok.ensures.blocks;
+      kept = c.end_undone.ensures.kept;
+      geometry = refl;
+      size = refl;
+      log_geometry = c.end_undone.ensures.geometry;
+      goes = c.end_undone.ensures.goes;
+      left = c.end_undone.ensures.left;
+      stays_quiet = c.in-Ok.ensures.stays_quiet;
+      log_reads = let fewer = c.in-Ok.ensures.fewer in omega (arith, fewer, c.end_undone.ensures.log_reads);
+      undone = λ records table commits none h is. c.in-Ok.ensures.undone c.args.pages.now records table commits c.requires.going
+          (record { holds = h; analysis = is; up_to = sealed_up_to c.undo_laws.ensures c.args.log.now c.args.pages.now old records table commits (c.sealed_end-sealed.result + 1) h none (omega (arith, c.sealed_end-sealed.ensures)) });
+      any_moment = λ records table commits none h is. c.end_undone.ensures.any_moment c.args.pages.now records table commits c.requires.going
+          (record { holds = h; analysis = is; up_to = sealed_up_to c.undo_laws.ensures c.args.log.now c.args.pages.now old records table commits (c.sealed_end-sealed.result + 1) h none (omega (arith, c.sealed_end-sealed.ensures)) });
+    }
+
+pub returns-in-Err-clause-any_moment : goal.returns-in-Err-clause-any_moment
+returns-in-Err-clause-any_moment g c records table commits none h is quiet =
+    let old = g.S.Site.state c.args.site.now in
+    c.end_undone.ensures.any_moment c.args.pages.now records table commits c.requires.going
+    (record { holds = h; analysis = is; up_to = sealed_up_to c.undo_laws.ensures c.args.log.now c.args.pages.now old records table commits (c.sealed_end-sealed.result + 1) h none (omega (arith, c.sealed_end-sealed.ensures)) }) quiet
+
+pub returns-in-Err-clause-readable : goal.returns-in-Err-clause-readable
+returns-in-Err-clause-readable g c records table commits none h is =
+    let old = g.S.Site.state c.args.site.now in
+    c.in-Err.ensures.readable c.args.pages.now records table commits c.requires.going
+    (record { holds = h; analysis = is; up_to = sealed_up_to c.undo_laws.ensures c.args.log.now c.args.pages.now old records table commits (c.sealed_end-sealed.result + 1) h none (omega (arith, c.sealed_end-sealed.ensures)) })
+
+pub loop-next-preserved : goal.loop-next-preserved
+loop-next-preserved g c =
+    let old = g.S.Site.state c.args.site.now in
+    let mid = g.S.Site.state c.loop-next.site in
+    let new = g.S.Site.state c.undo_next.new.site in
+    let inv = c.loop-next.invariant in
+    let few = inv.blocks in
+    let fewer = c.in-Ok-undo_next.ensures.blocks in
+    record {
+      going = c.in-Ok-undo_next.ensures.going;
+      found_going = c.undo_next.ensures.found_going;
+      before = c.in-Ok-undo_next.ensures.before;
+      remain = c.in-Ok-undo_next.ensures.remain;
+      commits = c.undo_next.ensures.commits ∙ inv.commits;
+      blocks = omega (arith, few, fewer);
+      kept = c.undo_next.ensures.kept ∙ inv.kept;
+      geometry = c.undo_next.ensures.geometry ∙ inv.geometry;
+      size = c.undo_next.ensures.size ∙ inv.size;
+      log_geometry = c.undo_next.ensures.log_geometry ∙ inv.log_geometry;
+      goes = goes_in_sequence old mid new inv.goes c.undo_next.ensures.goes;
+      left = λ honest. c.undo_next.ensures.left (stays_honest old mid inv.goes honest) ∙ inv.left honest;
+      stays_quiet = λ honest quiet. c.in-Ok-undo_next.ensures.stays_quiet (stays_honest old mid inv.goes honest) (inv.stays_quiet honest quiet);
+      log_reads = let falls = c.in-Ok-undo_next.ensures.falls in let reads = inv.log_reads in let one = c.undo_next.ensures.log_reads in omega (arith, falls, reads, one);
+      undone = λ records table commits none h is.
+          let before = inv.undone records table commits none h is in
+          let all = records ++ before.more in
+          let ordered = order c.found_laws.ensures c.undo_laws.ensures c.loop-next.log c.loop-next.pages mid all table commits c.loop-next.found before.now.holds before.now.analysis in
+          let greatest = next_is_greatest c.next_undo.result c.in-Some.next (last_where (λ v. true) (pending all)) c.in-Some.is (c.next_undo.ensures.of_records blank_master all 0 _ before.now.analysis ordered) in
+          more_undone c.loop-next.log c.undo_next.new.log c.loop-next.pages c.undo_next.new.pages mid new records table commits c.loop-next.found c.undo_next.new.found c.loop-next.known c.in-Ok-undo_next.lsn before
+          (c.in-Ok-undo_next.ensures.undone all table commits before.now greatest);
+      any_moment = λ records table commits none h is quiet.
+          let before = inv.undone records table commits none h is in
+          let all = records ++ before.more in
+          let ordered = order c.found_laws.ensures c.undo_laws.ensures c.loop-next.log c.loop-next.pages mid all table commits c.loop-next.found before.now.holds before.now.analysis in
+          let greatest = next_is_greatest c.next_undo.result c.in-Some.next (last_where (λ v. true) (pending all)) c.in-Some.is (c.next_undo.ensures.of_records blank_master all 0 _ before.now.analysis ordered) in
+          and_then c.args.pages.now.flash.geometry c.loop-next.pages.flash.geometry old mid new table commits inv.geometry
+          (inv.any_moment records table commits none h is quiet) (c.undo_next.ensures.any_moment all table commits before.now greatest (inv.stays_quiet h.log_holds.ready.blocks.honest quiet));
+    }
+
+pub returns-in-Err-undo_next-clause-any_moment : goal.returns-in-Err-undo_next-clause-any_moment
+returns-in-Err-undo_next-clause-any_moment g c records table commits none h is quiet =
+    let old = g.S.Site.state c.args.site.now in
+    let mid = g.S.Site.state c.loop-next.site in
+    let inv = c.loop-next.invariant in
+    let before = inv.undone records table commits none h is in
+    let all = records ++ before.more in
+    let ordered = order c.found_laws.ensures c.undo_laws.ensures c.loop-next.log c.loop-next.pages mid all table commits c.loop-next.found before.now.holds before.now.analysis in
+    let greatest = next_is_greatest c.next_undo.result c.in-Some.next (last_where (λ v. true) (pending all)) c.in-Some.is (c.next_undo.ensures.of_records blank_master all 0 _ before.now.analysis ordered) in
+    and_then c.args.pages.now.flash.geometry c.loop-next.pages.flash.geometry old mid (g.S.Site.state c.undo_next.new.site) table commits inv.geometry
+    (inv.any_moment records table commits none h is quiet) (c.undo_next.ensures.any_moment all table commits before.now greatest (inv.stays_quiet h.log_holds.ready.blocks.honest quiet))
+
+pub returns-in-Err-undo_next-clause-readable : goal.returns-in-Err-undo_next-clause-readable
+returns-in-Err-undo_next-clause-readable g c records table commits none h is =
+    let mid = g.S.Site.state c.loop-next.site in
+    let inv = c.loop-next.invariant in
+    let before = inv.undone records table commits none h is in
+    let all = records ++ before.more in
+    let ordered = order c.found_laws.ensures c.undo_laws.ensures c.loop-next.log c.loop-next.pages mid all table commits c.loop-next.found before.now.holds before.now.analysis in
+    let greatest = next_is_greatest c.next_undo.result c.in-Some.next (last_where (λ v. true) (pending all)) c.in-Some.is (c.next_undo.ensures.of_records blank_master all 0 _ before.now.analysis ordered) in
+    c.in-Err-undo_next.ensures.readable all table commits before.now greatest
+
+pub returns-clause-none : goal.returns-clause-none
+returns-clause-none g c = none_listed (listed c.loop-next.found.table) c.loop-next.invariant.remain (if_none c.next_undo.result (AllByRecursion (λ x. x.updates ≡ []) (listed c.loop-next.found.table)) (λ at some. c.in_default.not-Some at some) c.next_undo.ensures.none)
+
+pub returns-clause-undone : goal.returns-clause-undone
+returns-clause-undone g c records table commits none h is =
+    all_undone c.found_laws.ensures c.undo_laws.ensures c.loop-next.log c.loop-next.pages (g.S.Site.state c.loop-next.site) records table commits c.loop-next.found c.loop-next.known (c.loop-next.invariant.undone records table commits none h is)
+    (none_listed (listed c.loop-next.found.table) c.loop-next.invariant.remain (if_none c.next_undo.result (AllByRecursion (λ x. x.updates ≡ []) (listed c.loop-next.found.table)) (λ at some. c.in_default.not-Some at some) c.next_undo.ensures.none))
+
+pub returns-in-Err-clause-quiet : goal.returns-in-Err-clause-quiet
+returns-in-Err-clause-quiet g c records table commits none h is quiet =
+    let old = g.S.Site.state c.args.site.now in
+    c.in-Err.ensures.quiet c.args.pages.now records table commits c.requires.going
+    (record { holds = h; analysis = is; up_to = sealed_up_to c.undo_laws.ensures c.args.log.now c.args.pages.now old records table commits (c.sealed_end-sealed.result + 1) h none (omega (arith, c.sealed_end-sealed.ensures)) }) quiet
+
+pub returns-in-Err-undo_next-clause-quiet : goal.returns-in-Err-undo_next-clause-quiet
+returns-in-Err-undo_next-clause-quiet g c records table commits none h is quiet =
+    let mid = g.S.Site.state c.loop-next.site in
+    let inv = c.loop-next.invariant in
+    let before = inv.undone records table commits none h is in
+    let all = records ++ before.more in
+    let ordered = order c.found_laws.ensures c.undo_laws.ensures c.loop-next.log c.loop-next.pages mid all table commits c.loop-next.found before.now.holds before.now.analysis in
+    let greatest = next_is_greatest c.next_undo.result c.in-Some.next (last_where (λ v. true) (pending all)) c.in-Some.is (c.next_undo.ensures.of_records blank_master all 0 _ before.now.analysis ordered) in
+    c.in-Err-undo_next.ensures.quiet all table commits before.now greatest (inv.stays_quiet h.log_holds.ready.blocks.honest quiet)
+
+pub returns-in-Err-undo_next-clause-left : goal.returns-in-Err-undo_next-clause-left
+returns-in-Err-undo_next-clause-left g c honest =
+    c.undo_next.ensures.left (stays_honest (g.S.Site.state c.args.site.now) (g.S.Site.state c.loop-next.site) c.loop-next.invariant.goes honest) ∙ c.loop-next.invariant.left honest
+
+pub returns-in-Err-undo_next-clause-log_geometry : goal.returns-in-Err-undo_next-clause-log_geometry
+returns-in-Err-undo_next-clause-log_geometry g c = c.undo_next.ensures.log_geometry ∙ c.loop-next.invariant.log_geometry
+
+pub returns-in-Err-undo_next-clause-log_reads : goal.returns-in-Err-undo_next-clause-log_reads
+returns-in-Err-undo_next-clause-log_reads g c =
+    let remains = c.in-Some.ensures.remains in
+    let some = some_owed (listed c.loop-next.found.table) c.in-Some.next.0 remains.x remains.there in
+    let reads = c.loop-next.invariant.log_reads in
+    let one = c.undo_next.ensures.log_reads in
+    omega (arith, some, reads, one)
+
+pub returns-in-Err-undo_next-clause-worn_end : goal.returns-in-Err-undo_next-clause-worn_end
+returns-in-Err-undo_next-clause-worn_end g c records table commits none h is worn =
+    let inv = c.loop-next.invariant in
+    let before = inv.undone records table commits none h is in
+    let same : c.in-Err-undo_next.stop ≡ Worn Flash = cc in
+    subst (λ (k : Geometry). IsWorn k (g.S.Site.state c.undo_next.new.site).image) inv.geometry (c.in-Err-undo_next.ensures.worn_end (records ++ before.more) table commits before.now.holds (ap Err same))

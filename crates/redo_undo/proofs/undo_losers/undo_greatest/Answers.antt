@@ -1,0 +1,32 @@
+use Rattle.std.proofs.Common.{refl, ◌≡◌, Err, ap}
+use Rattle.log_laws.specs.Analysis.{Unfinished}
+use Rattle.image_meaning.specs.Meaning.{blank_master}
+use Rattle.redo_undo.proofs.Found.{unfinished_loser, each_remains, one_clr}
+use Rattle.site.specs.declared.outside.Stop.TheVariants.{Worn}
+use Rattle.site.specs.declared.outside.Dev.TheVariants.{Flash}
+use Rattle.redo_undo.proofs.undo_losers.undo_greatest.Goals as goal
+
+pub returns-in-Err-clause-readable : goal.returns-in-Err-clause-readable
+returns-in-Err-clause-readable g c records table commits known h =
+    let log = c.args.log.now in
+    let pages = c.args.pages.now in
+    let site = g.S.Site.state c.args.site.now in
+    let u = unfinished_loser c.found_laws.ensures c.undo_laws.ensures log pages site records table commits c.args.found.now h.holds h.analysis c.args.loser c.args.lsn c.requires.there c.requires.greatest in
+    c.in-Err.ensures.readable records table commits (record { txn = c.args.loser.txn; last = c.args.loser.last; next = c.args.lsn; remaining = c.args.loser.remaining }) h.holds u.0 (record { txn = refl; last = refl; next = refl }) u.1
+
+pub returns-clause-undone : goal.returns-clause-undone
+returns-clause-undone g c records table commits known h greatest =
+    let log = c.args.log.now in
+    let pages = c.args.pages.now in
+    let site = g.S.Site.state c.args.site.now in
+    let new = g.S.Site.state c.undo_update.new.site in
+    let found = c.args.found.now in
+    let x : Unfinished = record { txn = c.args.loser.txn; last = c.args.loser.last; next = c.args.lsn; remaining = c.args.loser.remaining } in
+    let u = unfinished_loser c.found_laws.ensures c.undo_laws.ensures log pages site records table commits found h.holds h.analysis c.args.loser c.args.lsn c.requires.there c.requires.greatest in
+    let done = c.in-Ok.ensures.undone records table commits x h.holds u.0 (record { txn = refl; last = refl; next = refl }) u.1 in
+    one_clr c.undo_laws.ensures c.undo_update.new.log c.undo_update.new.pages new records table commits c.compensated.new.self x c.in-Ok.now done
+    (c.compensated.ensures.read blank_master records c.args.loser.last done.page done.slot done.before h.analysis)
+    (each_remains c.found_laws.ensures c.undo_laws.ensures log pages site records table commits found h.holds h.analysis c.requires.remain) greatest
+
+pub returns-in-Err-clause-worn_end : goal.returns-in-Err-clause-worn_end
+returns-in-Err-clause-worn_end g c records table commits h worn = let same : c.in-Err.stop ≡ Worn Flash = cc in c.in-Err.ensures.worn_end records table commits h (ap Err same)

@@ -1,0 +1,95 @@
+use Rattle.std.proofs.Common.{◌∙◌, ◌++◌, ℕ, drop, sym, subst, arith, ◌≡◌, Err, ap}
+use Rattle.analysis.specs.Open.{Open, Replaces, TakesOut}
+use Rattle.analysis.specs.Table.{listed}
+use Rattle.redo_undo.specs.UndoingAll.{Remain, HasNone, IsGreatest, UndoesSome}
+use Rattle.redo_undo.proofs.Appended.{if_ok_one}
+use Rattle.redo_undo.proofs.Sames.{and_then, nothing_happens}
+use Rattle.redo_undo.proofs.Opens.{still_remain, none_remains_of, others_remain, ok_one}
+use Rattle.redo_undo.proofs.Found.{last_known, more_undone}
+use Rattle.site.specs.Laws.{stays_honest}
+use Rattle.site.specs.declared.outside.Stop.TheVariants.{Worn}
+use Rattle.site.specs.declared.outside.Dev.TheVariants.{Flash}
+use Rattle.redo_undo.proofs.undo_losers.undo_next.Goals as goal
+
+pub returns-then-loser-known-clause-any_moment : goal.returns-then-loser-known-clause-any_moment
+returns-then-loser-known-clause-any_moment g c records table commits h greatest quiet =
+    nothing_happens c.args.log.now c.args.pages.now (g.S.Site.state c.args.site.now) records table commits c.requires.going.sizes h.holds quiet
+
+pub returns-then-loser-known-clause-readable : goal.returns-then-loser-known-clause-readable
+returns-then-loser-known-clause-readable g c records table commits h greatest = λ same.
+    let less = last_known c.found_laws.ensures c.undo_laws.ensures c.args.log.now c.args.pages.now (g.S.Site.state c.args.site.now) records table commits c.args.found.now h.holds h.analysis c.args.known c.in-Some.loser h.up_to c.in-Some.ensures.there in
+    absurd (omega (arith, less, c.if-loser-known.true))
+
+pub returns-in-Err-clause-any_moment : goal.returns-in-Err-clause-any_moment
+returns-in-Err-clause-any_moment g c records table commits h greatest quiet = c.undo_greatest.ensures.any_moment records table commits h.holds quiet
+
+pub returns-in-Err-clause-readable : goal.returns-in-Err-clause-readable
+returns-in-Err-clause-readable g c records table commits h greatest = c.in-Err.ensures.readable records table commits c.args.known h
+
+pub returns-then-loser-gt1-clause-undone : goal.returns-then-loser-gt1-clause-undone
+returns-then-loser-gt1-clause-undone g c records table commits h greatest =
+    c.in-Ok.ensures.undone records table commits c.args.known h (subst (IsGreatest records) (sym c.in-Some.ensures.named) greatest)
+
+pub returns-then-loser-gt1-clause-any_moment : goal.returns-then-loser-gt1-clause-any_moment
+returns-then-loser-gt1-clause-any_moment g c records table commits h greatest quiet = c.undo_greatest.ensures.any_moment records table commits h.holds quiet
+
+pub returns-then-loser-gt1-clause-remain : goal.returns-then-loser-gt1-clause-remain
+returns-then-loser-gt1-clause-remain g c =
+    still_remain (listed c.args.found.now.table) (listed c.undo_greatest.new.found.table) c.in-Some.loser c.in-Ok.last c.requires.found c.requires.remain c.in-Some.ensures.there (omega (arith, c.if-loser-gt1.true)) c.in-Ok.ensures.replaces
+
+pub end_one-requires-clause-none : goal.end_one-requires-clause-none
+end_one-requires-clause-none g c =
+    subst (HasNone (listed c.undo_greatest.new.found.table)) c.in-Some.ensures.named
+    (none_remains_of (listed c.args.found.now.table) (listed c.undo_greatest.new.found.table) c.in-Some.loser c.in-Ok.last c.requires.found c.undo_greatest.ensures.found_going c.in-Some.ensures.there (omega (arith, c.if-loser-gt1.false))
+    c.in-Ok.ensures.replaces)
+
+pub returns-clause-undone : goal.returns-clause-undone
+returns-clause-undone g c records table commits h greatest =
+    let mid = g.S.Site.state c.undo_greatest.new.site in
+    let new = g.S.Site.state c.end_one.new.site in
+    let pages = c.undo_greatest.new.pages in
+    let first = c.in-Ok.ensures.undone records table commits c.args.known h (subst (IsGreatest records) (sym c.in-Some.ensures.named) greatest) in
+    if_ok_one c.end_one.result
+    (λ lsn. UndoesSome c.end_one.new.log pages new (records ++ first.more) table commits c.end_one.new.found lsn)
+    (λ lsn. UndoesSome c.end_one.new.log pages new records table commits c.end_one.new.found lsn)
+    (λ lsn second. more_undone c.undo_greatest.new.log c.end_one.new.log pages pages mid new records table commits c.undo_greatest.new.found c.end_one.new.found c.in-Ok.last lsn first second)
+    (c.end_one.ensures.undone pages (records ++ first.more) table commits c.in-Ok.last c.in-Ok.ensures.going.sizes first.now)
+
+pub returns-clause-any_moment : goal.returns-clause-any_moment
+returns-clause-any_moment g c records table commits h greatest quiet =
+    let first = c.in-Ok.ensures.undone records table commits c.args.known h (subst (IsGreatest records) (sym c.in-Some.ensures.named) greatest) in
+    and_then c.args.pages.now.flash.geometry c.undo_greatest.new.pages.flash.geometry (g.S.Site.state c.args.site.now) (g.S.Site.state c.undo_greatest.new.site) (g.S.Site.state c.end_one.new.site) table commits c.undo_greatest.ensures.geometry
+    (c.undo_greatest.ensures.any_moment records table commits h.holds quiet) (c.end_one.ensures.any_moment c.undo_greatest.new.pages (records ++ first.more) table commits c.in-Ok.ensures.going first.now.holds (c.in-Ok.ensures.stays_quiet h.holds.log_holds.ready.blocks.honest quiet))
+
+pub returns-clause-readable : goal.returns-clause-readable
+returns-clause-readable g c records table commits h greatest =
+    let first = c.in-Ok.ensures.undone records table commits c.args.known h (subst (IsGreatest records) (sym c.in-Some.ensures.named) greatest) in
+    c.end_one.ensures.readable c.undo_greatest.new.pages (records ++ first.more) table commits c.in-Ok.last c.in-Ok.ensures.going.sizes first.now
+
+pub returns-clause-remain : goal.returns-clause-remain
+returns-clause-remain g c =
+    let old = listed c.args.found.now.table in
+    let mid = listed c.undo_greatest.new.found.table in
+    let new = listed c.end_one.new.found.table in
+    ok_one c.end_one.result (TakesOut mid new c.args.next.0) (Remain new)
+    (others_remain old mid new c.args.next.0 c.in-Ok.last c.undo_greatest.ensures.found_going c.requires.remain
+    (subst (λ (t : ℕ). Replaces old mid t (λ (x : Open). record x { last = c.in-Ok.last; updates = drop 1 x.updates })) c.in-Some.ensures.named c.in-Ok.ensures.replaces))
+    c.end_one.ensures.takes
+
+pub returns-then-loser-known-clause-quiet : goal.returns-then-loser-known-clause-quiet
+returns-then-loser-known-clause-quiet g c records table commits h greatest quiet = λ other. quiet
+
+pub returns-in-Err-clause-quiet : goal.returns-in-Err-clause-quiet
+returns-in-Err-clause-quiet g c records table commits h greatest quiet = c.in-Err.ensures.quiet records table commits h.holds quiet
+
+pub returns-clause-quiet : goal.returns-clause-quiet
+returns-clause-quiet g c records table commits h greatest quiet =
+    let first = c.in-Ok.ensures.undone records table commits c.args.known h (subst (IsGreatest records) (sym c.in-Some.ensures.named) greatest) in
+    c.end_one.ensures.quiet c.undo_greatest.new.pages (records ++ first.more) table commits first.now.holds (c.in-Ok.ensures.stays_quiet h.holds.log_holds.ready.blocks.honest quiet)
+
+pub returns-clause-left : goal.returns-clause-left
+returns-clause-left g c honest =
+    c.end_one.ensures.left (stays_honest (g.S.Site.state c.args.site.now) (g.S.Site.state c.undo_greatest.new.site) c.undo_greatest.ensures.goes honest) ∙ c.undo_greatest.ensures.left honest
+
+pub returns-in-Err-clause-worn_end : goal.returns-in-Err-clause-worn_end
+returns-in-Err-clause-worn_end g c records table commits h worn = let same : c.in-Err.stop ≡ Worn Flash = cc in c.in-Err.ensures.worn_end records table commits h (ap Err same)

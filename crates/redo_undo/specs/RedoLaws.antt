@@ -1,0 +1,17 @@
+-- The laws of the layers below that redo rests on.
+use Rattle.image_meaning.specs.Pictures.{VersionsAreSound}
+use Rattle.image_meaning.specs.Ahead.{ShowsStill}
+use Rattle.image_meaning.specs.Redone.{RedoneReplaces, VersionIsRedone, NextIsRedone, RedoneIsCurrent}
+use Rattle.analysis.specs.Taken.{StepsOn, AllAreTaken}
+use Rattle.page_store.specs.Laws.{FitsBeside}
+
+pub record RedoLaws : Type 0 where
+  pub versions_sound : VersionsAreSound
+  pub shows : ShowsStill
+  pub replaces : RedoneReplaces
+  pub first : VersionIsRedone
+  pub next : NextIsRedone
+  pub last : RedoneIsCurrent
+  pub steps : StepsOn
+  pub all_taken : AllAreTaken
+  pub fits : FitsBeside

@@ -1,0 +1,493 @@
+// Analysis and redo of a restart: the log is read once, from its kept block on.
+ghost use Rattle.std.specs.Prelude.{◌≡◌, ◌≢◌, ◌⊎◌, ◌+◌, ◌-◌, ◌*◌, ◌^◌, ◌<◌, ◌≤◌, ◌++◌, ◌∷◌, [], ℕ, List, length, None, IsTrue, true, false, IfSome, IfNone, OnOk, IfOk, IfErr, IsErrOf};
+ghost use Rattle.site.specs.declared.outside.Dev.{Dev};
+ghost use Rattle.site.specs.declared.outside.Stop.{Stop};
+ghost use Rattle.site.specs.State.{IsQuiet};
+ghost use Rattle.site.specs.Calls.{Goes, FaultRose};
+ghost use Rattle.site.specs.Moments.{LeavesOnly};
+ghost use Rattle.record_model.specs.State.{Content};
+ghost use Rattle.log_records.specs.declared.log_record.LogRecord.{LogRecord};
+ghost use Rattle.log_records.specs.Spelling.{HasForm, IsBlock, used_by};
+ghost use Rattle.log_records.specs.Log.{Entry, log_from, entries_from, number_of, txn_by};
+ghost use Rattle.log_store.specs.Held as log_held;
+ghost use Rattle.flash_cache.specs.Held.{IsWorn};
+ghost use Rattle.buffer_pool.specs.Frames.{front_of};
+ghost use Rattle.page_store.specs.Stopping.{MayStop};
+ghost use Rattle.checkpoint.specs.Actives.{Ascend};
+ghost use Rattle.checkpoint.specs.Newest.{blank, seen};
+ghost use Rattle.image_meaning.specs.Meaning.{blank_master};
+ghost use Rattle.image_meaning.specs.Moments.{LeavesTable};
+ghost use Rattle.analysis.specs.Open.{owed_for};
+ghost use Rattle.analysis.specs.Table.{listed};
+ghost use Rattle.analysis.specs.Read as read;
+ghost use Rattle.analysis.specs.Read.{IsAnalysis};
+ghost use Rattle.analysis.specs.Taken.{is_named, is_taken, Steps};
+ghost use Rattle.redo_undo.specs.Holding.{MayGoOn, Holds, IsOnPage, blocks_to};
+ghost use Rattle.redo_undo.specs.Redoing.{IsOpened, Opening, LeavesOpened, IsRedoing, HasTaken};
+ghost use Rattle.redo_undo.specs.RedoLaws.{RedoLaws};
+
+use crate::changing::change_front;
+use crate::laws::{log_laws, page_laws};
+use analysis::{Analysis, losers_are_taken, sound_log_steps};
+use checkpoint::Master;
+use image_meaning::{new_versions, redoing, redone_versions, versions_beside_the_tail};
+use log_records::{BLOCK_LEN, LogRecord, read_again, read_record};
+use log_store::LogStore;
+use page_store::{PageStore, stays_beside};
+use site::{Site, Stop};
+use std::alloc::Global;
+
+/// What the log leaves unfinished, and the number of its records that were read.
+#[derive(Drop)]
+pub struct Redone {
+    pub found: Analysis,
+    pub records: u64,
+}
+
+// On redoing the records of a log.
+fn redo_laws()
+    ensures { RedoLaws }
+{
+    new_versions();
+    versions_beside_the_tail();
+    redone_versions();
+    redoing();
+    sound_log_steps();
+    losers_are_taken();
+    stays_beside();
+}
+
+// The page that an Update or a CLR is on, and none of any other record.
+fn page_of(rec: &LogRecord) -> Option<u32>
+    requires form { HasForm rec.now }
+    ensures on { IfSome result (λ page. IsOnPage page rec.now) }
+    ensures none { IfNone result (number_of rec.now ≡ None) }
+{
+    match rec {
+        LogRecord::Update { page, .. } => Some(*page),
+        LogRecord::Clr { page, .. } => Some(*page),
+        _ => None,
+    }
+}
+
+// The transaction of a record, named by the LSN of its Begin.
+fn txn_of(lsn: u64, rec: &LogRecord) -> u64
+    ensures { result ≡ txn_by lsn rec.now }
+{
+    match rec {
+        LogRecord::Begin => lsn,
+        LogRecord::Update { txn, .. } => *txn,
+        LogRecord::Clr { txn, .. } => *txn,
+        LogRecord::Commit { txn, .. } => *txn,
+        LogRecord::End { txn } => *txn,
+    }
+}
+
+// Whether a master names a transaction.
+fn names(master: &Master, txn: u64) -> bool
+    ensures { result ≡ is_named (seen master.now).active txn }
+{
+    for place in 0..master.active.len() {
+        let (begin, _last) = master.active.at(place);
+        if begin == txn {
+            return true;
+        }
+    }
+    false
+}
+
+// Whether analysis hears of a record: it stands from the redo block on, or is of a transaction that the master names.
+fn is_heard(master: &Master, lsn: u64, rec: &LogRecord) -> bool
+    ensures { result ≡ is_taken (seen master.now) (record { lsn = lsn; rec = rec.now }) }
+{
+    if lsn / 512 >= master.redo {
+        return true;
+    }
+    names(master, txn_of(lsn, rec))
+}
+
+// Analysis of the next record.
+fn analyse(master: &Master, found: &mut Analysis, lsn: u64, rec: &LogRecord) -> Result<(), Stop>
+    requires going { read.MayGoOn found.old }
+
+    // Of a sound log without checkpoints.
+    ensures heard { (records : List Entry) → master.now ≡ blank → IsAnalysis blank_master records found.old
+        → Steps [] records (record { lsn = lsn; rec = rec.now })
+        → OnOk result (IsAnalysis blank_master (records ++ record { lsn = lsn; rec = rec.now } ∷ []) found.new) }
+    ensures readable { (records : List Entry) → master.now ≡ blank → IsAnalysis blank_master records found.old
+        → Steps [] records (record { lsn = lsn; rec = rec.now })
+        → IsErrOf result Stop.Foreign → ⊥ }
+
+    // Of every log.
+    ensures going { read.MayGoOn found.new }
+    ensures owed { owed_for (listed found.new.table) ≤ owed_for (listed found.old.table) + 1 }
+    ensures stops { IfErr result (λ stop. (stop ≡ Stop.Memory) ⊎ (stop ≡ Stop.Foreign)) }
+{
+    if !is_heard(master, lsn, rec) {
+        return Ok(());
+    }
+    found.step(lsn, rec)
+}
+
+// Brings a page to the front of the pool while records are redone: no page knows of a record that isn't sealed, so the log is not forced.
+fn touch_page<S: Site>(
+    site: &mut S,
+    log: &mut LogStore,
+    pages: &mut PageStore,
+    page: u32,
+) -> Result<(), Stop>
+    requires going { MayGoOn log.old pages.old (S.state site.old) }
+    requires exists { page < pages.old.flash.geometry.pages }
+
+    // Of an honest site with an opened log.
+    ensures redoing { (o : Opening) (front : List Entry) → IsRedoing o log.old pages.old (S.state site.old) front
+        → OnOk result (IsRedoing o log.new pages.new (S.state site.new) front) }
+    ensures any_moment { (o : Opening) (front : List Entry) → IsRedoing o log.old pages.old (S.state site.old) front
+        → IsQuiet (S.state site.old)
+        → LeavesOnly (S.state site.old) (S.state site.new) (LeavesOpened o (S.state site.old).told) }
+    ensures readable { (o : Opening) (front : List Entry) → IsRedoing o log.old pages.old (S.state site.old) front
+        → IsErrOf result Stop.Foreign → ⊥ }
+    ensures worn_end { (o : Opening) (front : List Entry) → IsRedoing o log.old pages.old (S.state site.old) front
+        → IsErrOf result (Stop.Worn Dev.Flash) → IsWorn o.sizes (S.state site.new).image }
+    ensures left { IsTrue (S.state site.old).honest → (S.state site.new).left ≡ (S.state site.old).left }
+    ensures stays_quiet { IsTrue (S.state site.old).honest → IsQuiet (S.state site.old)
+        → OnOk result (IsQuiet (S.state site.new)) }
+    ensures quiet { (o : Opening) (front : List Entry) → IsRedoing o log.old pages.old (S.state site.old) front
+        → IsQuiet (S.state site.old)
+        → IfErr result (λ stop. ((d : Dev) → stop ≢ Stop.Device d) → IsQuiet (S.state site.new)) }
+
+    // Of every site.
+    ensures front { OnOk result ((front_of pages.new.pool.frames).page ≡ page) }
+    ensures there { OnOk result (0 < length pages.new.pool.frames) }
+    ensures going { OnOk result (MayGoOn log.new pages.new (S.state site.new)) }
+    ensures blocks { OnOk result (blocks_to log.new ≡ blocks_to log.old) }
+    ensures rises { OnOk result (log.old.ring.hi ≤ log.new.ring.hi) }
+    ensures kept { log.new.kept ≡ log.old.kept }
+    ensures log_geometry { log.new.geometry ≡ log.old.geometry }
+    ensures geometry { pages.new.flash.geometry ≡ pages.old.flash.geometry }
+    ensures size { pages.new.pool.size ≡ pages.old.pool.size }
+    ensures goes { Goes (S.state site.old) (S.state site.new) }
+    ensures log_reads { (S.state site.new).log_reads ≡ (S.state site.old).log_reads }
+    ensures worn_log { IsErrOf result (Stop.Worn Dev.Log) → 2 ^ 40 ≤ blocks_to log.old }
+    ensures device { (d : Dev) → IsErrOf result (Stop.Device d)
+        → FaultRose d (S.state site.old) (S.state site.new) }
+    ensures stops { IfErr result (λ stop. MayStop stop) }
+{
+    page_laws();
+    redo_laws();
+    pages.touch(site, log, page)
+}
+
+// Redoes a record: where it is on a page whose LSN is smaller, the page is changed by it. A page that doesn't exist is Foreign.
+fn redo_record<S: Site>(
+    site: &mut S,
+    log: &mut LogStore,
+    pages: &mut PageStore,
+    lsn: u64,
+    rec: &LogRecord,
+) -> Result<(), Stop>
+    requires going { MayGoOn log.old pages.old (S.state site.old) }
+    requires form { HasForm rec.now }
+
+    // Of an honest site with an opened log, of which it is the next record.
+    ensures redoing { (o : Opening) (front rest : List Entry) → IsRedoing o log.old pages.old (S.state site.old) front
+        → log_from 0 o.blocks ≡ front ++ record { lsn = lsn; rec = rec.now } ∷ rest
+        → OnOk result (IsRedoing o log.new pages.new (S.state site.new) (front ++ record { lsn = lsn; rec = rec.now } ∷ [])) }
+    ensures any_moment { (o : Opening) (front : List Entry) → IsRedoing o log.old pages.old (S.state site.old) front
+        → IsQuiet (S.state site.old)
+        → LeavesOnly (S.state site.old) (S.state site.new) (LeavesOpened o (S.state site.old).told) }
+    ensures readable { (o : Opening) (front rest : List Entry) → IsRedoing o log.old pages.old (S.state site.old) front
+        → log_from 0 o.blocks ≡ front ++ record { lsn = lsn; rec = rec.now } ∷ rest
+        → IsErrOf result Stop.Foreign → ⊥ }
+    ensures worn_end { (o : Opening) (front : List Entry) → IsRedoing o log.old pages.old (S.state site.old) front
+        → IsErrOf result (Stop.Worn Dev.Flash) → IsWorn o.sizes (S.state site.new).image }
+    ensures left { IsTrue (S.state site.old).honest → (S.state site.new).left ≡ (S.state site.old).left }
+    ensures stays_quiet { IsTrue (S.state site.old).honest → IsQuiet (S.state site.old)
+        → OnOk result (IsQuiet (S.state site.new)) }
+    ensures quiet { (o : Opening) (front : List Entry) → IsRedoing o log.old pages.old (S.state site.old) front
+        → IsQuiet (S.state site.old)
+        → IfErr result (λ stop. ((d : Dev) → stop ≢ Stop.Device d) → IsQuiet (S.state site.new)) }
+
+    // Of every site.
+    ensures going { OnOk result (MayGoOn log.new pages.new (S.state site.new)) }
+    ensures blocks { OnOk result (blocks_to log.new ≡ blocks_to log.old) }
+    ensures rises { OnOk result (log.old.ring.hi ≤ log.new.ring.hi) }
+    ensures kept { log.new.kept ≡ log.old.kept }
+    ensures log_geometry { log.new.geometry ≡ log.old.geometry }
+    ensures geometry { pages.new.flash.geometry ≡ pages.old.flash.geometry }
+    ensures size { pages.new.pool.size ≡ pages.old.pool.size }
+    ensures goes { Goes (S.state site.old) (S.state site.new) }
+    ensures log_reads { (S.state site.new).log_reads ≡ (S.state site.old).log_reads }
+    ensures worn_log { IsErrOf result (Stop.Worn Dev.Log) → 2 ^ 40 ≤ blocks_to log.old }
+    ensures device { (d : Dev) → IsErrOf result (Stop.Device d)
+        → FaultRose d (S.state site.old) (S.state site.new) }
+    ensures stops { IfErr result (λ stop. MayStop stop) }
+{
+    page_laws();
+    redo_laws();
+    let Some(page) = page_of(rec) else {
+        return Ok(());
+    };
+    if page >= log.geometry().pages {
+        return Err(Stop::Foreign);
+    }
+    match touch_page(site, log, pages, page) {
+        Ok(()) => {}
+        Err(stop) => return Err(stop),
+    }
+    if pages.front_lsn() >= lsn {
+        return Ok(());
+    }
+    change_front(pages, rec, lsn);
+    Ok(())
+}
+
+// Takes the next record: analysis hears of it, and from the redo block on it is redone.
+fn take_record<S: Site>(
+    site: &mut S,
+    log: &mut LogStore,
+    pages: &mut PageStore,
+    master: &Master,
+    so_far: &mut Redone,
+    lsn: u64,
+    rec: &LogRecord,
+) -> Result<(), Stop>
+    requires going { MayGoOn log.old pages.old (S.state site.old) }
+    requires found_going { read.MayGoOn so_far.old.found }
+    requires form { HasForm rec.now }
+    requires few { so_far.old.records < 2 ^ 40 }
+
+    // Of an honest site with an opened log without checkpoints, of which it is the next record.
+    ensures taken { (o : Opening) (front rest : List Entry) → master.now ≡ blank
+        → HasTaken o log.old pages.old (S.state site.old) so_far.old front
+        → log_from 0 o.blocks ≡ front ++ record { lsn = lsn; rec = rec.now } ∷ rest
+        → OnOk result (HasTaken o log.new pages.new (S.state site.new) so_far.new (front ++ record { lsn = lsn; rec = rec.now } ∷ [])) }
+    ensures any_moment { (o : Opening) (front : List Entry)
+        → HasTaken o log.old pages.old (S.state site.old) so_far.old front
+        → IsQuiet (S.state site.old)
+        → LeavesOnly (S.state site.old) (S.state site.new) (LeavesOpened o (S.state site.old).told) }
+    ensures readable { (o : Opening) (front rest : List Entry) → master.now ≡ blank
+        → HasTaken o log.old pages.old (S.state site.old) so_far.old front
+        → log_from 0 o.blocks ≡ front ++ record { lsn = lsn; rec = rec.now } ∷ rest
+        → IsErrOf result Stop.Foreign → ⊥ }
+    ensures worn_end { (o : Opening) (front : List Entry)
+        → HasTaken o log.old pages.old (S.state site.old) so_far.old front
+        → IsErrOf result (Stop.Worn Dev.Flash) → IsWorn o.sizes (S.state site.new).image }
+    ensures left { IsTrue (S.state site.old).honest → (S.state site.new).left ≡ (S.state site.old).left }
+    ensures stays_quiet { IsTrue (S.state site.old).honest → IsQuiet (S.state site.old)
+        → OnOk result (IsQuiet (S.state site.new)) }
+    ensures quiet { (o : Opening) (front : List Entry) → HasTaken o log.old pages.old (S.state site.old) so_far.old front
+        → IsQuiet (S.state site.old)
+        → IfErr result (λ stop. ((d : Dev) → stop ≢ Stop.Device d) → IsQuiet (S.state site.new)) }
+
+    // Of every site.
+    ensures going { OnOk result (MayGoOn log.new pages.new (S.state site.new)) }
+    ensures found_going { read.MayGoOn so_far.new.found }
+    ensures records { OnOk result (so_far.new.records ≡ so_far.old.records + 1) }
+    ensures owed { OnOk result (owed_for (listed so_far.new.found.table) ≤ owed_for (listed so_far.old.found.table) + 1) }
+    ensures blocks { OnOk result (blocks_to log.new ≡ blocks_to log.old) }
+    ensures rises { OnOk result (log.old.ring.hi ≤ log.new.ring.hi) }
+    ensures kept { log.new.kept ≡ log.old.kept }
+    ensures log_geometry { log.new.geometry ≡ log.old.geometry }
+    ensures geometry { pages.new.flash.geometry ≡ pages.old.flash.geometry }
+    ensures size { pages.new.pool.size ≡ pages.old.pool.size }
+    ensures goes { Goes (S.state site.old) (S.state site.new) }
+    ensures log_reads { (S.state site.new).log_reads ≡ (S.state site.old).log_reads }
+    ensures worn_log { IsErrOf result (Stop.Worn Dev.Log) → 2 ^ 40 ≤ blocks_to log.old }
+    ensures device { (d : Dev) → IsErrOf result (Stop.Device d)
+        → FaultRose d (S.state site.old) (S.state site.new) }
+    ensures stops { IfErr result (λ stop. MayStop stop) }
+{
+    page_laws();
+    redo_laws();
+    if let Err(stop) = analyse(master, &mut so_far.found, lsn, rec) {
+        return Err(stop);
+    }
+    so_far.records += 1;
+    if lsn / 512 < master.redo {
+        return Ok(());
+    }
+    redo_record(site, log, pages, lsn, rec)
+}
+
+// Takes the records of a block.
+fn take_block<S: Site>(
+    site: &mut S,
+    log: &mut LogStore,
+    pages: &mut PageStore,
+    master: &Master,
+    so_far: &mut Redone,
+    block: u64,
+    content: &[u8],
+    used: usize,
+) -> Result<(), Stop>
+    requires going { MayGoOn log.old pages.old (S.state site.old) }
+    requires found_going { read.MayGoOn so_far.old.found }
+    requires low { 3 ≤ used }
+    requires high { used ≤ 503 }
+    requires inside { length content.now ≡ 503 }
+    requires few { so_far.old.records + 503 ≤ 2 ^ 40 }
+    requires number { block ≤ 2 ^ 40 }
+
+    // Of an honest site with an opened log without checkpoints, of which they are the next records.
+    ensures taken { (o : Opening) (front rest : List Entry) (records : List LogRecord) → master.now ≡ blank
+        → HasTaken o log.old pages.old (S.state site.old) so_far.old front
+        → IsBlock content.now records → used ≡ used_by records
+        → log_from 0 o.blocks ≡ front ++ (entries_from (512 * block + 2) records ++ rest)
+        → OnOk result (HasTaken o log.new pages.new (S.state site.new) so_far.new (front ++ entries_from (512 * block + 2) records)) }
+    ensures any_moment { (o : Opening) (front rest : List Entry) (records : List LogRecord) → master.now ≡ blank
+        → HasTaken o log.old pages.old (S.state site.old) so_far.old front
+        → IsBlock content.now records → used ≡ used_by records
+        → log_from 0 o.blocks ≡ front ++ (entries_from (512 * block + 2) records ++ rest)
+        → IsQuiet (S.state site.old)
+        → LeavesOnly (S.state site.old) (S.state site.new) (LeavesOpened o (S.state site.old).told) }
+    ensures readable { (o : Opening) (front rest : List Entry) (records : List LogRecord) → master.now ≡ blank
+        → HasTaken o log.old pages.old (S.state site.old) so_far.old front
+        → IsBlock content.now records → used ≡ used_by records
+        → log_from 0 o.blocks ≡ front ++ (entries_from (512 * block + 2) records ++ rest)
+        → IsErrOf result Stop.Foreign → ⊥ }
+    ensures worn_end { (o : Opening) (front rest : List Entry) (records : List LogRecord) → master.now ≡ blank
+        → HasTaken o log.old pages.old (S.state site.old) so_far.old front
+        → IsBlock content.now records → used ≡ used_by records
+        → log_from 0 o.blocks ≡ front ++ (entries_from (512 * block + 2) records ++ rest)
+        → IsErrOf result (Stop.Worn Dev.Flash) → IsWorn o.sizes (S.state site.new).image }
+    ensures left { IsTrue (S.state site.old).honest → (S.state site.new).left ≡ (S.state site.old).left }
+    ensures stays_quiet { IsTrue (S.state site.old).honest → IsQuiet (S.state site.old)
+        → OnOk result (IsQuiet (S.state site.new)) }
+    ensures quiet { (o : Opening) (front rest : List Entry) (records : List LogRecord) → master.now ≡ blank
+        → HasTaken o log.old pages.old (S.state site.old) so_far.old front
+        → IsBlock content.now records → used ≡ used_by records
+        → log_from 0 o.blocks ≡ front ++ (entries_from (512 * block + 2) records ++ rest)
+        → IsQuiet (S.state site.old)
+        → IfErr result (λ stop. ((d : Dev) → stop ≢ Stop.Device d) → IsQuiet (S.state site.new)) }
+
+    // Of every site.
+    ensures going { OnOk result (MayGoOn log.new pages.new (S.state site.new)) }
+    ensures found_going { OnOk result (read.MayGoOn so_far.new.found) }
+    ensures some { OnOk result (so_far.old.records < so_far.new.records) }
+    ensures few { OnOk result (so_far.new.records ≤ so_far.old.records + 503) }
+    ensures owed { OnOk result (owed_for (listed so_far.new.found.table) + so_far.old.records
+        ≤ owed_for (listed so_far.old.found.table) + so_far.new.records) }
+    ensures blocks { OnOk result (blocks_to log.new ≡ blocks_to log.old) }
+    ensures rises { OnOk result (log.old.ring.hi ≤ log.new.ring.hi) }
+    ensures kept { log.new.kept ≡ log.old.kept }
+    ensures log_geometry { log.new.geometry ≡ log.old.geometry }
+    ensures geometry { pages.new.flash.geometry ≡ pages.old.flash.geometry }
+    ensures size { pages.new.pool.size ≡ pages.old.pool.size }
+    ensures goes { Goes (S.state site.old) (S.state site.new) }
+    ensures log_reads { (S.state site.new).log_reads ≡ (S.state site.old).log_reads }
+    ensures worn_log { IsErrOf result (Stop.Worn Dev.Log) → 2 ^ 40 ≤ blocks_to log.old }
+    ensures device { (d : Dev) → IsErrOf result (Stop.Device d)
+        → FaultRose d (S.state site.old) (S.state site.new) }
+    ensures stops { IfErr result (λ stop. MayStop stop) }
+{
+    page_laws();
+    redo_laws();
+    read_again();
+    let mut at = 2;
+    while at < used {
+        let Ok((rec, end)) = read_record(content, at, used) else {
+            return Err(Stop::Foreign);
+        };
+        match take_record(
+            site,
+            log,
+            pages,
+            master,
+            so_far,
+            512 * block + at as u64,
+            &rec,
+        ) {
+            Ok(()) => {}
+            Err(stop) => return Err(stop),
+        }
+        at = end;
+    }
+    Ok(())
+}
+
+/// Analysis and redo of a restart: the log is read once, from its kept block on. Analysis hears of each record from the master's redo block
+/// on, and of those of the transactions that the master names; from the redo block on each Update and each CLR is redone where its page
+/// has a smaller LSN. Where the log's content isn't of the form, or a record is on a page that doesn't exist, it answers Foreign.
+pub fn redo<S: Site>(
+    alloc: Global,
+    site: &mut S,
+    log: &mut LogStore,
+    pages: &mut PageStore,
+    master: &Master,
+) -> Result<Redone, Stop>
+    requires going { MayGoOn log.old pages.old (S.state site.old) }
+    requires ascend { Ascend master.now.active }
+
+    // Of an honest site with a sound image, on which no checkpoint was made.
+    ensures holds { (blocks : List (List LogRecord)) (table : List Content) (commits : ℕ) → master.now ≡ blank
+        → IsOpened pages.old.flash.geometry log.old pages.old (S.state site.old) blocks table commits
+        → OnOk result (Holds log.new pages.new (S.state site.new) (log_from 0 blocks) table commits) }
+    ensures read { (blocks : List (List LogRecord)) (table : List Content) (commits : ℕ) → master.now ≡ blank
+        → IsOpened pages.old.flash.geometry log.old pages.old (S.state site.old) blocks table commits
+        → IfOk result (λ redone. IsAnalysis blank_master (log_from 0 blocks) redone.found) }
+    ensures count { (blocks : List (List LogRecord)) (table : List Content) (commits : ℕ) → master.now ≡ blank
+        → IsOpened pages.old.flash.geometry log.old pages.old (S.state site.old) blocks table commits
+        → IfOk result (λ redone. redone.records ≡ length (log_from 0 blocks)) }
+    ensures any_moment { (blocks : List (List LogRecord)) (table : List Content) (commits : ℕ) → master.now ≡ blank
+        → IsOpened pages.old.flash.geometry log.old pages.old (S.state site.old) blocks table commits
+        → IsQuiet (S.state site.old)
+        → LeavesOnly (S.state site.old) (S.state site.new)
+        (LeavesTable pages.old.flash.geometry table commits (S.state site.old).told) }
+    ensures readable { (blocks : List (List LogRecord)) (table : List Content) (commits : ℕ) → master.now ≡ blank
+        → IsOpened pages.old.flash.geometry log.old pages.old (S.state site.old) blocks table commits
+        → IsErrOf result Stop.Foreign → ⊥ }
+    ensures worn_end { (blocks : List (List LogRecord)) (table : List Content) (commits : ℕ) → master.now ≡ blank
+        → IsOpened pages.old.flash.geometry log.old pages.old (S.state site.old) blocks table commits
+        → IsErrOf result (Stop.Worn Dev.Flash) → IsWorn pages.old.flash.geometry (S.state site.new).image }
+    ensures left { IsTrue (S.state site.old).honest → (S.state site.new).left ≡ (S.state site.old).left }
+    ensures stays_quiet { IsTrue (S.state site.old).honest → IsQuiet (S.state site.old)
+        → OnOk result (IsQuiet (S.state site.new)) }
+    ensures quiet { (blocks : List (List LogRecord)) (table : List Content) (commits : ℕ) → master.now ≡ blank
+        → IsOpened pages.old.flash.geometry log.old pages.old (S.state site.old) blocks table commits
+        → IsQuiet (S.state site.old)
+        → IfErr result (λ stop. ((d : Dev) → stop ≢ Stop.Device d) → IsQuiet (S.state site.new)) }
+
+    // Of every site.
+    ensures going { OnOk result (MayGoOn log.new pages.new (S.state site.new)) }
+    ensures found_going { IfOk result (λ redone. read.MayGoOn redone.found) }
+    ensures some { IfOk result (λ redone. log.old.ring.hi ≤ log.old.kept + redone.records) }
+    ensures few { IfOk result (λ redone. redone.records ≤ 503 * (log.old.ring.hi - log.old.kept)) }
+    ensures owed { IfOk result (λ redone. owed_for (listed redone.found.table) ≤ redone.records + length master.now.active) }
+    ensures blocks { OnOk result (blocks_to log.new ≡ blocks_to log.old) }
+    ensures rises { OnOk result (log.old.ring.hi ≤ log.new.ring.hi) }
+    ensures kept { log.new.kept ≡ log.old.kept }
+    ensures log_geometry { log.new.geometry ≡ log.old.geometry }
+    ensures geometry { pages.new.flash.geometry ≡ pages.old.flash.geometry }
+    ensures size { pages.new.pool.size ≡ pages.old.pool.size }
+    ensures goes { Goes (S.state site.old) (S.state site.new) }
+    ensures log_reads { (S.state site.new).log_reads
+        ≤ (S.state site.old).log_reads + (log.old.ring.hi - log.old.kept) }
+
+    // When each answer comes.
+    ensures worn_log { IsErrOf result (Stop.Worn Dev.Log) → 2 ^ 40 ≤ blocks_to log.old }
+    ensures device { (d : Dev) → IsErrOf result (Stop.Device d)
+        → FaultRose d (S.state site.old) (S.state site.new) }
+    ensures stops { IfErr result (λ stop. MayStop stop) }
+{
+    log_laws();
+    page_laws();
+    redo_laws();
+    let found = match Analysis::start(alloc, master) {
+        Ok(found) => found,
+        Err(stop) => return Err(stop),
+    };
+    let mut so_far = Redone { found, records: 0 };
+    let mut content = [0u8; BLOCK_LEN];
+    for block in log.kept()..log.sealed_end() / 512 {
+        let used = match log.read_block(site, block, &mut content) {
+            Ok(used) => used,
+            Err(stop) => return Err(stop),
+        };
+        match take_block(site, log, pages, master, &mut so_far, block, &content, used) {
+            Ok(()) => {}
+            Err(stop) => return Err(stop),
+        }
+    }
+    Ok(so_far)
+}

@@ -1,0 +1,451 @@
+// Undoing all transactions that a log leaves unfinished.
+ghost use Rattle.std.specs.Prelude.{◌≡◌, ◌≢◌, ◌⊎◌, ◌+◌, ◌<◌, ◌≤◌, [], ◌^◌, ℕ, List, length, drop, false, None, Some, IsTrue, IfOk, IfErr, IfSome, IfNone, OnOk, IsErrOf};
+ghost use Rattle.site.specs.declared.outside.Dev.{Dev};
+ghost use Rattle.site.specs.declared.outside.Stop.{Stop};
+ghost use Rattle.site.specs.State.{IsQuiet};
+ghost use Rattle.site.specs.Calls.{Goes, FaultRose};
+ghost use Rattle.site.specs.Moments.{LeavesOnly};
+ghost use Rattle.record_model.specs.State.{Content};
+ghost use Rattle.log_records.specs.Log.{Entry};
+ghost use Rattle.flash_cache.specs.Held.{IsWorn};
+ghost use Rattle.log_store.specs.Held as log_held;
+ghost use Rattle.log_store.specs.Held.{end_of, has_tail};
+ghost use Rattle.page_store.specs.declared.store.PageStore.{PageStore};
+ghost use Rattle.page_store.specs.Stopping.{MayStop};
+ghost use Rattle.image_meaning.specs.Meaning.{blank_master};
+ghost use Rattle.image_meaning.specs.Moments.{LeavesTable};
+ghost use Rattle.analysis.specs.Open.{Open, found_in, IsTop, Replaces, Remains, TakesOut, owed_for};
+ghost use Rattle.analysis.specs.Table.{listed};
+ghost use Rattle.analysis.specs.Read as analysis;
+ghost use Rattle.redo_undo.specs.Holding.{MayGoOn, Holds, blocks_to};
+ghost use Rattle.redo_undo.specs.UndoingAll.{IsOf, Remain, HasNone, IsGreatest, IsUndoing, UndoesSome, UndoesAll};
+
+use crate::laws::{found_laws, page_laws, undo_laws};
+use crate::logging::log_record;
+use crate::undo::{Undoing, has_room, undo_update};
+use analysis::{Analysis, Loser};
+use log_records::LogRecord;
+use log_store::LogStore;
+use page_store::PageStore;
+use site::{Site, Stop};
+
+// The first transaction of which nothing remains to be undone.
+fn first_undone(found: &Analysis) -> Option<u64>
+    requires { analysis.MayGoOn found.now }
+    ensures none { IfSome result (λ txn. HasNone (listed found.now.table) txn) }
+    ensures remain { IfNone result (Remain (listed found.now.table)) }
+{
+    let mut place = 0;
+    while place < found.losers() {
+        let loser = found.loser(place);
+        if loser.remaining == 0 {
+            return Some(loser.txn);
+        }
+        place += 1;
+    }
+    None
+}
+
+// An unfinished transaction by its name.
+fn loser_named(found: &Analysis, txn: u64) -> Option<Loser>
+    requires { analysis.MayGoOn found.now }
+    ensures there { IfSome result (λ loser. IsOf (listed found.now.table) loser) }
+    ensures named { IfSome result (λ loser. loser.txn ≡ txn) }
+    ensures absent { IfNone result (found_in (listed found.now.table) txn ≡ None) }
+{
+    let mut place = 0;
+    while place < found.losers() {
+        let loser = found.loser(place);
+        if loser.txn == txn {
+            return Some(loser);
+        }
+        place += 1;
+    }
+    None
+}
+
+// Ends a transaction of which nothing remains to be undone. Answers the LSN of its End.
+fn end_one<S: Site>(
+    site: &mut S,
+    log: &mut LogStore,
+    found: &mut Analysis,
+    txn: u64,
+) -> Result<u64, Stop>
+    requires going { log_held.MayGoOn log.old (S.state site.old) }
+    requires found { analysis.MayGoOn found.old }
+    requires none { HasNone (listed found.old.table) txn }
+
+    // Of an honest site on which log and pages hold together.
+    ensures undone { (pages : PageStore) (records : List Entry) (table : List Content) (commits known : ℕ)
+        → log.old.geometry ≡ pages.flash.geometry
+        → IsUndoing log.old pages (S.state site.old) records table commits found.old known
+        → IfOk result (λ lsn. UndoesSome log.new pages (S.state site.new) records table commits found.new lsn) }
+    ensures any_moment { (pages : PageStore) (records : List Entry) (table : List Content) (commits : ℕ)
+        → MayGoOn log.old pages (S.state site.old)
+        → Holds log.old pages (S.state site.old) records table commits
+        → IsQuiet (S.state site.old)
+        → LeavesOnly (S.state site.old) (S.state site.new)
+        (LeavesTable pages.flash.geometry table commits (S.state site.old).told) }
+    ensures readable { (pages : PageStore) (records : List Entry) (table : List Content) (commits known : ℕ)
+        → log.old.geometry ≡ pages.flash.geometry
+        → IsUndoing log.old pages (S.state site.old) records table commits found.old known
+        → IfErr result (λ stop. stop ≢ Stop.Foreign) }
+    ensures left { IsTrue (S.state site.old).honest → (S.state site.new).left ≡ (S.state site.old).left }
+    ensures stays_quiet { IsTrue (S.state site.old).honest → IsQuiet (S.state site.old)
+        → OnOk result (IsQuiet (S.state site.new)) }
+    ensures quiet { (pages : PageStore) (records : List Entry) (table : List Content) (commits : ℕ)
+        → Holds log.old pages (S.state site.old) records table commits
+        → IsQuiet (S.state site.old)
+        → IfErr result (λ stop. ((d : Dev) → stop ≢ Stop.Device d) → IsQuiet (S.state site.new)) }
+
+    // Of every site.
+    ensures before { IfOk result (λ lsn. lsn < end_of log.new) }
+    ensures going { (pages : PageStore) → MayGoOn log.old pages (S.state site.old)
+        → OnOk result (MayGoOn log.new pages (S.state site.new)) }
+    ensures log_going { log_held.MayGoOn log.new (S.state site.new) }
+    ensures found_going { analysis.MayGoOn found.new }
+    ensures takes { OnOk result (TakesOut (listed found.old.table) (listed found.new.table) txn) }
+    ensures falls { OnOk result (owed_for (listed found.new.table) < owed_for (listed found.old.table)) }
+    ensures commits { found.new.commits ≡ found.old.commits }
+    ensures blocks { OnOk result (blocks_to log.new ≤ blocks_to log.old + 1) }
+    ensures kept { log.new.kept ≡ log.old.kept }
+    ensures geometry { log.new.geometry ≡ log.old.geometry }
+    ensures goes { Goes (S.state site.old) (S.state site.new) }
+    ensures log_reads { (S.state site.new).log_reads ≡ (S.state site.old).log_reads }
+
+    // When each answer comes.
+    ensures worn { IsErrOf result (Stop.Worn Dev.Log) → log.old.ring.hi ≡ 2 ^ 40 }
+    ensures device { (d : Dev) → IsErrOf result (Stop.Device d)
+        → FaultRose d (S.state site.old) (S.state site.new) }
+    ensures stops { IfErr result (λ stop. (stop ≡ Stop.Device Dev.Log)
+        ⊎ ((stop ≡ Stop.Worn Dev.Log) ⊎ (stop ≡ Stop.Foreign))) }
+{
+    page_laws();
+    undo_laws();
+    found_laws();
+    if !has_room(log) {
+        return Err(Stop::Foreign);
+    }
+    let lsn = match log_record(site, log, &LogRecord::End { txn }) {
+        Ok(lsn) => lsn,
+        Err(stop) => return Err(stop),
+    };
+    found.finished(txn);
+    Ok(lsn)
+}
+
+// Ends the transactions of which nothing remains to be undone, by ascending transaction. `known` is an LSN before the log's end, and so
+// is the answer: that of the last record that undo has logged, or `known`.
+fn end_undone<S: Site>(
+    site: &mut S,
+    log: &mut LogStore,
+    found: &mut Analysis,
+    known: u64,
+) -> Result<u64, Stop>
+    requires going { log_held.MayGoOn log.old (S.state site.old) }
+    requires found { analysis.MayGoOn found.old }
+    requires known { known < end_of log.old }
+
+    // Of an honest site on which log and pages hold together.
+    ensures undone { (pages : PageStore) (records : List Entry) (table : List Content) (commits : ℕ)
+        → MayGoOn log.old pages (S.state site.old)
+        → IsUndoing log.old pages (S.state site.old) records table commits found.old known
+        → IfOk result (λ lsn. UndoesSome log.new pages (S.state site.new) records table commits found.new lsn) }
+    ensures any_moment { (pages : PageStore) (records : List Entry) (table : List Content) (commits : ℕ)
+        → MayGoOn log.old pages (S.state site.old)
+        → IsUndoing log.old pages (S.state site.old) records table commits found.old known
+        → IsQuiet (S.state site.old)
+        → LeavesOnly (S.state site.old) (S.state site.new)
+        (LeavesTable pages.flash.geometry table commits (S.state site.old).told) }
+    ensures readable { (pages : PageStore) (records : List Entry) (table : List Content) (commits : ℕ)
+        → MayGoOn log.old pages (S.state site.old)
+        → IsUndoing log.old pages (S.state site.old) records table commits found.old known
+        → IfErr result (λ stop. stop ≢ Stop.Foreign) }
+    ensures left { IsTrue (S.state site.old).honest → (S.state site.new).left ≡ (S.state site.old).left }
+    ensures stays_quiet { IsTrue (S.state site.old).honest → IsQuiet (S.state site.old)
+        → OnOk result (IsQuiet (S.state site.new)) }
+    ensures quiet { (pages : PageStore) (records : List Entry) (table : List Content) (commits : ℕ)
+        → MayGoOn log.old pages (S.state site.old)
+        → IsUndoing log.old pages (S.state site.old) records table commits found.old known
+        → IsQuiet (S.state site.old)
+        → IfErr result (λ stop. ((d : Dev) → stop ≢ Stop.Device d) → IsQuiet (S.state site.new)) }
+
+    // Of every site.
+    ensures before { IfOk result (λ lsn. lsn < end_of log.new) }
+    ensures going { (pages : PageStore) → MayGoOn log.old pages (S.state site.old)
+        → OnOk result (MayGoOn log.new pages (S.state site.new)) }
+    ensures log_going { log_held.MayGoOn log.new (S.state site.new) }
+    ensures found_going { analysis.MayGoOn found.new }
+    ensures remain { OnOk result (Remain (listed found.new.table)) }
+    ensures fewer { OnOk result (owed_for (listed found.new.table) ≤ owed_for (listed found.old.table)) }
+    ensures commits { found.new.commits ≡ found.old.commits }
+    ensures blocks { OnOk result (blocks_to log.new + owed_for (listed found.new.table)
+        ≤ blocks_to log.old + owed_for (listed found.old.table)) }
+    ensures kept { log.new.kept ≡ log.old.kept }
+    ensures geometry { log.new.geometry ≡ log.old.geometry }
+    ensures goes { Goes (S.state site.old) (S.state site.new) }
+    ensures log_reads { (S.state site.new).log_reads ≡ (S.state site.old).log_reads }
+
+    // When each answer comes.
+    ensures worn { IsErrOf result (Stop.Worn Dev.Log)
+        → 2 ^ 40 ≤ blocks_to log.old + owed_for (listed found.old.table) }
+    ensures device { (d : Dev) → IsErrOf result (Stop.Device d)
+        → FaultRose d (S.state site.old) (S.state site.new) }
+    ensures stops { IfErr result (λ stop. (stop ≡ Stop.Device Dev.Log)
+        ⊎ ((stop ≡ Stop.Worn Dev.Log) ⊎ (stop ≡ Stop.Foreign))) }
+{
+    let mut last = known;
+    while let Some(txn) = first_undone(found) {
+        last = match end_one(site, log, found, txn) {
+            Ok(lsn) => lsn,
+            Err(stop) => return Err(stop),
+        };
+    }
+    Ok(last)
+}
+
+// Compensates an Update, the greatest of all that remain, of this unfinished transaction. Answers the LSN of its CLR.
+fn undo_greatest<S: Site>(
+    site: &mut S,
+    log: &mut LogStore,
+    pages: &mut PageStore,
+    found: &mut Analysis,
+    loser: Loser,
+    lsn: u64,
+) -> Result<u64, Stop>
+    requires going { MayGoOn log.old pages.old (S.state site.old) }
+    requires found { analysis.MayGoOn found.old }
+    requires last { loser.last < end_of log.old }
+    requires there { IsOf (listed found.old.table) loser }
+    requires greatest { Remains (listed found.old.table) loser.txn lsn }
+    requires remain { Remain (listed found.old.table) }
+
+    // Of an honest site on which log and pages hold together.
+    ensures undone { (records : List Entry) (table : List Content) (commits known : ℕ)
+        → IsUndoing log.old pages.old (S.state site.old) records table commits found.old known
+        → IsGreatest records loser.txn
+        → IfOk result (λ last. UndoesSome log.new pages.new (S.state site.new) records table commits found.new last) }
+    ensures any_moment { (records : List Entry) (table : List Content) (commits : ℕ)
+        → Holds log.old pages.old (S.state site.old) records table commits
+        → IsQuiet (S.state site.old)
+        → LeavesOnly (S.state site.old) (S.state site.new)
+        (LeavesTable pages.old.flash.geometry table commits (S.state site.old).told) }
+    ensures readable { (records : List Entry) (table : List Content) (commits known : ℕ)
+        → IsUndoing log.old pages.old (S.state site.old) records table commits found.old known
+        → IfErr result (λ stop. stop ≢ Stop.Foreign) }
+    ensures worn_end { (records : List Entry) (table : List Content) (commits : ℕ)
+        → Holds log.old pages.old (S.state site.old) records table commits
+        → IsErrOf result (Stop.Worn Dev.Flash) → IsWorn pages.old.flash.geometry (S.state site.new).image }
+    ensures left { IsTrue (S.state site.old).honest → (S.state site.new).left ≡ (S.state site.old).left }
+    ensures stays_quiet { IsTrue (S.state site.old).honest → IsQuiet (S.state site.old)
+        → OnOk result (IsQuiet (S.state site.new)) }
+    ensures quiet { (records : List Entry) (table : List Content) (commits : ℕ)
+        → Holds log.old pages.old (S.state site.old) records table commits
+        → IsQuiet (S.state site.old)
+        → IfErr result (λ stop. ((d : Dev) → stop ≢ Stop.Device d) → IsQuiet (S.state site.new)) }
+
+    // Of every site.
+    ensures before { IfOk result (λ last. last < end_of log.new) }
+    ensures going { OnOk result (MayGoOn log.new pages.new (S.state site.new)) }
+    ensures found_going { analysis.MayGoOn found.new }
+    ensures replaces { IfOk result (λ last. Replaces (listed found.old.table) (listed found.new.table) loser.txn
+        (λ x. record x { last = last; updates = drop 1 x.updates })) }
+    ensures owed { OnOk result (owed_for (listed found.new.table) + 1 ≡ owed_for (listed found.old.table)) }
+    ensures commits { found.new.commits ≡ found.old.commits }
+    ensures blocks { OnOk result (blocks_to log.new ≤ blocks_to log.old + 1) }
+    ensures kept { log.new.kept ≡ log.old.kept }
+    ensures log_geometry { log.new.geometry ≡ log.old.geometry }
+    ensures geometry { pages.new.flash.geometry ≡ pages.old.flash.geometry }
+    ensures size { pages.new.pool.size ≡ pages.old.pool.size }
+    ensures goes { Goes (S.state site.old) (S.state site.new) }
+    ensures log_reads { (S.state site.new).log_reads ≤ (S.state site.old).log_reads + 1 }
+
+    // When each answer comes.
+    ensures worn_log { IsErrOf result (Stop.Worn Dev.Log) → 2 ^ 40 ≤ blocks_to log.old }
+    ensures worn_flash { IsErrOf result (Stop.Worn Dev.Flash) → pages.old.flash.ring.hi ≡ 2 ^ 40 }
+    ensures device { (d : Dev) → IsErrOf result (Stop.Device d)
+        → FaultRose d (S.state site.old) (S.state site.new) }
+    ensures stops { IfErr result (λ stop. MayStop stop) }
+{
+    page_laws();
+    undo_laws();
+    found_laws();
+    let at = Undoing {
+        txn: loser.txn,
+        last: loser.last,
+        next: lsn,
+    };
+    let now = match undo_update(site, log, pages, at) {
+        Ok(now) => now,
+        Err(stop) => return Err(stop),
+    };
+    found.compensated(loser.txn, now.next, now.last);
+    Ok(now.last)
+}
+
+// Compensates the greatest Update that remains, and ends its transaction where nothing of that remains. `known` is an LSN before the log's
+// end, and so is the answer, which is that of the last record that undo has logged. A transaction whose last record stands behind
+// `known` is Foreign.
+fn undo_next<S: Site>(
+    site: &mut S,
+    log: &mut LogStore,
+    pages: &mut PageStore,
+    found: &mut Analysis,
+    next: (u64, u64),
+    known: u64,
+) -> Result<u64, Stop>
+    requires going { MayGoOn log.old pages.old (S.state site.old) }
+    requires found { analysis.MayGoOn found.old }
+    requires known { known < end_of log.old }
+    requires greatest { Remains (listed found.old.table) next.0 next.1 }
+    requires remain { Remain (listed found.old.table) }
+
+    // Of an honest site on which log and pages hold together.
+    ensures undone { (records : List Entry) (table : List Content) (commits : ℕ)
+        → IsUndoing log.old pages.old (S.state site.old) records table commits found.old known
+        → IsGreatest records next.0
+        → IfOk result (λ last. UndoesSome log.new pages.new (S.state site.new) records table commits found.new last) }
+    ensures any_moment { (records : List Entry) (table : List Content) (commits : ℕ)
+        → IsUndoing log.old pages.old (S.state site.old) records table commits found.old known
+        → IsGreatest records next.0
+        → IsQuiet (S.state site.old)
+        → LeavesOnly (S.state site.old) (S.state site.new)
+        (LeavesTable pages.old.flash.geometry table commits (S.state site.old).told) }
+    ensures readable { (records : List Entry) (table : List Content) (commits : ℕ)
+        → IsUndoing log.old pages.old (S.state site.old) records table commits found.old known
+        → IsGreatest records next.0
+        → IfErr result (λ stop. stop ≢ Stop.Foreign) }
+    ensures worn_end { (records : List Entry) (table : List Content) (commits : ℕ)
+        → Holds log.old pages.old (S.state site.old) records table commits
+        → IsErrOf result (Stop.Worn Dev.Flash) → IsWorn pages.old.flash.geometry (S.state site.new).image }
+    ensures left { IsTrue (S.state site.old).honest → (S.state site.new).left ≡ (S.state site.old).left }
+    ensures stays_quiet { IsTrue (S.state site.old).honest → IsQuiet (S.state site.old)
+        → OnOk result (IsQuiet (S.state site.new)) }
+    ensures quiet { (records : List Entry) (table : List Content) (commits : ℕ)
+        → IsUndoing log.old pages.old (S.state site.old) records table commits found.old known
+        → IsGreatest records next.0
+        → IsQuiet (S.state site.old)
+        → IfErr result (λ stop. ((d : Dev) → stop ≢ Stop.Device d) → IsQuiet (S.state site.new)) }
+
+    // Of every site.
+    ensures before { IfOk result (λ last. last < end_of log.new) }
+    ensures going { OnOk result (MayGoOn log.new pages.new (S.state site.new)) }
+    ensures found_going { analysis.MayGoOn found.new }
+    ensures remain { OnOk result (Remain (listed found.new.table)) }
+    ensures falls { OnOk result (owed_for (listed found.new.table) < owed_for (listed found.old.table)) }
+    ensures commits { found.new.commits ≡ found.old.commits }
+    ensures blocks { OnOk result (blocks_to log.new + owed_for (listed found.new.table)
+        ≤ blocks_to log.old + owed_for (listed found.old.table)) }
+    ensures kept { log.new.kept ≡ log.old.kept }
+    ensures log_geometry { log.new.geometry ≡ log.old.geometry }
+    ensures geometry { pages.new.flash.geometry ≡ pages.old.flash.geometry }
+    ensures size { pages.new.pool.size ≡ pages.old.pool.size }
+    ensures goes { Goes (S.state site.old) (S.state site.new) }
+    ensures log_reads { (S.state site.new).log_reads ≤ (S.state site.old).log_reads + 1 }
+
+    // When each answer comes.
+    ensures worn_log { IsErrOf result (Stop.Worn Dev.Log)
+        → 2 ^ 40 ≤ blocks_to log.old + owed_for (listed found.old.table) }
+    ensures device { (d : Dev) → IsErrOf result (Stop.Device d)
+        → FaultRose d (S.state site.old) (S.state site.new) }
+    ensures stops { IfErr result (λ stop. MayStop stop) }
+{
+    undo_laws();
+    found_laws();
+    let Some(loser) = loser_named(found, next.0) else {
+        return Err(Stop::Foreign);
+    };
+    if loser.last > known {
+        return Err(Stop::Foreign);
+    }
+    let last = match undo_greatest(site, log, pages, found, loser, next.1) {
+        Ok(last) => last,
+        Err(stop) => return Err(stop),
+    };
+    if loser.remaining > 1 {
+        return Ok(last);
+    }
+    end_one(site, log, found, next.0)
+}
+
+/// Undoes all transactions that analysis has found unfinished. Those of which nothing remains are ended first, by ascending transaction;
+/// then always the Update with the greatest LSN of all that remain is compensated, and its transaction ended as soon as nothing of it
+/// remains. Undo reads no record outside of the kept log. Where what it reads isn't what analysis says, or there is no room for what it
+/// logs, it answers Foreign.
+pub fn undo_all<S: Site>(
+    site: &mut S,
+    log: &mut LogStore,
+    pages: &mut PageStore,
+    found: &mut Analysis,
+) -> Result<(), Stop>
+    requires going { MayGoOn log.old pages.old (S.state site.old) }
+    requires found { analysis.MayGoOn found.old }
+
+    // Of an honest site on which log and pages hold together, where each record is sealed and analysis has taken all of them.
+    ensures undone { (records : List Entry) (table : List Content) (commits : ℕ)
+        → has_tail log.old ≡ false
+        → Holds log.old pages.old (S.state site.old) records table commits
+        → analysis.IsAnalysis blank_master records found.old
+        → OnOk result (UndoesAll log.new pages.new (S.state site.new) records table commits) }
+    ensures any_moment { (records : List Entry) (table : List Content) (commits : ℕ)
+        → has_tail log.old ≡ false
+        → Holds log.old pages.old (S.state site.old) records table commits
+        → analysis.IsAnalysis blank_master records found.old
+        → IsQuiet (S.state site.old)
+        → LeavesOnly (S.state site.old) (S.state site.new)
+        (LeavesTable pages.old.flash.geometry table commits (S.state site.old).told) }
+    ensures readable { (records : List Entry) (table : List Content) (commits : ℕ)
+        → has_tail log.old ≡ false
+        → Holds log.old pages.old (S.state site.old) records table commits
+        → analysis.IsAnalysis blank_master records found.old
+        → IfErr result (λ stop. stop ≢ Stop.Foreign) }
+    ensures worn_end { (records : List Entry) (table : List Content) (commits : ℕ)
+        → has_tail log.old ≡ false
+        → Holds log.old pages.old (S.state site.old) records table commits
+        → analysis.IsAnalysis blank_master records found.old
+        → IsErrOf result (Stop.Worn Dev.Flash) → IsWorn pages.old.flash.geometry (S.state site.new).image }
+    ensures left { IsTrue (S.state site.old).honest → (S.state site.new).left ≡ (S.state site.old).left }
+    ensures stays_quiet { IsTrue (S.state site.old).honest → IsQuiet (S.state site.old)
+        → OnOk result (IsQuiet (S.state site.new)) }
+    ensures quiet { (records : List Entry) (table : List Content) (commits : ℕ)
+        → has_tail log.old ≡ false
+        → Holds log.old pages.old (S.state site.old) records table commits
+        → analysis.IsAnalysis blank_master records found.old
+        → IsQuiet (S.state site.old)
+        → IfErr result (λ stop. ((d : Dev) → stop ≢ Stop.Device d) → IsQuiet (S.state site.new)) }
+
+    // Of every site.
+    ensures going { OnOk result (MayGoOn log.new pages.new (S.state site.new)) }
+    ensures none { OnOk result (listed found.new.table ≡ []) }
+    ensures commits { found.new.commits ≡ found.old.commits }
+    ensures blocks { OnOk result (blocks_to log.new ≤ blocks_to log.old + owed_for (listed found.old.table)) }
+    ensures kept { log.new.kept ≡ log.old.kept }
+    ensures log_geometry { log.new.geometry ≡ log.old.geometry }
+    ensures geometry { pages.new.flash.geometry ≡ pages.old.flash.geometry }
+    ensures size { pages.new.pool.size ≡ pages.old.pool.size }
+    ensures goes { Goes (S.state site.old) (S.state site.new) }
+    ensures log_reads { (S.state site.new).log_reads
+        ≤ (S.state site.old).log_reads + owed_for (listed found.old.table) }
+
+    // When each answer comes.
+    ensures worn_log { IsErrOf result (Stop.Worn Dev.Log)
+        → 2 ^ 40 ≤ blocks_to log.old + owed_for (listed found.old.table) }
+    ensures device { (d : Dev) → IsErrOf result (Stop.Device d)
+        → FaultRose d (S.state site.old) (S.state site.new) }
+    ensures stops { IfErr result (λ stop. MayStop stop) }
+{
+    undo_laws();
+    found_laws();
+    let sealed = log.sealed_end() + 1;
+    let mut known = match end_undone(site, log, found, sealed) {
+        Ok(lsn) => lsn,
+        Err(stop) => return Err(stop),
+    };
+    while let Some(next) = found.next_undo() {
+        known = match undo_next(site, log, pages, found, next, known) {
+            Ok(lsn) => lsn,
+            Err(stop) => return Err(stop),
+        };
+    }
+    Ok(())
+}
