@@ -1,27 +1,24 @@
 -- A session's abort.
-use Rattle.std.proofs.Common.{◌≡◌, ◌≢◌, ◌⊎◌, ℕ, ◌+◌, ◌<◌, true≢false, false, List, length, Option, None, Some, ⊎_elim, refl, sym, ap, subst, ◌∙◌, arith, get_or-set_same, get_or-set_other, length-set, IsTrue}
+use Rattle.std.proofs.Common.{◌≡◌, ◌≢◌, ℕ, ◌+◌, ◌<◌, true≢false, false, List, length, Option, None, Some, ⊎_elim, refl, sym, ap, subst, ◌∙◌, arith, get_or-set_same, get_or-set_other, length-set, IsTrue}
 use Rattle.std.specs.Prelude.{slice_set, slice_index_or}
 use Rattle.std.proofs.lemmas.Option.{none-some, same_Some}
 use Rattle.std.proofs.lemmas.Bool.{cases_eq}
-use Rattle.site.specs.declared.geometry.Geometry.{Geometry}
 use Rattle.site.specs.State.{State as Site}
 use Rattle.record_model.specs.State.{Session, State, session_at, writes_of}
 use Rattle.record_model.specs.Step.{effect, with_session}
 use Rattle.record_model.specs.declared.words.Command.TheVariants as command
 use Rattle.log_records.specs.Log.{Entry, is_loser}
 use Rattle.log_records.specs.Unfinished.{owed}
-use Rattle.log_records.specs.Sets.{blank_versions}
-use Rattle.log_laws.specs.Follow.{shown_table}
 use Rattle.lock_table.specs.declared.lock.Lock.{Lock}
 use Rattle.lock_table.specs.Locks.{ReleasesAll}
 use Rattle.txn_table.specs.declared.active.Active.{Active}
 use Rattle.txn_table.specs.Entries.{IsTable, entry_of, ChangesOnly}
 use Rattle.txn_table.specs.Entries as entries
-use Rattle.engine.specs.declared.journal.Journal.{Journal}
+use Rattle.engine.specs.declared.store.Store.{Store}
 use Rattle.engine.specs.declared.engine.Engine.{Engine}
-use Rattle.engine.specs.Holding.{HoldsLog}
+use Rattle.engine.specs.Holding.{Holds}
 use Rattle.engine.specs.Rollback.{ConcernsOnly, RollsBack}
-use Rattle.engine.specs.Fits.{Fits, IsUnderWay, SessionIs, SessionsAre}
+use Rattle.engine.specs.Fits.{Fits, SessionIs, SessionsAre}
 use Rattle.engine.proofs.Owing.{entry_is}
 use Rattle.engine.proofs.Locks.{released}
 use Rattle.engine.proofs.Actives.{some_active}
@@ -77,18 +74,18 @@ count_is engine site s entry fits at =
     ap (λ (o : Option Session). length (writes_of o)) found.is ∙ sym found.under_way.count
 
 pub aborted_fits : (engine mid last : Engine) (old new : Site) (s : State) (entry : Active) (fits : Fits engine old s) → IsTable engine.active → entry_of engine.active entry.session ≡ Some entry → IsTrue new.honest →
-    RollsBack mid.journal new fits.records s.table s.commits entry.begin entry.writes mid.table.items →
-    mid ≡ record engine { journal = mid.journal; table = mid.table } → mid.journal.made ≡ engine.journal.made + (entry.writes + 1) →
+    RollsBack mid.store new fits.records s.table s.commits entry.begin entry.writes →
+    mid ≡ record engine { store = mid.store } → mid.store.made ≡ engine.store.made + (entry.writes + 1) →
     ReleasesAll mid.locks last.locks entry.session → ChangesOnly mid.active last.active entry.session None → entries.owed last.active + (entry.writes + 1) ≡ entries.owed mid.active →
-    last.journal ≡ mid.journal → last.commits ≡ mid.commits → last.cap ≡ mid.cap → last.table ≡ mid.table →
+    last.store ≡ mid.store → last.commits ≡ mid.commits → last.cap ≡ mid.cap →
     Fits last new (effect s (command.Abort entry.session))
-aborted_fits engine mid last old new s entry fits table at honest back rest made releases changes owed_is journal_is commits_is cap_is table_is =
+aborted_fits engine mid last old new s entry fits table at honest back rest made releases changes owed_is store_is commits_is cap_is =
     let n = entry.session in
     let small = (entry_is engine.active n entry table at).small in
     let count = fits.sessions.count in
     let writes = count_is engine old s entry fits at in
     let begun = fits.counts.made in
-    let made_last : last.journal.made ≡ engine.journal.made + (entry.writes + 1) = ap (λ (j : Journal). j.made) journal_is ∙ made in
+    let made_last : last.store.made ≡ engine.store.made + (entry.writes + 1) = ap (λ (j : Store). j.made) store_is ∙ made in
     let done : SessionsAre back.log last.active (with_session s n None) =
     dropped fits.records back.log engine.active last.active s n entry fits.sessions small at
     (subst (λ (a : List Active). ChangesOnly a last.active n None) (ap (λ (x : Engine). x.active) rest) changes) (owed_is ∙ ap (λ (x : Engine). entries.owed x.active) rest)
@@ -96,8 +93,7 @@ aborted_fits engine mid last old new s entry fits table at honest back rest made
     record {
       honest = honest;
       records = back.log;
-      holds = subst (λ (j : Journal). HoldsLog j new back.log s.table s.commits) (sym journal_is) back.holds;
-      shown_is = ap (λ (x : Engine). x.table.items) (λ i. record last { table = table_is i }) ∙ back.shown_is ∙ ap (λ (j : Journal). shown_table back.log (blank_versions j.log.geometry.pages)) (sym journal_is);
+      holds = subst (λ (j : Store). Holds j new back.log s.table s.commits) (sym store_is) back.holds;
       counts = record {
         commits = commits_is ∙ ap (λ (x : Engine). x.commits) rest ∙ fits.counts.commits;
         made = omega (arith, made_last, begun, writes);

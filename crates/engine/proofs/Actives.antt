@@ -1,22 +1,20 @@
 -- The sessions of the model and the unfinished transactions of the log, one record further.
-use Rattle.std.proofs.Common.{◌≡◌, ◌≢◌, ◌⊎◌, ℕ, suc, ◌+◌, ◌*◌, ◌<◌, ◌≤◌, ◌==◌, Bool, true, false, List, [], ◌∷◌, ◌++◌, length, Option, None, Some, inl, inr, ⊎_elim, true≢false, refl, sym, ap, subst, ◌∙◌, arith, get_or-set_same, get_or-set_other, length-set}
+use Rattle.std.proofs.Common.{◌≡◌, ◌≢◌, ◌⊎◌, ℕ, suc, ◌+◌, ◌<◌, false, List, [], ◌∷◌, ◌++◌, length, Option, None, Some, ⊎_elim, refl, sym, ap, subst, ◌∙◌, arith, get_or-set_same, get_or-set_other, length-set}
 use Rattle.std.specs.Prelude.{slice_set, slice_index_or, drop}
 use Rattle.std.proofs.lemmas.Option.{none-some, same_Some}
 use Rattle.std.proofs.lemmas.Bool.{ne_eqb, cases_eq}
-use Rattle.record_model.specs.State.{Content, Session, State, session_at}
-use Rattle.record_model.specs.State as model
+use Rattle.record_model.specs.State.{Session, State, session_at}
 use Rattle.record_model.specs.Step.{making, with_session}
 use Rattle.log_records.specs.declared.log_record.LogRecord.TheVariants.{Begin}
-use Rattle.log_records.specs.Log.{Entry, is_of, txn_of, entries_of, is_loser, is_closed, is_closing}
-use Rattle.log_records.specs.Unfinished.{owed}
+use Rattle.log_records.specs.Log.{Entry, is_of, entries_of}
 use Rattle.log_laws.specs.Follow.{IsActive, IsFresh}
-use Rattle.log_laws.proofs.Losers.{active_begun, active_stays, loser_stays, loser_is_closed}
+use Rattle.log_laws.proofs.Losers.{active_begun, active_stays, loser_stays}
 use Rattle.log_laws.proofs.Appends.{fresh_entries}
 use Rattle.log_laws.proofs.Owing.{owed_begin}
 use Rattle.txn_table.specs.declared.active.Active.{Active}
 use Rattle.txn_table.specs.Entries.{entry_of, ChangesOnly}
 use Rattle.txn_table.specs.Entries as entries
-use Rattle.engine.specs.Image.{blank_master}
+use Rattle.image_meaning.specs.Meaning.{blank_master}
 use Rattle.engine.specs.Fits.{IsUnderWay, SessionIs, SessionsAre}
 
 -- what is active in one is in the other

@@ -1,5 +1,5 @@
 -- The sessions after an Update of one of them, and after the record that ends one.
-use Rattle.std.proofs.Common.{◌≡◌, ◌≢◌, ◌⊎◌, ℕ, ◌+◌, ◌*◌, ◌/◌, ◌%◌, ◌<◌, ◌≤◌, ◌==◌, Bool, true, false, List, [], ◌∷◌, ◌++◌, length, Option, None, Some, inl, inr, ⊎_elim, true≢false, refl, sym, ap, subst, ◌∙◌, arith, get_or-set_same, get_or-set_other, length-set}
+use Rattle.std.proofs.Common.{◌≡◌, ◌≢◌, ℕ, ◌+◌, ◌*◌, ◌<◌, true, List, [], ◌∷◌, ◌++◌, Option, None, Some, ⊎_elim, true≢false, refl, sym, ap, subst, ◌∙◌, arith, get_or-set_same, get_or-set_other, length-set}
 use Rattle.std.specs.Prelude.{slice_set, slice_index_or, option_map}
 use Rattle.std.proofs.lemmas.List.{length-append}
 use Rattle.std.proofs.lemmas.Option.{none-some, same_Some}
@@ -7,18 +7,16 @@ use Rattle.std.proofs.lemmas.Bool.{ne_eqb, cases_eq}
 use Rattle.record_model.specs.State.{Content, Session, State, Write, session_at}
 use Rattle.record_model.specs.Step.{making, with_session, having_written}
 use Rattle.log_records.specs.declared.log_record.LogRecord.TheVariants.{Update}
-use Rattle.log_records.specs.Log.{Entry, is_of, txn_of, entries_of, is_loser, is_closed, is_closing}
-use Rattle.log_records.specs.Unfinished.{owed, owed_by}
-use Rattle.log_records.specs.Sound.{IsLoserChain}
+use Rattle.log_records.specs.Log.{Entry, txn_of, is_loser, is_closing}
 use Rattle.log_laws.specs.Follow.{IsActive}
-use Rattle.log_laws.proofs.Losers.{active_writes, active_stays, active_owes, loser_stays, loser_is_closed}
+use Rattle.log_laws.proofs.Losers.{active_writes, active_owes, loser_stays, loser_is_closed}
 use Rattle.log_laws.proofs.Owing.{owed_update, owed_closing}
 use Rattle.txn_table.specs.declared.active.Active.{Active}
 use Rattle.txn_table.specs.Entries.{entry_of, ChangesOnly, after_write}
 use Rattle.txn_table.specs.Entries as entries
-use Rattle.engine.specs.Image.{blank_master}
-use Rattle.engine.specs.Fits.{IsUnderWay, SessionIs, SessionsAre}
-use Rattle.engine.proofs.Actives.{Finds, some_active, others_stay}
+use Rattle.image_meaning.specs.Meaning.{blank_master}
+use Rattle.engine.specs.Fits.{SessionIs, SessionsAre}
+use Rattle.engine.proofs.Actives.{some_active, others_stay}
 
 -- another session's transaction is another one
 other_txn : (records : List Entry) (active : List Active) (s : State) → SessionsAre records active s → (n m : ℕ) (own other : Active) → entry_of active n ≡ Some own → entry_of active m ≡ Some other → m ≢ n → own.begin ≢ other.begin

@@ -1,28 +1,28 @@
 -- A session's commit.
-use Rattle.std.proofs.Common.{◌≡◌, ℕ, ◌+◌, ◌<◌, ◌++◌, ◌∷◌, [], List, length, Option, None, Some, inl, inr, ⊎_elim, refl, sym, ap, subst, ◌∙◌, arith, IsTrue}
-use Rattle.site.specs.declared.geometry.Geometry.{Geometry}
+use Rattle.std.proofs.Common.{◌≡◌, ℕ, ◌+◌, ◌++◌, ◌∷◌, [], List, None, Some, inl, inr, ⊎_elim, refl, sym, ap, subst, ◌∙◌, arith, IsTrue}
 use Rattle.site.specs.State.{State as Site}
 use Rattle.site.specs.Moments.{LeavesOnly}
 use Rattle.site.specs.Laws.{leaves_weaker}
-use Rattle.record_model.specs.State.{Content, Session, State, Write, session_at, writes_of, table_with}
+use Rattle.record_model.specs.State.{State, Write, session_at, writes_of, table_with}
 use Rattle.record_model.specs.Step.{effect, with_session}
 use Rattle.record_model.specs.declared.words.Command.TheVariants as command
-use Rattle.log_records.specs.Sets.{blank_versions}
 use Rattle.log_records.specs.Log.{Entry}
 use Rattle.log_records.specs.declared.log_record.LogRecord.TheVariants.{Commit}
-use Rattle.log_laws.specs.Follow.{shown_table, writes_in}
-use Rattle.log_laws.proofs.Shown.{shown_stays}
+use Rattle.log_laws.specs.Follow.{writes_in}
 use Rattle.lock_table.specs.declared.lock.Lock.{Lock}
 use Rattle.lock_table.specs.Locks.{ReleasesAll}
 use Rattle.txn_table.specs.declared.active.Active.{Active}
 use Rattle.txn_table.specs.Entries.{IsTable, entry_of, ChangesOnly}
 use Rattle.txn_table.specs.Entries as entries
-use Rattle.engine.specs.declared.journal.Journal.{Journal}
+use Rattle.image_meaning.specs.Moments as moments
+use Rattle.redo_undo.specs.Committing.{MayCommit}
+use Rattle.engine.specs.declared.store.Store.{Store}
+use Rattle.engine.specs.Going.{sizes_of}
 use Rattle.engine.specs.declared.engine.Engine.{Engine}
 use Rattle.engine.specs.Image.{Stands}
-use Rattle.engine.specs.Holding.{HoldsLog, MayCommit}
+use Rattle.engine.specs.Holding.{Holds}
 use Rattle.engine.specs.Fits.{Fits, SessionsAre}
-use Rattle.engine.specs.Leaves.{LeavesCommit, LeavesEither}
+use Rattle.engine.specs.Leaves.{LeavesEither}
 use Rattle.engine.proofs.Owing.{entry_is}
 use Rattle.engine.proofs.Locks.{released}
 use Rattle.engine.proofs.Changes.{closed}
@@ -41,40 +41,37 @@ writes_are engine site s entry fits at =
     sym (ap writes_of found.is ∙ found.under_way.is_active.writes_are)
 
 pub commits_either : (engine : Engine) (old new : Site) (s : State) (entry : Active) (fits : Fits engine old s) → entry_of engine.active entry.session ≡ Some entry →
-    LeavesOnly old new (LeavesCommit engine.journal.log.geometry s.table s.commits (writes_in entry.begin fits.records) old.told) → LeavesOnly old new (LeavesEither engine.journal.log.geometry s (effect s (command.Commit entry.session)) old.told)
+    LeavesOnly old new (moments.LeavesEither (sizes_of engine.store) s.table (table_with s.table (writes_in entry.begin fits.records)) s.commits old.told) → LeavesOnly old new (LeavesEither (sizes_of engine.store) s (effect s (command.Commit entry.session)) old.told)
 commits_either engine old new s entry fits at leaves =
-    let g = engine.journal.log.geometry in
-    leaves_weaker old new (LeavesCommit g s.table s.commits (writes_in entry.begin fits.records) old.told) (LeavesEither g s (effect s (command.Commit entry.session)) old.told)
+    let g = sizes_of engine.store in
+    leaves_weaker old new (moments.LeavesEither g s.table (table_with s.table (writes_in entry.begin fits.records)) s.commits old.told) (LeavesEither g s (effect s (command.Commit entry.session)) old.told)
     (λ snapshot q. record {
       told = q.told;
       stands = ⊎_elim (λ before. inl before) (λ after. inr (subst (λ (ws : List Write). Stands g snapshot.image (table_with s.table ws) (s.commits + 1)) (writes_are engine old s entry fits at) after)) q.stands;
     }) leaves
 
 pub committed_fits : (engine mid last : Engine) (old new : Site) (s : State) (entry : Active) (lsn : ℕ) (fits : Fits engine old s) → IsTable engine.active → entry_of engine.active entry.session ≡ Some entry → IsTrue new.honest →
-    HoldsLog mid.journal new (fits.records ++ record { lsn = lsn; rec = Commit entry.begin (engine.commits + 1) } ∷ []) (table_with s.table (writes_in entry.begin fits.records)) (s.commits + 1) → mid.journal.log.geometry ≡ engine.journal.log.geometry →
-    mid ≡ record engine { journal = mid.journal; commits = mid.commits } → mid.commits ≡ engine.commits + 1 → mid.journal.made ≡ engine.journal.made + 1 →
+    Holds mid.store new (fits.records ++ record { lsn = lsn; rec = Commit entry.begin (engine.commits + 1) } ∷ []) (table_with s.table (writes_in entry.begin fits.records)) (s.commits + 1) →
+    mid ≡ record engine { store = mid.store; commits = mid.commits } → mid.commits ≡ engine.commits + 1 → mid.store.made ≡ engine.store.made + 1 →
     ReleasesAll mid.locks last.locks entry.session → ChangesOnly mid.active last.active entry.session None → entries.owed last.active + (entry.writes + 1) ≡ entries.owed mid.active →
-    last.journal ≡ mid.journal → last.commits ≡ mid.commits → last.cap ≡ mid.cap → last.table ≡ mid.table → last.ended ≡ mid.ended →
+    last.store ≡ mid.store → last.commits ≡ mid.commits → last.cap ≡ mid.cap →
     Fits last new (effect s (command.Commit entry.session))
-committed_fits engine mid last old new s entry lsn fits table at honest holds geometry rest commits made releases changes owed journal_is commits_is cap_is table_is ended_is =
+committed_fits engine mid last old new s entry lsn fits table at honest holds rest commits made releases changes owed store_is commits_is cap_is =
     let n = entry.session in
     let e : Entry = record { lsn = lsn; rec = Commit entry.begin (engine.commits + 1) } in
     let small = (entry_is engine.active n entry table at).small in
     let count = fits.sessions.count in
-    let pages = blank_versions engine.journal.log.geometry.pages in
     let done : SessionsAre (fits.records ++ e ∷ []) last.active (with_session s n None) =
     closed fits.records engine.active last.active s n entry e fits.sessions small at
     (subst (λ (a : List Active). ChangesOnly a last.active n None) (ap (λ (x : Engine). x.active) rest) changes) (owed ∙ ap (λ (x : Engine). entries.owed x.active) rest) refl refl in
     record {
       honest = honest;
       records = fits.records ++ e ∷ [];
-      holds = subst (λ (j : Journal). HoldsLog j new (fits.records ++ e ∷ []) (table_with s.table (writes_of (session_at s n))) (s.commits + 1)) (sym journal_is)
-          (subst (λ (ws : List Write). HoldsLog mid.journal new (fits.records ++ e ∷ []) (table_with s.table ws) (s.commits + 1)) (writes_are engine old s entry fits at) holds);
-      shown_is = ap (λ (x : Engine). x.table.items) (λ i. record last { table = table_is i }) ∙ ap (λ (x : Engine). x.table.items) rest ∙ fits.shown_is ∙ sym (shown_stays fits.records e pages refl)
-          ∙ ap (λ (x : Geometry). shown_table (fits.records ++ e ∷ []) (blank_versions x.pages)) (sym geometry ∙ ap (λ (j : Journal). j.log.geometry) (sym journal_is));
+      holds = subst (λ (j : Store). Holds j new (fits.records ++ e ∷ []) (table_with s.table (writes_of (session_at s n))) (s.commits + 1)) (sym store_is)
+          (subst (λ (ws : List Write). Holds mid.store new (fits.records ++ e ∷ []) (table_with s.table ws) (s.commits + 1)) (writes_are engine old s entry fits at) holds);
       counts = record {
         commits = commits_is ∙ commits ∙ ap (λ (k : ℕ). k + 1) fits.counts.commits;
-        made = ap (λ (j : Journal). j.made) journal_is ∙ made ∙ ap (λ (k : ℕ). k + 1) fits.counts.made;
+        made = ap (λ (j : Store). j.made) store_is ∙ made ∙ ap (λ (k : ℕ). k + 1) fits.counts.made;
         kept = fits.counts.kept;
         cap = cap_is ∙ ap (λ (x : Engine). x.cap) rest ∙ fits.counts.cap;
       };

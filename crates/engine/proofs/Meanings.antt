@@ -1,33 +1,34 @@
 -- What the database has in memory, in the model's words.
-use Rattle.std.proofs.Common.{◌≡◌, ◌≢◌, ◌⊎◌, ℕ, zero, suc, ◌+◌, ◌*◌, ◌<◌, ◌≤◌, ◌==◌, Bool, true, false, not, ◌&&◌, ◌||◌, cond, List, [], ◌∷◌, ◌++◌, length, map, find, filter_map, sum_by, Option, None, Some, inl, inr, ⊎_elim, true≢false, refl, sym, ap, subst, ◌∙◌, arith}
-use Rattle.std.specs.Prelude.{slice_index_or, unwrap_or, nat_le, nat_lt, option_map}
-use Rattle.std.specs.Option.{option_map_or}
+use Rattle.std.proofs.Common.{◌≡◌, ℕ, zero, suc, ◌*◌, ◌<◌, ◌≤◌, ◌==◌, Bool, true, false, not, ◌&&◌, ◌||◌, cond, List, [], ◌∷◌, length, find, Option, None, Some, ⊎_elim, true≢false, refl, sym, ap, subst, ◌∙◌, arith}
+use Rattle.std.specs.Prelude.{unwrap_or}
 use Rattle.std.specs.List.{list_any, range_with_len, AllByRecursion}
 use Rattle.std.proofs.lemmas.List.FromFn.{length-map-range_with_len}
 use Rattle.std.proofs.lemmas.Option.{none-some, same_Some}
-use Rattle.std.proofs.lemmas.Bool.{cases_Bool, cases_eq, and_from, eq-eqb, ne_eqb}
-use Rattle.site.specs.State.{State as Site}
+use Rattle.std.proofs.lemmas.Bool.{cases_eq, and_from, ne_eqb}
+use Rattle.site.specs.State.{State as Site, Image}
+use Rattle.site.specs.declared.geometry.Geometry.{Geometry}
 use Rattle.record_model.specs.State.{Content, Session, State, Write, session_at, writes_of, content_at, seen, last_write, active_sessions}
 use Rattle.record_model.specs.State as model
-use Rattle.log_records.specs.Log.{Entry, Version, is_closed, table_of, value_of}
-use Rattle.log_records.specs.Sets.{blank_versions}
-use Rattle.log_laws.specs.Follow.{IsActive, IsFree, IsFreeFor, IsUndoable, shown, shown_table}
+use Rattle.log_records.specs.Log.{Entry, is_closed, table_of, value_of}
+use Rattle.log_laws.specs.Follow.{IsActive, IsFree, IsFreeFor, IsUndoable, IsFresh, shown}
 use Rattle.log_laws.specs.Follow as follow
-use Rattle.log_laws.proofs.Tails.{tail_without_commit, whole_is_undoable}
+use Rattle.log_laws.proofs.Tails.{tail_without_commit, whole_is_undoable, fresh_at_end}
 use Rattle.log_laws.proofs.Tables.{content_of_table}
-use Rattle.log_laws.proofs.Shown.{shown_at, shown_is_seen, shown_is_value, writer_is_loser}
+use Rattle.log_laws.proofs.Shown.{shown_is_seen, shown_is_value, writer_is_loser}
+use Rattle.log_store.specs.Held.{end_of}
 use Rattle.lock_table.specs.declared.lock.Lock.{Lock}
 use Rattle.lock_table.specs.Locks as locks
 use Rattle.txn_table.specs.declared.active.Active.{Active}
 use Rattle.txn_table.specs.Entries.{IsTable, entry_of}
-use Rattle.txn_table.specs.Entries as entries
-use Rattle.engine.specs.declared.journal.Journal.{Journal}
+use Rattle.image_meaning.specs.Meaning.{picture, versions_on, version_in}
+use Rattle.flash_cache.specs.Held.{version_on}
+use Rattle.engine.specs.declared.store.Store.{Store}
 use Rattle.engine.specs.declared.engine.Engine.{Engine}
-use Rattle.engine.specs.Image.{picture}
-use Rattle.engine.specs.Holding.{HoldsLog}
-use Rattle.engine.specs.Fits.{Fits, SessionsAre, LocksAre, SessionIs, IsUnderWay}
-use Rattle.engine.proofs.Actives.{some_active, Finds}
-use Rattle.engine.proofs.Owing.{owed_at, owed_one, owed_is, entry_is}
+use Rattle.engine.specs.Going.{sizes_of}
+use Rattle.engine.specs.Holding.{Holds, shown_in}
+use Rattle.engine.specs.Fits.{Fits, SessionsAre, LocksAre}
+use Rattle.engine.proofs.Actives.{some_active}
+use Rattle.engine.proofs.Owing.{entry_is}
 
 -- Locks.
 
@@ -42,21 +43,37 @@ busy_write_is held s are (Some own) number = λ i. find (λ n. not (own == n) &&
 -- The table.
 
 -- what is sealed and what isn't stand for the same table
-pub table_is : (j : Journal) (site : Site) (records : List Entry) (table : List Content) (commits : ℕ) (h : HoldsLog j site records table commits) → table ≡ table_of records (blank_versions j.log.geometry.pages)
-table_is j site records table commits h =
-    h.runs_on.means.table_is ∙ sym (tail_without_commit (picture j.log.geometry h.blocks) h.tail h.runs_on.carries h.runs_on.no_commit)
-    ∙ ap (λ (l : List Entry). table_of l (blank_versions j.log.geometry.pages)) h.runs_on.records_are
+pub table_is : (store : Store) (site : Site) (records : List Entry) (table : List Content) (commits : ℕ) (h : Holds store site records table commits) → table ≡ table_of records (versions_on (sizes_of store) site.image)
+table_is store site records table commits h =
+    let log = h.both.log_holds in
+    let p = picture (sizes_of store) site.image log.blocks in
+    log.runs_on.means.table_is ∙ sym (tail_without_commit p log.tail log.runs_on.carries log.runs_on.no_commit)
+    ∙ ap (λ (l : List Entry). table_of l (versions_on (sizes_of store) site.image)) log.runs_on.records_are
 
-pub undoable : (j : Journal) (site : Site) (records : List Entry) (table : List Content) (commits : ℕ) (h : HoldsLog j site records table commits) → IsUndoable records
-undoable j site records table commits h = subst IsUndoable h.runs_on.records_are (whole_is_undoable (picture j.log.geometry h.blocks) h.tail h.runs_on.carries)
+pub undoable : (store : Store) (site : Site) (records : List Entry) (table : List Content) (commits : ℕ) (h : Holds store site records table commits) → IsUndoable records
+undoable store site records table commits h =
+    let log = h.both.log_holds in
+    subst IsUndoable log.runs_on.records_are (whole_is_undoable (picture (sizes_of store) site.image log.blocks) log.tail log.runs_on.carries)
 
-pub same_size : (engine : Engine) (site : Site) (s : State) → Fits engine site s → length s.table ≡ length engine.table.items
+-- each page has a version
+pub count_of_versions : (g : Geometry) (image : Image) → length (versions_on g image) ≡ g.pages
+count_of_versions g image = length-map-range_with_len (λ number. version_in (version_on g image number)) 0 g.pages
+
+pub same_size : (engine : Engine) (site : Site) (s : State) → Fits engine site s → length s.table ≡ 32 * (sizes_of engine.store).pages
 same_size engine site s fits =
-    let pages = blank_versions engine.journal.log.geometry.pages in
-    ap length (table_is engine.journal site fits.records s.table s.commits fits.holds)
-    ∙ length-map-range_with_len (value_of fits.records pages) 0 (32 * length pages)
-    ∙ sym (length-map-range_with_len (shown fits.records pages) 0 (32 * length pages))
-    ∙ ap length (sym fits.shown_is)
+    let versions = versions_on (sizes_of engine.store) site.image in
+    ap length (table_is engine.store site fits.records s.table s.commits fits.holds)
+    ∙ length-map-range_with_len (value_of fits.records versions) 0 (32 * length versions)
+    ∙ ap (λ (n : ℕ). 32 * n) (count_of_versions (sizes_of engine.store) site.image)
+
+-- a record behind the last one begins a new transaction
+pub fresh_behind : (store : Store) (site : Site) (records : List Entry) (table : List Content) (commits lsn : ℕ) (h : Holds store site records table commits) → end_of store.log ≤ lsn → IsFresh lsn records
+fresh_behind store site records table commits lsn h behind =
+    let log = h.both.log_holds in
+    let hi = log.ready.blocks.hi in
+    let next = log.ready.records.blocks.next in
+    let end = log.ready.records.tail.end in
+    subst (IsFresh lsn) log.runs_on.records_are (fresh_at_end (picture (sizes_of store) site.image log.blocks) log.tail lsn log.runs_on.carries refl (omega (arith, hi, next, end, behind)))
 
 -- Who has written.
 
@@ -128,34 +145,29 @@ free records active s are table number none t lives = by (follow.has_written rec
 
 -- What a record has.
 
-pub content_is : (engine : Engine) (site : Site) (s : State) (fits : Fits engine site s) (number : ℕ) → number < length engine.table.items →
-    (slice_index_or engine.table.items number None ≡ shown fits.records (blank_versions engine.journal.log.geometry.pages) number)
-    × (content_at s.table number ≡ value_of fits.records (blank_versions engine.journal.log.geometry.pages) number)
-content_is engine site s fits number less =
-    let pages = blank_versions engine.journal.log.geometry.pages in
-    let size : length engine.table.items ≡ 32 * length pages = ap length fits.shown_is ∙ length-map-range_with_len (shown fits.records pages) 0 (32 * length pages) in
-    let within : number < 32 * length pages = omega (arith, less, size) in (
-      ap (λ (t : List Content). content_at t number) fits.shown_is ∙ shown_at fits.records pages number within,
-      ap (λ (t : List Content). content_at t number) (table_is engine.journal site fits.records s.table s.commits fits.holds) ∙ content_of_table fits.records pages number within,
-    )
+pub value_is : (engine : Engine) (site : Site) (s : State) (fits : Fits engine site s) (number : ℕ) → number < 32 * (sizes_of engine.store).pages →
+    content_at s.table number ≡ value_of fits.records (versions_on (sizes_of engine.store) site.image) number
+value_is engine site s fits number less =
+    let versions = versions_on (sizes_of engine.store) site.image in
+    let count = count_of_versions (sizes_of engine.store) site.image in
+    ap (λ (t : List Content). content_at t number) (table_is engine.store site fits.records s.table s.commits fits.holds)
+    ∙ content_of_table fits.records versions number (subst (λ (n : ℕ). number < 32 * n) (sym count) less)
 
 -- a session sees what is shown, where it may read it
-pub seen_is : (engine : Engine) (site : Site) (s : State) (fits : Fits engine site s) (n number : ℕ) (own : Active) → IsTable engine.active → number < length engine.table.items → entry_of engine.active n ≡ Some own → model.busy_read s (Some n) number ≡ None →
-    seen s n number ≡ slice_index_or engine.table.items number None
+pub seen_is : (engine : Engine) (site : Site) (s : State) (fits : Fits engine site s) (n number : ℕ) (own : Active) → IsTable engine.active → number < 32 * (sizes_of engine.store).pages → entry_of engine.active n ≡ Some own → model.busy_read s (Some n) number ≡ None →
+    seen s n number ≡ shown_in engine.store site fits.records number
 seen_is engine site s fits n number own table less at none =
-    let pages = blank_versions engine.journal.log.geometry.pages in
-    let both = content_is engine site s fits number less in
+    let versions = versions_on (sizes_of engine.store) site.image in
     let session = some_active fits.records engine.active s fits.sessions n own at in
     let under = session.under_way.is_active in
     ap (λ (o : Option Session). unwrap_or (last_write (writes_of o) number) (content_at s.table number)) session.is
     ∙ ap (λ (ws : List Write). unwrap_or (last_write ws number) (content_at s.table number)) under.writes_are
-    ∙ ap (λ (x : Content). unwrap_or (last_write (follow.writes_in own.begin fits.records) number) x) both.1
-    ∙ sym (shown_is_seen fits.records pages own.begin number (undoable engine.journal site fits.records s.table s.commits fits.holds) under.lives.not_closed (free_for fits.records engine.active s fits.sessions table n number own at none))
-    ∙ sym both.0
+    ∙ ap (λ (x : Content). unwrap_or (last_write (follow.writes_in own.begin fits.records) number) x) (value_is engine site s fits number less)
+    ∙ sym (shown_is_seen fits.records versions own.begin number (undoable engine.store site fits.records s.table s.commits fits.holds) under.lives.not_closed (free_for fits.records engine.active s fits.sessions table n number own at none))
 
 -- so does one outside sessions
-pub got_is : (engine : Engine) (site : Site) (s : State) (fits : Fits engine site s) (number : ℕ) → IsTable engine.active → number < length engine.table.items → model.busy_read s None number ≡ None →
-    content_at s.table number ≡ slice_index_or engine.table.items number None
+pub got_is : (engine : Engine) (site : Site) (s : State) (fits : Fits engine site s) (number : ℕ) → IsTable engine.active → number < 32 * (sizes_of engine.store).pages → model.busy_read s None number ≡ None →
+    content_at s.table number ≡ shown_in engine.store site fits.records number
 got_is engine site s fits number table less none =
-    let both = content_is engine site s fits number less in
-    both.1 ∙ sym (shown_is_value fits.records (blank_versions engine.journal.log.geometry.pages) number (free fits.records engine.active s fits.sessions table number none)) ∙ sym both.0
+    value_is engine site s fits number less
+    ∙ sym (shown_is_value fits.records (versions_on (sizes_of engine.store) site.image) number (free fits.records engine.active s fits.sessions table number none))

@@ -1,142 +1,217 @@
--- What a restart begins with, and what it ends with.
-use Rattle.std.proofs.Common.{◌≡◌, ℕ, ◌+◌, ◌-◌, ◌*◌, ◌≤◌, ◌<◌, List, [], ◌∷◌, length, nat_lt, map, refl, sym, ap, subst, ◌∙◌, arith}
-use Rattle.std.specs.Prelude.{if◌then◌else◌}
-use Rattle.std.proofs.lemmas.List.{append-nil}
+-- What a restart finds on devices.
+use Rattle.std.proofs.Common.{◌≡◌, ℕ, zero, suc, ◌+◌, ◌-◌, ◌<◌, min, false, nat_lt, List, [], ◌∷◌, ◌++◌, length, map, take, Some, Result, Ok, Err, IsErrOf, refl, sym, ap, subst, ◌∙◌, arith}
+use Rattle.std.specs.Prelude.{if◌then◌else◌, IfOk}
+use Rattle.std.specs.List.{AllByRecursion, slice_get}
+use Rattle.std.proofs.lemmas.Option.{none-some, same_Some}
+use Rattle.std.proofs.Math.Nat.{min-le_left}
+use Rattle.std.proofs.lemmas.List.Concat.{flat_map-cons}
+use Rattle.std.proofs.lemmas.List.Sums.{sum_by-cons}
+use Rattle.site.specs.declared.outside.Dev.TheVariants.{Log, Flash, Disk}
 use Rattle.site.specs.declared.geometry.Geometry.{Geometry}
-use Rattle.site.specs.State.{State, Image, IsQuiet, now_of}
+use Rattle.site.specs.State.{State, Image, IsQuiet}
 use Rattle.site.specs.Calls.{Goes, IsUnchanged}
-use Rattle.site.specs.Laws.{no_call, image_is, told_is, unchanged_calm, unchanged_in_sequence}
-use Rattle.site.specs.Moments.{Leaves, LeavesOnly}
+use Rattle.site.specs.Moments.{Leaves, LeavesOnly, SameBut, ChangesOnly}
+use Rattle.site.specs.Laws.{no_call, unchanged_calm, stays_honest, quiet_leaves}
+use Rattle.sealed_ring.specs.declared.slots.Shape.{Shape}
+use Rattle.sealed_ring.specs.Ring.{IsRing, FitsIn, hi_of, live, units_from}
+use Rattle.image_changes.specs.Rings.{Masters, master_shape, group_shape, log_shape, units_on}
 use Rattle.record_model.specs.State.{Content}
-use Rattle.log_records.specs.Log.{Entry, log_from, table_of}
-use Rattle.log_records.specs.Unfinished.{owed, losers}
+use Rattle.log_records.specs.declared.log_record.LogRecord.{LogRecord}
 use Rattle.log_records.specs.Sound.{Means}
-use Rattle.log_records.specs.Sets.{blank_versions}
-use Rattle.log_laws.specs.Follow.{shown_table, IsUndoable}
-use Rattle.log_laws.specs.Analysis.{unfinished_in, unfinished_at}
-use Rattle.log_laws.proofs.Tails.{carries_nothing, tail_without_commit, whole_is_undoable, plain_count}
-use Rattle.log_laws.proofs.Shown.{shown_is_table}
-use Rattle.log_laws.proofs.Listing.{none_listed}
+use Rattle.checkpoint.specs.declared.master.Master.{Master}
+use Rattle.checkpoint.specs.Newest.{blank, newest_of, IsOf, HasMaster}
+use Rattle.analysis.specs.declared.analysis.Loser.{Loser}
+use Rattle.analysis.specs.Open.{Open, owed_one, owed_for}
+use Rattle.analysis.specs.Read.{loser_of}
+use Rattle.frame_group.specs.Groups.{Frame, group, frames_in, IsGroup}
+use Rattle.frame_group.specs.Versions.{frames_of}
+use Rattle.flash_cache.specs.Held.{HasFrames, HasGroups}
 use Rattle.log_store.specs.declared.store.LogStore.{LogStore}
-use Rattle.log_store.specs.Held as held
-use Rattle.log_store.specs.Held.{end_of}
-use Rattle.engine.specs.declared.journal.Journal.{Journal}
-use Rattle.engine.specs.declared.losers.Loser.{Loser}
-use Rattle.engine.specs.declared.restart.Reading.{Reading}
-use Rattle.engine.specs.Analysing.{AreBefore, owed_for, view}
-use Rattle.engine.specs.Holding.{HoldsLog}
-use Rattle.engine.specs.Image.{picture, IsBlankBeside, Stands}
+use Rattle.log_store.specs.LogList.{LogList}
+use Rattle.log_store.specs.Held as log_held
+use Rattle.log_store.specs.Held.{has_tail}
+use Rattle.page_store.specs.declared.store.PageStore.{PageStore}
+use Rattle.page_store.specs.Held as page_held
+use Rattle.page_store.specs.Laws.{FitsBeside, GoesOnBeside}
+use Rattle.image_meaning.specs.Meaning.{IsUnused, IsFrameOf, AreGroups, IsSound, picture}
+use Rattle.redo_undo.specs.Holding as both
+use Rattle.engine.specs.Image.{Stands}
 use Rattle.engine.specs.Leaves.{LeavesTable}
-use Rattle.engine.specs.Restarting.{HasRead, AreSound, MayUndo, IsUndoing}
-use Rattle.engine.proofs.Endings.{owed_is}
-use Rattle.engine.proofs.Blocks.{store_still, finds_still, held_still, count_of}
+use Rattle.engine.specs.Restarting.{IsReady}
 
--- a crash leaves what stands there, while only is read
-pub stands_still : (g : Geometry) (old new : State) (table : List Content) (commits : ℕ) → IsQuiet old → Stands g old.image table commits → IsUnchanged old new → LeavesOnly old new (LeavesTable g table commits old.told)
-stands_still g old new table commits quiet stands same =
-    unchanged_calm old old new (Leaves (LeavesTable g table commits old.told)) (no_call old (Leaves (LeavesTable g table commits old.told)) (λ s left. record {
-      told = told_is old s left;
-      stands = subst (λ (x : Image). Stands g x table commits) (sym (image_is (now_of old) s quiet left)) stands;
-    })) same
+-- The queue on flash.
 
-abbrev tail_of : ℕ → ℕ
-tail_of used = if nat_lt 2 used then 1 else 0
+front_part : {X : Type 0} (P : X → Type 0) (xs ys : List X) → AllByRecursion P (xs ++ ys) → AllByRecursion P xs
+front_part P [] ys all = tt
+front_part P (x ∷ xs) ys all = (all.0, front_part P xs ys all.1)
 
--- Of every site: what was read may be undone.
-pub may_undo : (store : LogStore) (old new : State) (records : ℕ) (items : List Loser) → Goes old new → held.MayGoOn store old → store.used ≡ 2 → store.kept ≡ 0 → store.ring.hi ≤ records → records ≤ 503 * store.ring.hi → owed_for items ≤ records →
-    store.ring.hi + owed_for items < store.geometry.blocks → AreBefore items (end_of store) → MayUndo (record { log = store; made = records }) new items
-may_undo store old new records items goes going empty kept some few owes room before =
-    let none : tail_of store.used ≡ 0 = ap tail_of empty in
-    let limit = going.limits.few_blocks in
-    let live = going.live in
+back_part : {X : Type 0} (P : X → Type 0) (xs ys : List X) → AllByRecursion P (xs ++ ys) → AllByRecursion P ys
+back_part P [] ys all = all
+back_part P (x ∷ xs) ys all = back_part P xs ys all.1
+
+each_exists : (g : Geometry) (frames : List Frame) → AllByRecursion (IsFrameOf g) frames → AllByRecursion (λ frame. frame.page < g.pages) frames
+each_exists g [] all = tt
+each_exists g (frame ∷ frames) all = (all.0.exists, each_exists g frames all.1)
+
+spelled : (contents : List (List ℕ)) → AllByRecursion (λ content. IsGroup content (frames_in content)) contents → contents ≡ map group (map frames_in contents)
+spelled [] all = refl
+spelled (content ∷ contents) all = λ i. all.0.spelled i ∷ spelled contents all.1 i
+
+are_groups : (g : Geometry) (contents : List (List ℕ)) → AllByRecursion (λ content. IsGroup content (frames_in content)) contents → AllByRecursion (IsFrameOf g) (frames_of contents) →
+    AllByRecursion (λ frames. HasFrames g frames (group frames)) (map frames_in contents)
+are_groups g [] all frames = tt
+are_groups g (content ∷ contents) all frames =
+    let parts = subst (AllByRecursion (IsFrameOf g)) (flat_map-cons frames_in content contents) frames in (
+      record { is_group = subst (λ (x : List ℕ). IsGroup x (frames_in content)) all.0.spelled all.0; exist = each_exists g (frames_in content) (front_part (IsFrameOf g) (frames_in content) (frames_of contents) parts) },
+      are_groups g contents all.1 (back_part (IsFrameOf g) (frames_in content) (frames_of contents) parts),
+    )
+
+so_many : (s : Shape) (c : List ℕ) (first n : ℕ) → length (units_from s c first n) ≡ n
+so_many s c first zero = refl
+so_many s c first (suc n) = ap suc (so_many s c (first + 1) n)
+
+as_many : (contents : List (List ℕ)) → length (map frames_in contents) ≡ length contents
+as_many [] = refl
+as_many (content ∷ contents) = ap suc (as_many contents)
+
+abbrev pub groups_on : Geometry → Image → List (List Frame)
+groups_on g image = map frames_in (units_on (group_shape g) image).live
+
+abbrev pub first_on : Geometry → Image → ℕ
+first_on g image = hi_of (group_shape g) image.flash - length (groups_on g image)
+
+pub has_groups : (g : Geometry) (image : Image) → AreGroups g image → HasGroups g (first_on g image) (groups_on g image) image
+has_groups g image is =
+    let s = group_shape g in
+    let hi = hi_of s image.flash in
+    let contents = (units_on s image).live in
+    let many = so_many s image.flash (hi - (s.slots - 1)) (min hi (s.slots - 1)) in
+    let same = as_many contents in
+    let least = min-le_left hi (s.slots - 1) in
     record {
-      going = record {
-        log = store_still store old new goes going;
-        kept = kept;
-        blocks = omega (arith, none, some);
-        bounded = omega (arith, few, room, limit);
-      };
-      room = omega (arith, none, room);
-      few = omega (arith, few, owes, room, limit);
-      before = before;
+      form = is.form;
+      next = omega (arith, many, same, least);
+      are_groups = are_groups g contents is.each is.frames;
+      live = spelled contents is.each;
     }
 
--- Of an honest site: the log that was found and read.
-module _ (store : LogStore) (g : Geometry) (old mid new : State) (table : List Content) (commits : ℕ) (s : Stands g old.image table commits) (is : store.geometry ≡ g) (first : IsUnchanged old mid) (second : IsUnchanged mid new)
-    (goes : Goes mid new) (fits : held.Finds store mid) (holds : held.Holds store mid.image (record { first = 0; blocks = s.blocks; tail = [] })) where
-  pub sound_here : AreSound store.geometry s.blocks
-  sound_here = subst (λ (x : Geometry). AreSound x s.blocks) (sym is) s.sound.records
+-- The newest master.
 
-  pub leaves_read : IsQuiet old → LeavesOnly old new (LeavesTable g table commits old.told)
-  leaves_read quiet = stands_still g old new table commits quiet s (unchanged_in_sequence old mid new first second)
+no_units : (g : Geometry) (image : Image) → IsUnused g Masters image → (units_on master_shape image).live ≡ []
+no_units g image unused = ap (λ (hi : ℕ). live master_shape hi image.log) unused.none
 
-  pub hi_is : length s.blocks ≡ store.ring.hi
-  hi_is = count_of store mid s.blocks fits holds
+pub blank_there : (g : Geometry) (image : Image) (m : Master) → IsUnused g Masters image → HasMaster image m → m ≡ blank
+blank_there g image m unused has = subst (λ (units : List (List ℕ)). IsOf (newest_of units) m) (no_units g image unused) has
 
-  module _ (reading : Reading) (read : HasRead store.geometry.pages reading (log_from 0 s.blocks)) where
-    pub owed_here : owed (log_from 0 s.blocks) ≡ owed_for reading.analysis.losers.items
-    owed_here = owed_is (log_from 0 s.blocks) reading.analysis.losers.items read.analysis.unfinished
+pub there_is_blank : (g : Geometry) (image : Image) → IsUnused g Masters image → HasMaster image blank
+there_is_blank g image unused = subst (λ (units : List (List ℕ)). IsOf (newest_of units) blank) (sym (no_units g image unused)) refl
 
-    -- there is room to undo all
-    pub has_room : store.ring.hi + owed_for reading.analysis.losers.items ≤ store.geometry.blocks - 1
-    has_room = let room = sound_here.room_for_undo in omega (arith, room, hi_is, owed_here)
+-- Calls that only read.
 
-    pub opening : (shows : List Content) → shows ≡ reading.table.items → store.used ≡ 2 → IsUndoing (record { log = store; made = reading.records }) new shows reading.analysis.losers.items table commits
-    opening shows same empty =
-        let none : tail_of store.used ≡ 0 = ap tail_of empty in
-        let still = unchanged_in_sequence old mid new first second in
-        record {
-          records = log_from 0 s.blocks;
-          holds = record {
-            fits = finds_still store mid new goes second fits;
-            beside = subst (λ (x : Geometry). IsBlankBeside x new.image) (sym is) (subst (IsBlankBeside g) (sym still.image) s.sound.beside);
-            blocks = s.blocks;
-            tail = [];
-            holds = held_still store (record { first = 0; blocks = s.blocks; tail = [] }) mid new second holds;
-            runs_on = record {
-              carries = carries_nothing (picture store.geometry s.blocks) sound_here;
-              means = subst (λ (x : Geometry). Means (picture x s.blocks) table commits) (sym is) s.means;
-              no_commit = refl;
-              records_are = append-nil (log_from 0 s.blocks);
-            };
-            room = omega (arith, none, has_room, owed_here);
-            made = read.count;
+only_read : (old new : State) → IsUnchanged old new → ChangesOnly Log old new
+only_read old new same = record {
+  only = unchanged_calm old old new (SameBut Log old) (no_call old (SameBut Log old) (record { told = refl; telling = refl; content = λ d other. refl; loose = λ d other. refl })) same;
+  left = same.left;
+}
+
+log_goes_on : (log : LogStore) (old new : State) → Goes old new → log_held.MayGoOn log old → log_held.MayGoOn log new
+log_goes_on log old new goes may = record {
+  limits = may.limits;
+  lengths = record { log = goes.sizes Log ∙ may.lengths.log; flash = goes.sizes Flash ∙ may.lengths.flash; disk = goes.sizes Disk ∙ may.lengths.disk };
+  usable = record { fits = subst (FitsIn log.ring.shape) (sym (goes.sizes log.ring.shape.dev)) may.usable.fits; bounded = may.usable.bounded };
+  shape = may.shape;
+  kept = may.kept;
+  live = may.live;
+  low = may.low;
+  high = may.high;
+}
+
+pub no_tail : (log : LogStore) → log.used ≡ 2 → has_tail log ≡ false
+no_tail log empty = ap (nat_lt 2) empty
+
+-- where nothing of the log is unsealed and no more blocks than can be live are there, log and pages may go on
+pub both_go_on : GoesOnBeside → (log : LogStore) (pages : PageStore) (a b c : State) → Goes a b → Goes b c → log_held.MayGoOn log a → page_held.MayGoOn pages b → log.geometry ≡ pages.flash.geometry → log.used ≡ 2 → both.MayGoOn log pages c
+both_go_on law log pages a b c first second log_may pages_may sizes empty = record {
+  log_going = log_goes_on log b c second (log_goes_on log a b first log_may);
+  pages_going = law pages b c second pages_may;
+  sizes = sizes;
+  room =
+      let live = log_may.live in
+      let least = log_may.limits.blocks in
+      let none : (if has_tail log then 1 else 0) ≡ 0 = ap {B = ℕ} (λ b. if b then 1 else 0) (no_tail log empty) in
+      omega (arith, live, least, none);
+}
+
+-- what was found there fits
+module _ (law : FitsBeside) (g : Geometry) (log : LogStore) (pages : PageStore) (a b c d : State) (first : Goes a b) (same_first : IsUnchanged a b) (second : Goes b c) (same_second : IsUnchanged b c) (third : Goes c d) (same_third : IsUnchanged c d) where
+  log_found : log_held.Finds log b → log_held.Finds log d
+  log_found finds =
+      let same : d.image ≡ b.image = same_third.image ∙ same_second.image in
+      record {
+        honest = stays_honest c d third (stays_honest b c second finds.honest);
+        form = subst (λ (i : Image). IsRing (log_shape log.geometry) i.log) (sym same) finds.form;
+        hi = subst (λ (i : Image). log.ring.hi ≡ hi_of (log_shape log.geometry) i.log) (sym same) finds.hi;
+      }
+
+  pub ready_now : (m : Master) (blocks : List (List LogRecord)) (table : List Content) (commits : ℕ) → pages.flash.geometry ≡ g → pages.pool.frames ≡ [] → m ≡ blank → page_held.Fits pages c → log_held.Finds log b →
+      log_held.Holds log b.image (record { first = 0; blocks = blocks; tail = [] }) → IsSound g a.image blocks → Means (picture g a.image blocks) table commits →
+      IsReady (record { log = log; pages = pages; master = m }) d blocks table commits
+  ready_now m blocks table commits sizes empty is fits finds holds sound means =
+      let back : d.image ≡ b.image = same_third.image ∙ same_second.image in
+      let all : d.image ≡ a.image = back ∙ same_first.image in
+      let list : LogList = record { first = 0; blocks = blocks; tail = [] } in
+      record {
+        master = is;
+        opened_is = record {
+          ready = record {
+            pages = law pages c d (only_read c d same_third) third fits;
+            blocks = log_found finds;
+            records = subst (λ (i : Image). log_held.Holds log i list) (sym back) holds;
           };
-          shown = same ∙ read.shown;
-          unfinished = read.analysis.unfinished;
-        }
+          sound = subst (λ (k : Geometry). IsSound k d.image blocks) (sym sizes) (subst (λ (i : Image). IsSound g i blocks) (sym all) sound);
+          means = subst (λ (k : Geometry). Means (picture k d.image blocks) table commits) (sym sizes) (subst (λ (i : Image). Means (picture g i blocks) table commits) (sym all) means);
+          empty = empty;
+        };
+      }
 
-    pub commits_here : reading.analysis.commits ≡ commits
-    commits_here = let count = s.means.count_is in let all = plain_count g.pages g.blocks s.blocks in let had = read.analysis.commits in omega (arith, count, all, had)
+-- What undo owes.
 
--- Nothing is unfinished: the table shows what the log stands for.
+no_open : Open
+no_open = record { txn = 0; last = 0; updates = [] }
 
-none_unfinished : (records : List Entry) (ts : List ℕ) → map (unfinished_at records) ts ≡ [] → ts ≡ []
-none_unfinished records [] is = refl
-none_unfinished records (t ∷ ts) is = cc
+pub owed_more : (table : List Open) (place : ℕ) (loser : Loser) → slice_get (map loser_of table) place ≡ Some loser → owed_for (take (suc place) table) ≡ owed_for (take place table) + (loser.remaining + 1)
+owed_more [] place loser is = absurd (none-some loser is)
+owed_more (x ∷ table) zero loser is =
+    let same : loser_of x ≡ loser = same_Some (loser_of x) loser is in
+    let remaining : length x.updates ≡ loser.remaining = ap (λ (l : Loser). l.remaining) same in
+    let one = sum_by-cons owed_one x [] in
+    omega (arith, remaining, one)
+owed_more (x ∷ table) (suc place) loser is =
+    let rest = owed_more table place loser is in
+    let more : owed_for (take (suc (suc place)) (x ∷ table)) ≡ owed_one x + owed_for (take (suc place) table) = sum_by-cons owed_one x (take (suc place) table) in
+    let before : owed_for (take (suc place) (x ∷ table)) ≡ owed_one x + owed_for (take place table) = sum_by-cons owed_one x (take place table) in
+    omega (arith, rest, more, before)
 
-pub shows_table : (j : Journal) (site : State) (records : List Entry) (table : List Content) (commits : ℕ) → HoldsLog j site records table commits → unfinished_in records ≡ [] → shown_table records (blank_versions j.log.geometry.pages) ≡ table
-shows_table j site records table commits h none =
-    let p = picture j.log.geometry h.blocks in
-    let undoable : IsUndoable records = subst IsUndoable h.runs_on.records_are (whole_is_undoable p h.tail h.runs_on.carries) in
-    shown_is_table records (blank_versions j.log.geometry.pages) (λ t. none_listed records t undoable (none_unfinished records (losers records) none))
-    ∙ ap (λ (l : List Entry). table_of l (blank_versions j.log.geometry.pages)) (sym h.runs_on.records_are)
-    ∙ tail_without_commit p h.tail h.runs_on.carries h.runs_on.no_commit
-    ∙ sym h.runs_on.means.table_is
+-- Results.
 
--- Of an honest site, whatever is loose.
+abbrev stop_of : {A E : Type 0} → E → Result A E → E
+stop_of e (Ok x) = e
+stop_of e (Err stop) = stop
 
--- there is room for what was read
-pub room_found : (store : LogStore) (g : Geometry) (site : State) (table : List Content) (commits : ℕ) (image : Image) (s : Stands g image table commits) → store.geometry ≡ g → held.Finds store site → held.Holds store site.image (record { first = 0; blocks = s.blocks; tail = [] }) →
-    (reading : Reading) → HasRead store.geometry.pages reading (log_from 0 s.blocks) → store.ring.hi + owed_for reading.analysis.losers.items ≤ store.geometry.blocks - 1
-room_found store g site table commits image s is finds holds reading read =
-    let sound : AreSound store.geometry s.blocks = subst (λ (x : Geometry). AreSound x s.blocks) (sym is) s.sound.records in
-    let room = sound.room_for_undo in
-    let hi = count_of store site s.blocks finds holds in
-    let owes = owed_is (log_from 0 s.blocks) reading.analysis.losers.items read.analysis.unfinished in
-    omega (arith, room, hi, owes)
+pub same_stop : {A E : Type 0} (x y : E) → ◌≡◌ {A = Result A E} (Err x) (Err y) → x ≡ y
+same_stop x y is = ap (stop_of x) is
 
--- where nothing is unfinished no loser was found
-pub no_loser : (items : List Loser) → map view items ≡ [] → items ≡ []
-no_loser [] none = refl
-no_loser (x ∷ items) none = cc
+-- an error is that error, of whatever it was the result
+pub err_again : {A B E : Type 0} (x y : E) → IsErrOf {T = A} (Err x) y → IsErrOf {T = B} (Err x) y
+err_again x y is = ap Err (same_stop x y is)
+
+pub if_ok_both : {A E : Type 0} (r : Result A E) (P Q Z : A → Type 0) → ((x : A) → P x → Q x → Z x) → IfOk r P → IfOk r Q → IfOk r Z
+if_ok_both (Ok x) P Q Z f p q = f x p q
+if_ok_both (Err e) P Q Z f p q = tt
+
+-- A crash while only was read leaves what stood there.
+pub stands_still : (g : Geometry) (old new : State) (table : List Content) (commits : ℕ) → IsQuiet old → IsUnchanged old new → Stands g old.image table commits → LeavesOnly old new (LeavesTable g table commits old.told)
+stands_still g old new table commits quiet same stands =
+    unchanged_calm old old new (Leaves (LeavesTable g table commits old.told))
+    (no_call old (Leaves (LeavesTable g table commits old.told))
+    (λ snapshot left. subst (LeavesTable g table commits old.told) (sym (quiet_leaves old snapshot quiet left)) (record { told = refl; stands = stands }))) same

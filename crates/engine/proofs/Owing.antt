@@ -1,5 +1,5 @@
 -- What the active sessions owe, session by session.
-use Rattle.std.proofs.Common.{◌≡◌, ◌≢◌, ℕ, zero, suc, ◌+◌, ◌^◌, ◌==◌, cond, ◌<◌, ◌≤◌, Bool, true, false, List, [], ◌∷◌, sum_by, Option, None, Some, refl, sym, ap, ◌∙◌, subst, arith}
+use Rattle.std.proofs.Common.{◌≡◌, ◌≢◌, ℕ, zero, suc, ◌+◌, ◌^◌, ◌==◌, cond, ◌<◌, ◌≤◌, Bool, true, false, List, [], ◌∷◌, sum_by, Option, Some, refl, ap, subst, arith}
 use Rattle.std.specs.Option.{option_map_or}
 use Rattle.std.specs.List.{range_with_len}
 use Rattle.std.proofs.lemmas.Option.{none-some, same_Some}

@@ -1,6 +1,6 @@
 -- What the model answers, test by test.
-use Rattle.std.proofs.Common.{◌≡◌, ◌⊎◌, ℕ, zero, suc, ◌+◌, ◌-◌, ◌<◌, ◌≤◌, Bool, true, false, true≢false, ◌||◌, cond, List, [], ◌∷◌, length, sum_by, filter_map, Option, None, Some, refl, sym, ap, subst, ◌∙◌, arith}
-use Rattle.std.specs.Prelude.{slice_index_or, nat_le, nat_lt, option_map, is_none, is_some, IsSome, if◌then◌else◌}
+use Rattle.std.proofs.Common.{◌≡◌, ℕ, ◌+◌, ◌*◌, ◌<◌, ◌≤◌, Bool, true, false, true≢false, List, [], ◌∷◌, length, sum_by, filter_map, Option, None, Some, refl, sym, ap, ◌∙◌, arith}
+use Rattle.std.specs.Prelude.{slice_index_or, nat_le, nat_lt, is_none, IsSome, if◌then◌else◌}
 use Rattle.std.specs.Option.{option_map_or}
 use Rattle.std.specs.List.{range_with_len}
 use Rattle.std.proofs.lemmas.Bool.{le-leb, lt-leb, lt-ltb, le-ltb}
@@ -14,13 +14,14 @@ use Rattle.record_model.specs.declared.words.Reply.{Reply}
 use Rattle.record_model.specs.declared.words.Reply.TheVariants as reply
 use Rattle.record_model.specs.State.{Session, State, session_at, active_sessions, used}
 use Rattle.record_model.specs.State as model
-use Rattle.record_model.specs.Step.{Outcome, refusal, outcome, effect, answer, full, lacks_room, wants_active, wants_free, wants_record, wants_short, refuse_if, first_refusal}
+use Rattle.record_model.specs.Step.{Outcome, refusal, outcome, effect, answer, full, lacks_room, wants_active, wants_record, wants_short, refuse_if}
 use Rattle.log_records.specs.Log.{Entry}
 use Rattle.txn_table.specs.declared.active.Active.{Active}
 use Rattle.txn_table.specs.Entries.{IsTable, entry_of}
 use Rattle.txn_table.specs.Entries as entries
 use Rattle.engine.specs.declared.engine.Engine.{Engine}
-use Rattle.engine.specs.Fits.{Fits, SessionsAre, SessionIs, IsFull, run}
+use Rattle.engine.specs.Going.{sizes_of}
+use Rattle.engine.specs.Fits.{Fits, SessionIs, IsFull, run}
 use Rattle.engine.proofs.Actives.{some_active}
 use Rattle.engine.proofs.Meanings.{same_size}
 use Rattle.engine.proofs.Owing.{owed_at, owed_one, owed_is}
@@ -77,11 +78,11 @@ full_is engine site s more r fits table is =
     let made = fits.counts.made in
     let kept = fits.counts.kept in
     let cap = fits.counts.cap in
-    let used_is : engine.journal.made ≡ used s = omega (arith, made, kept) in
+    let used_is : engine.store.made ≡ used s = omega (arith, made, kept) in
     let less = is.no_room in
     (is.full_is ∙ (λ i. reply.Full (used_is i) (owed i) (cap i)), lt-ltb s.cap (used s + model.owed s + more) (omega (arith, less, owed, used_is, cap)))
 
-pub has_room : (engine : Engine) (site : Site) (s : State) (more : ℕ) → Fits engine site s → IsTable engine.active → engine.journal.made + entries.owed engine.active + more ≤ engine.cap → nat_lt s.cap (used s + model.owed s + more) ≡ false
+pub has_room : (engine : Engine) (site : Site) (s : State) (more : ℕ) → Fits engine site s → IsTable engine.active → engine.store.made + entries.owed engine.active + more ≤ engine.cap → nat_lt s.cap (used s + model.owed s + more) ≡ false
 has_room engine site s more fits table room =
     let owed = owed_same engine site s fits table in
     let made = fits.counts.made in
@@ -94,13 +95,13 @@ has_room engine site s more fits table room =
 pub wants_active_is : (s : State) (n : ℕ) (session : Session) → session_at s n ≡ Some session → wants_active s n ≡ None
 wants_active_is s n session is = λ i. refuse_if (is_none (is i)) (reply.Refused BadSession)
 
-pub has_record : (engine : Engine) (site : Site) (s : State) (number : ℕ) → Fits engine site s → number < length engine.table.items → wants_record s number ≡ None
+pub has_record : (engine : Engine) (site : Site) (s : State) (number : ℕ) → Fits engine site s → number < 32 * (sizes_of engine.store).pages → wants_record s number ≡ None
 has_record engine site s number fits less =
     let size = same_size engine site s fits in
     let below : nat_le (length s.table) number ≡ false = lt-leb (length s.table) number (omega (arith, less, size)) in
     λ i. refuse_if (below i) (reply.Refused NoRecord)
 
-pub lacks_record : (engine : Engine) (site : Site) (s : State) (number : ℕ) → Fits engine site s → length engine.table.items ≤ number → wants_record s number ≡ Some (reply.Refused NoRecord)
+pub lacks_record : (engine : Engine) (site : Site) (s : State) (number : ℕ) → Fits engine site s → 32 * (sizes_of engine.store).pages ≤ number → wants_record s number ≡ Some (reply.Refused NoRecord)
 lacks_record engine site s number fits more =
     let size = same_size engine site s fits in
     let from : nat_le (length s.table) number ≡ true = le-leb (length s.table) number (omega (arith, more, size)) in

@@ -4,20 +4,14 @@ use Rattle.std.specs.Prelude.{slice_set, slice_index_or, option_map}
 use Rattle.std.specs.List.{list_any, range_with_len}
 use Rattle.std.proofs.lemmas.Bool.{cases_eq, eq-eqb, ne_eqb}
 use Rattle.std.proofs.lemmas.Option.{none-some}
-use Rattle.std.proofs.lemmas.List.FromFn.{length-map-range_with_len}
 use Rattle.site.specs.State.{State as Site}
-use Rattle.site.specs.declared.geometry.Geometry.{Geometry}
 use Rattle.record_model.specs.State.{Content, Session, State, Write, session_at, writes_of, reads_of}
 use Rattle.record_model.specs.State as model
-use Rattle.record_model.specs.Step.{having_written, having_read, with_session}
-use Rattle.log_records.specs.declared.log_record.LogRecord.{LogRecord}
-use Rattle.log_records.specs.declared.log_record.LogRecord.TheVariants.{Update}
+use Rattle.record_model.specs.Step.{having_written, having_read}
 use Rattle.log_records.specs.Log.{Entry}
-use Rattle.log_records.specs.Sets.{blank_versions}
-use Rattle.log_laws.specs.Follow.{IsFreeFor, shown, shown_table}
+use Rattle.log_laws.specs.Follow.{IsFreeFor, shown}
 use Rattle.log_laws.proofs.Losers.{active_may_write}
 use Rattle.log_laws.proofs.Owing.{owed_update}
-use Rattle.log_laws.proofs.Shown.{shown_set}
 use Rattle.log_laws.proofs.Versions.{page_and_slot}
 use Rattle.lock_table.specs.declared.lock.Lock.{Lock}
 use Rattle.lock_table.specs.Locks.{AddsLock}
@@ -26,14 +20,16 @@ use Rattle.txn_table.specs.declared.active.Active.{Active}
 use Rattle.txn_table.specs.Entries.{IsTable, entry_of, ChangesOnly, after_write}
 use Rattle.txn_table.specs.Entries as entries
 use Rattle.engine.specs.declared.engine.Engine.{Engine}
-use Rattle.engine.specs.Going.{MayGoOn}
-use Rattle.engine.specs.Image.{blank_master}
-use Rattle.engine.specs.Holding.{HoldsLog, MayGrow}
-use Rattle.engine.specs.Fits.{Fits, LocksAre, SessionIs, SessionsAre, with_write}
+use Rattle.image_meaning.specs.Meaning.{blank_master, versions_on}
+use Rattle.redo_undo.specs.Holding.{blocks_to}
+use Rattle.engine.specs.declared.store.Store.{Store}
+use Rattle.engine.specs.Going.{sizes_of}
+use Rattle.engine.specs.Holding.{Holds, MayGrow, shown_in, update_by}
+use Rattle.engine.specs.Fits.{Fits, LocksAre, SessionIs, SessionsAre, with_write, with_read}
 use Rattle.engine.proofs.Actives.{some_active}
 use Rattle.engine.proofs.Changes.{wrote_more}
 use Rattle.engine.proofs.Locks.{at_set}
-use Rattle.engine.proofs.Meanings.{busy_write_is, content_is, free_for}
+use Rattle.engine.proofs.Meanings.{busy_write_is, count_of_versions, free_for}
 use Rattle.engine.proofs.Owing.{entry_is}
 
 -- Locks.
@@ -94,9 +90,6 @@ added_write old new s n number after session small is adds are = record {
     own m same = ap (λ (k : ℕ). slice_index_or (slice_set s.sessions n now) k None) same ∙ get_or-set_same s.sessions n now None small ∙ ap (option_map (having_written (number, after))) is
 
 -- the session has read the record now
-abbrev pub with_read : State → ℕ → ℕ → State
-with_read s n number = with_session s n (option_map (having_read (number ∷ [])) (session_at s n))
-
 pub added_read : (old new : List Lock) (s : State) (n number : ℕ) (session : Session) → n < length s.sessions → session_at s n ≡ Some session → AddsLock old new n number false → LocksAre old s → LocksAre new (with_read s n number)
 added_read old new s n number session small is adds are = record {
   reads = λ m r. ⊎_elim
@@ -149,45 +142,37 @@ may_read_too s n number = find_less (λ m. not (n == m) && model.has_written s m
 
 -- A write.
 
-abbrev pub update_by : Active → ℕ → Content → Content → LogRecord
-update_by entry number before after = Update entry.begin entry.last (number / 32) (number % 32) before after
-
-pub may_write : (engine : Engine) (site : Site) (s : State) (fits : Fits engine site s) (entry : Active) (number lsn : ℕ) (after : Content) → MayGoOn engine site → entry_of engine.active entry.session ≡ Some entry → number < length engine.table.items →
-    locks.busy_write engine.locks (Some entry.session) number ≡ None → engine.journal.made + entries.owed engine.active + 2 ≤ engine.cap →
-    MayGrow engine.journal fits.records (record { lsn = lsn; rec = update_by entry number (slice_index_or engine.table.items number None) after })
-may_write engine site s fits entry number lsn after going at less free room =
+pub may_write : (engine : Engine) (site : Site) (s : State) (fits : Fits engine site s) (entry : Active) (number lsn : ℕ) (after : Content) → IsTable engine.active → entry_of engine.active entry.session ≡ Some entry → number < 32 * (sizes_of engine.store).pages →
+    locks.busy_write engine.locks (Some entry.session) number ≡ None → engine.store.made + entries.owed engine.active + 2 ≤ engine.cap → blocks_to engine.store.log ≤ engine.store.made → engine.cap + 1 ≡ (sizes_of engine.store).blocks →
+    MayGrow engine.store site fits.records (record { lsn = lsn; rec = update_by entry.begin entry.last number (shown_in engine.store site fits.records number) after })
+may_write engine site s fits entry number lsn after table at less free room blocks cap =
     let n = entry.session in
-    let pages = blank_versions engine.journal.log.geometry.pages in
-    let before : Content = slice_index_or engine.table.items number None in
-    let e : Entry = record { lsn = lsn; rec = update_by entry number before after } in
+    let versions = versions_on (sizes_of engine.store) site.image in
+    let before : Content = shown_in engine.store site fits.records number in
+    let e : Entry = record { lsn = lsn; rec = update_by entry.begin entry.last number before after } in
     let found = some_active fits.records engine.active s fits.sessions n entry at in
     let active = found.under_way.is_active in
     let none = may_read_too s n number (sym (busy_write_is engine.locks s fits.locks_are (Some n) number) ∙ free) in
-    let only : IsFreeFor fits.records entry.begin number = free_for fits.records engine.active s fits.sessions going.table n number entry at none in
-    let size : length engine.table.items ≡ 32 * length pages = ap length fits.shown_is ∙ length-map-range_with_len (shown fits.records pages) 0 (32 * length pages) in
+    let only : IsFreeFor fits.records entry.begin number = free_for fits.records engine.active s fits.sessions table n number entry at none in
+    let size = count_of_versions (sizes_of engine.store) site.image in
     let place = page_and_slot number in
-    let shows : before ≡ shown fits.records pages number = (content_is engine site s fits number less).0 in
     let owes = owed_update fits.records e refl active.lives.not_closed active.chain in
     let are = fits.sessions.owes in
-    let blocks = going.journal.blocks in
-    let cap = going.cap in
     record {
-      follows = active_may_write blank_master pages fits.records lsn entry.begin entry.last (number / 32) (number % 32) found.session.writes before after active
-          (omega (arith, place, less, size)) (subst (IsFreeFor fits.records entry.begin) (sym place) only) (shows ∙ ap (shown fits.records pages) (sym place));
+      follows = active_may_write blank_master versions fits.records lsn entry.begin entry.last (number / 32) (number % 32) found.session.writes before after active
+          (omega (arith, place, less, size)) (subst (IsFreeFor fits.records entry.begin) (sym place) only) (ap (shown fits.records versions) (sym place));
       no_commit = refl;
       room = omega (arith, owes, are, room, blocks, cap);
     }
 
-pub write_fits : (engine last : Engine) (old new : Site) (s : State) (entry : Active) (number lsn : ℕ) (after : Content) (fits : Fits engine old s) → IsTable engine.active → entry_of engine.active entry.session ≡ Some entry → IsTrue new.honest →
-    HoldsLog last.journal new (fits.records ++ record { lsn = lsn; rec = update_by entry number (slice_index_or engine.table.items number None) after } ∷ []) s.table s.commits →
-    last.journal.log.geometry ≡ engine.journal.log.geometry → last.journal.made ≡ engine.journal.made + 1 → last.commits ≡ engine.commits → last.cap ≡ engine.cap → last.table.items ≡ slice_set engine.table.items number after →
+pub write_fits : (engine last : Engine) (old new : Site) (s : State) (entry : Active) (number lsn : ℕ) (before after : Content) (fits : Fits engine old s) → IsTable engine.active → entry_of engine.active entry.session ≡ Some entry → IsTrue new.honest →
+    Holds last.store new (fits.records ++ record { lsn = lsn; rec = update_by entry.begin entry.last number before after } ∷ []) s.table s.commits →
+    last.store.made ≡ engine.store.made + 1 → last.commits ≡ engine.commits → last.cap ≡ engine.cap →
     AddsLock engine.locks last.locks entry.session number true → ChangesOnly engine.active last.active entry.session (Some (after_write entry lsn)) → entries.owed last.active ≡ entries.owed engine.active + 1 →
     Fits last new (with_write s entry.session (number, after))
-write_fits engine last old new s entry number lsn after fits table at honest holds geometry made commits cap shows adds changes owes =
+write_fits engine last old new s entry number lsn before after fits table at honest holds made commits cap adds changes owes =
     let n = entry.session in
-    let pages = blank_versions engine.journal.log.geometry.pages in
-    let before : Content = slice_index_or engine.table.items number None in
-    let e : Entry = record { lsn = lsn; rec = update_by entry number before after } in
+    let e : Entry = record { lsn = lsn; rec = update_by entry.begin entry.last number before after } in
     let found = some_active fits.records engine.active s fits.sessions n entry at in
     let small = (entry_is engine.active n entry table at).small in
     let count = fits.sessions.count in
@@ -199,9 +184,6 @@ write_fits engine last old new s entry number lsn after fits table at honest hol
       honest = honest;
       records = fits.records ++ e ∷ [];
       holds = holds;
-      shown_is = shows ∙ ap (λ (t : List Content). slice_set t number after) fits.shown_is
-          ∙ sym (shown_set fits.records e pages number (ap Some place))
-          ∙ ap (λ (x : Geometry). shown_table (fits.records ++ e ∷ []) (blank_versions x.pages)) (sym geometry);
       counts = record { commits = commits ∙ fits.counts.commits; made = made ∙ ap (λ (k : ℕ). k + 1) fits.counts.made; kept = fits.counts.kept; cap = cap ∙ fits.counts.cap };
       sessions = more;
       locks_are = added_write engine.locks last.locks s n number after found.session (omega (arith, small, count)) found.is adds fits.locks_are;
@@ -230,6 +212,17 @@ read_more records active s n number entry are small at =
       differ = are.differ;
     }
 
+-- A page was touched.
+abbrev pub touched_fits : (engine : Engine) (store : Store) (old new : Site) (s : State) (fits : Fits engine old s) → IsTrue new.honest → Holds store new fits.records s.table s.commits → store.made ≡ engine.store.made → Fits (record engine { store = store }) new s
+touched_fits engine store old new s fits honest holds made = record {
+  honest = honest;
+  records = fits.records;
+  holds = holds;
+  counts = record { commits = fits.counts.commits; made = made ∙ fits.counts.made; kept = fits.counts.kept; cap = fits.counts.cap };
+  sessions = fits.sessions;
+  locks_are = fits.locks_are;
+}
+
 pub read_fits : (engine : Engine) (held : _) (site : Site) (s : State) (n number : ℕ) (entry : Active) (fits : Fits engine site s) → IsTable engine.active → entry_of engine.active n ≡ Some entry → AddsLock engine.locks held n number false →
     Fits (record engine { locks = held }) site (with_read s n number)
 read_fits engine held site s n number entry fits table at adds =
@@ -240,7 +233,6 @@ read_fits engine held site s n number entry fits table at adds =
       honest = fits.honest;
       records = fits.records;
       holds = fits.holds;
-      shown_is = fits.shown_is;
       counts = record { commits = fits.counts.commits; made = fits.counts.made; kept = fits.counts.kept; cap = fits.counts.cap };
       sessions = read_more fits.records engine.active s n number entry fits.sessions small at;
       locks_are = added_read engine.locks held s n number found.session (omega (arith, small, count)) found.is adds fits.locks_are;

@@ -1,16 +1,15 @@
 -- The database of an honest site, and the model's state.
-use Rattle.std.specs.Prelude.{◌≡◌, ℕ, ◌+◌, ◌*◌, ◌<◌, List, [], length, slice_index_or, Option, Some, None, option_map, IsTrue, ⊤, false}
+use Rattle.std.specs.Prelude.{◌≡◌, ℕ, ◌+◌, ◌<◌, List, [], ◌∷◌, length, Option, Some, None, option_map, IsTrue, ⊤, false}
 use Rattle.site.specs.State.{State as Site}
-use Rattle.site.specs.declared.geometry.Geometry.{Geometry}
 use Rattle.record_model.specs.State.{Content, Session, State, Write, session_at}
 use Rattle.record_model.specs.State as model
 use Rattle.record_model.specs.declared.words.Command.{Command}
-use Rattle.record_model.specs.Step.{Outcome, step, effect, answer, making, with_session, having_written}
+use Rattle.record_model.specs.Step.{Outcome, step, effect, answer, making, with_session, having_written, having_read}
 use Rattle.record_model.specs.declared.words.Reply.{Reply}
 use Rattle.record_model.specs.declared.words.Reply.TheVariants as reply
 use Rattle.log_records.specs.Log.{Entry, is_loser}
-use Rattle.log_records.specs.Sets.{blank_versions}
-use Rattle.log_laws.specs.Follow.{shown_table, IsActive}
+use Rattle.log_laws.specs.Follow.{IsActive}
+use Rattle.image_meaning.specs.Meaning.{blank_master}
 use Rattle.lock_table.specs.declared.lock.Lock.{Lock}
 use Rattle.lock_table.specs.Locks as locks
 use Rattle.txn_table.specs.declared.active.Active.{Active}
@@ -18,8 +17,7 @@ use Rattle.txn_table.specs.Entries.{entry_of}
 use Rattle.txn_table.specs.Entries as entries
 use Rattle.log_records.specs.Unfinished as unfinished
 use Rattle.engine.specs.declared.engine.Engine.{Engine}
-use Rattle.engine.specs.Image.{blank_master}
-use Rattle.engine.specs.Holding.{HoldsLog}
+use Rattle.engine.specs.Holding.{Holds}
 
 -- a session's transaction: it is open, was never undone, and has made the session's writes
 pub record IsUnderWay (records : List Entry) (entry : Active) (session : Session) : Type 0 where
@@ -50,7 +48,7 @@ pub record LocksAre (held : List Lock) (s : State) : Type 0 where
 -- the counts
 pub record CountsAre (engine : Engine) (s : State) : Type 0 where
   pub commits : engine.commits ≡ s.commits
-  pub made : engine.journal.made ≡ s.made
+  pub made : engine.store.made ≡ s.made
   pub kept : s.kept ≡ 0
   pub cap : engine.cap ≡ s.cap
 
@@ -58,9 +56,7 @@ pub record CountsAre (engine : Engine) (s : State) : Type 0 where
 pub record Fits (engine : Engine) (site : Site) (s : State) : Type 0 where
   pub honest : IsTrue site.honest
   pub records : List Entry
-  pub holds : HoldsLog engine.journal site records s.table s.commits
-  -- what was written last, by whomever
-  pub shown_is : engine.table.items ≡ shown_table records (blank_versions engine.journal.log.geometry.pages)
+  pub holds : Holds engine.store site records s.table s.commits
   pub counts : CountsAre engine s
   pub sessions : SessionsAre records engine.active s
   pub locks_are : LocksAre engine.locks s
@@ -73,6 +69,10 @@ run s command = step false s command []
 abbrev pub with_write : State → ℕ → Write → State
 with_write s n write = making 1 (with_session s n (option_map (having_written write) (session_at s n)))
 
+-- a session has read a record
+abbrev pub with_read : State → ℕ → ℕ → State
+with_read s n number = with_session s n (option_map (having_read (number ∷ [])) (session_at s n))
+
 -- a command is refused, in whatever state the database stands for, and changes nothing
 abbrev pub Refuses : Engine → Command → Reply → Type 0
 Refuses engine command reply = (s : State) (site : Site) → Fits engine site s → run s command ≡ record { after = s; reply = reply }
@@ -83,5 +83,5 @@ Accepts engine command = (s : State) (site : Site) → Fits engine site s → ru
 
 -- so many more log records can't be made
 pub record IsFull (engine : Engine) (more : ℕ) (answered : Reply) : Type 0 where
-  pub full_is : answered ≡ reply.Full engine.journal.made (entries.owed engine.active) engine.cap
-  pub no_room : engine.cap < engine.journal.made + entries.owed engine.active + more
+  pub full_is : answered ≡ reply.Full engine.store.made (entries.owed engine.active) engine.cap
+  pub no_room : engine.cap < engine.store.made + entries.owed engine.active + more

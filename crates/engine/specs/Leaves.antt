@@ -1,18 +1,18 @@
 -- What a crash may leave of a call.
-use Rattle.std.specs.Prelude.{◌≡◌, ◌⊎◌, ℕ, ◌+◌, List, Result, Ok, Err}
+use Rattle.std.specs.Prelude.{◌≡◌, ◌⊎◌, ℕ, List, Result, Ok, Err}
 use Rattle.site.specs.declared.outside.Stop.{Stop}
 use Rattle.site.specs.declared.outside.Stop.TheVariants.{Foreign}
 use Rattle.site.specs.declared.geometry.Geometry.{Geometry}
 use Rattle.site.specs.State.{Snapshot}
 use Rattle.site.specs.Geometry.{HasLimits, HasLengths}
 use Rattle.site.specs.State.{State as Site}
-use Rattle.record_model.specs.State.{Content, State, Write, table_with}
+use Rattle.record_model.specs.State.{Content, State}
+use Rattle.image_meaning.specs.Moments as moments
 use Rattle.engine.specs.Image.{Stands}
 
 -- nothing was told, and the devices stand for this table after so many commits
-pub record LeavesTable (g : Geometry) (table : List Content) (commits : ℕ) (so_far : List ℕ) (snapshot : Snapshot) : Type 0 where
-  pub told : snapshot.told ≡ so_far
-  pub stands : Stands g snapshot.image table commits
+abbrev pub LeavesTable : Geometry → List Content → ℕ → List ℕ → Snapshot → Type 0
+LeavesTable = moments.LeavesTable
 
 -- nothing was told, and the devices stand for the table before the command or after it
 pub record LeavesEither (g : Geometry) (before after : State) (so_far : List ℕ) (snapshot : Snapshot) : Type 0 where
@@ -22,11 +22,6 @@ pub record LeavesEither (g : Geometry) (before after : State) (so_far : List ℕ
 -- no geometry has devices of these lengths
 abbrev pub HasNoSizes : Site → Type 0
 HasNoSizes site = (g : Geometry) → HasLimits g → HasLengths g site.image → ⊥
-
--- nothing was told, and the devices stand for the table of before, or for the one with these writes too, which is one commit more
-pub record LeavesCommit (g : Geometry) (table : List Content) (commits : ℕ) (writes : List Write) (so_far : List ℕ) (snapshot : Snapshot) : Type 0 where
-  pub told : snapshot.told ≡ so_far
-  pub stands : Stands g snapshot.image table commits ⊎ Stands g snapshot.image (table_with table writes) (commits + 1)
 
 -- what comes of devices without sizes: they are refused, and nothing was done
 abbrev pub IsRefused : {T X : Type 0} → Result T Stop → X → X → Type 0

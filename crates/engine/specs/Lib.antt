@@ -1,5 +1,3 @@
-pub mod Analysing
-pub mod Compensation
 pub mod Fits
 pub mod Going
 pub mod Holding

@@ -1,16 +1,13 @@
-//! The database: sessions, record locks and the log under them. Each call answers what the model answers and leaves what
-//! the model leaves; a crash at any moment leaves a log that stands for a table after a prefix of the commits.
+//! The database: sessions, record locks, and the log and the pages under them. Each call answers what the model answers and leaves what
+//! the model leaves; a crash at any moment leaves devices that stand for a table after a prefix of the commits.
 #![tactic(auto)]
 
-mod abort;
 mod engine;
-mod journal;
-mod losers;
 mod restart;
 mod sessions;
-mod table;
+mod store;
 #[cfg(test)]
 mod tests;
-mod undo;
+mod values;
 
 pub use engine::Engine;

@@ -273,9 +273,9 @@ fn survives(alloc: Global, changes: u64, seed: u64) -> Result<Option<bool>, Stop
         (write(3, 5, 0x0a), Reply::Done),
         (write(3, 40, 0x0b), Reply::Done),
     ];
-    // A start on blank devices changes nothing, and the writes stay in memory.
+    // A start on blank devices changes nothing, and the writes stay in memory, as both pages do.
     site.fuse(changes);
-    let mut engine = Engine::start(alloc, &mut site, 1)?;
+    let mut engine = Engine::start(alloc, &mut site, 2)?;
     if play(&mut engine, &mut site, &script)? < script.len() {
         return Ok(None);
     }

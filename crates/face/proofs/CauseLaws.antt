@@ -1,33 +1,35 @@
 -- When each status comes.
-use Rattle.std.proofs.Common.{◌≡◌, inl, inr, IsTrue, ℕ, length, refl, ap, arith}
+use Rattle.std.proofs.Common.{◌≡◌, inl, inr, IsTrue, ℕ, length, refl, sym, ap, subst, arith}
 use Rattle.site.specs.declared.outside.Stop.TheVariants.{Device, Memory, Worn, Foreign}
 use Rattle.site.specs.State.{State, faults_of}
 use Rattle.site.specs.Calls.{Goes}
 use Rattle.site.specs.Laws.{rose_then}
+use Rattle.site.specs.Telling.{SameDevices}
+use Rattle.flash_cache.specs.Held.{IsWorn}
 use Rattle.face.specs.declared.halt.Halt.{Halt}
 use Rattle.face.specs.declared.halt.Halt.TheVariants as halt
 use Rattle.face.specs.Texts.{status_of}
 use Rattle.face.specs.Causes.{HasCause, HasCauses}
 
 -- a cause holds still when a line was told
-pub cause_then : (h : Halt) (a b c : State) → HasCause h a b → Goes b c → (IsTrue a.honest → c.left ≡ b.left) → HasCause h a c
-cause_then (halt.Stop (Device dev)) a b c cause goes left = rose_then (faults_of dev a) (faults_of dev b) (faults_of dev c) cause (goes.faults dev)
-cause_then (halt.Stop Memory) a b c cause goes left = cause
-cause_then (halt.Stop (Worn dev)) a b c cause goes left = cause
-cause_then (halt.Stop Foreign) a b c cause goes left = cause
-cause_then halt.Input a b c cause goes left = rose_then a.input_faults b.input_faults c.input_faults cause goes.input_faults
-cause_then halt.Output a b c cause goes left = rose_then a.output_faults b.output_faults c.output_faults cause goes.output_faults
-cause_then halt.Limit a b c cause goes left = λ honest. let over = cause honest in let same = ap length (left honest) in omega (arith, over, same)
+pub cause_then : (h : Halt) (a b c : State) → HasCause h a b → Goes b c → (IsTrue a.honest → SameDevices b c) → HasCause h a c
+cause_then (halt.Stop (Device dev)) a b c cause goes same = rose_then (faults_of dev a) (faults_of dev b) (faults_of dev c) cause (goes.faults dev)
+cause_then (halt.Stop Memory) a b c cause goes same = cause
+cause_then (halt.Stop (Worn dev)) a b c cause goes same = (cause.0, λ honest g table commits stands. subst (IsWorn g) (sym (same honest).image) (cause.1 honest g table commits stands))
+cause_then (halt.Stop Foreign) a b c cause goes same = cause
+cause_then halt.Input a b c cause goes same = rose_then a.input_faults b.input_faults c.input_faults cause goes.input_faults
+cause_then halt.Output a b c cause goes same = rose_then a.output_faults b.output_faults c.output_faults cause goes.output_faults
+cause_then halt.Limit a b c cause goes same = λ honest. let over = cause honest in let left = ap length (same honest).left in omega (arith, over, left)
 
 -- by the status
 pub status_causes : (h : Halt) (status : ℕ) (a b : State) → status ≡ status_of h → HasCause h a b → HasCauses status a b
-status_causes (halt.Stop (Device dev)) status a b is cause = record { device = λ e. (dev, cause); input = λ e. absurd (omega (arith, is, e)); output = λ e. absurd (omega (arith, is, e)); limit = λ e. absurd (omega (arith, is, e)); worn = λ e. omega (arith, is, e); foreign = λ e. absurd (omega (arith, is, e)); others = inr (inl is) }
-status_causes (halt.Stop Memory) status a b is cause = record { device = λ e. absurd (omega (arith, is, e)); input = λ e. absurd (omega (arith, is, e)); output = λ e. absurd (omega (arith, is, e)); limit = λ e. absurd (omega (arith, is, e)); worn = λ e. omega (arith, is, e); foreign = λ e. absurd (omega (arith, is, e)); others = inr (inr (inl is)) }
-status_causes (halt.Stop (Worn dev)) status a b is cause = absurd cause
-status_causes (halt.Stop Foreign) status a b is cause = record { device = λ e. absurd (omega (arith, is, e)); input = λ e. absurd (omega (arith, is, e)); output = λ e. absurd (omega (arith, is, e)); limit = λ e. absurd (omega (arith, is, e)); worn = λ e. omega (arith, is, e); foreign = λ e. cause; others = inr (inr (inr (inr (inr (inr is))))) }
-status_causes halt.Input status a b is cause = record { device = λ e. absurd (omega (arith, is, e)); input = λ e. cause; output = λ e. absurd (omega (arith, is, e)); limit = λ e. absurd (omega (arith, is, e)); worn = λ e. omega (arith, is, e); foreign = λ e. absurd (omega (arith, is, e)); others = inr (inr (inr (inl is))) }
-status_causes halt.Output status a b is cause = record { device = λ e. absurd (omega (arith, is, e)); input = λ e. absurd (omega (arith, is, e)); output = λ e. cause; limit = λ e. absurd (omega (arith, is, e)); worn = λ e. omega (arith, is, e); foreign = λ e. absurd (omega (arith, is, e)); others = inr (inr (inr (inr (inl is)))) }
-status_causes halt.Limit status a b is cause = record { device = λ e. absurd (omega (arith, is, e)); input = λ e. absurd (omega (arith, is, e)); output = λ e. absurd (omega (arith, is, e)); limit = λ e. cause; worn = λ e. omega (arith, is, e); foreign = λ e. absurd (omega (arith, is, e)); others = inr (inr (inr (inr (inr (inl is))))) }
+status_causes (halt.Stop (Device dev)) status a b is cause = record { device = λ e. (dev, cause); input = λ e. absurd (omega (arith, is, e)); output = λ e. absurd (omega (arith, is, e)); limit = λ e. absurd (omega (arith, is, e)); worn = λ e. absurd (omega (arith, is, e)); foreign = λ e. absurd (omega (arith, is, e)); others = inr (inl is) }
+status_causes (halt.Stop Memory) status a b is cause = record { device = λ e. absurd (omega (arith, is, e)); input = λ e. absurd (omega (arith, is, e)); output = λ e. absurd (omega (arith, is, e)); limit = λ e. absurd (omega (arith, is, e)); worn = λ e. absurd (omega (arith, is, e)); foreign = λ e. absurd (omega (arith, is, e)); others = inr (inr (inl is)) }
+status_causes (halt.Stop (Worn dev)) status a b is cause = record { device = λ e. absurd (omega (arith, is, e)); input = λ e. absurd (omega (arith, is, e)); output = λ e. absurd (omega (arith, is, e)); limit = λ e. absurd (omega (arith, is, e)); worn = λ e. cause.1; foreign = λ e. absurd (omega (arith, is, e)); others = inr (inr (inr (inr (inr (inr (inl is)))))) }
+status_causes (halt.Stop Foreign) status a b is cause = record { device = λ e. absurd (omega (arith, is, e)); input = λ e. absurd (omega (arith, is, e)); output = λ e. absurd (omega (arith, is, e)); limit = λ e. absurd (omega (arith, is, e)); worn = λ e. absurd (omega (arith, is, e)); foreign = λ e. cause; others = inr (inr (inr (inr (inr (inr (inr is)))))) }
+status_causes halt.Input status a b is cause = record { device = λ e. absurd (omega (arith, is, e)); input = λ e. cause; output = λ e. absurd (omega (arith, is, e)); limit = λ e. absurd (omega (arith, is, e)); worn = λ e. absurd (omega (arith, is, e)); foreign = λ e. absurd (omega (arith, is, e)); others = inr (inr (inr (inl is))) }
+status_causes halt.Output status a b is cause = record { device = λ e. absurd (omega (arith, is, e)); input = λ e. absurd (omega (arith, is, e)); output = λ e. cause; limit = λ e. absurd (omega (arith, is, e)); worn = λ e. absurd (omega (arith, is, e)); foreign = λ e. absurd (omega (arith, is, e)); others = inr (inr (inr (inr (inl is)))) }
+status_causes halt.Limit status a b is cause = record { device = λ e. absurd (omega (arith, is, e)); input = λ e. absurd (omega (arith, is, e)); output = λ e. absurd (omega (arith, is, e)); limit = λ e. cause; worn = λ e. absurd (omega (arith, is, e)); foreign = λ e. absurd (omega (arith, is, e)); others = inr (inr (inr (inr (inr (inl is))))) }
 
 pub no_causes : (a b : State) → HasCauses 0 a b
-no_causes a b = record { device = λ e. absurd (omega (arith, e)); input = λ e. absurd (omega (arith, e)); output = λ e. absurd (omega (arith, e)); limit = λ e. absurd (omega (arith, e)); worn = λ e. omega (arith, e); foreign = λ e. absurd (omega (arith, e)); others = inl refl }
+no_causes a b = record { device = λ e. absurd (omega (arith, e)); input = λ e. absurd (omega (arith, e)); output = λ e. absurd (omega (arith, e)); limit = λ e. absurd (omega (arith, e)); worn = λ e. absurd (omega (arith, e)); foreign = λ e. absurd (omega (arith, e)); others = inl refl }

@@ -1,12 +1,12 @@
 -- What `clap` makes of the right words.
 use Rattle.std.proofs.Common.{◌≡◌, ◌==◌, ◌&&◌, ◌∙◌, ap, refl, sym, ℕ, Bool, true, false, List, [], ◌∷◌, codes, cond}
-use Rattle.std.specs.Prelude.{Option, Some, None, option_map, option_and_then}
+use Rattle.std.specs.Prelude.{Some, None, option_map, option_and_then}
 use Rattle.std.specs.Str.{bytes_eq}
 use Rattle.clap.specs.Lexer.{long_of, long_of_rest, short_of, short_of_rest, strip_byte}
-use Rattle.clap.specs.Walk.{Held, Rule, Step, Text, Waiting, Names, value, word_met, idle}
+use Rattle.clap.specs.Walk.{Held, Rule, Text, value, word_met, idle}
 use Rattle.clap.specs.Words.{takes, subcommand_of}
 use Rattle.clap.proofs.OnLiterals.{clap_on_literals}
-use Rattle.std.proofs.Common.{◌<◌, ◌≤◌, ◌^◌, ◌⊎◌, ◌||◌, length, map, slice_index_or, arith, subst, inl, inr}
+use Rattle.std.proofs.Common.{◌<◌, ◌^◌, ◌||◌, map, slice_index_or, arith, subst, inl, inr}
 use Rattle.std.proofs.lemmas.Fmt.{decimal_is_IsNumeral}
 use Rattle.std.proofs.lemmas.Str.Parse.{digit_from_value}
 use Rattle.std.proofs.lemmas.Bool.{ne_eqb}
@@ -15,11 +15,7 @@ use Rattle.std.specs.declared.string.String.{String}
 use Rattle.std.specs.declared.alloc.Global.{Global}
 use Rattle.std.specs.List.{list_any}
 use Rattle.std.specs.Str.Parse.{IsNumeral}
-use Rattle.clap.specs.Words.{subcommand_name_of, subcommand_rows_of}
-use Rattle.clap.specs.declared.parser.matches.ArgMatches.{ArgMatches}
-use Rattle.clap.specs.declared.parser.matches.ArgMatches.TheViews.{out-ArgMatches}
-use Rattle.site.specs.declared.geometry.Geometry.{Geometry}
-use Rattle.face.specs.Words.{IsRun, IsNew, IsRight, HasDash, is_dashed, words_of}
+use Rattle.face.specs.Words.{IsRight, HasDash, is_dashed, words_of}
 use Rattle.face.specs.Program.{program}
 
 -- a word whose first octet is no dash is neither a long nor a short flag

@@ -1,7 +1,7 @@
 -- How a run comes to its end.
 use Rattle.std.proofs.Common.{◌≡◌, ◌≢◌, ◌⊎◌, inl, inr, ⊎_elim, IsTrue, ℕ, ◌≤◌, List, [], ◌∷◌, ◌++◌, length, suc, refl, sym, subst, arith}
 use Rattle.std.specs.Prelude.{Ok, Err, true, false, Bool}
-use Rattle.site.specs.State.{State as Site, IsQuiet, faults_of}
+use Rattle.site.specs.State.{State as Site, faults_of}
 use Rattle.site.specs.declared.geometry.Geometry.{Geometry}
 use Rattle.site.specs.Calls.{Goes, Rose}
 use Rattle.site.specs.Laws.{rose_since}
@@ -9,6 +9,8 @@ use Rattle.site.specs.declared.outside.Stop.TheVariants.{Device, Memory, Worn, F
 use Rattle.record_model.specs.State.{Content, State}
 use Rattle.engine.specs.Image.{Stands}
 use Rattle.engine.specs.Fits.{Fits}
+use Rattle.engine.specs.Going.{sizes_of}
+use Rattle.flash_cache.specs.Held.{IsWorn}
 use Rattle.record_model.specs.Run.{Line, is_quit}
 use Rattle.face.specs.declared.halt.Halt.{Halt}
 use Rattle.face.specs.declared.halt.Halt.TheVariants as halt
@@ -17,11 +19,10 @@ use Rattle.face.specs.declared.source.Heard.{Heard}
 use Rattle.face.specs.declared.source.Heard.TheVariants as heard
 use Rattle.engine.specs.declared.engine.Engine.{Engine}
 use Rattle.face.specs.Causes.{HasCause, AnswerFailsBy}
-use Rattle.face.specs.Lines.{commands_of, HasEnded, to_hear, total, IsSource, HearsLine, Hears, IsCutOff}
-use Rattle.face.specs.Run.{Run, Begins, HasHeard, StopsTaking, Stops, Works}
+use Rattle.face.specs.Lines.{HasEnded, to_hear, total, IsSource, HearsLine, Hears, IsCutOff}
+use Rattle.face.specs.Run.{Run, HasHeard, StopsTaking, Stops, Works}
 use Rattle.face.specs.Going.{Going}
 use Rattle.face.proofs.Cuts.{Cut, has_heard_all, input_failed, over_limit, taken_by, heard_line, quit_is_last}
-use Rattle.face.proofs.Meanings.{opens_where_it_stands}
 use Rattle.face.proofs.Works.{stopped, ended}
 
 -- taking wasn't what failed
@@ -134,11 +135,15 @@ answer_takes_nothing halt.Limit engine old new fails = absurd fails
 
 -- nothing is foreign where the run began over a sound image
 pub answer_cause : (h : Halt) (engine : Engine) (old mid new : Site) → AnswerFailsBy h engine mid new → Goes old mid
-    → (IsTrue old.honest → (g : Geometry) (table : List Content) (commits : ℕ) → Stands g old.image table commits → (s : State) × Fits engine mid s) → HasCause h old new
+    → (IsTrue old.honest → (g : Geometry) (table : List Content) (commits : ℕ) → Stands g old.image table commits → ((s : State) × Fits engine mid s) × (sizes_of engine.store ≡ g)) → HasCause h old new
 answer_cause (halt.Stop (Device dev)) engine old mid new fails goes fits = rose_since (faults_of dev old) (faults_of dev mid) (faults_of dev new) (goes.faults dev) fails
 answer_cause (halt.Stop Memory) engine old mid new fails goes fits = fails
-answer_cause (halt.Stop (Worn dev)) engine old mid new fails goes fits = fails
-answer_cause (halt.Stop Foreign) engine old mid new fails goes fits = λ honest g table commits stands. let f = fits honest g table commits stands in fails f.0 f.1
+answer_cause (halt.Stop (Worn dev)) engine old mid new fails goes fits = (
+  fails.0,
+  λ honest g table commits stands.
+      let f = fits honest g table commits stands in subst (λ (x : Geometry). IsWorn x new.image) f.1 (fails.1 f.0.0 f.0.1),
+)
+answer_cause (halt.Stop Foreign) engine old mid new fails goes fits = λ honest g table commits stands. let f = fits honest g table commits stands in fails f.0.0 f.0.1
 answer_cause halt.Input engine old mid new fails goes fits = absurd fails
 answer_cause halt.Output engine old mid new fails goes fits = rose_since old.output_faults mid.output_faults new.output_faults goes.output_faults fails
 answer_cause halt.Limit engine old mid new fails goes fits = absurd fails

@@ -14,6 +14,8 @@ use Rattle.std.specs.List.{AllByRecursion, list_any}
 use Rattle.face.specs.declared.halt.Halt.{Halt}
 use Rattle.face.specs.declared.halt.Halt.TheVariants as halt
 use Rattle.face.specs.Texts.{fault_line, status_of}
+use Rattle.engine.specs.Image.{Stands}
+use Rattle.flash_cache.specs.Held.{IsWorn}
 use Rattle.face.specs.Causes.{HasCause, HasCauses, NoFaultRose, EndsInTime}
 use Rattle.face.specs.Lines.{commands_of, up_to_quit, answered_of, limit}
 use Rattle.face.specs.Run.{Run, told_after, StandsFor, StandsAt, StandsNear, IsAccounted, IsBetween, Begins, HasHeard, HasTakenAll, Stops, StopsTaking, Works}
@@ -214,10 +216,14 @@ not_over n left octets rest is (inr quit) many none = true_not_false (sym quit �
     same = ap (take n) is ∙ front
 
 -- where nothing fails and the input ends in time
-pub complete : (g : Geometry) (opening : State) (old new : Site) (status : ℕ) → IsGood g opening old → NoFaultRose old new → EndsInTime old → HasCauses status old new → Headline g opening old new status → (status ≡ 0) ⊎ (status ≡ 4)
-complete g opening old new status good none ends causes h =
+pub complete : (g : Geometry) (opening : State) (old new : Site) (status : ℕ) → IsGood g opening old → NoFaultRose old new → (IsWorn g new.image → ⊥) → EndsInTime old → HasCauses status old new → Headline g opening old new status → (status ≡ 0) ⊎ (status ≡ 4)
+complete g opening old new status good none unworn ends causes h =
     ⊎_elim (λ e. inl e) (⊎_elim (λ e. let c = causes.device e in absurd (none.devices c.0 c.1)) (⊎_elim (λ e. inr e) (⊎_elim (λ e. absurd (none.input (causes.input e)))
-    (⊎_elim (λ e. absurd (none.output (causes.output e))) (⊎_elim (λ e. absurd (in_time (h.over e))) (λ e. absurd (causes.foreign e good.honest g opening.table opening.commits (stands_by g old.image opening good.opens)))))))) causes.others
+    (⊎_elim (λ e. absurd (none.output (causes.output e))) (⊎_elim (λ e. absurd (in_time (h.over e)))
+    (⊎_elim (λ e. absurd (unworn (causes.worn e good.honest g opening.table opening.commits stands))) (λ e. absurd (causes.foreign e good.honest g opening.table opening.commits stands)))))))) causes.others
   where
+    stands : Stands g old.image opening.table opening.commits
+    stands = stands_by g old.image opening good.opens
+
     in_time : (length h.octets ≡ limit + 1) × (list_any is_quit (commands_of false (take limit h.octets)) ≡ false) → ⊥
     in_time over = not_over limit old.left h.octets new.left h.taken ends over.0 over.1

@@ -1,28 +1,47 @@
 -- The database of a site of which only counts, told and heard octets change.
-use Rattle.std.proofs.Common.{◌≡◌, ℕ, List, sym, subst, ◌∙◌}
+use Rattle.std.proofs.Common.{◌≡◌, ℕ, ◌<◌, List, Some, false, sym, subst, ◌∙◌}
 use Rattle.site.specs.declared.outside.Dev.TheVariants.{Log, Flash, Disk}
 use Rattle.site.specs.declared.geometry.Geometry.{Geometry}
-use Rattle.site.specs.Geometry.{HasLimits}
-use Rattle.site.specs.State.{State as Site, Image, Loose, IsSettled}
+use Rattle.site.specs.Geometry.{HasLengths}
+use Rattle.site.specs.State.{State as Site, Image}
 use Rattle.site.specs.Calls.{Goes}
-use Rattle.site.specs.Laws.{stays_honest, quiet_settled}
+use Rattle.site.specs.Laws.{stays_honest}
 use Rattle.sealed_ring.specs.Ring.{FitsIn, IsRing, hi_of}
-use Rattle.image_changes.specs.Rings.{log_shape}
-use Rattle.record_model.specs.State.{State}
+use Rattle.image_changes.specs.Rings.{log_shape, group_shape}
+use Rattle.record_model.specs.State.{State, Content}
+use Rattle.log_records.specs.Log.{Entry}
+use Rattle.slotted_page.specs.Layout.{lsn_of}
+use Rattle.slotted_page.specs.Layout as page
+use Rattle.buffer_pool.specs.declared.frame.Frame.{Frame}
+use Rattle.buffer_pool.specs.Frames.{frame_of}
 use Rattle.log_store.specs.declared.store.LogStore.{LogStore}
-use Rattle.log_store.specs.Held as held
+use Rattle.log_store.specs.Held as log_held
+use Rattle.log_store.specs.Held.{end_of, HasBlocks}
+use Rattle.flash_cache.specs.declared.cache.FlashCache.{FlashCache}
+use Rattle.flash_cache.specs.Held as flash_held
+use Rattle.flash_cache.specs.Held.{version_on, IsCleanOn}
+use Rattle.page_store.specs.declared.store.PageStore.{PageStore}
+use Rattle.page_store.specs.Held as page_held
+use Rattle.page_store.specs.Held.{current}
+use Rattle.page_store.specs.Ahead.{IsAhead}
+use Rattle.image_meaning.specs.Meaning.{picture}
+use Rattle.image_meaning.specs.Beside.{AreRingsSound}
+use Rattle.redo_undo.specs.Running.{RunsOn}
+use Rattle.redo_undo.specs.Holding.{HoldsLog, HoldsIn, ShowRecords}
 use Rattle.engine.specs.declared.engine.Engine.{Engine}
-use Rattle.engine.specs.Image.{Stands, IsBlankBeside}
-use Rattle.engine.specs.Going.{MayLog, MayGoOn}
-use Rattle.engine.specs.Holding.{HoldsLog}
+use Rattle.engine.specs.Going.{MayGoOn, sizes_of}
 use Rattle.engine.specs.Fits.{Fits}
 use Rattle.face.specs.Run.{StandsFor}
 
+-- the lengths are kept
+lengths_stay : (g : Geometry) (a b : Site) → HasLengths g a.image → Goes a b → HasLengths g b.image
+lengths_stay g a b lengths goes = record { log = goes.sizes Log ∙ lengths.log; flash = goes.sizes Flash ∙ lengths.flash; disk = goes.sizes Disk ∙ lengths.disk }
+
 -- a log goes on after calls that keep the lengths
-log_goes_on : (log : LogStore) (a b : Site) → held.MayGoOn log a → Goes a b → held.MayGoOn log b
+log_goes_on : (log : LogStore) (a b : Site) → log_held.MayGoOn log a → Goes a b → log_held.MayGoOn log b
 log_goes_on log a b going goes = record {
   limits = going.limits;
-  lengths = record { log = goes.sizes Log ∙ going.lengths.log; flash = goes.sizes Flash ∙ going.lengths.flash; disk = goes.sizes Disk ∙ going.lengths.disk };
+  lengths = lengths_stay log.geometry a b going.lengths goes;
   usable = record { fits = subst (FitsIn log.ring.shape) (sym (goes.sizes log.ring.shape.dev)) going.usable.fits; bounded = going.usable.bounded };
   shape = going.shape;
   kept = going.kept;
@@ -31,54 +50,125 @@ log_goes_on log a b going goes = record {
   high = going.high;
 }
 
--- so does the database
-pub goes_on : (engine : Engine) (a b : Site) → MayGoOn engine a → Goes a b → MayGoOn engine b
-goes_on engine a b go goes = record {
-  journal = record { log = log_goes_on engine.journal.log a b go.journal.log goes; kept = go.journal.kept; blocks = go.journal.blocks; bounded = go.journal.bounded };
-  going = go.going;
-  cap = go.cap;
-  table = go.table;
-  room = go.room;
-  bounded = go.bounded;
-  commits = go.commits;
-  short = go.short;
-  lasts = go.lasts;
+-- so does the queue on flash
+flash_goes_on : (cache : FlashCache) (a b : Site) → flash_held.MayGoOn cache a → Goes a b → flash_held.MayGoOn cache b
+flash_goes_on cache a b going goes = record {
+  limits = going.limits;
+  lengths = lengths_stay cache.geometry a b going.lengths goes;
+  usable = record { fits = subst (FitsIn cache.ring.shape) (sym (goes.sizes cache.ring.shape.dev)) going.usable.fits; bounded = going.usable.bounded };
+  shape = going.shape;
+  next = going.next;
+  few = going.few;
+  sizes = going.sizes;
+  exist = going.exist;
 }
+
+-- and the database
+pub goes_on : (engine : Engine) (a b : Site) → MayGoOn engine a → Goes a b → MayGoOn engine b
+goes_on engine a b go goes =
+    let both = go.store.both in
+    record {
+      store = record {
+        both = record {
+          log_going = log_goes_on engine.store.log a b both.log_going goes;
+          pages_going = record { flash = flash_goes_on engine.store.pages.flash a b both.pages_going.flash goes; own = both.pages_going.own };
+          sizes = both.sizes;
+          room = both.room;
+        };
+        kept = go.store.kept;
+        blocks = go.store.blocks;
+        bounded = go.store.bounded;
+      };
+      going = go.going;
+      cap = go.cap;
+      table = go.table;
+      room = go.room;
+      bounded = go.bounded;
+      commits = go.commits;
+      lasts = go.lasts;
+    }
+
+module _ (a b : Site) (goes : Goes a b) (image : b.image ≡ a.image) where
+  -- what is said of the image alone
+  same : (P : Image → Type 0) → P a.image → P b.image
+  same P p = subst P (sym image) p
+
+  -- the pages fit it
+  pages_fit : (pages : PageStore) → page_held.Fits pages a → page_held.Fits pages b
+  pages_fit pages f =
+      let g = pages.flash.geometry in
+      record {
+        flash = record {
+          honest = stays_honest a b goes f.flash.honest;
+          form = same (λ x. IsRing (group_shape g) x.flash) f.flash.form;
+          hi = same (λ x. pages.flash.ring.hi ≡ hi_of (group_shape g) x.flash) f.flash.hi;
+        };
+        groups = f.groups;
+        holds = same (λ x. flash_held.Holds pages.flash x f.groups) f.holds;
+        clean = same (λ x. IsCleanOn g x) f.clean;
+        sound = same (λ x. (number : ℕ) → number < g.pages → page.IsSound (version_on g x number)) f.sound;
+        unchanged = same (λ x. (number : ℕ) (frame : Frame) → frame_of pages.pool.frames number ≡ Some frame → frame.changed ≡ false → frame.content ≡ version_on g x number) f.unchanged;
+      }
+
+  -- log and pages hold together
+  log_holds : (g : Geometry) (log : LogStore) (pages : PageStore) (records : List Entry) (table : List Content) (commits : ℕ) → HoldsLog g log pages a records table commits → HoldsLog g log pages b records table commits
+  log_holds g log pages records table commits h = record {
+    blocks = h.blocks;
+    tail = h.tail;
+    ready = record {
+      pages = pages_fit pages h.ready.pages;
+      blocks = record {
+        honest = stays_honest a b goes h.ready.blocks.honest;
+        form = same (λ x. IsRing (log_shape log.geometry) x.log) h.ready.blocks.form;
+        hi = same (λ x. log.ring.hi ≡ hi_of (log_shape log.geometry) x.log) h.ready.blocks.hi;
+      };
+      records = same (λ x. log_held.Holds log x (record { first = 0; blocks = h.blocks; tail = h.tail })) h.ready.records;
+    };
+    rings = same (AreRingsSound g) h.rings;
+    runs_on = same (λ x. RunsOn (picture g x h.blocks) h.tail records table commits) h.runs_on;
+    ahead = same (IsAhead log pages) h.ahead;
+    room = h.room;
+  }
+
+  hold : (g : Geometry) (log : LogStore) (pages : PageStore) (records : List Entry) (table : List Content) (commits : ℕ) → HoldsIn g log pages a records table commits → HoldsIn g log pages b records table commits
+  hold g log pages records table commits h = record {
+    log_holds = log_holds g log pages records table commits h.log_holds;
+    shows = same (λ x. ShowRecords g pages x records) h.shows;
+    below = same (λ x. (number : ℕ) → number < g.pages → lsn_of (current pages x number) < end_of log) h.below;
+  }
 
 -- it stands for the same state
 pub still_fits : (engine : Engine) (a b : Site) (s : State) → Fits engine a s → Goes a b → b.image ≡ a.image → Fits engine b s
-still_fits engine a b s fits goes image =
-    let h = fits.holds in
-    let log = engine.journal.log in
-    record {
-      honest = stays_honest a b goes fits.honest;
-      records = fits.records;
-      holds = record {
-        fits = record {
-          honest = stays_honest a b goes fits.honest;
-          form = subst (λ (x : Image). IsRing (log_shape log.geometry) x.log) (sym image) h.fits.form;
-          hi = subst (λ (x : Image). log.ring.hi ≡ hi_of (log_shape log.geometry) x.log) (sym image) h.fits.hi;
-        };
-        beside = subst (IsBlankBeside log.geometry) (sym image) h.beside;
-        blocks = h.blocks;
-        tail = h.tail;
-        holds = subst (λ (x : Image). held.Holds log x (record { first = 0; blocks = h.blocks; tail = h.tail })) (sym image) h.holds;
-        runs_on = h.runs_on;
-        room = h.room;
-        made = h.made;
-      };
-      shown_is = fits.shown_is;
-      counts = fits.counts;
-      sessions = fits.sessions;
-      locks_are = fits.locks_are;
-    }
+still_fits engine a b s fits goes image = record {
+  honest = stays_honest a b goes fits.honest;
+  records = fits.records;
+  holds = record {
+    both = hold a b goes image (sizes_of engine.store) engine.store.log engine.store.pages fits.records s.table s.commits fits.holds.both;
+    made = fits.holds.made;
+  };
+  counts = fits.counts;
+  sessions = fits.sessions;
+  locks_are = fits.locks_are;
+}
 
 -- the devices stand for the table and the count of this state
-pub fits_stands : (engine : Engine) (site : Site) (s : State) → HasLimits engine.journal.log.geometry → Fits engine site s → StandsFor engine.journal.log.geometry site.image s
-fits_stands engine site s limits fits =
-    let h = fits.holds in
+pub fits_stands : (engine : Engine) (site : Site) (s : State) → engine.store.log.geometry ≡ sizes_of engine.store → Fits engine site s → StandsFor (sizes_of engine.store) site.image s
+fits_stands engine site s sizes fits =
+    let h = fits.holds.both.log_holds in
     record {
       blocks = h.blocks;
-      sound = record { limits = limits; beside = h.beside; held = h.holds.blocks; records = h.runs_on.carries.sound };
+      sound = record {
+        octets = record {
+          limits = h.rings.limits;
+          lengths = h.rings.lengths;
+          masters = h.rings.masters;
+          segments = h.rings.segments;
+          groups = h.rings.groups;
+          versions = h.ready.pages.sound;
+          clean = h.ready.pages.clean;
+        };
+        held = subst (λ (g : Geometry). HasBlocks g 0 h.blocks site.image) sizes h.ready.records.blocks;
+        records = h.runs_on.carries.sound;
+      };
       means = h.runs_on.means;
     }

@@ -1,5 +1,5 @@
 -- Where memory is wanted before anything is done.
-use Rattle.std.proofs.Common.{◌≡◌, inl, inr, ℕ, List, [], refl, sym, subst, arith, true, IsTrue, ◌++◌}
+use Rattle.std.proofs.Common.{◌≡◌, inl, inr, ℕ, refl, sym, subst, arith, true}
 use Rattle.std.specs.Prelude.{Err}
 use Rattle.site.specs.declared.outside.Stop.TheVariants.{Memory}
 use Rattle.site.specs.declared.geometry.Geometry.{Geometry}
@@ -11,7 +11,7 @@ use Rattle.face.specs.declared.halt.Halt.{Halt}
 use Rattle.face.specs.declared.halt.Halt.TheVariants as halt
 use Rattle.face.specs.Headline.{IsGood, Headline}
 use Rattle.face.specs.Run.{Works}
-use Rattle.face.specs.Causes.{HasCauses, NoFaultRose}
+use Rattle.face.specs.Causes.{HasCauses}
 use Rattle.face.specs.New.{New, NewCauses}
 use Rattle.face.specs.Words.{LacksMemory, memory_fault}
 use Rattle.face.specs.Range.{run_of}

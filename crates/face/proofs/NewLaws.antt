@@ -1,12 +1,12 @@
 -- What `new` tells after it has only read.
-use Rattle.std.proofs.Common.{◌≡◌, ◌++◌, ◌+◌, ℕ, List, take, sym, arith, le_trans, ◌∙◌, ap, subst, IsTrue}
+use Rattle.std.proofs.Common.{◌≡◌, ◌++◌, ℕ, List, take, arith, le_trans, ◌∙◌, ap, IsTrue}
 use Rattle.std.specs.Prelude.{Result}
 use Rattle.site.specs.declared.geometry.Geometry.{Geometry}
 use Rattle.site.specs.declared.outside.Failed.{Failed as CallFailed}
-use Rattle.site.specs.State.{State, Moment, now_of}
+use Rattle.site.specs.State.{State, Moment}
 use Rattle.site.specs.Calls.{Goes, IsUnchanged}
 use Rattle.site.specs.Moments.{EachMoment}
-use Rattle.site.specs.Telling.{TellsPart, SameDevices}
+use Rattle.site.specs.Telling.{TellsPart}
 use Rattle.site.specs.Laws.{stays_honest, no_call, in_sequence, each_weaker, unchanged_calm, unchanged_devices, devices_in_sequence}
 use Rattle.face.specs.declared.new_database.Unfit.{Unfit}
 use Rattle.face.specs.declared.new_database.Unfit.TheVariants.{Foreign, Failed, NotBlank}

@@ -2,10 +2,9 @@
 use Rattle.std.proofs.Common.{◌≡◌, inl, inr, ⊎_elim, ℕ, List, ◌++◌, take, sym, ◌∙◌, ap, subst}
 use Rattle.std.proofs.lemmas.List.{append-nil}
 use Rattle.site.specs.State.{State as Site, Image, now_of, no_loose}
-use Rattle.site.specs.Calls.{Goes}
 use Rattle.site.specs.Moments.{Leaves, LeavesOnly, EachMoment}
-use Rattle.site.specs.Laws.{no_call, image_is, told_is, in_sequence, leaves_weaker, holds_now, stays_honest, tell_leaves}
-use Rattle.site.specs.Telling.{TellsPart, SameDevices}
+use Rattle.site.specs.Laws.{no_call, image_is, told_is, in_sequence, leaves_weaker, holds_now, tell_leaves}
+use Rattle.site.specs.Telling.{TellsPart}
 use Rattle.site.specs.declared.geometry.Geometry.{Geometry}
 use Rattle.record_model.specs.State.{State}
 use Rattle.engine.specs.Leaves.{LeavesTable, LeavesEither}

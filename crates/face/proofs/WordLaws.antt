@@ -1,10 +1,9 @@
 -- The words of `run` and those of `new` are told apart, and say one thing.
-use Rattle.std.proofs.Common.{◌≡◌, ℕ, List, [], ◌∷◌, sym, ◌∙◌, ap, arith, length}
+use Rattle.std.proofs.Common.{◌≡◌, ℕ, List, sym, ◌∙◌, ap, arith, length}
 use Rattle.std.proofs.lemmas.Fmt.{decimal_injective}
 use Rattle.site.specs.declared.geometry.Geometry.{Geometry}
-use Rattle.site.specs.Geometry.{HasLimits}
 use Rattle.face.specs.Words.{IsRun, IsNew}
-use Rattle.face.proofs.WordLists.{SameFour, four_words}
+use Rattle.face.proofs.WordLists.{four_words}
 
 pub not_both : (words : List (List ℕ)) (pool : ℕ) (g : Geometry) → IsRun words pool → IsNew words g → ⊥
 not_both words pool g run new =

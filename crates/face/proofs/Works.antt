@@ -2,7 +2,6 @@
 use Rattle.std.proofs.Common.{◌≡◌, ◌≢◌, inr, ⊎_elim, ℕ, suc, List, [], ◌∷◌, ◌++◌, take, drop, refl, sym, ◌∙◌, ap, subst, arith, append_assoc, add-one}
 use Rattle.std.proofs.lemmas.List.{append-nil}
 use Rattle.site.specs.State.{State as Site, Image, Snapshot, MayLeave, now_of, no_loose, IsQuiet}
-use Rattle.site.specs.Geometry.{HasLimits}
 use Rattle.site.specs.Calls.{Goes}
 use Rattle.site.specs.Moments.{Leaves, LeavesOnly, EachMoment}
 use Rattle.site.specs.Laws.{in_sequence, leaves_weaker, image_is, calm, now_same, holds_now, tell_leaves}
@@ -13,6 +12,7 @@ use Rattle.record_model.specs.Run.{Line}
 use Rattle.engine.specs.declared.engine.Engine.{Engine}
 use Rattle.engine.specs.Leaves.{LeavesTable}
 use Rattle.engine.specs.Fits.{Fits}
+use Rattle.engine.specs.Going.{sizes_of}
 use Rattle.shell_text.specs.Texts.{open_text, reply_text}
 use Rattle.face.specs.declared.halt.Halt.{Halt}
 use Rattle.face.specs.declared.halt.Halt.TheVariants.{Output}
@@ -29,7 +29,7 @@ stands_now run now i quiet stands s left = subst (λ (x : Image). StandsAt run i
 
 going_stands : (run : Run) (entry now : Site) (engine : Engine) (i : ℕ) → Going run entry now engine i → StandsAt run i now.image
 going_stands run entry now engine i going =
-    subst (λ (g : Geometry). StandsFor g now.image (state_at run i)) going.geometry (fits_stands engine now (state_at run i) (subst HasLimits (sym going.geometry) going.limits) going.fits)
+    subst (λ (g : Geometry). StandsFor g now.image (state_at run i)) going.geometry (fits_stands engine now (state_at run i) going.same going.fits)
 
 -- restart
 
@@ -66,12 +66,12 @@ module _ (run : Run) (entry mid : Site) (leaves : LeavesOnly entry mid (LeavesTa
     pub opening_lost : IsQuiet new → Stops run 0 entry new Output
     opening_lost quiet = record { any_moment = opening; between = λ ne. absurd (ne refl); quiet = λ ne. quiet }
 
-    pub opened : (engine : Engine) → Goes mid new → SameDevices mid new → IsQuiet new → new.told ≡ mid.told ++ text → Fits engine mid run.opening → engine.journal.log.geometry ≡ run.geometry → HasLimits run.geometry → Going run entry new engine 0
-    opened engine goes devices quiet told fits geometry limits = record {
+    pub opened : (engine : Engine) → Goes mid new → SameDevices mid new → IsQuiet new → new.told ≡ mid.told ++ text → Fits engine mid run.opening → sizes_of engine.store ≡ run.geometry → engine.store.log.geometry ≡ sizes_of engine.store → Going run entry new engine 0
+    opened engine goes devices quiet told fits geometry same = record {
       fits = still_fits engine mid new run.opening fits goes devices.image;
       quiet = quiet;
       geometry = geometry;
-      limits = limits;
+      same = same;
       told = told ∙ (λ i. untold i ++ is i) ∙ ap (λ (l : List ℕ). entry.told ++ l) (sym (told_more run 0 (omega arith)));
       few = omega arith;
       moments = opening;
@@ -84,7 +84,7 @@ moved run entry mid new engine i going goes hears = record {
   fits = still_fits engine mid new (state_at run i) going.fits goes hears.image;
   quiet = hears.loose ∙ going.quiet;
   geometry = going.geometry;
-  limits = going.limits;
+  same = going.same;
   told = hears.told ∙ going.told;
   few = going.few;
   moments = calm entry mid new (Leaves (IsAccounted run i entry.told [])) going.moments hears.past (now_same mid new hears.told hears.image hears.loose);
@@ -110,7 +110,7 @@ module _ (run : Run) (entry mid : Site) (engine : Engine) (i : ℕ) (going : Goi
 
   -- a line is answered
   module _ (new : Site) (line : Line) (rest : List Line) (is : drop i (answered run) ≡ line ∷ rest)
-      (leaves : LeavesOnly mid new (LeavesAnswer engine.journal.log.geometry (state_at run i) (step (state_at run i) line).after (reply_text (step (state_at run i) line).reply) mid.told)) where
+      (leaves : LeavesOnly mid new (LeavesAnswer (sizes_of engine.store) (state_at run i) (step (state_at run i) line).after (reply_text (step (state_at run i) line).reply) mid.told)) where
     leaves' : LeavesOnly mid new (LeavesAnswer run.geometry (state_at run i) (step (state_at run i) line).after (reply_text (step (state_at run i) line).reply) mid.told)
     leaves' = subst (λ (g : Geometry). LeavesOnly mid new (LeavesAnswer g (state_at run i) (step (state_at run i) line).after (reply_text (step (state_at run i) line).reply) mid.told)) going.geometry leaves
 
@@ -133,12 +133,12 @@ module _ (run : Run) (entry mid : Site) (engine : Engine) (i : ℕ) (going : Goi
       };
     }
 
-    pub goes_on : (engine' : Engine) → engine'.journal.log.geometry ≡ engine.journal.log.geometry → Fits engine' new (step (state_at run i) line).after → new.loose ≡ no_loose → new.told ≡ mid.told ++ reply_text (step (state_at run i) line).reply → Going run entry new engine' (suc i)
-    goes_on engine' geometry fits quiet told = record {
+    pub goes_on : (engine' : Engine) → sizes_of engine'.store ≡ sizes_of engine.store → engine'.store.log.geometry ≡ sizes_of engine'.store → Fits engine' new (step (state_at run i) line).after → new.loose ≡ no_loose → new.told ≡ mid.told ++ reply_text (step (state_at run i) line).reply → Going run entry new engine' (suc i)
+    goes_on engine' geometry same fits quiet told = record {
       fits = subst (Fits engine' new) (sym (state_next run i line rest is)) fits;
       quiet = quiet;
       geometry = geometry ∙ going.geometry;
-      limits = going.limits;
+      same = same;
       told = told ∙ (λ j. told_suc j ++ sym (text_next run i line rest is) j)
           ∙ append_assoc entry.told (told_after run (suc i)) (text_at run (suc i))
           ∙ ap (λ (l : List ℕ). entry.told ++ l) (sym (told_more run (suc i) (let less = below (answered run) i line rest is in omega (arith, less))))

@@ -1,6 +1,6 @@
 -- Octets that are zero, and the first that isn't.
 use Rattle.std.proofs.Common.{◌≡◌, zero, suc, inl, inr, ◌+◌, ◌-◌, ◌≤◌, ◌<◌, ℕ, List, length, take, drop, get_or, sym, ◌∙◌, ap, subst, arith}
-use Rattle.std.specs.Prelude.{slice_index_or, ◌⊎◌}
+use Rattle.std.specs.Prelude.{◌⊎◌}
 use Rattle.std.proofs.lemmas.List.{get_or-take, get_or-drop}
 use Rattle.face.specs.New.{AreZero, IsFirst}
 

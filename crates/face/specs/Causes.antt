@@ -1,6 +1,7 @@
 -- When a run halts.
-use Rattle.std.specs.Prelude.{◌≡◌, ◌≢◌, ◌⊎◌, ℕ, ◌+◌, ◌<◌, ◌≤◌, List, length, take, true, false, ⊤, Result, Ok, Err, IsTrue}
+use Rattle.std.specs.Prelude.{◌≡◌, ◌⊎◌, ℕ, ◌+◌, ◌<◌, ◌≤◌, List, length, take, true, false, ⊤, Result, Ok, Err, IsTrue}
 use Rattle.site.specs.declared.outside.Dev.{Dev}
+use Rattle.site.specs.declared.outside.Dev.TheVariants.{Flash}
 use Rattle.site.specs.declared.outside.Stop.{Stop}
 use Rattle.site.specs.declared.outside.Stop.TheVariants.{Device, Memory, Worn, Foreign}
 use Rattle.site.specs.declared.geometry.Geometry.{Geometry}
@@ -13,6 +14,8 @@ use Rattle.face.specs.declared.halt.Halt.TheVariants as halt
 use Rattle.engine.specs.declared.engine.Engine.{Engine}
 use Rattle.engine.specs.Image.{Stands}
 use Rattle.engine.specs.Fits.{Fits}
+use Rattle.engine.specs.Going.{sizes_of}
+use Rattle.flash_cache.specs.Held.{IsWorn}
 use Rattle.std.specs.List.{list_any}
 use Rattle.record_model.specs.Run.{is_quit}
 use Rattle.face.specs.Lines.{limit, commands_of}
@@ -25,12 +28,16 @@ IsForeign site = IsTrue site.honest → (g : Geometry) (table : List Content) (c
 abbrev pub IsOverLimit : State → State → Type 0
 IsOverLimit old new = IsTrue old.honest → limit + length new.left < length old.left
 
--- Why a command fails. A device's fault comes only where its count rose, and no ring is worn: one whose next number is
--- 2 ^ 40 isn't of a sound image. Over a site that the database fits nothing is foreign.
+-- of an honest site whose image at entry stands for a table: the ring of groups stands at its end now
+abbrev pub IsWornOut : State → State → Type 0
+IsWornOut old new = IsTrue old.honest → (g : Geometry) (table : List Content) (commits : ℕ) → Stands g old.image table commits → IsWorn g new.image
+
+-- Why a command fails. A device's fault comes only where its count rose. It is flash alone that is worn: over a site that the
+-- database fits only where the ring of groups stands at its end. Over such a site nothing is foreign.
 abbrev pub FailsBy : Stop → Engine → State → State → Type 0
 FailsBy (Device dev) engine old new = Rose (faults_of dev old) (faults_of dev new)
 FailsBy Memory engine old new = ⊤
-FailsBy (Worn dev) engine old new = ⊥
+FailsBy (Worn dev) engine old new = (dev ≡ Flash) × ((s : model.State) → Fits engine old s → IsWorn (sizes_of engine.store) new.image)
 FailsBy Foreign engine old new = (s : model.State) → Fits engine old s → ⊥
 
 -- why the answer to a line fails
@@ -40,11 +47,11 @@ AnswerFailsBy halt.Input engine old new = ⊥
 AnswerFailsBy halt.Output engine old new = Rose old.output_faults new.output_faults
 AnswerFailsBy halt.Limit engine old new = ⊥
 
--- Why a run halts. A fault comes only where its count rose.
+-- Why a run halts. A fault comes only where its count rose, and it is flash alone that is worn.
 abbrev pub HasCause : Halt → State → State → Type 0
 HasCause (halt.Stop (Device dev)) old new = Rose (faults_of dev old) (faults_of dev new)
 HasCause (halt.Stop Memory) old new = ⊤
-HasCause (halt.Stop (Worn dev)) old new = ⊥
+HasCause (halt.Stop (Worn dev)) old new = (dev ≡ Flash) × IsWornOut old new
 HasCause (halt.Stop Foreign) old new = IsForeign old
 HasCause halt.Input old new = Rose old.input_faults new.input_faults
 HasCause halt.Output old new = Rose old.output_faults new.output_faults
@@ -56,9 +63,9 @@ pub record HasCauses (status : ℕ) (old new : State) : Type 0 where
   pub input : status ≡ 5 → Rose old.input_faults new.input_faults
   pub output : status ≡ 6 → Rose old.output_faults new.output_faults
   pub limit : status ≡ 7 → IsOverLimit old new
-  pub worn : status ≢ 8
+  pub worn : status ≡ 8 → IsWornOut old new
   pub foreign : status ≡ 9 → IsForeign old
-  pub others : status ≡ 0 ⊎ (status ≡ 3 ⊎ (status ≡ 4 ⊎ (status ≡ 5 ⊎ (status ≡ 6 ⊎ (status ≡ 7 ⊎ status ≡ 9)))))
+  pub others : status ≡ 0 ⊎ (status ≡ 3 ⊎ (status ≡ 4 ⊎ (status ≡ 5 ⊎ (status ≡ 6 ⊎ (status ≡ 7 ⊎ (status ≡ 8 ⊎ status ≡ 9))))))
 
 -- no count of faults rose
 pub record NoFaultRose (old new : State) : Type 0 where

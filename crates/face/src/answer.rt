@@ -6,7 +6,7 @@ ghost use Rattle.site.specs.Moments.{LeavesOnly};
 ghost use Rattle.site.specs.declared.outside.Stop.{Stop};
 ghost use Rattle.site.specs.declared.outside.Dev.{Dev};
 ghost use Rattle.record_model.specs.State.{State};
-ghost use Rattle.engine.specs.Going.{MayGoOn};
+ghost use Rattle.engine.specs.Going.{MayGoOn, sizes_of};
 ghost use Rattle.engine.specs.Fits.{Fits};
 ghost use Rattle.face.specs.Causes.{AnswerFailsBy};
 ghost use Rattle.face.specs.Grammar.{IsBuilt};
@@ -30,7 +30,7 @@ pub fn answer<S: Site>(engine: &mut Engine, site: &mut S, line: Option<Command>)
     ensures any_moment { (s : State) → Fits engine.old (S.state site.old) s
         → IsQuiet (S.state site.old)
         → LeavesOnly (S.state site.old) (S.state site.new)
-        (LeavesAnswer engine.old.journal.log.geometry s (step s line).after (reply_text (step s line).reply) (S.state site.old).told) }
+        (LeavesAnswer (sizes_of engine.old.store) s (step s line).after (reply_text (step s line).reply) (S.state site.old).told) }
     ensures fits { (s : State) → Fits engine.old (S.state site.old) s
         → OnOk result (Fits engine.new (S.state site.new) (step s line).after) }
     ensures told { (s : State) → Fits engine.old (S.state site.old) s
@@ -44,13 +44,13 @@ pub fn answer<S: Site>(engine: &mut Engine, site: &mut S, line: Option<Command>)
         → OnOk result (IsQuiet (S.state site.new)) }
     ensures quiet { (s : State) → Fits engine.old (S.state site.old) s
         → IsQuiet (S.state site.old)
-        → IfErr result (λ halt. halt ≢ Halt.Stop (Stop.Device Dev.Log) → IsQuiet (S.state site.new)) }
+        → IfErr result (λ halt. ((d : Dev) → halt ≢ Halt.Stop (Stop.Device d)) → IsQuiet (S.state site.new)) }
 
     // Of every site.
     ensures going { OnOk result (MayGoOn engine.new (S.state site.new)) }
     ensures cause { IfErr result (λ halt. AnswerFailsBy halt engine.old (S.state site.old) (S.state site.new)) }
     ensures goes { Goes (S.state site.old) (S.state site.new) }
-    ensures geometry { engine.new.journal.log.geometry ≡ engine.old.journal.log.geometry }
+    ensures sizes { sizes_of engine.new.store ≡ sizes_of engine.old.store }
 {
     let reply = match carry_out(engine, site, line) {
         Ok(reply) => reply,

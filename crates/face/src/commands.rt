@@ -6,7 +6,7 @@ ghost use Rattle.site.specs.State.{IsQuiet};
 ghost use Rattle.site.specs.Calls.{Goes};
 ghost use Rattle.site.specs.Moments.{LeavesOnly};
 ghost use Rattle.record_model.specs.State.{State};
-ghost use Rattle.engine.specs.Going.{MayGoOn};
+ghost use Rattle.engine.specs.Going.{MayGoOn, sizes_of};
 ghost use Rattle.engine.specs.Fits.{Fits};
 ghost use Rattle.engine.specs.Leaves.{LeavesEither};
 ghost use Rattle.face.specs.Causes.{FailsBy};
@@ -34,7 +34,7 @@ pub fn carry_out<S: Site>(
     ensures any_moment { (s : State) → Fits engine.old (S.state site.old) s
         → IsQuiet (S.state site.old)
         → LeavesOnly (S.state site.old) (S.state site.new)
-        (LeavesEither engine.old.journal.log.geometry s (step s line).after (S.state site.old).told) }
+        (LeavesEither (sizes_of engine.old.store) s (step s line).after (S.state site.old).told) }
     ensures left { IsTrue (S.state site.old).honest
         → (S.state site.new).left ≡ (S.state site.old).left }
     ensures stays_quiet { IsTrue (S.state site.old).honest → IsQuiet (S.state site.old)
@@ -42,12 +42,12 @@ pub fn carry_out<S: Site>(
     // Where no device failed, nothing is loose after an error either.
     ensures quiet { (s : State) → Fits engine.old (S.state site.old) s
         → IsQuiet (S.state site.old)
-        → IfErr result (λ stop. stop ≢ Stop.Device Dev.Log → IsQuiet (S.state site.new)) }
+        → IfErr result (λ stop. ((d : Dev) → stop ≢ Stop.Device d) → IsQuiet (S.state site.new)) }
 
     // Of every site.
     ensures going { OnOk result (MayGoOn engine.new (S.state site.new)) }
     ensures cause { IfErr result (λ stop. FailsBy stop engine.old (S.state site.old) (S.state site.new)) }
-    ensures geometry { engine.new.journal.log.geometry ≡ engine.old.journal.log.geometry }
+    ensures sizes { sizes_of engine.new.store ≡ sizes_of engine.old.store }
     ensures goes { Goes (S.state site.old) (S.state site.new) }
 {
     let Some(command) = line else {

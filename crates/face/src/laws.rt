@@ -1,20 +1,20 @@
 // Laws on what an image stands for; their lemmas stand in proofs/.
 ghost use Rattle.face.specs.Image.{OneMeaning, OneOpening, OpensWhereItStands, BlankLaw};
 
-use log_laws::blank_is_sound;
 use log_store::{blank_log, one_log};
 
 /// Law: an image stands for one table and one number of commits only.
 pub fn one_meaning()
     ensures { OneMeaning }
 {
-    one_log();
+    image_meaning::one_meaning();
 }
 
 /// Law: a run over an image opens with one state only.
 pub fn one_opening()
     ensures { OneOpening }
 {
+    image_meaning::one_meaning();
     one_log();
 }
 
@@ -27,6 +27,7 @@ pub fn opens_where_it_stands()
 pub fn blank_stands()
     ensures { BlankLaw }
 {
+    image_meaning::blank_stands();
     blank_log();
-    blank_is_sound();
+    one_log();
 }

@@ -181,28 +181,23 @@ fn is_long_value(line: &[u8]) -> bool {
 }
 
 // The statuses of the first restart by the change at which it is stopped, and of the second one, which is stopped at its
-// change 3, for the seeds 0, 1, 2 and 77.
-const STATUSES: [(u8, [u8; 4]); 12] = [
-    (3, [3, 3, 3, 3]),
-    (3, [3, 3, 3, 3]),
-    (3, [3, 3, 3, 3]),
-    (3, [3, 3, 3, 3]),
-    (3, [3, 3, 3, 3]),
-    (3, [3, 3, 3, 3]),
-    (3, [3, 3, 3, 3]),
-    (3, [3, 3, 3, 3]),
-    (3, [0, 3, 0, 3]),
-    (3, [0, 3, 0, 3]),
-    (6, [0, 0, 0, 0]),
-    (0, [0, 0, 0, 0]),
-];
+// change 3, for the seeds 0, 1, 2 and 77: the first makes 25 changes of the devices and tells one line.
+fn statuses(changes: u64) -> (u8, [u8; 4]) {
+    match changes {
+        0..23 => (3, [3, 3, 3, 3]),
+        23 | 24 => (3, [0, 3, 0, 3]),
+        25 => (6, [0, 0, 0, 0]),
+        _ => (0, [0, 0, 0, 0]),
+    }
+}
 
 #[test]
 fn a_stopped_restart_goes_on(rt: HostRuntime) -> Result<(), Fail> {
-    for (changes, (one, others)) in STATUSES.iter().enumerate() {
-        for (seed, two) in [0, 1, 2, 77].iter().zip(others) {
-            let found = stop_twice(rt.alloc(), changes as u64, 3, *seed)?;
-            assert!(rt; found == (*one, *two, true));
+    for changes in 0..27 {
+        let (one, others) = statuses(changes);
+        for (seed, two) in [0, 1, 2, 77].iter().zip(&others) {
+            let found = stop_twice(rt.alloc(), changes, 3, *seed)?;
+            assert!(rt; found == (one, *two, true));
         }
     }
     Ok(())
@@ -210,11 +205,35 @@ fn a_stopped_restart_goes_on(rt: HostRuntime) -> Result<(), Fail> {
 
 #[test]
 fn a_restart_stopped_at_any_two_changes_undoes_all(rt: HostRuntime) -> Result<(), Fail> {
-    for first in 0..11 {
-        for second in 0..11 {
+    for first in 0..26 {
+        for second in [1, 5, 14, 24] {
             let (_, _, committed) = stop_twice(rt.alloc(), first, second, first + second)?;
             assert!(rt; committed);
         }
     }
+    Ok(())
+}
+
+// The status of each of eight restarts that are stopped, the first at its first change: by then the sixth has undone all.
+const STOPPED: [u8; 8] = [3, 3, 3, 3, 3, 3, 0, 0];
+
+#[test]
+fn eight_stopped_restarts_lose_nothing(rt: HostRuntime) -> Result<(), Fail> {
+    let mut site = MemSite::new(rt.alloc(), &STANDARD)?;
+    site.fuse(1000);
+    let first = b"set 0 aa\nbegin 0\nwrite 0 0 bb\nwrite 0 32 cc\nwrite 0 64 dd\n";
+    let status = run(rt.alloc(), &mut site, first)?;
+    assert!(rt; status == 0);
+    assert!(rt; site.told() == b"open 0\ncommitted 1\nok\nok\nok\nok\n".as_slice());
+    let mut site = site.crash(1);
+    for (place, expected) in STOPPED.iter().enumerate() {
+        site.fuse(place as u64 + 1);
+        let status = run(rt.alloc(), &mut site, b"")?;
+        assert!(rt; status == *expected);
+        site = site.crash(1);
+    }
+    let status = run(rt.alloc(), &mut site, b"get 0\nget 32\nget 64\n")?;
+    assert!(rt; status == 0);
+    assert!(rt; site.told() == b"open 1\nvalue aa\nnone\nnone\n".as_slice());
     Ok(())
 }

@@ -7,8 +7,9 @@ ghost use Rattle.record_model.specs.State.{State, Content};
 ghost use Rattle.engine.specs.Image.{Stands};
 ghost use Rattle.engine.specs.Fits.{Fits};
 ghost use Rattle.record_model.specs.Run.{is_quit};
-ghost use Rattle.engine.specs.Going.{MayGoOn};
+ghost use Rattle.engine.specs.Going.{MayGoOn, sizes_of};
 ghost use Rattle.engine.specs.Leaves.{HasNoSizes};
+ghost use Rattle.flash_cache.specs.Held.{IsWorn};
 ghost use Rattle.face.specs.Causes.{HasCause, HasCauses, NoFaultRose, EndsInTime, Halts};
 ghost use Rattle.face.specs.Run.{Run, Begins, Stops, Works};
 ghost use Rattle.face.specs.Going.{Going};
@@ -36,7 +37,7 @@ fn open<S: Site>(alloc: Global, pool: u32, site: &mut S) -> Result<Engine, Halt>
     requires pool { (1 ≤ pool) × (pool ≤ 4096) }
     ensures going { (run : Run) → Begins run (S.state site.old) → IfOk result (λ engine. Going run (S.state site.old) (S.state site.new) engine 0) }
     // The same, whatever is loose at entry.
-    ensures fits { IsTrue (S.state site.old).honest → (g : Geometry) (table : List Content) (commits : ℕ) → Stands g (S.state site.old).image table commits → IfOk result (λ engine. (s : State) × Fits engine (S.state site.new) s) }
+    ensures fits { IsTrue (S.state site.old).honest → (g : Geometry) (table : List Content) (commits : ℕ) → Stands g (S.state site.old).image table commits → IfOk result (λ engine. ((s : State) × Fits engine (S.state site.new) s) × (sizes_of engine.store ≡ g)) }
     ensures stops { (run : Run) → Begins run (S.state site.old) → IfErr result (λ halt. Stops run 0 (S.state site.old) (S.state site.new) halt) }
     ensures left { IsTrue (S.state site.old).honest → (S.state site.new).left ≡ (S.state site.old).left }
     ensures goes_on { IfOk result (λ engine. MayGoOn engine (S.state site.new)) }
@@ -98,7 +99,7 @@ fn work<S: Site>(alloc: Global, pool: u32, site: &mut S) -> Result<(), Halt>
 
 /// The work of `run`: restart, then the lines of the input. The answer is the status: 0 where the input was heard to its
 /// end, 3 where a device failed, 4 for want of memory, 5 where taking input failed, 6 where telling failed, 7 where the
-/// input is longer than 2^40 octets, 9 where the devices aren't sound. Memory may be wanted at any time; tests show that it isn't where
+/// input is longer than 2^40 octets, 8 where the ring of groups on flash stands at its end, 9 where the devices aren't sound. Memory may be wanted at any time; tests show that it isn't where
 /// there is enough.
 pub fn serve<S: Site>(alloc: Global, pool: u32, site: &mut S) -> u8
     requires from { 1 ≤ pool }
@@ -106,8 +107,8 @@ pub fn serve<S: Site>(alloc: Global, pool: u32, site: &mut S) -> u8
 
     // What is told, and what a crash at any moment leaves.
     ensures headline { (g : Geometry) (opening : State) → IsGood g opening (S.state site.old) → Headline g opening (S.state site.old) (S.state site.new) result }
-    // Where nothing fails and the input ends in time, the status is 0, or memory was wanted.
-    ensures complete { (g : Geometry) (opening : State) → IsGood g opening (S.state site.old) → NoFaultRose (S.state site.old) (S.state site.new) → EndsInTime (S.state site.old) → (result ≡ 0) ⊎ (result ≡ 4) }
+    // Where nothing fails, the ring of groups isn't at its end, and the input ends in time, the status is 0, or memory was wanted.
+    ensures complete { (g : Geometry) (opening : State) → IsGood g opening (S.state site.old) → NoFaultRose (S.state site.old) (S.state site.new) → (IsWorn g (S.state site.new).image → ⊥) → EndsInTime (S.state site.old) → (result ≡ 0) ⊎ (result ≡ 4) }
     // Devices without sizes have status 9.
     ensures sizes { HasNoSizes (S.state site.old) → RefusesDevices result (S.state site.old) (S.state site.new) }
     // When each status comes.
@@ -140,7 +141,7 @@ fn lack_memory<S: Site>(site: &mut S) -> u8
 pub fn face<S: Site>(alloc: Global, words: &[String], site: &mut S) -> u8
     // `run POOL` is the work of `serve`.
     ensures headline { (pool : ℕ) → IsRun (words_of words.now) pool → (g : Geometry) (opening : State) → IsGood g opening (S.state site.old) → Headline g opening (S.state site.old) (S.state site.new) result }
-    ensures complete { ((pool : ℕ) × IsRun (words_of words.now) pool) → (g : Geometry) (opening : State) → IsGood g opening (S.state site.old) → NoFaultRose (S.state site.old) (S.state site.new) → EndsInTime (S.state site.old) → (result ≡ 0) ⊎ (result ≡ 4) }
+    ensures complete { ((pool : ℕ) × IsRun (words_of words.now) pool) → (g : Geometry) (opening : State) → IsGood g opening (S.state site.old) → NoFaultRose (S.state site.old) (S.state site.new) → (IsWorn g (S.state site.new).image → ⊥) → EndsInTime (S.state site.old) → (result ≡ 0) ⊎ (result ≡ 4) }
     ensures sizes { ((pool : ℕ) × IsRun (words_of words.now) pool) → HasNoSizes (S.state site.old) → RefusesDevices result (S.state site.old) (S.state site.new) ⊎ LacksMemory result (S.state site.old) (S.state site.new) }
     ensures causes { ((pool : ℕ) × IsRun (words_of words.now) pool) → HasCauses result (S.state site.old) (S.state site.new) }
     // What `new` of these sizes does, and when each of its statuses comes.

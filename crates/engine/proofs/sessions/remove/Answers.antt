@@ -1,4 +1,4 @@
-use Rattle.std.proofs.Common.{◌≡◌, ℕ, ◌+◌, Option, Some, ap, arith}
+use Rattle.std.proofs.Common.{◌≡◌, ◌+◌, Option, ap, arith}
 use Rattle.std.specs.Option.{option_map_or}
 use Rattle.txn_table.specs.declared.active.Active.{Active}
 use Rattle.engine.proofs.Owing.{owed_changes, owed_one, owed_at, entry_is}

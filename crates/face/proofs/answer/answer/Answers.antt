@@ -4,6 +4,7 @@ use Rattle.site.specs.Moments.{EachMoment}
 use Rattle.site.specs.Laws.{holds_now, stays_honest}
 use Rattle.site.specs.Telling.{TellsPart}
 use Rattle.shell_text.specs.Texts.{reply_text}
+use Rattle.engine.specs.Going.{sizes_of}
 use Rattle.face.specs.declared.halt.Halt.TheVariants as halt
 use Rattle.face.specs.Run.{step, StandsFor}
 use Rattle.face.proofs.Quiet.{not_told, is_told}
@@ -11,10 +12,10 @@ use Rattle.face.proofs.Logs.{still_fits, fits_stands, goes_on}
 use Rattle.face.proofs.answer.answer.Goals as goal
 
 pub returns-in-Err-clause-any_moment : goal.returns-in-Err-clause-any_moment
-returns-in-Err-clause-any_moment g c s fits quiet = not_told c.args.engine.now.journal.log.geometry (g.S.Site.state c.args.site.now) (g.S.Site.state c.carry_out.new.site) s _ _ (c.carry_out.ensures.any_moment s fits quiet)
+returns-in-Err-clause-any_moment g c s fits quiet = not_told (sizes_of c.args.engine.now.store) (g.S.Site.state c.args.site.now) (g.S.Site.state c.carry_out.new.site) s _ _ (c.carry_out.ensures.any_moment s fits quiet)
 
 pub returns-in-Err-clause-quiet : goal.returns-in-Err-clause-quiet
-returns-in-Err-clause-quiet g c s fits quiet other = c.in-Err.ensures.quiet s fits quiet (λ is. other (ap halt.Stop is))
+returns-in-Err-clause-quiet g c s fits quiet other = c.in-Err.ensures.quiet s fits quiet (λ d is. other d (ap halt.Stop is))
 
 pub returns-clause-quiet : goal.returns-clause-quiet
 returns-clause-quiet g c s fits quiet other = (c.tell_reply.ensures.same (c.in-Ok.ensures.after s fits).honest).loose ∙ c.in-Ok.ensures.stays_quiet fits.honest quiet
@@ -44,8 +45,8 @@ returns-in-Ok-tell_reply-clause-any_moment g c s fits quiet =
     let next = step s c.args.line in
     let fits-mid = c.in-Ok.ensures.after s fits in
     let text = ap reply_text (c.in-Ok.ensures.reply s fits) in
-    let stands = subst (λ (x : Geometry). StandsFor x mid.image next.after) c.carry_out.ensures.geometry (fits_stands c.carry_out.new.engine mid next.after c.in-Ok.ensures.going.journal.log.limits fits-mid) in
-    is_told c.args.engine.now.journal.log.geometry old mid new s next.after (reply_text next.reply) (c.carry_out.ensures.any_moment s fits quiet) (c.in-Ok.ensures.stays_quiet fits.honest quiet) stands
+    let stands = subst (λ (x : Geometry). StandsFor x mid.image next.after) c.carry_out.ensures.sizes (fits_stands c.carry_out.new.engine mid next.after c.in-Ok.ensures.going.store.both.sizes fits-mid) in
+    is_told (sizes_of c.args.engine.now.store) old mid new s next.after (reply_text next.reply) (c.carry_out.ensures.any_moment s fits quiet) (c.in-Ok.ensures.stays_quiet fits.honest quiet) stands
     (subst (λ (t : List ℕ). EachMoment mid new (TellsPart t mid)) text (c.tell_reply.ensures.any_moment fits-mid.honest))
 
 pub returns-clause-any_moment : goal.returns-clause-any_moment
@@ -56,8 +57,8 @@ returns-clause-any_moment g c s fits quiet =
     let next = step s c.args.line in
     let fits-mid = c.in-Ok.ensures.after s fits in
     let text = ap reply_text (c.in-Ok.ensures.reply s fits) in
-    let stands = subst (λ (x : Geometry). StandsFor x mid.image next.after) c.carry_out.ensures.geometry (fits_stands c.carry_out.new.engine mid next.after c.in-Ok.ensures.going.journal.log.limits fits-mid) in
-    is_told c.args.engine.now.journal.log.geometry old mid new s next.after (reply_text next.reply) (c.carry_out.ensures.any_moment s fits quiet) (c.in-Ok.ensures.stays_quiet fits.honest quiet) stands
+    let stands = subst (λ (x : Geometry). StandsFor x mid.image next.after) c.carry_out.ensures.sizes (fits_stands c.carry_out.new.engine mid next.after c.in-Ok.ensures.going.store.both.sizes fits-mid) in
+    is_told (sizes_of c.args.engine.now.store) old mid new s next.after (reply_text next.reply) (c.carry_out.ensures.any_moment s fits quiet) (c.in-Ok.ensures.stays_quiet fits.honest quiet) stands
     (subst (λ (t : List ℕ). EachMoment mid new (TellsPart t mid)) text (c.tell_reply.ensures.any_moment fits-mid.honest))
 
 pub returns-in-Ok-tell_reply-clause-going : goal.returns-in-Ok-tell_reply-clause-going

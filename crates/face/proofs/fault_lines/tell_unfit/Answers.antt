@@ -1,4 +1,4 @@
-use Rattle.std.proofs.Common.{sym, subst, List, ℕ, ap}
+use Rattle.std.proofs.Common.{sym, subst}
 use Rattle.face.specs.New.{unfit_line}
 use Rattle.face.specs.declared.new_database.Unfit.{Unfit}
 use Rattle.face.specs.Tells.{Tells}

@@ -1,4 +1,4 @@
-use Rattle.std.proofs.Common.{◌≡◌, ◌-◌, ◌≤◌, length, IsTrue}
+use Rattle.std.proofs.Common.{◌-◌, ◌≤◌, IsTrue}
 use Rattle.site.specs.State.{content_of}
 use Rattle.site.specs.Calls.{Goes, IsUnchanged}
 use Rattle.face.specs.New.{AreZero}

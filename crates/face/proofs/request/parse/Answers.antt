@@ -1,9 +1,8 @@
-use Rattle.std.proofs.Common.{ap, ◌∙◌, rules}
+use Rattle.std.proofs.Common.{ap, ◌∙◌}
 use Rattle.std.proofs.lemmas.Result.{IfErr-weaker}
 use Rattle.clap.specs.Words.{App, takes}
 use Rattle.face.specs.Words.{words_of}
 use Rattle.face.proofs.ClapLaws.{right_taken}
-use Rattle.face.proofs.ClapInverse.{run_lines, new_lines}
 use Rattle.face.proofs.request.parse.Goals as goal
 
 pub returns-clause-right : goal.returns-clause-right

@@ -1,5 +1,5 @@
 use Rattle.std.proofs.Common.{rules}
-use Rattle.face.proofs.MemoryLaws.{lacked_headline, lacked_causes, lacked_new, lacked_new_causes}
+use Rattle.face.proofs.MemoryLaws.{lacked_headline}
 use Rattle.face.proofs.top.lack_memory.Goals as goal
 
 pub returns : goal.returns

@@ -14,10 +14,10 @@ returns-in-Err-clause-stops g c run begins =
     let stands = stands_by run.geometry (g.S.Site.state c.args.site.now).image run.opening begins.opens in
     let leaves = c.start.ensures.any_moment begins.honest begins.quiet run.geometry run.opening.table run.opening.commits stands in
     not_opened run (g.S.Site.state c.args.site.now) (g.S.Site.state c.start.new.site) leaves (halt.Stop c.in-Err.stop)
-    (λ ne. c.in-Err.ensures.quiet begins.honest begins.quiet run.geometry run.opening.table run.opening.commits stands (λ is. ne (ap (λ x. status_of (halt.Stop x)) is)))
+    (λ ne. c.in-Err.ensures.quiet begins.honest begins.quiet run.geometry run.opening.table run.opening.commits stands (λ d is. ne (ap (λ x. status_of (halt.Stop x)) is)))
 
 pub returns-in-Err-clause-cause : goal.returns-in-Err-clause-cause
-returns-in-Err-clause-cause g c = start_cause c.start.result c.in-Err.stop (g.S.Site.state c.args.site.now) (g.S.Site.state c.start.new.site) c.in-Err.is c.in-Err.ensures.stops c.start.ensures.device c.start.ensures.foreign
+returns-in-Err-clause-cause g c = start_cause c.start.result c.in-Err.stop (g.S.Site.state c.args.site.now) (g.S.Site.state c.start.new.site) c.in-Err.is c.in-Err.ensures.stops c.start.ensures.device c.start.ensures.foreign c.start.ensures.worn_log c.start.ensures.worn
 
 pub returns-in-Err-tell_all-clause-stops : goal.returns-in-Err-tell_all-clause-stops
 returns-in-Err-tell_all-clause-stops g c run begins =
@@ -40,7 +40,7 @@ returns-in-Ok-tell_all-clause-going g c run begins =
     let is = c.as_slice.ensures.value ∙ c.open_line.ensures ∙ ap open_text (c.commits.ensures.model run.opening mid opens.0) in
     let honest = stays_honest entry mid c.start.ensures.goes begins.honest in
     opened run entry mid leaves new c.as_slice.result.now is (c.tell_all.ensures.any_moment honest) c.in-Ok.engine c.tell_all.ensures.goes (c.tell_all.ensures.same honest) ((c.tell_all.ensures.same honest).loose ∙ c.in-Ok.ensures.stays_quiet begins.honest begins.quiet) (c.in-Ok-tell_all.ensures.told honest)
-    opens.0 opens.1 begins.opens.sound.limits
+    opens.0 opens.1 c.in-Ok.ensures.going.store.both.sizes
 
 pub returns-in-Ok-tell_all-clause-goes_on : goal.returns-in-Ok-tell_all-clause-goes_on
 returns-in-Ok-tell_all-clause-goes_on g c = goes_on c.in-Ok.engine (g.S.Site.state c.start.new.site) (g.S.Site.state c.tell_all.new.site) c.in-Ok.ensures.going c.tell_all.ensures.goes
@@ -51,4 +51,5 @@ returns-in-Ok-tell_all-clause-fits g c honest geometry table commits stands =
     let mid = g.S.Site.state c.start.new.site in
     let opens = opens_where_it_stands geometry entry.image table commits stands in
     let same = c.tell_all.ensures.same (stays_honest entry mid c.start.ensures.goes honest) in
-    (opens.0, still_fits c.in-Ok.engine mid (g.S.Site.state c.tell_all.new.site) opens.0 (c.in-Ok.ensures.opens honest geometry opens.0 opens.1).0 c.tell_all.ensures.goes same.image)
+    let fits = c.in-Ok.ensures.opens honest geometry opens.0 opens.1 in
+    ((opens.0, still_fits c.in-Ok.engine mid (g.S.Site.state c.tell_all.new.site) opens.0 fits.0 c.tell_all.ensures.goes same.image), fits.1)

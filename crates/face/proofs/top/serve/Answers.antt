@@ -20,7 +20,7 @@ returns-in-Err-clause-headline g c geometry opening good =
     let same = c.tell_halt.ensures.devices honest in
     halted geometry opening old mid new c.in-Err.halt (c.in-Err.ensures.works _ (begins geometry opening old good))
     (c.tell_halt.ensures.any_moment honest) same.left same.loose
-    (cause_then c.in-Err.halt old mid new c.in-Err.ensures.cause c.tell_halt.ensures.goes (λ h. same.left)) c.status.result c.status.ensures
+    (cause_then c.in-Err.halt old mid new c.in-Err.ensures.cause c.tell_halt.ensures.goes (λ h. same)) c.status.result c.status.ensures
 
 pub returns-in-Err-clause-causes : goal.returns-in-Err-clause-causes
 returns-in-Err-clause-causes g c =
@@ -28,8 +28,8 @@ returns-in-Err-clause-causes g c =
     let mid = g.S.Site.state c.work.new.site in
     let new = g.S.Site.state c.tell_halt.new.site in
     status_causes c.in-Err.halt c.status.result old new c.status.ensures
-    (cause_then c.in-Err.halt old mid new c.in-Err.ensures.cause c.tell_halt.ensures.goes (λ h. (c.tell_halt.ensures.devices (stays_honest old mid c.work.ensures.goes h)).left))
+    (cause_then c.in-Err.halt old mid new c.in-Err.ensures.cause c.tell_halt.ensures.goes (λ h. c.tell_halt.ensures.devices (stays_honest old mid c.work.ensures.goes h)))
 
 pub returns-in-Err-clause-complete : goal.returns-in-Err-clause-complete
-returns-in-Err-clause-complete g c geometry opening good none ends =
-    complete geometry opening _ _ _ good none ends (returns-in-Err-clause-causes g c) (returns-in-Err-clause-headline g c geometry opening good)
+returns-in-Err-clause-complete g c geometry opening good none unworn ends =
+    complete geometry opening _ _ _ good none unworn ends (returns-in-Err-clause-causes g c) (returns-in-Err-clause-headline g c geometry opening good)

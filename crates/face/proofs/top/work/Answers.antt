@@ -72,7 +72,7 @@ returns-in-Err-answer-clause-works g c run begins =
     let ended = c.in-Ok-next.ensures.ended honest cut.ended in
     let is = ap (λ (l : List Line). drop i (up_to_quit l)) begins.lines ∙ line_is entry.left c.loop-line.source mid i cut c.loop-line.invariant.source c.next.new.self next c.in-Line.line hears ended c.next.ensures.source in
     let stops = cut_short run entry next c.loop-line.engine i going new c.in-Line.line _ is (c.answer.ensures.any_moment _ going.fits going.quiet) c.in-Err-answer.halt
-    (λ ne. c.in-Err-answer.ensures.quiet _ going.fits going.quiet (λ e. ne (ap status_of e))) (c.in-Err-answer.ensures.untold _ going.fits going.quiet) in
+    (λ ne. c.in-Err-answer.ensures.quiet _ going.fits going.quiet (λ d e. ne (ap status_of e))) (c.in-Err-answer.ensures.untold _ going.fits going.quiet) in
     answer_failed run entry mid next new c.loop-line.source c.next.new.self i cut c.loop-line.invariant.source c.in-Line.line hears ended c.next.ensures.source (c.answer.ensures.left going.fits.honest) c.in-Err-answer.halt stops (answer_takes_nothing c.in-Err-answer.halt c.loop-line.engine next new c.in-Err-answer.ensures.cause)
 
 pub loop-line-preserved : goal.loop-line-preserved
@@ -95,9 +95,9 @@ loop-line-preserved g c =
           (cut_stays entry.left c.next.new.self next new (suc i) (cut_more entry.left c.loop-line.source mid i cut c.loop-line.invariant.source c.next.new.self next c.in-Line.line hears ended (c.in-Ok-next.ensures.count honest) (sym c.quits-last.ensures ∙ c.if-last.false)) (c.answer.ensures.left (stays_honest mid next c.next.ensures.goes honest)));
       fits = λ honest-entry geometry table commits stands.
           let so_far = c.loop-line.invariant.fits honest-entry geometry table commits stands in
-          let honest = so_far.1.honest in
-          let still = still_fits c.loop-line.engine mid next so_far.0 so_far.1 c.next.ensures.goes (c.next.ensures.same honest).image in
-          (_, c.in_default.ensures.fits so_far.0 still);
+          let honest = so_far.0.1.honest in
+          let still = still_fits c.loop-line.engine mid next so_far.0.0 so_far.0.1 c.next.ensures.goes (c.next.ensures.same honest).image in
+          ((_, c.in_default.ensures.fits so_far.0.0 still), c.answer.ensures.sizes ∙ so_far.1);
       going = λ run begins.
           let cut = c.loop-line.invariant.cut begins.honest in
           let so_far = c.loop-line.invariant.going run begins in
@@ -108,7 +108,7 @@ loop-line-preserved g c =
           let is = ap (λ (l : List Line). drop i (up_to_quit l)) begins.lines ∙ line_is entry.left c.loop-line.source mid i cut c.loop-line.invariant.source c.next.new.self next c.in-Line.line hears ended c.next.ensures.source in
           subst (Going run entry new c.answer.new.engine) (sym (add-one i))
           (goes_on run entry next c.loop-line.engine i going new c.in-Line.line _ is (c.answer.ensures.any_moment _ going.fits going.quiet)
-          c.answer.new.engine c.answer.ensures.geometry (c.in_default.ensures.fits _ going.fits) (c.in_default.ensures.stays_quiet going.fits.honest going.quiet) (c.in_default.ensures.told _ going.fits going.quiet));
+          c.answer.new.engine c.answer.ensures.sizes c.in_default.ensures.going.store.both.sizes (c.in_default.ensures.fits _ going.fits) (c.in_default.ensures.stays_quiet going.fits.honest going.quiet) (c.in_default.ensures.told _ going.fits going.quiet));
     }
 
 pub returns-then-last-clause-works : goal.returns-then-last-clause-works
@@ -126,7 +126,7 @@ returns-then-last-clause-works g c run begins =
     let ended = c.in-Ok-next.ensures.ended honest cut.ended in
     let is = ap (λ (l : List Line). drop i (up_to_quit l)) begins.lines ∙ line_is entry.left c.loop-line.source mid i cut c.loop-line.invariant.source c.next.new.self next c.in-Line.line hears ended c.next.ensures.source in
     let gone = goes_on run entry next c.loop-line.engine i going new c.in-Line.line _ is (c.answer.ensures.any_moment _ going.fits going.quiet)
-    c.answer.new.engine c.answer.ensures.geometry (c.in_default.ensures.fits _ going.fits) (c.in_default.ensures.stays_quiet going.fits.honest going.quiet) (c.in_default.ensures.told _ going.fits going.quiet) in
+    c.answer.new.engine c.answer.ensures.sizes c.in_default.ensures.going.store.both.sizes (c.in_default.ensures.fits _ going.fits) (c.in_default.ensures.stays_quiet going.fits.honest going.quiet) (c.in_default.ensures.told _ going.fits going.quiet) in
     quitted run entry mid next new c.loop-line.source c.next.new.self i cut c.loop-line.invariant.source c.in-Line.line hears ended c.next.ensures.source (c.answer.ensures.left going.fits.honest) _ c.answer.new.engine (sym c.quits-last.ensures ∙ c.if-last.true) gone
 
 pub returns-clause-works : goal.returns-clause-works
@@ -148,10 +148,16 @@ returns-in-Err-answer-clause-cause g c =
     answer_cause c.in-Err-answer.halt c.loop-line.engine entry next new c.in-Err-answer.ensures.cause (goes_in_sequence _ _ _ c.loop-line.invariant.goes c.next.ensures.goes)
     (λ honest geometry table commits stands.
     let so_far = c.loop-line.invariant.fits honest geometry table commits stands in
-    (so_far.0, still_fits c.loop-line.engine mid next so_far.0 so_far.1 c.next.ensures.goes (c.next.ensures.same so_far.1.honest).image))
+    ((so_far.0.0, still_fits c.loop-line.engine mid next so_far.0.0 so_far.0.1 c.next.ensures.goes (c.next.ensures.same so_far.0.1.honest).image), so_far.1))
 
 pub returns-in-Err-next-clause-goes : goal.returns-in-Err-next-clause-goes
 returns-in-Err-next-clause-goes g c = goes_in_sequence _ _ _ c.loop-line.invariant.goes c.next.ensures.goes
 
 pub returns-in-Err-answer-clause-goes : goal.returns-in-Err-answer-clause-goes
 returns-in-Err-answer-clause-goes g c = goes_in_sequence _ _ _ c.loop-line.invariant.goes (goes_in_sequence _ _ _ c.next.ensures.goes c.answer.ensures.goes)
+
+pub returns-in-End-clause-goes : goal.returns-in-End-clause-goes
+returns-in-End-clause-goes g c = goes_in_sequence _ _ _ c.loop-line.invariant.goes c.next.ensures.goes
+
+pub returns-then-last-clause-goes : goal.returns-then-last-clause-goes
+returns-then-last-clause-goes g c = goes_in_sequence _ _ _ c.loop-line.invariant.goes (goes_in_sequence _ _ _ c.next.ensures.goes c.answer.ensures.goes)

@@ -1,11 +1,11 @@
-use Rattle.std.proofs.Common.{IsTrue, List, ℕ}
+use Rattle.std.proofs.Common.{◌≡◌, IsTrue, List, ℕ}
 use Rattle.site.specs.declared.geometry.Geometry.{Geometry}
 use Rattle.record_model.specs.State.{State, Content}
 use Rattle.engine.specs.Image.{Stands}
 use Rattle.engine.specs.Fits.{Fits}
 use Rattle.site.specs.Calls.{Goes}
 use Rattle.face.specs.Going.{Going}
-use Rattle.engine.specs.Going.{MayGoOn}
+use Rattle.engine.specs.Going.{MayGoOn, sizes_of}
 use Rattle.face.specs.Lines.{IsSource}
 use Rattle.face.specs.Run.{Run, Begins}
 use Rattle.face.proofs.Cuts.{Cut}
@@ -20,6 +20,6 @@ invariant-loop-line g l =
       source : IsSource l.source;
       engine : MayGoOn l.engine now;
       cut : IsTrue old.honest → Cut old.left l.source now l._line;
-      fits : IsTrue old.honest → (g : Geometry) (table : List Content) (commits : ℕ) → Stands g old.image table commits → (s : State) × Fits l.engine now s;
+      fits : IsTrue old.honest → (g : Geometry) (table : List Content) (commits : ℕ) → Stands g old.image table commits → ((s : State) × Fits l.engine now s) × (sizes_of l.engine.store ≡ g);
       going : (run : Run) → Begins run old → Going run old now l.engine l._line;
     }

@@ -1,6 +1,4 @@
-use Rattle.std.proofs.Common.{◌≡◌, ℕ, [], Some, inl, refl, sym, ap, subst, ◌∙◌}
-use Rattle.site.specs.Moments.{LeavesOnly}
-use Rattle.site.specs.Laws.{leaves_weaker}
+use Rattle.std.proofs.Common.{◌≡◌, ℕ, [], Some, refl, sym, ap, subst, ◌∙◌}
 use Rattle.site.specs.State.{State as Site}
 use Rattle.record_model.specs.State.{State}
 use Rattle.record_model.specs.Step.{Outcome, effect, answer}
@@ -9,11 +7,9 @@ use Rattle.txn_table.specs.declared.active.Active.{Active}
 use Rattle.txn_table.specs.Entries.{entry_of}
 use Rattle.engine.specs.declared.engine.Engine.{Engine}
 use Rattle.engine.specs.Fits.{Fits, run}
-use Rattle.engine.specs.Leaves.{LeavesTable, LeavesEither}
 use Rattle.engine.proofs.Actives.{some_active}
 use Rattle.engine.proofs.Owing.{entry_is}
 use Rattle.engine.proofs.Replies.{carried_out, wants_active_is}
-use Rattle.engine.proofs.Sealings.{nothing_happens}
 use Rattle.engine.proofs.engine.Engine.abort.Goals as goal
 
 runs : (engine : Engine) (site : Site) (s : State) (n : ℕ) (entry : Active) → Fits engine site s → entry_of engine.active n ≡ Some entry → run s (Abort n) ≡ record { after = effect s (Abort n); reply = answer s (Abort n) [] }
@@ -22,7 +18,7 @@ runs engine site s n entry fits at =
     carried_out s (Abort n) (wants_active_is s n found.session found.is) refl
 
 pub returns-in_default-clause-any_moment : goal.returns-in_default-clause-any_moment
-returns-in_default-clause-any_moment g c s fits quiet = nothing_happens c.args.self.now.journal (g.S.Site.state c.args.site.now) fits.records s.table s.commits c.requires.going.journal.log.limits fits.holds quiet
+returns-in_default-clause-any_moment g c s fits = c.hold_together.ensures.moment c.args.self.now.store.log c.args.self.now.store.pages (g.S.Site.state c.args.site.now) fits.records s.table s.commits c.requires.going.store.both.sizes fits.holds.both
 
 pub carry_out_abort-requires-clause-active : goal.carry_out_abort-requires-clause-active
 carry_out_abort-requires-clause-active g c =
@@ -42,7 +38,7 @@ returns-in-Ok-clause-after g c s fits =
     (subst (λ (k : ℕ). Fits c.carry_out_abort.new.self new (effect s (Abort k))) same (c.in-Ok.ensures.after s fits))
 
 pub returns-in-Ok-clause-any_moment : goal.returns-in-Ok-clause-any_moment
-returns-in-Ok-clause-any_moment g c s fits quiet = c.carry_out_abort.ensures.any_moment s fits quiet
+returns-in-Ok-clause-any_moment g c s fits = c.carry_out_abort.ensures.any_moment s fits
 
 pub returns-in-Err-clause-any_moment : goal.returns-in-Err-clause-any_moment
-returns-in-Err-clause-any_moment g c s fits quiet = c.carry_out_abort.ensures.any_moment s fits quiet
+returns-in-Err-clause-any_moment g c s fits = c.carry_out_abort.ensures.any_moment s fits

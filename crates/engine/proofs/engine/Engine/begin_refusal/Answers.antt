@@ -1,16 +1,15 @@
-use Rattle.std.proofs.Common.{◌≡◌, ℕ, ◌∙◌, ◌||◌, ◌<◌, Bool, true, false, Option, None, Some, refl, sym, ap, rules}
-use Rattle.std.specs.Prelude.{nat_le, is_some}
+use Rattle.std.proofs.Common.{◌≡◌, ℕ, ◌∙◌, ◌||◌, ◌<◌, None, sym, ap, rules}
+use Rattle.std.specs.Prelude.{is_some}
 use Rattle.std.proofs.lemmas.Bool.{lt-leb}
-use Rattle.record_model.specs.State.{Session, State, session_at}
-use Rattle.record_model.specs.Step.{refusal, refuse_if, full}
+use Rattle.record_model.specs.State.{State, session_at}
+use Rattle.record_model.specs.Step.{refusal, refuse_if}
 use Rattle.record_model.specs.declared.words.Command.TheVariants.{Begin}
 use Rattle.record_model.specs.declared.words.Why.TheVariants.{BadSession}
 use Rattle.record_model.specs.declared.words.Reply.TheVariants as reply
 use Rattle.record_model.specs.declared.words.Reply.{Reply}
 use Rattle.record_model.specs.Step.{Outcome}
 use Rattle.engine.proofs.Actives.{none_active}
-use Rattle.engine.proofs.Replies.{refused, no_room, carried_out, full_is, has_room}
-use Rattle.engine.proofs.Meanings.{got_is, seen_is}
+use Rattle.engine.proofs.Replies.{no_room, carried_out, full_is, has_room}
 use Rattle.engine.proofs.engine.Engine.begin_refusal.Goals as goal
 
 free_session : (s : State) (n : ℕ) → n < 8 → session_at s n ≡ None → refusal s (Begin n) ≡ None

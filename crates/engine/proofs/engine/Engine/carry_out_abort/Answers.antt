@@ -1,20 +1,14 @@
-use Rattle.std.proofs.Common.{◌≡◌, ℕ, ◌+◌, Err, refl, sym, ap, ◌∙◌, arith}
+use Rattle.std.proofs.Common.{refl, sym, arith}
 use Rattle.site.specs.Laws.{stays_honest}
-use Rattle.site.specs.declared.outside.Stop.TheVariants.{Foreign}
-use Rattle.engine.proofs.Owing.{owes}
+use Rattle.engine.specs.declared.engine.Engine.{Engine}
+use Rattle.engine.proofs.Moments.{err_again}
+use Rattle.engine.proofs.Owing.{owes, entry_is}
 use Rattle.engine.proofs.Actives.{some_active}
 use Rattle.engine.proofs.Aborts.{aborted_fits}
 use Rattle.engine.proofs.engine.Engine.carry_out_abort.Goals as goal
 
-pub undo-requires-clause-room : goal.undo-requires-clause-room
-undo-requires-clause-room g c =
-    let part = owes c.args.self.now.active c.args.entry.session c.args.entry c.requires.going.table c.requires.active in
-    let room = c.requires.going.room in
-    let cap = c.requires.going.cap in
-    omega (arith, part, room, cap)
-
-pub undo-requires-clause-few : goal.undo-requires-clause-few
-undo-requires-clause-few g c =
+pub roll_back-requires-clause-few : goal.roll_back-requires-clause-few
+roll_back-requires-clause-few g c =
     let part = owes c.args.self.now.active c.args.entry.session c.args.entry c.requires.going.table c.requires.active in
     let bounded = c.requires.going.bounded in
     omega (arith, part, bounded)
@@ -23,24 +17,57 @@ pub returns-in-Ok-clause-after : goal.returns-in-Ok-clause-after
 returns-in-Ok-clause-after g c s fits =
     let engine = c.args.self.now in
     let old = g.S.Site.state c.args.site.now in
-    let new = g.S.Site.state c.undo.new.site in
+    let new = g.S.Site.state c.roll_back.new.site in
+    let mid : Engine = record engine { store = c.roll_back.new.self } in
     let found = some_active fits.records engine.active s fits.sessions c.args.entry.session c.args.entry c.requires.active in
-    let back = c.in-Ok.ensures.undone fits.records s.table s.commits found.session.writes fits.holds fits.shown_is found.under_way.is_active (sym found.under_way.count) in
-    aborted_fits engine c.undo.new.self _ old new s c.args.entry fits c.requires.going.table c.requires.active (stays_honest old new c.undo.ensures.goes fits.honest) back
-    c.undo.ensures.rest c.in-Ok.ensures.made c.release.ensures c.remove.ensures.entry c.remove.ensures.owed refl refl refl refl
+    let count = sym found.under_way.count in
+    let back = c.in-Ok.ensures.undone fits.records s.table s.commits fits.holds found.session.writes found.under_way.is_active count in
+    aborted_fits engine mid _ old new s c.args.entry fits c.requires.going.table c.requires.active (stays_honest old new c.roll_back.ensures.goes fits.honest) back
+    refl c.in-Ok.ensures.made c.release.ensures c.remove.ensures.entry c.remove.ensures.owed refl refl refl
 
 pub returns-in-Ok-clause-any_moment : goal.returns-in-Ok-clause-any_moment
-returns-in-Ok-clause-any_moment g c s fits quiet =
-    let found = some_active fits.records c.args.self.now.active s fits.sessions c.args.entry.session c.args.entry c.requires.active in
-    c.undo.ensures.any_moment fits.records s.table s.commits found.session.writes fits.holds fits.shown_is found.under_way.is_active (sym found.under_way.count) quiet
+returns-in-Ok-clause-any_moment g c s fits =
+    let engine = c.args.self.now in
+    let found = some_active fits.records engine.active s fits.sessions c.args.entry.session c.args.entry c.requires.active in
+    let count = sym found.under_way.count in
+    c.roll_back.ensures.any_moment fits.records s.table s.commits fits.holds found.session.writes found.under_way.is_active
 
 pub returns-in-Err-clause-any_moment : goal.returns-in-Err-clause-any_moment
-returns-in-Err-clause-any_moment g c s fits quiet =
-    let found = some_active fits.records c.args.self.now.active s fits.sessions c.args.entry.session c.args.entry c.requires.active in
-    c.undo.ensures.any_moment fits.records s.table s.commits found.session.writes fits.holds fits.shown_is found.under_way.is_active (sym found.under_way.count) quiet
+returns-in-Err-clause-any_moment g c s fits =
+    let engine = c.args.self.now in
+    let found = some_active fits.records engine.active s fits.sessions c.args.entry.session c.args.entry c.requires.active in
+    let count = sym found.under_way.count in
+    c.roll_back.ensures.any_moment fits.records s.table s.commits fits.holds found.session.writes found.under_way.is_active
+
+pub returns-in-Err-clause-quiet : goal.returns-in-Err-clause-quiet
+returns-in-Err-clause-quiet g c s fits =
+    let engine = c.args.self.now in
+    let found = some_active fits.records engine.active s fits.sessions c.args.entry.session c.args.entry c.requires.active in
+    let count = sym found.under_way.count in
+    c.in-Err.ensures.quiet fits.records s.table s.commits fits.holds found.session.writes found.under_way.is_active count
 
 pub returns-in-Err-clause-foreign : goal.returns-in-Err-clause-foreign
 returns-in-Err-clause-foreign g c is s fits =
+    let engine = c.args.self.now in
+    let found = some_active fits.records engine.active s fits.sessions c.args.entry.session c.args.entry c.requires.active in
+    let count = sym found.under_way.count in
+    let part = owes engine.active c.args.entry.session c.args.entry c.requires.going.table c.requires.active in
+    let are = fits.sessions.owes in
+    let all = c.owed.ensures in
+    c.in-Err.ensures.readable fits.records s.table s.commits fits.holds found.session.writes found.under_way.is_active count (omega (arith, are, all, part)) (err_again _ _ is)
+
+pub overflow_add-owed : goal.overflow_add-owed
+overflow_add-owed g c =
+    let few = (entry_is c.args.self.now.active c.args.entry.session c.args.entry c.requires.going.table c.requires.active).few in
+    omega (arith, few)
+
+pub overflow_sub-owed : goal.overflow_sub-owed
+overflow_sub-owed g c =
+    let part = owes c.args.self.now.active c.args.entry.session c.args.entry c.requires.going.table c.requires.active in
+    let all = c.owed.ensures in
+    omega (arith, part, all)
+
+pub returns-in-Err-clause-worn : goal.returns-in-Err-clause-worn
+returns-in-Err-clause-worn g c s fits is =
     let found = some_active fits.records c.args.self.now.active s fits.sessions c.args.entry.session c.args.entry c.requires.active in
-    let same : c.in-Err.stop ≡ Foreign = cc in
-    c.in-Err.ensures.readable fits.records s.table s.commits found.session.writes fits.holds fits.shown_is found.under_way.is_active (sym found.under_way.count) same
+    c.in-Err.ensures.worn fits.records s.table s.commits fits.holds found.session.writes found.under_way.is_active (err_again _ _ is)

@@ -1,81 +1,127 @@
-use Rattle.std.proofs.Common.{◌++◌, ◌∷◌, [], None, refl, slice_index_or, ◌≡◌, ◌<◌, ⊎_elim, sym, ap, subst, ◌∙◌, arith, rules}
+use Rattle.std.proofs.Common.{◌≡◌, ◌*◌, ◌<◌, ⊎_elim, refl, sym, ap, subst, ◌∙◌, arith}
 use Rattle.std.proofs.lemmas.Option.{same_Some}
-use Rattle.std.proofs.lemmas.List.{get_or_default}
 use Rattle.std.proofs.lemmas.Bool.{cases_eq}
+use Rattle.log_store.specs.Held.{end_of}
 use Rattle.txn_table.specs.declared.active.Active.{Active}
 use Rattle.txn_table.specs.Entries.{entry_of}
-use Rattle.log_store.specs.Held.{end_of}
-use Rattle.log_records.specs.Spelling.{IsShort}
-use Rattle.engine.proofs.Places.{all_set}
-use Rattle.engine.proofs.Owing.{owes, entry_is}
-use Rattle.site.specs.Laws.{stays_honest}
-use Rattle.record_model.specs.State.{Content}
-use Rattle.log_records.specs.declared.log_record.LogRecord.{LogRecord}
-use Rattle.engine.specs.Holding.{HoldsLog, MayGrow}
-use Rattle.engine.proofs.Sealings.{nothing_happens}
-use Rattle.engine.proofs.Writes.{update_by, may_write, write_fits}
+use Rattle.site.specs.declared.geometry.Geometry.{Geometry}
+use Rattle.site.specs.Laws.{stays_honest, fault_since, goes_in_sequence}
+use Rattle.engine.specs.declared.engine.Engine.{Engine}
+use Rattle.engine.specs.Going.{sizes_of}
+use Rattle.engine.specs.Holding.{shown_in}
+use Rattle.engine.specs.Fits.{Fits}
+use Rattle.engine.proofs.Moments.{and_then, err_again}
+use Rattle.engine.proofs.Owing.{entry_is, owes}
+use Rattle.engine.proofs.Writes.{touched_fits, may_write, write_fits}
 use Rattle.engine.proofs.engine.Engine.carry_out_write.Goals as goal
 
 pub add-requires : goal.add-requires
 add-requires g c = (entry_is c.args.self.now.active c.args.entry.session c.args.entry c.requires.going.table c.requires.active).small
+
+pub returns-in-Err-clause-any_moment : goal.returns-in-Err-clause-any_moment
+returns-in-Err-clause-any_moment g c s fits = c.touch.ensures.any_moment fits.records s.table s.commits fits.holds
+
+pub returns-in-Err-add-clause-any_moment : goal.returns-in-Err-add-clause-any_moment
+returns-in-Err-add-clause-any_moment g c s fits = c.touch.ensures.any_moment fits.records s.table s.commits fits.holds
+
+pub returns-in-Err-add-clause-quiet : goal.returns-in-Err-add-clause-quiet
+returns-in-Err-add-clause-quiet g c s fits quiet = λ other. c.in-Ok.ensures.stays_quiet fits.honest quiet
+
+pub returns-in-Err-update-clause-quiet : goal.returns-in-Err-update-clause-quiet
+returns-in-Err-update-clause-quiet g c s fits quiet = c.in-Err-update.ensures.quiet fits.records s.table s.commits (c.in-Ok.ensures.holds fits.records s.table s.commits fits.holds) (c.in-Ok.ensures.stays_quiet fits.honest quiet)
+
+pub returns-in-Err-update-clause-foreign : goal.returns-in-Err-update-clause-foreign
+returns-in-Err-update-clause-foreign g c is s fits = c.in-Err-update.ensures.readable fits.records s.table s.commits (c.in-Ok.ensures.holds fits.records s.table s.commits fits.holds) (err_again _ _ is)
+
+pub returns-in-Err-update-clause-device : goal.returns-in-Err-update-clause-device
+returns-in-Err-update-clause-device g c d is =
+    fault_since d (g.S.Site.state c.args.site.now) (g.S.Site.state c.touch.new.site) (g.S.Site.state c.update.new.site) c.touch.ensures.goes (c.in-Err-update.ensures.device d (err_again _ _ is))
+
+pub returns-in-Err-update-clause-any_moment : goal.returns-in-Err-update-clause-any_moment
+returns-in-Err-update-clause-any_moment g c s fits quiet =
+    and_then (sizes_of c.args.self.now.store) (sizes_of c.touch.new.self) (g.S.Site.state c.args.site.now) (g.S.Site.state c.touch.new.site) (g.S.Site.state c.update.new.site) s.table s.commits c.touch.ensures.sizes
+    (c.touch.ensures.any_moment fits.records s.table s.commits fits.holds quiet)
+    (c.update.ensures.any_moment fits.records s.table s.commits (c.in-Ok.ensures.holds fits.records s.table s.commits fits.holds) (c.in-Ok.ensures.stays_quiet fits.honest quiet))
+
+pub returns-in-Ok-update-clause-any_moment : goal.returns-in-Ok-update-clause-any_moment
+returns-in-Ok-update-clause-any_moment g c s fits quiet =
+    and_then (sizes_of c.args.self.now.store) (sizes_of c.touch.new.self) (g.S.Site.state c.args.site.now) (g.S.Site.state c.touch.new.site) (g.S.Site.state c.update.new.site) s.table s.commits c.touch.ensures.sizes
+    (c.touch.ensures.any_moment fits.records s.table s.commits fits.holds quiet)
+    (c.update.ensures.any_moment fits.records s.table s.commits (c.in-Ok.ensures.holds fits.records s.table s.commits fits.holds) (c.in-Ok.ensures.stays_quiet fits.honest quiet))
+
+pub returns-in-Ok-update-clause-after : goal.returns-in-Ok-update-clause-after
+returns-in-Ok-update-clause-after g c s fits =
+    let engine = c.args.self.now in
+    let old = g.S.Site.state c.args.site.now in
+    let new = g.S.Site.state c.touch.new.site in
+    let number = c.args.number in
+    let holds = c.in-Ok.ensures.holds fits.records s.table s.commits fits.holds in
+    let mid : Engine = record engine { store = c.touch.new.self } in
+    let fits_mid : Fits mid new s = touched_fits engine c.touch.new.self old new s fits (stays_honest old new c.touch.ensures.goes fits.honest) holds c.touch.ensures.made in
+    let same = ap (λ (x : Geometry). x.pages) c.touch.ensures.sizes in
+    let some = c.requires.number in
+    let less : number < 32 * (sizes_of c.touch.new.self).pages = omega (arith, same, some) in
+    let entry = c.args.entry in
+    let going = c.requires.going in
+    let last = g.S.Site.state c.update.new.site in
+    let lsn = c.in-Ok-update.lsn in
+    let after = c.args.after.now in
+    let made = c.touch.ensures.made in
+    let blocks = c.in-Ok.ensures.blocks in
+    let few = going.store.blocks in
+    let count = ap (λ (x : Geometry). x.blocks) c.touch.ensures.sizes in
+    let cap = going.cap in
+    let room = c.requires.room in
+    let may = may_write mid new s fits_mid entry number lsn after going.table c.requires.active less c.requires.free (omega (arith, made, room)) (omega (arith, blocks, few, made)) (omega (arith, cap, count)) in
+    write_fits mid _ new last s entry number lsn (shown_in c.touch.new.self new fits.records number) after fits_mid going.table c.requires.active
+    (stays_honest old last (goes_in_sequence old new last c.touch.ensures.goes c.update.ensures.goes) fits.honest)
+    (c.in-Ok-update.ensures.holds fits.records s.table s.commits holds may)
+    c.in-Ok-update.ensures.made refl refl c.in-Ok-add.ensures.ok c.wrote.ensures.entry c.wrote.ensures.owed
 
 pub wrote-requires-clause-room : goal.wrote-requires-clause-room
 wrote-requires-clause-room g c =
     let part = owes c.args.self.now.active c.args.entry.session c.args.entry c.requires.going.table c.requires.active in
     let room = c.requires.room in
     let cap = c.requires.going.cap in
-    let few = c.requires.going.journal.log.limits.few_blocks in
+    let few = c.requires.going.store.both.pages_going.flash.limits.few_blocks in
     omega (arith, part, room, cap, few)
 
-pub returns-clause-going : goal.returns-clause-going
-returns-clause-going g c =
+pub returns-in-Err-clause-quiet : goal.returns-in-Err-clause-quiet
+returns-in-Err-clause-quiet g c s fits = c.in-Err.ensures.quiet fits.records s.table s.commits fits.holds
+
+pub returns-in-Err-clause-foreign : goal.returns-in-Err-clause-foreign
+returns-in-Err-clause-foreign g c is s fits = c.in-Err.ensures.readable fits.records s.table s.commits fits.holds (err_again _ _ is)
+
+pub returns-in-Ok-update-clause-going : goal.returns-in-Ok-update-clause-going
+returns-in-Ok-update-clause-going g c =
     let going = c.requires.going in
     let n = c.args.entry.session in
     let changes = c.wrote.ensures.entry in
-    let rises = c.in_ok-lsn.ensures.rises in
-    let blocks = c.in_ok-lsn.ensures.blocks in
-    let made = c.in_ok-lsn.ensures.made in
+    let touched = c.in-Ok.ensures.rises in
+    let rises = c.in-Ok-update.ensures.rises in
+    let same = c.in-Ok.ensures.blocks in
+    let blocks = c.in-Ok-update.ensures.blocks in
+    let made_before = c.touch.ensures.made in
+    let made = c.in-Ok-update.ensures.made in
     let owed_is = c.wrote.ensures.owed in
     let room = c.requires.room in
-    let below = going.journal.blocks in
+    let below = going.store.blocks in
     let cap = going.cap in
-    let few = going.journal.log.limits.few_blocks in
+    let few = going.store.both.pages_going.flash.limits.few_blocks in
     let commits = going.commits in
     record {
-      journal = c.in_ok-lsn.ensures.going;
+      store = c.in-Ok-update.ensures.going;
       going = going.going;
-      cap = search rules;
+      cap = cap ∙ ap (λ (x : Geometry). x.blocks) (sym (c.update.ensures.sizes ∙ c.touch.ensures.sizes));
       table = c.wrote.ensures.table;
-      room = omega (arith, blocks, owed_is, room, below);
-      bounded = omega (arith, made, owed_is, room, cap, few);
-      commits = omega (arith, made, commits);
-      short = all_set IsShort c.args.self.now.table.items c.args.number c.args.after c.requires.short going.short;
+      room = omega (arith, blocks, same, owed_is, room, below);
+      bounded = omega (arith, made, made_before, owed_is, room, cap, few);
+      commits = omega (arith, made, made_before, commits);
       lasts = λ m other at. ⊎_elim
-          (λ (same : m ≡ n). let is = same_Some _ other (sym changes.own ∙ ap (entry_of c.wrote.new.active) (sym same) ∙ at) in subst (λ (x : Active). x.last < end_of c.append.new.self.log) is rises.1)
-          (λ differ. let before = going.lasts m other (sym (changes.others m differ) ∙ at) in omega (arith, before, rises.0, rises.1))
+          (λ (equal : m ≡ n). let is = same_Some _ other (sym changes.own ∙ ap (entry_of c.wrote.new.active) (sym equal) ∙ at) in subst (λ (x : Active). x.last < end_of c.update.new.self.log) is rises.1)
+          (λ differ. let before = going.lasts m other (sym (changes.others m differ) ∙ at) in omega (arith, before, touched, rises.0, rises.1))
           (cases_eq m n);
     }
 
-pub returns-in_err-add-clause-any_moment : goal.returns-in_err-add-clause-any_moment
-returns-in_err-add-clause-any_moment g c s fits quiet = nothing_happens c.args.self.now.journal (g.S.Site.state c.args.site.now) fits.records s.table s.commits c.requires.going.journal.log.limits fits.holds quiet
-
-pub returns-in_err-lsn-clause-any_moment : goal.returns-in_err-lsn-clause-any_moment
-returns-in_err-lsn-clause-any_moment g c s fits quiet = c.append.ensures.any_moment fits.records s.table s.commits fits.holds quiet
-
-pub returns-clause-any_moment : goal.returns-clause-any_moment
-returns-clause-any_moment g c s fits quiet = c.append.ensures.any_moment fits.records s.table s.commits fits.holds quiet
-
-pub returns-clause-after : goal.returns-clause-after
-returns-clause-after g c s fits =
-    let engine = c.args.self.now in
-    let old = g.S.Site.state c.args.site.now in
-    let new = g.S.Site.state c.append.new.site in
-    let lsn = c.in_ok-lsn.lsn in
-    let entry = c.args.entry in
-    let number = c.args.number in
-    let rec_is : c.update_of-update.result ≡ update_by entry number (slice_index_or engine.table.items number None) c.args.after = c.update_of-update.ensures ∙ ap (λ (x : Content). update_by entry number x c.args.after) (c.index.ensures ∙ get_or_default engine.table.items number _ None c.requires.number) in
-    let may = may_write engine old s fits entry number lsn c.args.after c.requires.going c.requires.active c.requires.number c.requires.free c.requires.room in
-    write_fits engine _ old new s entry number lsn c.args.after fits c.requires.going.table c.requires.active (stays_honest old new c.append.ensures.goes fits.honest)
-    (subst (λ (r : LogRecord). HoldsLog c.append.new.self new (fits.records ++ record { lsn = lsn; rec = r } ∷ []) s.table s.commits) rec_is
-    (c.in_ok-lsn.ensures.holds fits.records s.table s.commits fits.holds (subst (λ (r : LogRecord). MayGrow engine.journal fits.records (record { lsn = lsn; rec = r })) (sym rec_is) may)))
-    c.append.ensures.geometry c.in_ok-lsn.ensures.made refl refl refl c.in_ok-add.ensures.ok c.wrote.ensures.entry c.wrote.ensures.owed
+pub returns-in-Err-clause-worn : goal.returns-in-Err-clause-worn
+returns-in-Err-clause-worn g c s fits is = c.in-Err.ensures.worn fits.records s.table s.commits fits.holds (err_again _ _ is)

@@ -8,12 +8,12 @@ use Rattle.record_model.specs.declared.words.Command.TheVariants.{Commit}
 use Rattle.txn_table.specs.declared.active.Active.{Active}
 use Rattle.txn_table.specs.Entries.{entry_of}
 use Rattle.engine.specs.declared.engine.Engine.{Engine}
+use Rattle.engine.specs.Going.{sizes_of}
 use Rattle.engine.specs.Fits.{Fits, run}
 use Rattle.engine.specs.Leaves.{LeavesTable, LeavesEither}
 use Rattle.engine.proofs.Actives.{some_active}
 use Rattle.engine.proofs.Owing.{entry_is}
 use Rattle.engine.proofs.Replies.{carried_out, wants_active_is}
-use Rattle.engine.proofs.Sealings.{nothing_happens}
 use Rattle.engine.proofs.engine.Engine.commit.Goals as goal
 
 runs : (engine : Engine) (site : Site) (s : State) (n : ℕ) (entry : Active) → Fits engine site s → entry_of engine.active n ≡ Some entry → run s (Commit n) ≡ record { after = effect s (Commit n); reply = answer s (Commit n) [] }
@@ -24,9 +24,9 @@ runs engine site s n entry fits at =
 pub returns-in_default-clause-any_moment : goal.returns-in_default-clause-any_moment
 returns-in_default-clause-any_moment g c s fits quiet =
     let old = g.S.Site.state c.args.site.now in
-    let g0 = c.args.self.now.journal.log.geometry in
+    let g0 = (sizes_of c.args.self.now.store) in
     leaves_weaker old old (LeavesTable g0 s.table s.commits old.told) (LeavesEither g0 s _ old.told) (λ snapshot q. record { told = q.told; stands = inl q.stands })
-    (nothing_happens c.args.self.now.journal old fits.records s.table s.commits c.requires.going.journal.log.limits fits.holds quiet)
+    (c.hold_together.ensures.moment c.args.self.now.store.log c.args.self.now.store.pages old fits.records s.table s.commits c.requires.going.store.both.sizes fits.holds.both quiet)
 
 pub carry_out_commit-requires-clause-active : goal.carry_out_commit-requires-clause-active
 carry_out_commit-requires-clause-active g c =
@@ -50,7 +50,7 @@ returns-in-Ok-clause-any_moment g c s fits quiet =
     let at = sym c.find.ensures.entry ∙ c.in-Some.is in
     let old = g.S.Site.state c.args.site.now in
     let new = g.S.Site.state c.carry_out_commit.new.site in
-    let g0 = c.args.self.now.journal.log.geometry in
+    let g0 = (sizes_of c.args.self.now.store) in
     let same = (entry_is c.args.self.now.active c.args.session c.in-Some.entry c.requires.going.table at).session in
     subst (λ (o : Outcome). LeavesOnly old new (LeavesEither g0 s o.after old.told)) (sym (runs c.args.self.now old s c.args.session c.in-Some.entry fits at))
     (subst (λ (k : ℕ). LeavesOnly old new (LeavesEither g0 s (effect s (Commit k)) old.told)) same (c.carry_out_commit.ensures.any_moment s fits quiet))
@@ -60,7 +60,7 @@ returns-in-Err-clause-any_moment g c s fits quiet =
     let at = sym c.find.ensures.entry ∙ c.in-Some.is in
     let old = g.S.Site.state c.args.site.now in
     let new = g.S.Site.state c.carry_out_commit.new.site in
-    let g0 = c.args.self.now.journal.log.geometry in
+    let g0 = (sizes_of c.args.self.now.store) in
     let same = (entry_is c.args.self.now.active c.args.session c.in-Some.entry c.requires.going.table at).session in
     subst (λ (o : Outcome). LeavesOnly old new (LeavesEither g0 s o.after old.told)) (sym (runs c.args.self.now old s c.args.session c.in-Some.entry fits at))
     (subst (λ (k : ℕ). LeavesOnly old new (LeavesEither g0 s (effect s (Commit k)) old.told)) same (c.carry_out_commit.ensures.any_moment s fits quiet))

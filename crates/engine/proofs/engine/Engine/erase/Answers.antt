@@ -4,14 +4,13 @@ use Rattle.lock_table.specs.Locks.{busy_write}
 use Rattle.txn_table.specs.Entries.{entry_of}
 use Rattle.engine.specs.Fits.{Fits, with_write}
 use Rattle.engine.proofs.Owing.{entry_is}
-use Rattle.engine.proofs.Sealings.{nothing_happens}
 use Rattle.engine.proofs.engine.Engine.erase.Goals as goal
 
 pub returns-in-Some-clause-reply : goal.returns-in-Some-clause-reply
 returns-in-Some-clause-reply g c s fits = sym (ap (λ (o : Outcome). o.reply) (c.in-Some.ensures.refused s (g.S.Site.state c.args.site.now) fits))
 
 pub returns-in-Some-clause-any_moment : goal.returns-in-Some-clause-any_moment
-returns-in-Some-clause-any_moment g c s fits quiet = nothing_happens c.args.self.now.journal (g.S.Site.state c.args.site.now) fits.records s.table s.commits c.requires.going.journal.log.limits fits.holds quiet
+returns-in-Some-clause-any_moment g c s fits = c.hold_together.ensures.moment c.args.self.now.store.log c.args.self.now.store.pages (g.S.Site.state c.args.site.now) fits.records s.table s.commits c.requires.going.store.both.sizes fits.holds.both
 
 pub carry_out_write-requires-clause-active : goal.carry_out_write-requires-clause-active
 carry_out_write-requires-clause-active g c =

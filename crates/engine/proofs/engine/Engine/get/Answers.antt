@@ -1,39 +1,18 @@
-use Rattle.std.proofs.Common.{◌≡◌, ◌<◌, ◌≤◌, ℕ, ◌∙◌, Bool, true, false, List, [], ◌∷◌, Option, None, Some, refl, sym, ap, rules}
-use Rattle.std.specs.Prelude.{option_map}
-use Rattle.record_model.specs.State.{State}
-use Rattle.record_model.specs.State as model
-use Rattle.record_model.specs.Step.{Outcome, first_refusal, wants_active, wants_record, wants_short, may_read, may_write}
-use Rattle.record_model.specs.declared.words.Command.TheVariants.{Read, Write, Erase, Set, Get}
-use Rattle.record_model.specs.declared.words.Reply.{Reply}
-use Rattle.record_model.specs.declared.words.Reply.TheVariants as reply
-use Rattle.engine.proofs.Replies.{refused, no_room, carried_out, full_is, has_room, has_record, lacks_record, is_short, is_long, is_active, has}
-use Rattle.engine.proofs.Meanings.{busy_read_is, busy_write_is, seen_is, got_is}
-use Rattle.std.proofs.lemmas.Option.{none-some}
-use Rattle.record_model.specs.Step.{found}
+use Rattle.std.proofs.Common.{sym, ap, subst, ◌∙◌}
+use Rattle.record_model.specs.Step.{Outcome}
+use Rattle.engine.specs.Fits.{Fits}
 use Rattle.engine.proofs.engine.Engine.get.Goals as goal
 
-none_busy : (o : Option ℕ) → option_map reply.Busy o ≡ None → o ≡ None
-none_busy None is = refl
-none_busy (Some n) is = absurd (some_none is)
-  where
-    some_none : option_map reply.Busy (Some n) ≡ None → ⊥
-    some_none e = none-some (reply.Busy n) (sym e)
-
 pub returns-in-Some-clause-reply : goal.returns-in-Some-clause-reply
-returns-in-Some-clause-reply g c s fits =
-    let engine = c.args.self.now in
-    let site = g.S.Site.state c.args.site.now in
-    let number = c.args.number in
-    let there = has_record engine site s number fits (search rules) in
-    let busy : may_read s None number ≡ Some c.in-Some.busy = ap (option_map reply.Busy) (sym (busy_read_is engine.locks s fits.locks_are None number)) ∙ sym c.read_busy.ensures ∙ c.in-Some.is in
-    sym (ap (λ (o : Outcome). o.reply) (refused s (Get number) _ (λ i. first_refusal (there i ∷ busy i ∷ []))))
+returns-in-Some-clause-reply g c s fits = sym (ap (λ (o : Outcome). o.reply) (c.in-Some.ensures.refused s (g.S.Site.state c.args.site.now) fits))
 
-pub returns-clause-reply : goal.returns-clause-reply
-returns-clause-reply g c s fits =
-    let engine = c.args.self.now in
-    let site = g.S.Site.state c.args.site.now in
-    let number = c.args.number in
-    let there = has_record engine site s number fits (search rules) in
-    let free : may_read s None number ≡ None = ap (option_map reply.Busy) (sym (busy_read_is engine.locks s fits.locks_are None number)) ∙ sym c.read_busy.ensures ∙ c.in_default.is in
-    let got = got_is engine site s fits number c.requires.going.table (search rules) (none_busy _ free) in
-    c.shown.ensures ∙ ap found (sym got) ∙ sym (ap (λ (o : Outcome). o.reply) (carried_out s (Get number) (λ i. first_refusal (there i ∷ free i ∷ [])) refl))
+pub returns-in-Some-clause-any_moment : goal.returns-in-Some-clause-any_moment
+returns-in-Some-clause-any_moment g c s fits = c.hold_together.ensures.moment c.args.self.now.store.log c.args.self.now.store.pages (g.S.Site.state c.args.site.now) fits.records s.table s.commits c.requires.going.store.both.sizes fits.holds.both
+
+pub returns-in-Ok-clause-reply : goal.returns-in-Ok-clause-reply
+returns-in-Ok-clause-reply g c s fits =
+    c.in-Ok.ensures.reply s fits ∙ sym (ap (λ (o : Outcome). o.reply) (c.in_default.ensures.accepted s (g.S.Site.state c.args.site.now) fits))
+
+pub returns-in-Ok-clause-after : goal.returns-in-Ok-clause-after
+returns-in-Ok-clause-after g c s fits =
+    subst (λ (o : Outcome). Fits c.carry_out_get.new.self (g.S.Site.state c.carry_out_get.new.site) o.after) (sym (c.in_default.ensures.accepted s (g.S.Site.state c.args.site.now) fits)) (c.in-Ok.ensures.after s fits)

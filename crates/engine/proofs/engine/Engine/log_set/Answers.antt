@@ -1,62 +1,174 @@
-use Rattle.std.proofs.Common.{◌≡◌, ℕ, ◌+◌, ◌*◌, ◌/◌, ◌%◌, ◌++◌, ◌∷◌, [], List, Err, None, refl, sym, ap, subst, ◌∙◌, arith}
-use Rattle.std.specs.Prelude.{slice_index_or}
-use Rattle.std.proofs.lemmas.List.{get_or_default}
-use Rattle.site.specs.Laws.{fault_since}
-use Rattle.site.specs.declared.outside.Dev.TheVariants.{Log}
-use Rattle.site.specs.declared.outside.Stop.TheVariants.{Device}
+use Rattle.std.proofs.Common.{◌++◌, ◌∷◌, [], subst, ◌∙◌, arith}
+use Rattle.site.specs.declared.geometry.Geometry.{Geometry}
+use Rattle.site.specs.Laws.{stays_honest, fault_since, goes_in_sequence}
 use Rattle.record_model.specs.State.{Content}
-use Rattle.log_records.specs.Log.{Entry}
-use Rattle.log_records.specs.declared.log_record.LogRecord.{LogRecord}
-use Rattle.log_records.specs.declared.log_record.LogRecord.TheVariants.{Begin, Update}
-use Rattle.engine.specs.Holding.{HoldsLog, MayGrow}
-use Rattle.engine.proofs.Rollbacks.{and_then}
-use Rattle.engine.proofs.Settings.{may_begin, may_update, one_write}
+use Rattle.engine.specs.Going.{sizes_of}
+use Rattle.engine.specs.Holding.{shown_in}
+use Rattle.flash_cache.specs.Held.{IsWorn}
+use Rattle.engine.proofs.Moments.{and_then, err_again}
+use Rattle.engine.proofs.Settings.{begin_at, may_begin, may_update, one_write}
 use Rattle.engine.proofs.engine.Engine.log_set.Goals as goal
 
 pub returns-in-Err-clause-any_moment : goal.returns-in-Err-clause-any_moment
-returns-in-Err-clause-any_moment g c s fits quiet = c.append.ensures.any_moment fits.records s.table s.commits fits.holds quiet
+returns-in-Err-clause-any_moment g c s fits = c.begin.ensures.any_moment fits.records s.table s.commits fits.holds
 
-pub returns-in-Ok-append-clause-logged : goal.returns-in-Ok-append-clause-logged
-returns-in-Ok-append-clause-logged g c s fits =
+pub returns-in-Err-touch-clause-any_moment : goal.returns-in-Err-touch-clause-any_moment
+returns-in-Err-touch-clause-any_moment g c s fits quiet =
     let engine = c.args.self.now in
     let old = g.S.Site.state c.args.site.now in
+    let one = g.S.Site.state c.begin.new.site in
     let going = c.requires.going in
-    let txn = c.in-Ok.txn in
-    let lsn = c.in-Ok-append._lsn in
-    let number = c.args.number in
-    let before : Content = slice_index_or engine.table.items number None in
-    let after = c.args.after.now in
+    let room = c.requires.room in
     let behind = c.in-Ok.ensures.rises.0 in
-    let log = fits.records ++ record { lsn = txn; rec = Begin } ∷ [] in
-    let holds = c.in-Ok.ensures.holds fits.records s.table s.commits fits.holds (may_begin engine old s number fits going.table c.requires.number c.requires.room going.journal.blocks going.cap c.requires.free txn behind) in
-    let update : c.update_of-update.result ≡ Update txn txn (number / 32) (number % 32) before after = c.update_of-update.ensures ∙ ap (λ (b : Content). Update txn txn (number / 32) (number % 32) b after) (c.index.ensures ∙ get_or_default engine.table.items number c.index.result.now None c.requires.number) in
-    let may = may_update engine old s number fits going.table c.requires.number c.requires.room going.journal.blocks going.cap c.requires.free txn behind c.append.new.self lsn after c.append.ensures.geometry c.in-Ok.ensures.blocks in
-    let both = c.in-Ok-append.ensures.holds log s.table s.commits holds (subst (λ (rec : LogRecord). MayGrow c.append.new.self log (record { lsn = lsn; rec = rec })) (sym update) may) in
-    one_write engine old s number fits going.table c.requires.number c.requires.room going.journal.blocks going.cap c.requires.free txn behind c.append-2.new.self (g.S.Site.state c.append-2.new.site) lsn before after
-    (c.append-2.ensures.geometry ∙ c.append.ensures.geometry)
-    (subst (λ (rec : LogRecord). HoldsLog c.append-2.new.self (g.S.Site.state c.append-2.new.site) (log ++ record { lsn = lsn; rec = rec } ∷ []) s.table s.commits) update both)
+    let log = fits.records ++ begin_at c.in-Ok.txn ∷ [] in
+    let may = may_begin engine old s fits c.in-Ok.txn behind (omega (arith, room)) going.store.blocks going.cap in
+    let holds = c.in-Ok.ensures.holds fits.records s.table s.commits fits.holds may in
+    let quiet_one = c.in-Ok.ensures.stays_quiet fits.honest quiet in
+    let begun = c.begin.ensures.any_moment fits.records s.table s.commits fits.holds quiet in
+    let two = g.S.Site.state c.touch.new.site in
+    let touched = and_then (sizes_of engine.store) (sizes_of c.begin.new.self) old one two s.table s.commits c.begin.ensures.sizes begun (c.touch.ensures.any_moment log s.table s.commits holds quiet_one) in
+    touched
 
-pub returns-in-Ok-append-clause-any_moment : goal.returns-in-Ok-append-clause-any_moment
-returns-in-Ok-append-clause-any_moment g c s fits quiet =
+pub returns-in-Err-update-clause-any_moment : goal.returns-in-Err-update-clause-any_moment
+returns-in-Err-update-clause-any_moment g c s fits quiet =
+    let engine = c.args.self.now in
+    let old = g.S.Site.state c.args.site.now in
+    let one = g.S.Site.state c.begin.new.site in
+    let going = c.requires.going in
+    let room = c.requires.room in
+    let behind = c.in-Ok.ensures.rises.0 in
+    let log = fits.records ++ begin_at c.in-Ok.txn ∷ [] in
+    let may = may_begin engine old s fits c.in-Ok.txn behind (omega (arith, room)) going.store.blocks going.cap in
+    let holds = c.in-Ok.ensures.holds fits.records s.table s.commits fits.holds may in
+    let held = c.in-Ok-touch.ensures.holds log s.table s.commits holds in
+    let honest_one = stays_honest old one c.begin.ensures.goes fits.honest in
+    let quiet_one = c.in-Ok.ensures.stays_quiet fits.honest quiet in
+    let begun = c.begin.ensures.any_moment fits.records s.table s.commits fits.holds quiet in
+    let two = g.S.Site.state c.touch.new.site in
+    let touched = and_then (sizes_of engine.store) (sizes_of c.begin.new.self) old one two s.table s.commits c.begin.ensures.sizes begun (c.touch.ensures.any_moment log s.table s.commits holds quiet_one) in
+    let three = g.S.Site.state c.update.new.site in
+    and_then (sizes_of engine.store) (sizes_of c.touch.new.self) old two three s.table s.commits (c.touch.ensures.sizes ∙ c.begin.ensures.sizes) touched (c.update.ensures.any_moment log s.table s.commits held (c.in-Ok-touch.ensures.stays_quiet honest_one quiet_one))
+
+pub returns-in-Ok-update-clause-any_moment : goal.returns-in-Ok-update-clause-any_moment
+returns-in-Ok-update-clause-any_moment g c s fits quiet =
+    let engine = c.args.self.now in
+    let old = g.S.Site.state c.args.site.now in
+    let one = g.S.Site.state c.begin.new.site in
+    let going = c.requires.going in
+    let room = c.requires.room in
+    let behind = c.in-Ok.ensures.rises.0 in
+    let log = fits.records ++ begin_at c.in-Ok.txn ∷ [] in
+    let may = may_begin engine old s fits c.in-Ok.txn behind (omega (arith, room)) going.store.blocks going.cap in
+    let holds = c.in-Ok.ensures.holds fits.records s.table s.commits fits.holds may in
+    let held = c.in-Ok-touch.ensures.holds log s.table s.commits holds in
+    let honest_one = stays_honest old one c.begin.ensures.goes fits.honest in
+    let quiet_one = c.in-Ok.ensures.stays_quiet fits.honest quiet in
+    let begun = c.begin.ensures.any_moment fits.records s.table s.commits fits.holds quiet in
+    let two = g.S.Site.state c.touch.new.site in
+    let touched = and_then (sizes_of engine.store) (sizes_of c.begin.new.self) old one two s.table s.commits c.begin.ensures.sizes begun (c.touch.ensures.any_moment log s.table s.commits holds quiet_one) in
+    let three = g.S.Site.state c.update.new.site in
+    and_then (sizes_of engine.store) (sizes_of c.touch.new.self) old two three s.table s.commits (c.touch.ensures.sizes ∙ c.begin.ensures.sizes) touched (c.update.ensures.any_moment log s.table s.commits held (c.in-Ok-touch.ensures.stays_quiet honest_one quiet_one))
+
+pub returns-in-Err-touch-clause-quiet : goal.returns-in-Err-touch-clause-quiet
+returns-in-Err-touch-clause-quiet g c s fits quiet =
+    let engine = c.args.self.now in
+    let old = g.S.Site.state c.args.site.now in
+    let one = g.S.Site.state c.begin.new.site in
+    let going = c.requires.going in
+    let room = c.requires.room in
+    let behind = c.in-Ok.ensures.rises.0 in
+    let log = fits.records ++ begin_at c.in-Ok.txn ∷ [] in
+    let may = may_begin engine old s fits c.in-Ok.txn behind (omega (arith, room)) going.store.blocks going.cap in
+    let holds = c.in-Ok.ensures.holds fits.records s.table s.commits fits.holds may in
+    c.in-Err-touch.ensures.quiet log s.table s.commits holds (c.in-Ok.ensures.stays_quiet fits.honest quiet)
+
+pub returns-in-Err-update-clause-quiet : goal.returns-in-Err-update-clause-quiet
+returns-in-Err-update-clause-quiet g c s fits quiet =
+    let engine = c.args.self.now in
+    let old = g.S.Site.state c.args.site.now in
+    let one = g.S.Site.state c.begin.new.site in
+    let going = c.requires.going in
+    let room = c.requires.room in
+    let behind = c.in-Ok.ensures.rises.0 in
+    let log = fits.records ++ begin_at c.in-Ok.txn ∷ [] in
+    let may = may_begin engine old s fits c.in-Ok.txn behind (omega (arith, room)) going.store.blocks going.cap in
+    let holds = c.in-Ok.ensures.holds fits.records s.table s.commits fits.holds may in
+    let held = c.in-Ok-touch.ensures.holds log s.table s.commits holds in
+    c.in-Err-update.ensures.quiet log s.table s.commits held (c.in-Ok-touch.ensures.stays_quiet (stays_honest old one c.begin.ensures.goes fits.honest) (c.in-Ok.ensures.stays_quiet fits.honest quiet))
+
+pub returns-in-Err-touch-clause-foreign : goal.returns-in-Err-touch-clause-foreign
+returns-in-Err-touch-clause-foreign g c is s fits =
+    let engine = c.args.self.now in
+    let old = g.S.Site.state c.args.site.now in
+    let one = g.S.Site.state c.begin.new.site in
+    let going = c.requires.going in
+    let room = c.requires.room in
+    let behind = c.in-Ok.ensures.rises.0 in
+    let log = fits.records ++ begin_at c.in-Ok.txn ∷ [] in
+    let may = may_begin engine old s fits c.in-Ok.txn behind (omega (arith, room)) going.store.blocks going.cap in
+    let holds = c.in-Ok.ensures.holds fits.records s.table s.commits fits.holds may in
+    c.in-Err-touch.ensures.readable log s.table s.commits holds (err_again _ _ is)
+
+pub returns-in-Err-update-clause-foreign : goal.returns-in-Err-update-clause-foreign
+returns-in-Err-update-clause-foreign g c is s fits =
+    let engine = c.args.self.now in
+    let old = g.S.Site.state c.args.site.now in
+    let one = g.S.Site.state c.begin.new.site in
+    let going = c.requires.going in
+    let room = c.requires.room in
+    let behind = c.in-Ok.ensures.rises.0 in
+    let log = fits.records ++ begin_at c.in-Ok.txn ∷ [] in
+    let may = may_begin engine old s fits c.in-Ok.txn behind (omega (arith, room)) going.store.blocks going.cap in
+    let holds = c.in-Ok.ensures.holds fits.records s.table s.commits fits.holds may in
+    let held = c.in-Ok-touch.ensures.holds log s.table s.commits holds in
+    c.in-Err-update.ensures.readable log s.table s.commits held (err_again _ _ is)
+
+pub returns-in-Err-touch-clause-device : goal.returns-in-Err-touch-clause-device
+returns-in-Err-touch-clause-device g c d is =
+    fault_since d (g.S.Site.state c.args.site.now) (g.S.Site.state c.begin.new.site) (g.S.Site.state c.touch.new.site) c.begin.ensures.goes (c.in-Err-touch.ensures.device d (err_again _ _ is))
+
+pub returns-in-Err-update-clause-device : goal.returns-in-Err-update-clause-device
+returns-in-Err-update-clause-device g c d is =
+    let old = g.S.Site.state c.args.site.now in
+    let one = g.S.Site.state c.begin.new.site in
+    let two = g.S.Site.state c.touch.new.site in
+    fault_since d old two (g.S.Site.state c.update.new.site) (goes_in_sequence old one two c.begin.ensures.goes c.touch.ensures.goes) (c.in-Err-update.ensures.device d (err_again _ _ is))
+
+pub returns-in-Ok-update-clause-logged : goal.returns-in-Ok-update-clause-logged
+returns-in-Ok-update-clause-logged g c s fits =
+    let engine = c.args.self.now in
+    let old = g.S.Site.state c.args.site.now in
+    let one = g.S.Site.state c.begin.new.site in
+    let going = c.requires.going in
+    let room = c.requires.room in
+    let behind = c.in-Ok.ensures.rises.0 in
+    let log = fits.records ++ begin_at c.in-Ok.txn ∷ [] in
+    let may = may_begin engine old s fits c.in-Ok.txn behind (omega (arith, room)) going.store.blocks going.cap in
+    let holds = c.in-Ok.ensures.holds fits.records s.table s.commits fits.holds may in
+    let held = c.in-Ok-touch.ensures.holds log s.table s.commits holds in
+    let two = g.S.Site.state c.touch.new.site in
+    let txn = c.in-Ok.txn in
+    let number = c.args.number in
+    let after = c.args.after.now in
+    let lsn = c.in-Ok-update.field-0 in
+    let blocks = c.in-Ok.ensures.blocks in
+    let same = c.in-Ok-touch.ensures.blocks in
+    let before : Content = shown_in c.touch.new.self two log number in
+    let may = may_update engine old s number fits going.table c.requires.number c.requires.room going.store.blocks going.cap c.requires.free txn behind c.touch.new.self two lsn after (c.touch.ensures.sizes ∙ c.begin.ensures.sizes) (omega (arith, blocks, same)) in
+    one_write engine old s number fits going.table c.requires.number c.requires.room going.store.blocks going.cap c.requires.free txn behind c.update.new.self (g.S.Site.state c.update.new.site) lsn before after
+    (c.in-Ok-update.ensures.holds log s.table s.commits held may)
+
+pub returns-in-Err-clause-quiet : goal.returns-in-Err-clause-quiet
+returns-in-Err-clause-quiet g c s fits = c.in-Err.ensures.quiet fits.records s.table s.commits fits.holds
+
+pub returns-in-Err-touch-clause-worn : goal.returns-in-Err-touch-clause-worn
+returns-in-Err-touch-clause-worn g c s fits is =
     let engine = c.args.self.now in
     let old = g.S.Site.state c.args.site.now in
     let going = c.requires.going in
-    let holds = c.in-Ok.ensures.holds fits.records s.table s.commits fits.holds (may_begin engine old s c.args.number fits going.table c.requires.number c.requires.room going.journal.blocks going.cap c.requires.free c.in-Ok.txn c.in-Ok.ensures.rises.0) in
-    and_then engine.journal.log.geometry c.append.new.self.log.geometry old (g.S.Site.state c.append.new.site) (g.S.Site.state c.append-2.new.site) s.table s.commits c.append.ensures.geometry
-    (c.append.ensures.any_moment fits.records s.table s.commits fits.holds quiet)
-    (c.append-2.ensures.any_moment (fits.records ++ record { lsn = c.in-Ok.txn; rec = Begin } ∷ []) s.table s.commits holds (c.in-Ok.ensures.stays_quiet fits.honest quiet))
-
-pub returns-in-Err-append-clause-any_moment : goal.returns-in-Err-append-clause-any_moment
-returns-in-Err-append-clause-any_moment g c s fits quiet =
-    let engine = c.args.self.now in
-    let old = g.S.Site.state c.args.site.now in
-    let going = c.requires.going in
-    let holds = c.in-Ok.ensures.holds fits.records s.table s.commits fits.holds (may_begin engine old s c.args.number fits going.table c.requires.number c.requires.room going.journal.blocks going.cap c.requires.free c.in-Ok.txn c.in-Ok.ensures.rises.0) in
-    and_then engine.journal.log.geometry c.append.new.self.log.geometry old (g.S.Site.state c.append.new.site) (g.S.Site.state c.append-2.new.site) s.table s.commits c.append.ensures.geometry
-    (c.append.ensures.any_moment fits.records s.table s.commits fits.holds quiet)
-    (c.append-2.ensures.any_moment (fits.records ++ record { lsn = c.in-Ok.txn; rec = Begin } ∷ []) s.table s.commits holds (c.in-Ok.ensures.stays_quiet fits.honest quiet))
-
-pub returns-in-Err-append-clause-device : goal.returns-in-Err-append-clause-device
-returns-in-Err-append-clause-device g c is =
-    fault_since Log (g.S.Site.state c.args.site.now) (g.S.Site.state c.append.new.site) (g.S.Site.state c.append-2.new.site) c.append.ensures.goes
-    (let same : c.in-Err-append.stop ≡ Device Log = cc in c.in-Err-append.ensures.device (ap Err same))
+    let room = c.requires.room in
+    let behind = c.in-Ok.ensures.rises.0 in
+    let log = fits.records ++ begin_at c.in-Ok.txn ∷ [] in
+    let may = may_begin engine old s fits c.in-Ok.txn behind (omega (arith, room)) going.store.blocks going.cap in
+    let holds = c.in-Ok.ensures.holds fits.records s.table s.commits fits.holds may in
+    subst (λ (k : Geometry). IsWorn k (g.S.Site.state c.touch.new.site).image) c.begin.ensures.sizes (c.in-Err-touch.ensures.worn log s.table s.commits holds (err_again _ _ is))

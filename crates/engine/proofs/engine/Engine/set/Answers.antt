@@ -1,13 +1,11 @@
-use Rattle.std.proofs.Common.{◌≡◌, ◌∷◌, [], inl, sym, ap, subst}
-use Rattle.site.specs.State.{State as Site}
+use Rattle.std.proofs.Common.{◌∷◌, [], inl, sym, ap, subst, ◌∙◌}
 use Rattle.site.specs.Moments.{LeavesOnly}
 use Rattle.site.specs.Laws.{leaves_weaker}
-use Rattle.record_model.specs.State.{Content, State}
+use Rattle.record_model.specs.State.{Content}
 use Rattle.record_model.specs.Step.{Outcome, making, committed}
-use Rattle.record_model.specs.declared.words.Command.TheVariants.{Set}
-use Rattle.engine.specs.Fits.{run}
+use Rattle.engine.specs.Going.{sizes_of}
+use Rattle.engine.specs.Fits.{Fits}
 use Rattle.engine.specs.Leaves.{LeavesTable, LeavesEither}
-use Rattle.engine.proofs.Sealings.{nothing_happens}
 use Rattle.engine.proofs.engine.Engine.set.Goals as goal
 
 pub returns-in-Some-clause-reply : goal.returns-in-Some-clause-reply
@@ -16,15 +14,15 @@ returns-in-Some-clause-reply g c s fits = sym (ap (λ (o : Outcome). o.reply) (c
 pub returns-in-Some-clause-any_moment : goal.returns-in-Some-clause-any_moment
 returns-in-Some-clause-any_moment g c s fits quiet =
     let old = g.S.Site.state c.args.site.now in
-    let geometry = c.args.self.now.journal.log.geometry in
+    let geometry = (sizes_of c.args.self.now.store) in
     leaves_weaker old old (LeavesTable geometry s.table s.commits old.told) (LeavesEither geometry s _ old.told) (λ snapshot q. record { told = q.told; stands = inl q.stands })
-    (nothing_happens c.args.self.now.journal old fits.records s.table s.commits c.requires.going.journal.log.limits fits.holds quiet)
+    (c.hold_together.ensures.moment c.args.self.now.store.log c.args.self.now.store.pages old fits.records s.table s.commits c.requires.going.store.both.sizes fits.holds.both quiet)
 
 pub returns-in-Ok-clause-any_moment : goal.returns-in-Ok-clause-any_moment
 returns-in-Ok-clause-any_moment g c s fits quiet =
     let old = g.S.Site.state c.args.site.now in
     let new = g.S.Site.state c.carry_out_set.new.site in
-    let geometry = c.args.self.now.journal.log.geometry in
+    let geometry = (sizes_of c.args.self.now.store) in
     subst (λ (o : Outcome). LeavesOnly old new (LeavesEither geometry s o.after old.told)) (sym (c.in_default.ensures.accepted s old fits))
     (subst (λ (after : Content). LeavesOnly old new (LeavesEither geometry s (making 3 (committed s ((c.args.number, after) ∷ []))) old.told)) c.value_of-after.ensures (c.carry_out_set.ensures.any_moment s fits quiet))
 
@@ -32,6 +30,16 @@ pub returns-in-Err-clause-any_moment : goal.returns-in-Err-clause-any_moment
 returns-in-Err-clause-any_moment g c s fits quiet =
     let old = g.S.Site.state c.args.site.now in
     let new = g.S.Site.state c.carry_out_set.new.site in
-    let geometry = c.args.self.now.journal.log.geometry in
+    let geometry = (sizes_of c.args.self.now.store) in
     subst (λ (o : Outcome). LeavesOnly old new (LeavesEither geometry s o.after old.told)) (sym (c.in_default.ensures.accepted s old fits))
     (subst (λ (after : Content). LeavesOnly old new (LeavesEither geometry s (making 3 (committed s ((c.args.number, after) ∷ []))) old.told)) c.value_of-after.ensures (c.carry_out_set.ensures.any_moment s fits quiet))
+
+pub returns-in-Ok-clause-reply : goal.returns-in-Ok-clause-reply
+returns-in-Ok-clause-reply g c s fits =
+    c.in-Ok.ensures.done s fits ∙ sym (ap (λ (o : Outcome). o.reply) (c.in_default.ensures.accepted s (g.S.Site.state c.args.site.now) fits))
+
+pub returns-in-Ok-clause-after : goal.returns-in-Ok-clause-after
+returns-in-Ok-clause-after g c s fits =
+    let new = g.S.Site.state c.carry_out_set.new.site in
+    subst (λ (o : Outcome). Fits c.carry_out_set.new.self new o.after) (sym (c.in_default.ensures.accepted s (g.S.Site.state c.args.site.now) fits))
+    (subst (λ (after : Content). Fits c.carry_out_set.new.self new (making 3 (committed s ((c.args.number, after) ∷ [])))) c.value_of-after.ensures (c.in-Ok.ensures.after s fits))

@@ -1,14 +1,12 @@
-use Rattle.std.proofs.Common.{◌≡◌, ◌<◌, ◌≤◌, ℕ, ◌∙◌, Bool, true, false, List, [], ◌∷◌, Option, None, Some, refl, sym, ap, rules}
+use Rattle.std.proofs.Common.{◌≡◌, ◌∙◌, [], ◌∷◌, None, Some, sym, ap, rules}
 use Rattle.std.specs.Prelude.{option_map}
 use Rattle.record_model.specs.State.{State}
-use Rattle.record_model.specs.State as model
-use Rattle.record_model.specs.Step.{Outcome, full, first_refusal, wants_active, wants_record, wants_short, may_read, may_write}
-use Rattle.record_model.specs.declared.words.Command.TheVariants.{Read, Write, Erase, Set, Get}
+use Rattle.record_model.specs.Step.{Outcome, first_refusal, wants_short, may_write}
+use Rattle.record_model.specs.declared.words.Command.TheVariants.{Set}
 use Rattle.record_model.specs.declared.words.Reply.{Reply}
 use Rattle.record_model.specs.declared.words.Reply.TheVariants as reply
-use Rattle.engine.proofs.Replies.{refused, no_room, carried_out, full_is, has_room, has_record, lacks_record, is_short, is_long, is_active, has}
-use Rattle.engine.proofs.Meanings.{busy_read_is, busy_write_is, seen_is, got_is}
-use Rattle.engine.proofs.Owing.{entry_is}
+use Rattle.engine.proofs.Replies.{refused, no_room, carried_out, full_is, has_room, has_record, lacks_record, is_short, is_long}
+use Rattle.engine.proofs.Meanings.{busy_write_is}
 use Rattle.engine.proofs.engine.Engine.set_refusal.Goals as goal
 
 abbrev left : State → Reply → Outcome

@@ -1,0 +1,34 @@
+-- Calls one after the other.
+use Rattle.std.proofs.Common.{◌≡◌, ℕ, List, sym, ap, subst}
+use Rattle.std.specs.Prelude.{Result, Ok, Err, OnOk, IsErrOf}
+use Rattle.site.specs.declared.outside.Dev.TheVariants.{Log}
+use Rattle.site.specs.declared.outside.Stop.{Stop}
+use Rattle.site.specs.declared.outside.Stop.TheVariants.{Device}
+use Rattle.site.specs.declared.geometry.Geometry.{Geometry}
+use Rattle.site.specs.State.{State}
+use Rattle.site.specs.Moments.{Leaves, LeavesOnly}
+use Rattle.site.specs.Laws.{in_sequence, holds_now}
+use Rattle.record_model.specs.State.{Content}
+use Rattle.page_store.specs.Stopping.{MayStop}
+use Rattle.engine.specs.Leaves.{LeavesTable}
+
+-- one call behind others
+pub and_then : (g g' : Geometry) (old mid new : State) (table : List Content) (commits : ℕ) → g' ≡ g → LeavesOnly old mid (LeavesTable g table commits old.told) → LeavesOnly mid new (LeavesTable g' table commits mid.told) →
+    LeavesOnly old new (LeavesTable g table commits old.told)
+and_then g g' old mid new table commits same first second =
+    let told : mid.told ≡ old.told = (holds_now old mid (LeavesTable g table commits old.told) first).told in
+    in_sequence old mid new (Leaves (LeavesTable g table commits old.told)) first
+    (subst (λ (t : List ℕ). LeavesOnly mid new (LeavesTable g table commits t)) told (subst (λ (x : Geometry). LeavesOnly mid new (LeavesTable x table commits mid.told)) same second))
+
+-- a failing log device is one of the causes
+pub log_stops : (stop : Stop) → stop ≡ Device Log → MayStop stop
+log_stops stop is = subst MayStop (sym is) tt
+
+-- what follows where a call succeeds
+pub where_ok : {T E : Type 0} (A B : Type 0) (result : Result T E) → OnOk result A → (A → B) → OnOk result B
+where_ok A B (Ok x) holds then = then holds
+where_ok A B (Err e) holds then = tt
+
+-- an error of a call is the one that is answered
+pub err_again : {T U : Type 0} (stop is : Stop) → IsErrOf {T = T} (Err stop) is → IsErrOf {T = U} (Err stop) is
+err_again stop is same = let equal : stop ≡ is = cc in ap Err equal

@@ -1,0 +1,67 @@
+use Rattle.std.proofs.Common.{◌≡◌, ◌*◌, ◌<◌, None, Some, sym, ap, ◌∙◌, arith}
+use Rattle.site.specs.declared.geometry.Geometry.{Geometry}
+use Rattle.site.specs.Laws.{stays_honest}
+use Rattle.record_model.specs.State as model
+use Rattle.record_model.specs.State.{Content}
+use Rattle.record_model.specs.Step.{found}
+use Rattle.engine.specs.declared.engine.Engine.{Engine}
+use Rattle.engine.specs.Going.{sizes_of}
+use Rattle.engine.specs.Fits.{Fits}
+use Rattle.engine.proofs.Moments.{err_again}
+use Rattle.engine.proofs.Meanings.{busy_read_is, seen_is}
+use Rattle.engine.proofs.Replies.{has}
+use Rattle.engine.proofs.Writes.{read_fits, touched_fits}
+use Rattle.engine.proofs.engine.Engine.carry_out_read.Goals as goal
+
+pub returns-in-Ok-add-clause-any_moment : goal.returns-in-Ok-add-clause-any_moment
+returns-in-Ok-add-clause-any_moment g c s fits = c.touch.ensures.any_moment fits.records s.table s.commits fits.holds
+
+pub returns-in-Err-clause-any_moment : goal.returns-in-Err-clause-any_moment
+returns-in-Err-clause-any_moment g c s fits = c.touch.ensures.any_moment fits.records s.table s.commits fits.holds
+
+pub returns-in-Err-add-clause-any_moment : goal.returns-in-Err-add-clause-any_moment
+returns-in-Err-add-clause-any_moment g c s fits = c.touch.ensures.any_moment fits.records s.table s.commits fits.holds
+
+pub returns-in-Err-add-clause-quiet : goal.returns-in-Err-add-clause-quiet
+returns-in-Err-add-clause-quiet g c s fits quiet = λ other. c.in-Ok.ensures.stays_quiet fits.honest quiet
+
+pub returns-in-Ok-add-clause-reply : goal.returns-in-Ok-add-clause-reply
+returns-in-Ok-add-clause-reply g c s fits =
+    let engine = c.args.self.now in
+    let old = g.S.Site.state c.args.site.now in
+    let new = g.S.Site.state c.touch.new.site in
+    let number = c.args.number in
+    let holds = c.in-Ok.ensures.holds fits.records s.table s.commits fits.holds in
+    let mid : Engine = record engine { store = c.touch.new.self } in
+    let fits_mid : Fits mid new s = touched_fits engine c.touch.new.self old new s fits (stays_honest old new c.touch.ensures.goes fits.honest) holds c.touch.ensures.made in
+    let same = ap (λ (x : Geometry). x.pages) c.touch.ensures.sizes in
+    let some = c.requires.number in
+    let less : number < 32 * (sizes_of c.touch.new.self).pages = omega (arith, same, some) in
+    let n = c.args.session in
+    let own = has _ c.requires.active in
+    let free : model.busy_read s (Some n) number ≡ None = sym (busy_read_is engine.locks s fits.locks_are (Some n) number) ∙ c.requires.free in
+    c.found.ensures ∙ ap found (c.shown.ensures.shown new fits.records s.table s.commits holds ∙ sym (seen_is mid new s fits_mid n number own.own c.requires.going.table less own.is free))
+
+pub returns-in-Ok-add-clause-after : goal.returns-in-Ok-add-clause-after
+returns-in-Ok-add-clause-after g c s fits =
+    let engine = c.args.self.now in
+    let old = g.S.Site.state c.args.site.now in
+    let new = g.S.Site.state c.touch.new.site in
+    let number = c.args.number in
+    let holds = c.in-Ok.ensures.holds fits.records s.table s.commits fits.holds in
+    let mid : Engine = record engine { store = c.touch.new.self } in
+    let fits_mid : Fits mid new s = touched_fits engine c.touch.new.self old new s fits (stays_honest old new c.touch.ensures.goes fits.honest) holds c.touch.ensures.made in
+    let same = ap (λ (x : Geometry). x.pages) c.touch.ensures.sizes in
+    let some = c.requires.number in
+    let less : number < 32 * (sizes_of c.touch.new.self).pages = omega (arith, same, some) in
+    let own = has _ c.requires.active in
+    read_fits mid c.add.new.self new s c.args.session number own.own fits_mid c.requires.going.table own.is c.in-Ok-add.ensures.ok
+
+pub returns-in-Err-clause-quiet : goal.returns-in-Err-clause-quiet
+returns-in-Err-clause-quiet g c s fits = c.in-Err.ensures.quiet fits.records s.table s.commits fits.holds
+
+pub returns-in-Err-clause-foreign : goal.returns-in-Err-clause-foreign
+returns-in-Err-clause-foreign g c is s fits = c.in-Err.ensures.readable fits.records s.table s.commits fits.holds (err_again _ _ is)
+
+pub returns-in-Err-clause-worn : goal.returns-in-Err-clause-worn
+returns-in-Err-clause-worn g c s fits is = c.in-Err.ensures.worn fits.records s.table s.commits fits.holds (err_again _ _ is)

@@ -1,0 +1,377 @@
+// Log and pages of a run: the records that it logs, and the pages that they change.
+ghost use Rattle.std.specs.Prelude.{◌≡◌, ◌≢◌, ◌⊎◌, ◌+◌, ◌*◌, ◌/◌, ◌^◌, ◌<◌, ◌≤◌, ◌++◌, ◌∷◌, [], ℕ, List, length, IsTrue, IfOk, OnOk, IfErr, IsErrOf};
+ghost use Rattle.site.specs.declared.outside.Dev.{Dev};
+ghost use Rattle.site.specs.declared.outside.Stop.{Stop};
+ghost use Rattle.site.specs.State.{State, IsQuiet};
+ghost use Rattle.site.specs.Calls.{Goes, FaultRose};
+ghost use Rattle.site.specs.Moments.{LeavesOnly};
+ghost use Rattle.record_model.specs.State.{Content, Write, table_with};
+ghost use Rattle.log_records.specs.declared.log_record.LogRecord.{LogRecord};
+ghost use Rattle.log_records.specs.Log.{Entry};
+ghost use Rattle.log_records.specs.Spelling.{IsShort};
+ghost use Rattle.log_records.specs.Unfinished as unfinished;
+ghost use Rattle.log_laws.specs.Follow.{writes_in, IsActive};
+ghost use Rattle.log_store.specs.Held.{end_of};
+ghost use Rattle.flash_cache.specs.Held.{IsWorn};
+ghost use Rattle.page_store.specs.Held.{IsStore};
+ghost use Rattle.page_store.specs.Stopping.{MayStop};
+ghost use Rattle.image_meaning.specs.Meaning.{blank_master};
+ghost use Rattle.image_meaning.specs.Moments.{LeavesEither};
+ghost use Rattle.redo_undo.specs.Holding.{blocks_to};
+ghost use Rattle.redo_undo.specs.Committing.{MayCommit};
+ghost use Rattle.engine.specs.Going.{MayWork, sizes_of};
+ghost use Rattle.engine.specs.Holding.{Holds, MayGrow, IsInFront, shown_in, update_by};
+ghost use Rattle.engine.specs.Rollback.{RollsBack};
+ghost use Rattle.engine.specs.Leaves.{LeavesTable};
+
+use log_records::LogRecord;
+use log_store::LogStore;
+use page_store::PageStore;
+use record_model::Octets;
+use redo_undo::{commit, hold_together, log_change, log_record, touch, undo_one};
+use site::{Site, Stop};
+use txn_table::Active;
+
+/// The number of a page's slots.
+pub const SLOTS: u32 = 32;
+
+/// Log and pages of a run. Every record counts, those that stood in the log when the run began among them.
+#[derive(Drop)]
+pub struct Store {
+    pub log: LogStore,
+    pub pages: PageStore,
+    pub made: u64,
+}
+
+// The same value once more.
+fn copy_of(content: &Option<Octets>) -> Option<Octets>
+    ensures { result ≡ content.now }
+{
+    match content {
+        None => None,
+        Some(value) => match Octets::from_slice(value.as_slice()) {
+            Some(copy) => Some(copy),
+            None => unreachable!(),
+        },
+    }
+}
+
+impl Store {
+    /// How many blocks the log has once its tail is sealed.
+    pub fn blocks(&self) -> u64
+        requires low { 2 ≤ self.now.log.used }
+        requires bounded { self.now.log.ring.hi ≤ 2 ^ 40 }
+        ensures { result ≡ blocks_to self.now.log }
+    {
+        let tail = if self.log.tail_empty() { 0 } else { 1 };
+        self.log.sealed_end() / 512 + tail
+    }
+
+    /// Logs the Begin of a transaction, and answers its LSN.
+    pub fn begin<S: Site>(&mut self, site: &mut S) -> Result<u64, Stop>
+        requires going { MayWork self.old (S.state site.old) }
+        requires room { blocks_to self.old.log + 1 < (sizes_of self.old).blocks }
+        requires few { self.old.made < 2 ^ 40 }
+
+        // Of an honest site whose log and pages hold these records.
+        ensures holds { (records : List Entry) (table : List Content) (commits : ℕ)
+            → Holds self.old (S.state site.old) records table commits
+            → IfOk result (λ lsn. MayGrow self.old (S.state site.old) records (record { lsn = lsn; rec = LogRecord.Begin })
+            → Holds self.new (S.state site.new) (records ++ record { lsn = lsn; rec = LogRecord.Begin } ∷ []) table commits) }
+        ensures any_moment { (records : List Entry) (table : List Content) (commits : ℕ)
+            → Holds self.old (S.state site.old) records table commits
+            → IsQuiet (S.state site.old)
+            → LeavesOnly (S.state site.old) (S.state site.new)
+            (LeavesTable (sizes_of self.old) table commits (S.state site.old).told) }
+        ensures left { IsTrue (S.state site.old).honest
+            → (S.state site.new).left ≡ (S.state site.old).left }
+        ensures stays_quiet { IsTrue (S.state site.old).honest → IsQuiet (S.state site.old)
+            → OnOk result (IsQuiet (S.state site.new)) }
+        ensures quiet { (records : List Entry) (table : List Content) (commits : ℕ)
+            → Holds self.old (S.state site.old) records table commits
+            → IsQuiet (S.state site.old)
+            → IfErr result (λ stop. ((d : Dev) → stop ≢ Stop.Device d) → IsQuiet (S.state site.new)) }
+
+        // Of every site.
+        ensures going { OnOk result (MayWork self.new (S.state site.new)) }
+        ensures made { OnOk result (self.new.made ≡ self.old.made + 1) }
+        ensures blocks { OnOk result (blocks_to self.new.log ≤ blocks_to self.old.log + 1) }
+        ensures rises { IfOk result (λ lsn. (end_of self.old.log ≤ lsn) × (lsn < end_of self.new.log)) }
+        ensures sizes { sizes_of self.new ≡ sizes_of self.old }
+        ensures pages { self.new.pages ≡ self.old.pages }
+        ensures goes { Goes (S.state site.old) (S.state site.new) }
+
+        // When each answer comes.
+        ensures device { (d : Dev) → IsErrOf result (Stop.Device d)
+            → FaultRose d (S.state site.old) (S.state site.new) }
+        ensures stops { IfErr result (λ stop. stop ≡ Stop.Device Dev.Log) }
+    {
+        match log_record(site, &mut self.log, &LogRecord::Begin) {
+            Ok(lsn) => {
+                self.made += 1;
+                Ok(lsn)
+            }
+            Err(stop) => Err(stop),
+        }
+    }
+
+    /// Brings the page of a record to the front of the pool.
+    pub fn touch<S: Site>(&mut self, site: &mut S, number: u32) -> Result<(), Stop>
+        requires going { MayWork self.old (S.state site.old) }
+        requires exists { number < 32 * (sizes_of self.old).pages }
+
+        // Of an honest site whose log and pages hold these records.
+        ensures holds { (records : List Entry) (table : List Content) (commits : ℕ)
+            → Holds self.old (S.state site.old) records table commits
+            → OnOk result (Holds self.new (S.state site.new) records table commits) }
+        ensures any_moment { (records : List Entry) (table : List Content) (commits : ℕ)
+            → Holds self.old (S.state site.old) records table commits
+            → IsQuiet (S.state site.old)
+            → LeavesOnly (S.state site.old) (S.state site.new)
+            (LeavesTable (sizes_of self.old) table commits (S.state site.old).told) }
+        ensures readable { (records : List Entry) (table : List Content) (commits : ℕ)
+            → Holds self.old (S.state site.old) records table commits
+            → IsErrOf result Stop.Foreign → ⊥ }
+        ensures left { IsTrue (S.state site.old).honest
+            → (S.state site.new).left ≡ (S.state site.old).left }
+        ensures stays_quiet { IsTrue (S.state site.old).honest → IsQuiet (S.state site.old)
+            → OnOk result (IsQuiet (S.state site.new)) }
+        ensures quiet { (records : List Entry) (table : List Content) (commits : ℕ)
+            → Holds self.old (S.state site.old) records table commits
+            → IsQuiet (S.state site.old)
+            → IfErr result (λ stop. ((d : Dev) → stop ≢ Stop.Device d) → IsQuiet (S.state site.new)) }
+
+        // Of every site.
+        ensures going { OnOk result (MayWork self.new (S.state site.new)) }
+        ensures front { OnOk result (IsInFront self.new number) }
+        ensures made { self.new.made ≡ self.old.made }
+        ensures blocks { OnOk result (blocks_to self.new.log ≡ blocks_to self.old.log) }
+        ensures rises { OnOk result (end_of self.old.log ≤ end_of self.new.log) }
+        ensures sizes { sizes_of self.new ≡ sizes_of self.old }
+        ensures goes { Goes (S.state site.old) (S.state site.new) }
+
+        // When each answer comes.
+        ensures device { (d : Dev) → IsErrOf result (Stop.Device d)
+            → FaultRose d (S.state site.old) (S.state site.new) }
+        ensures worn_log { IsErrOf result (Stop.Worn Dev.Log) → ⊥ }
+        ensures worn { (records : List Entry) (table : List Content) (commits : ℕ)
+            → Holds self.old (S.state site.old) records table commits
+            → IsErrOf result (Stop.Worn Dev.Flash) → IsWorn (sizes_of self.old) (S.state site.new).image }
+        ensures stops { IfErr result (λ stop. MayStop stop) }
+    {
+        touch(site, &mut self.log, &mut self.pages, number / SLOTS)
+    }
+
+    /// What was written last to a record whose page is in front.
+    pub fn shown(&self, number: u32) -> Option<Octets>
+        requires pages { IsStore self.now.pages }
+        requires front { IsInFront self.now number }
+        ensures shown { (site : State) (records : List Entry) (table : List Content) (commits : ℕ)
+            → Holds self.now site records table commits → result ≡ shown_in self.now site records number }
+        ensures short { IsShort result }
+    {
+        hold_together();
+        match self.pages.get((number % SLOTS) as u8) {
+            None => None,
+            Some(value) => match Octets::from_slice(value) {
+                Some(copy) => Some(copy),
+                None => unreachable!(),
+            },
+        }
+    }
+
+    /// Logs an Update of a record whose page is in front, and changes the page by it. Answers the Update's LSN.
+    pub fn update<S: Site>(
+        &mut self,
+        site: &mut S,
+        txn: u64,
+        prev: u64,
+        number: u32,
+        after: &Option<Octets>,
+    ) -> Result<u64, Stop>
+        requires going { MayWork self.old (S.state site.old) }
+        requires room { blocks_to self.old.log + 1 < (sizes_of self.old).blocks }
+        requires few { self.old.made < 2 ^ 40 }
+        requires front { IsInFront self.old number }
+        requires short { IsShort after.now }
+
+        // Of an honest site whose log and pages hold these records.
+        ensures holds { (records : List Entry) (table : List Content) (commits : ℕ)
+            → Holds self.old (S.state site.old) records table commits
+            → IfOk result (λ lsn. MayGrow self.old (S.state site.old) records
+            (record { lsn = lsn; rec = update_by txn prev number (shown_in self.old (S.state site.old) records number) after.now })
+            → Holds self.new (S.state site.new) (records
+            ++ record { lsn = lsn; rec = update_by txn prev number (shown_in self.old (S.state site.old) records number) after.now } ∷ [])
+            table commits) }
+        ensures any_moment { (records : List Entry) (table : List Content) (commits : ℕ)
+            → Holds self.old (S.state site.old) records table commits
+            → IsQuiet (S.state site.old)
+            → LeavesOnly (S.state site.old) (S.state site.new)
+            (LeavesTable (sizes_of self.old) table commits (S.state site.old).told) }
+        ensures readable { (records : List Entry) (table : List Content) (commits : ℕ)
+            → Holds self.old (S.state site.old) records table commits
+            → IsErrOf result Stop.Foreign → ⊥ }
+        ensures left { IsTrue (S.state site.old).honest
+            → (S.state site.new).left ≡ (S.state site.old).left }
+        ensures stays_quiet { IsTrue (S.state site.old).honest → IsQuiet (S.state site.old)
+            → OnOk result (IsQuiet (S.state site.new)) }
+        ensures quiet { (records : List Entry) (table : List Content) (commits : ℕ)
+            → Holds self.old (S.state site.old) records table commits
+            → IsQuiet (S.state site.old)
+            → IfErr result (λ stop. ((d : Dev) → stop ≢ Stop.Device d) → IsQuiet (S.state site.new)) }
+
+        // Of every site.
+        ensures going { OnOk result (MayWork self.new (S.state site.new)) }
+        ensures made { OnOk result (self.new.made ≡ self.old.made + 1) }
+        ensures blocks { OnOk result (blocks_to self.new.log ≤ blocks_to self.old.log + 1) }
+        ensures rises { IfOk result (λ lsn. (end_of self.old.log ≤ lsn) × (lsn < end_of self.new.log)) }
+        ensures sizes { sizes_of self.new ≡ sizes_of self.old }
+        ensures goes { Goes (S.state site.old) (S.state site.new) }
+
+        // When each answer comes.
+        ensures device { (d : Dev) → IsErrOf result (Stop.Device d)
+            → FaultRose d (S.state site.old) (S.state site.new) }
+        ensures stops { IfErr result (λ stop. (stop ≡ Stop.Device Dev.Log) ⊎ (stop ≡ Stop.Foreign)) }
+    {
+        let update = LogRecord::Update {
+            txn,
+            prev,
+            page: number / SLOTS,
+            slot: (number % SLOTS) as u8,
+            before: self.shown(number),
+            after: copy_of(after),
+        };
+        match log_change(site, &mut self.log, &mut self.pages, &update) {
+            Ok(lsn) => {
+                self.made += 1;
+                Ok(lsn)
+            }
+            Err(stop) => Err(stop),
+        }
+    }
+
+    /// Logs the Commit of a transaction, and seals it: then the transaction is committed. Answers the Commit's LSN.
+    pub fn commit<S: Site>(&mut self, site: &mut S, txn: u64, number: u64) -> Result<u64, Stop>
+        requires going { MayWork self.old (S.state site.old) }
+        requires room { blocks_to self.old.log + 1 < (sizes_of self.old).blocks }
+        requires few { self.old.made < 2 ^ 40 }
+
+        // Of an honest site whose log and pages hold these records.
+        ensures holds { (records : List Entry) (table : List Content) (commits : ℕ)
+            → Holds self.old (S.state site.old) records table commits
+            → MayCommit records txn number commits
+            → IfOk result (λ lsn. Holds self.new (S.state site.new)
+            (records ++ record { lsn = lsn; rec = LogRecord.Commit txn number } ∷ [])
+            (table_with table (writes_in txn records)) (commits + 1)) }
+        ensures any_moment { (records : List Entry) (table : List Content) (commits : ℕ)
+            → Holds self.old (S.state site.old) records table commits
+            → MayCommit records txn number commits
+            → IsQuiet (S.state site.old)
+            → LeavesOnly (S.state site.old) (S.state site.new)
+            (LeavesEither (sizes_of self.old) table (table_with table (writes_in txn records)) commits (S.state site.old).told) }
+        ensures left { IsTrue (S.state site.old).honest
+            → (S.state site.new).left ≡ (S.state site.old).left }
+        ensures stays_quiet { IsTrue (S.state site.old).honest → IsQuiet (S.state site.old)
+            → OnOk result (IsQuiet (S.state site.new)) }
+        ensures quiet { (records : List Entry) (table : List Content) (commits : ℕ)
+            → Holds self.old (S.state site.old) records table commits
+            → IsQuiet (S.state site.old)
+            → IfErr result (λ stop. ((d : Dev) → stop ≢ Stop.Device d) → IsQuiet (S.state site.new)) }
+
+        // Of every site.
+        ensures going { OnOk result (MayWork self.new (S.state site.new)) }
+        ensures made { OnOk result (self.new.made ≡ self.old.made + 1) }
+        ensures blocks { OnOk result (blocks_to self.new.log ≤ blocks_to self.old.log + 1) }
+        ensures rises { IfOk result (λ lsn. (end_of self.old.log ≤ lsn) × (lsn < end_of self.new.log)) }
+        ensures sizes { sizes_of self.new ≡ sizes_of self.old }
+        ensures goes { Goes (S.state site.old) (S.state site.new) }
+
+        // When each answer comes.
+        ensures device { (d : Dev) → IsErrOf result (Stop.Device d)
+            → FaultRose d (S.state site.old) (S.state site.new) }
+        ensures stops { IfErr result (λ stop. stop ≡ Stop.Device Dev.Log) }
+    {
+        match commit(site, &mut self.log, txn, number) {
+            Ok(lsn) => {
+                self.made += 1;
+                Ok(lsn)
+            }
+            Err(stop) => Err(stop),
+        }
+    }
+
+    /// Undoes a session's transaction: a compensation record for each of its writes, the last one first, and its End. Where the log has
+    /// other records of it than the session has made, they may leave too little room, and it answers Foreign.
+    pub fn roll_back<S: Site>(&mut self, site: &mut S, entry: Active, owed: u64) -> Result<(), Stop>
+        requires going { MayWork self.old (S.state site.old) }
+        requires last { entry.last < end_of self.old.log }
+        requires few { self.old.made + (entry.writes + 1) ≤ 2 ^ 40 }
+        requires little { owed ≤ 2 ^ 40 }
+
+        // Of an honest site whose log and pages hold these records.
+        ensures undone { (records : List Entry) (table : List Content) (commits : ℕ)
+            → Holds self.old (S.state site.old) records table commits
+            → (writes : List Write) → IsActive blank_master records entry.begin entry.last writes
+            → length writes ≡ entry.writes
+            → OnOk result (RollsBack self.new (S.state site.new) records table commits entry.begin entry.writes) }
+        ensures any_moment { (records : List Entry) (table : List Content) (commits : ℕ)
+            → Holds self.old (S.state site.old) records table commits
+            → (writes : List Write) → IsActive blank_master records entry.begin entry.last writes
+            → IsQuiet (S.state site.old)
+            → LeavesOnly (S.state site.old) (S.state site.new)
+            (LeavesTable (sizes_of self.old) table commits (S.state site.old).told) }
+        ensures readable { (records : List Entry) (table : List Content) (commits : ℕ)
+            → Holds self.old (S.state site.old) records table commits
+            → (writes : List Write) → IsActive blank_master records entry.begin entry.last writes
+            → length writes ≡ entry.writes → unfinished.owed records ≡ owed + (entry.writes + 1)
+            → IsErrOf result Stop.Foreign → ⊥ }
+        ensures left { IsTrue (S.state site.old).honest
+            → (S.state site.new).left ≡ (S.state site.old).left }
+        ensures stays_quiet { IsTrue (S.state site.old).honest → IsQuiet (S.state site.old)
+            → OnOk result (IsQuiet (S.state site.new)) }
+        ensures quiet { (records : List Entry) (table : List Content) (commits : ℕ)
+            → Holds self.old (S.state site.old) records table commits
+            → (writes : List Write) → IsActive blank_master records entry.begin entry.last writes
+            → length writes ≡ entry.writes
+            → IsQuiet (S.state site.old)
+            → IfErr result (λ stop. ((d : Dev) → stop ≢ Stop.Device d) → IsQuiet (S.state site.new)) }
+
+        // Of every site.
+        ensures going { OnOk result (MayWork self.new (S.state site.new)) }
+        ensures made { OnOk result (self.new.made ≡ self.old.made + (entry.writes + 1)) }
+        ensures room { OnOk result (blocks_to self.new.log + owed < (sizes_of self.new).blocks) }
+        ensures rises { OnOk result (end_of self.old.log ≤ end_of self.new.log) }
+        ensures sizes { sizes_of self.new ≡ sizes_of self.old }
+        ensures goes { Goes (S.state site.old) (S.state site.new) }
+
+        // When each answer comes.
+        ensures device { (d : Dev) → IsErrOf result (Stop.Device d)
+            → FaultRose d (S.state site.old) (S.state site.new) }
+        ensures worn_log { IsErrOf result (Stop.Worn Dev.Log) → ⊥ }
+        ensures worn { (records : List Entry) (table : List Content) (commits : ℕ)
+            → Holds self.old (S.state site.old) records table commits
+            → (writes : List Write) → IsActive blank_master records entry.begin entry.last writes
+            → IsErrOf result (Stop.Worn Dev.Flash) → IsWorn (sizes_of self.old) (S.state site.new).image }
+        ensures stops { IfErr result (λ stop. MayStop stop) }
+    {
+        match undo_one(
+            site,
+            &mut self.log,
+            &mut self.pages,
+            entry.begin,
+            entry.last,
+        ) {
+            Ok(_) => {}
+            Err(stop) => return Err(stop),
+        }
+        self.made += entry.writes + 1;
+        let blocks = self.blocks();
+        if blocks > self.made {
+            return Err(Stop::Foreign);
+        }
+        if blocks + owed >= self.log.geometry().blocks as u64 {
+            return Err(Stop::Foreign);
+        }
+        Ok(())
+    }
+}
