@@ -84,6 +84,23 @@ told 'new 1024 64 400' 0 'ready 1024 64 400' '' new 1024 64 400
 [ "$(stat -c %s face.log face.flash face.disk | tr '\n' ' ')" = '206336 2149376 4194304 ' ]
 verdict 'its files have their lengths' $?
 
+# --- more pages than memory and the queue on flash hold
+mkdir "$folder/pages"
+cd "$folder/pages" || exit 1
+"$face" new 16 8 64 >/dev/null </dev/null
+sets='' committed='open 0' gets='' values='open 16'
+for page in 0 1 2 3 4 5 6 7 8 9 10 11 12 13 14 15; do
+    sets+="set $((32 * page + page)) 0$(printf %x "$page")/"
+    committed+="/committed $((page + 1))"
+    gets+="get $((32 * page + page))/"
+    values+="/value 0$(printf %x "$page")"
+done
+told 'sixteen pages through a pool of one' 0 "$committed" "$sets" run 1
+[ "$(tr -d '\0' <face.flash | wc -c)" -gt 0 ] && [ "$(tr -d '\0' <face.disk | wc -c)" -gt 0 ]
+verdict 'pages went to flash, and from there to the disk' $?
+told 'they are read with a pool of one' 0 "$values" "$gets" run 1
+told 'and with a pool of them all' 0 "$values" "$gets" run 16
+
 # --- killed in the middle of many sets
 mkdir "$folder/killed"
 cd "$folder/killed" || exit 1
@@ -209,7 +226,8 @@ if has strace && strace -o /dev/null true 2>/dev/null; then
     fresh
     printf 'set 5 0a0b\nset 6 0c\n' | strace -f -o trace -e trace=read,write,pread64,pwrite64,fdatasync,fsync,lseek "$face" run 1 >/dev/null
     calls=$(sed -n '/open 0/,$p' trace | sed 's/^[0-9]* *//; s/(.*"\(open\|committed\).*/ \1/; s/(.*//' | tr '\n' ' ')
-    wanted='write open read '
+    # (the page of both records is read once)
+    wanted='write open read pread64 '
     wanted+='pwrite64 pwrite64 fdatasync pwrite64 fdatasync write committed '
     wanted+='pwrite64 pwrite64 fdatasync pwrite64 fdatasync write committed '
     case $calls in "$wanted"*) true ;; *) false ;; esac
