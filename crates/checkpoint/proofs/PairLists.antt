@@ -8,6 +8,7 @@ use Rattle.std.proofs.lemmas.Nat.{be_bytes_8, from_be_bytes-to_be_bytes_8}
 use Rattle.std.proofs.Math.Seq.{take-add}
 use Rattle.byte_fields.specs.Writes.{Writes}
 use Rattle.checkpoint.specs.declared.pairs.Pair.{Pair}
+use Rattle.checkpoint.specs.Units.{number_at, pairs_in}
 use Rattle.checkpoint.specs.Actives.{pair_spelling, spelling_of_all, FitsFields, ArePairs}
 use Rattle.checkpoint.proofs.Texts.{IsBytes, IsBytes-drop, IsBytes-take, writes_then, length-written}
 
@@ -64,6 +65,17 @@ one_list octets (p ∷ a) [] first second size = absurd (omega (arith, size))
 one_list octets (p ∷ a) (q ∷ b) first second size =
     ap (λ (x : Pair). x ∷ a) (same_pair p q first.fit.0 second.fit.0 (sym (first_pair octets p a first) ∙ first_pair octets q b second))
     ∙ ap (λ (xs : List Pair). q ∷ xs) (one_list (drop 16 octets) a b (other_pairs octets p a first) (other_pairs octets q b second) (omega (arith, size)))
+
+-- the pairs that are spelled there are read there
+pub pairs_read : (octets : List ℕ) (pairs : List Pair) → ArePairs octets pairs → pairs_in (length pairs) octets ≡ pairs
+unfolding pairs_in
+pairs_read octets [] are = refl
+pairs_read octets (p ∷ pairs) are =
+    let first = first_pair octets p pairs are in
+    let begin : number_at octets 0 ≡ p.begin = ap (from_be_bytes w64) (sym (take-take 8 16 octets (omega arith)) ∙ ap (take 8) first) ∙ from_be_bytes-to_be_bytes_8 p.begin are.fit.0.0 in
+    let last : number_at octets 8 ≡ p.last = ap (from_be_bytes w64) (sym (drop-take 8 8 octets) ∙ ap (drop 8) first) ∙ from_be_bytes-to_be_bytes_8 p.last are.fit.0.1 in
+    let rest = pairs_read (drop 16 octets) pairs (other_pairs octets p pairs are) in
+    λ i. record { begin = begin i; last = last i } ∷ rest i
 
 -- one pair more that is written
 pub writes_more : (old content mid new : List ℕ) (pairs : List Pair) (i at : ℕ) (p : Pair) → i < length pairs → get_or pairs i p ≡ p → at ≡ 25 + 16 * i → length pairs ≤ 8 → length old ≡ 503 →

@@ -1,19 +1,16 @@
 -- The parts of a master unit, and that they are the unit.
 use Rattle.std.proofs.Common.{◌≡◌, ℕ, zero, suc, ◌+◌, ◌-◌, ◌*◌, ◌<◌, ◌≤◌, List, [], ◌∷◌, ◌++◌, length, get_or, take, drop, replicate, set, refl, ap, sym, subst, ◌∙◌, arith, length-append, zero-add}
 use Rattle.std.specs.List.{AllByRecursion}
-use Rattle.std.specs.Int.{w64, from_be_bytes, to_be_bytes}
+use Rattle.std.specs.Int.{w64, to_be_bytes}
 use Rattle.std.proofs.lemmas.List.{get_or-drop, take_all, take_at, drop_at, drop-drop, take-append-drop, length-drop, take-set, drop-set, length-replicate, drop-replicate}
 use Rattle.std.proofs.lemmas.Nat.{from_be_bytes-to_be_bytes_8}
 use Rattle.std.proofs.Math.Seq.{take-add}
 use Rattle.byte_fields.specs.Writes.{Writes}
 use Rattle.checkpoint.specs.declared.master.Master.{Master}
 use Rattle.checkpoint.specs.Actives.{ArePairs, spelling_of_all}
-use Rattle.checkpoint.specs.Units.{spelling, unit, IsUnit}
+use Rattle.checkpoint.specs.Units.{spelling, unit, IsUnit, number_at, pairs_in, master_in}
 use Rattle.checkpoint.proofs.Texts.{IsBytes}
-use Rattle.checkpoint.proofs.PairLists.{length_all, number_spelled, one_list}
-
-abbrev number_at : List ℕ → ℕ → ℕ
-number_at octets at = from_be_bytes w64 (take 8 (drop at octets))
+use Rattle.checkpoint.proofs.PairLists.{length_all, number_spelled, one_list, pairs_read}
 
 -- what stands in each field
 pub record HasParts (octets : List ℕ) (m : Master) : Type 0 where
@@ -102,6 +99,13 @@ one_unit octets a b first second =
     let kept : a.kept ≡ b.kept = p.kept ∙ sym q.kept in
     let commits : a.commits ≡ b.commits = p.commits ∙ sym q.commits in
     λ i. record { redo = redo i; kept = kept i; commits = commits i; active = active i }
+
+pub unit_read : (octets : List ℕ) (m : Master) → IsUnit octets m → master_in octets ≡ m
+unfolding master_in
+unit_read octets m is =
+    let p = parts_of octets m is in
+    let active : pairs_in (get_or octets 24 0) (drop 25 octets) ≡ m.active = ap (λ n. pairs_in n (drop 25 octets)) p.count ∙ pairs_read (drop 25 octets) m.active p.pairs in
+    λ i. record { redo = sym p.redo i; kept = sym p.kept i; commits = sym p.commits i; active = active i }
 
 -- an octet that is set is written there
 pub octet_written : (octets : List ℕ) (at x : ℕ) → at < length octets → Writes octets (set octets at x) at (x ∷ [])

@@ -14,7 +14,7 @@ ghost use Rattle.image_changes.specs.Changes.{AppendsMaster, Reaches};
 ghost use Rattle.image_changes.specs.Reached.{LeavesFront};
 ghost use Rattle.checkpoint.specs.declared.master.Master.{Master};
 ghost use Rattle.checkpoint.specs.Actives.{Ascend};
-ghost use Rattle.checkpoint.specs.Units.{unit};
+ghost use Rattle.checkpoint.specs.Units.{unit, IsUnit};
 ghost use Rattle.checkpoint.specs.Newest.{HasMaster};
 ghost use Rattle.checkpoint.specs.Saved.{LeavesMaster};
 
@@ -150,6 +150,7 @@ pub fn save<S: Site>(site: &mut S, ring: &mut Ring, master: &Master) -> Result<(
         → OnOk result (IsQuiet (S.state site.new)) }
 
     // Of every site.
+    ensures unit { IsUnit (unit master.now) master.now }
     ensures ok { OnOk result (ring.new ≡ record ring.old { hi = ring.old.hi + 1 }) }
     ensures err { OnErr result (ring.new ≡ record ring.old { ended = true }) }
     ensures shape { ring.new.shape ≡ master_shape }

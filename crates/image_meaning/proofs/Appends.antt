@@ -18,18 +18,19 @@ use Rattle.slotted_page.specs.Layout as page
 use Rattle.frame_group.specs.Groups.{Frame, IsGroup, frames_in}
 use Rattle.frame_group.specs.Versions.{frames_of, last_frame, version, CleanAsDisk}
 use Rattle.frame_group.proofs.Contents.{frames_are_in, frames_more}
+use Rattle.checkpoint.specs.declared.master.Master.{Master}
 use Rattle.image_changes.specs.Rings.{Masters, Blocks, Segments, group_shape, units_on}
 use Rattle.image_changes.specs.Changes.{AppendsGroup, Makes}
 use Rattle.log_store.proofs.BlockLaws.{blocks_stay}
 use Rattle.flash_cache.specs.Held.{frames_on, disk_on, version_on, IsCleanOn}
-use Rattle.image_meaning.specs.Meaning.{IsFrameOf, AreGroups, IsSound, picture, versions_on, version_in}
+use Rattle.image_meaning.specs.Meaning.{picture_under, IsFrameOf, AreGroups, IsSoundUnder, versions_on, version_in}
 use Rattle.image_meaning.specs.Pictures.{ReplaceAll}
 use Rattle.image_meaning.specs.Changes.{leaving, front_on, rest_on, MayAppend}
 use Rattle.image_meaning.specs.Laws.{PushedIsSound, PushedMeans}
 use Rattle.image_meaning.proofs.Versions.{length-versions, version_is, disk_stays}
 use Rattle.image_meaning.proofs.OtherVersions.{versions_are_sound, versions_mean, version_replaces_itself}
 use Rattle.image_meaning.proofs.Pushes.{pushed_clean, pushed_version, others_keep_versions}
-use Rattle.image_meaning.proofs.Sames.{lengths_stay, unused_stays}
+use Rattle.image_meaning.proofs.Sames.{lengths_stay, unused_stays, newest_stays}
 
 all_append : {X : Type 0} (P : X → Type 0) (xs ys : List X) → AllByRecursion P xs → AllByRecursion P ys → AllByRecursion P (xs ++ ys)
 all_append P [] ys front rest = rest
@@ -59,8 +60,8 @@ frames_before g image =
     let live = (units_on (group_shape g) image).live in
     ap frames_of (sym (take-append-drop (leaving g image) live)) ∙ flat_map-append frames_in (take (leaving g image) live) (drop (leaving g image) live)
 
-module _ (g : Geometry) (old new : Image) (blocks : List (List LogRecord)) (content : List ℕ) (frames : List Frame) (sound : IsSound g old blocks) (is_group : IsGroup content frames)
-    (may : MayAppend g old blocks frames) (made : Makes g (AppendsGroup content) old new) where
+module _ (newest : Option Master) (g : Geometry) (old new : Image) (blocks : List (List LogRecord)) (content : List ℕ) (frames : List Frame) (sound : IsSoundUnder newest g old blocks) (is_group : IsGroup content frames)
+    (may : MayAppend newest g old blocks frames) (made : Makes g (AppendsGroup content) old new) where
   abbrev live : List (List ℕ)
   live = (units_on (group_shape g) old).live
 
@@ -104,7 +105,7 @@ module _ (g : Geometry) (old new : Image) (blocks : List (List LogRecord)) (cont
   version_now : (number : ℕ) → version_on g new number ≡ version (disk_on old) (rest_on g old ++ frames) number
   version_now number = λ i. version (disk_now i) (frames_now i) number
 
-  version_of_frame : (number : ℕ) (frame : Frame) → last_frame number frames ≡ Some frame → version_on g new number ≡ frame.octets
+  pub version_of_frame : (number : ℕ) (frame : Frame) → last_frame number frames ≡ Some frame → version_on g new number ≡ frame.octets
   version_of_frame number frame last = version_now number ∙ pushed_version (disk_on old) (rest_on g old) frames number frame last
 
   version_kept : (number : ℕ) → last_frame number frames ≡ None → version_on g new number ≡ version_on g old number
@@ -119,42 +120,42 @@ module _ (g : Geometry) (old new : Image) (blocks : List (List LogRecord)) (cont
       by None last = subst page.IsSound (sym (version_kept number last)) (sound.octets.versions number within)
       by (Some frame) last = subst page.IsSound (sym (version_of_frame number frame last)) (last_among (IsFrameOf g) number frames frame may.are_frames last).sound
 
-  replace : ReplaceAll (picture g old blocks) (versions_on g new)
+  replace : ReplaceAll (picture_under newest g old blocks) (versions_on g new)
   replace = record {
     count = length-versions g new ∙ sym (length-versions g old);
     each = λ number within. each number (omega (arith, within, length-versions g old));
   }
     where
-      each : (number : ℕ) → number < g.pages → Replaces (picture g old blocks) number (version_at (versions_on g new) number)
+      each : (number : ℕ) → number < g.pages → Replaces (picture_under newest g old blocks) number (version_at (versions_on g new) number)
       each number within = by (last_frame number frames) refl
         where
-          by : (o : Option Frame) → last_frame number frames ≡ o → Replaces (picture g old blocks) number (version_at (versions_on g new) number)
+          by : (o : Option Frame) → last_frame number frames ≡ o → Replaces (picture_under newest g old blocks) number (version_at (versions_on g new) number)
           by None last =
-              subst (Replaces (picture g old blocks) number) (version_is g old number within ∙ ap version_in (sym (version_kept number last)) ∙ sym (version_is g new number within))
-              (version_replaces_itself (picture g old blocks) number sound.records (omega (arith, within, length-versions g old)))
+              subst (Replaces (picture_under newest g old blocks) number) (version_is g old number within ∙ ap version_in (sym (version_kept number last)) ∙ sym (version_is g new number within))
+              (version_replaces_itself (picture_under newest g old blocks) number sound.records (omega (arith, within, length-versions g old)))
           by (Some frame) last =
-              subst (Replaces (picture g old blocks) number) (ap version_in (sym (version_of_frame number frame last)) ∙ sym (version_is g new number within)) (may.replace number frame last)
+              subst (Replaces (picture_under newest g old blocks) number) (ap version_in (sym (version_of_frame number frame last)) ∙ sym (version_is g new number within)) (may.replace number frame last)
 
-  pub sound_pushed : IsSound g new blocks
+  pub sound_pushed : IsSoundUnder newest g new blocks
   sound_pushed = record {
     octets = record {
       limits = sound.octets.limits;
       lengths = lengths_stay g old new made.sizes sound.octets.lengths;
-      masters = unused_stays g Masters old new (made.others Masters (λ h. cc)) sound.octets.masters;
+      masters = newest_stays newest g old new (made.others Masters (λ h. cc)) sound.octets.masters;
       segments = unused_stays g Segments old new (made.others Segments (λ h. cc)) sound.octets.segments;
       groups = groups_now;
       versions = pages_sound;
       clean = clean_now;
     };
     held = blocks_stay g _ blocks old new sound.held (made.others Blocks (λ h. cc));
-    records = versions_are_sound (picture g old blocks) (versions_on g new) sound.records replace;
+    records = versions_are_sound (picture_under newest g old blocks) (versions_on g new) sound.records replace;
   }
 
-  pub means_pushed : (table : List Content) (count : ℕ) → Means (picture g old blocks) table count → Means (picture g new blocks) table count
-  means_pushed = versions_mean (picture g old blocks) (versions_on g new) sound.records replace
+  pub means_pushed : (table : List Content) (count : ℕ) → Means (picture_under newest g old blocks) table count → Means (picture_under newest g new blocks) table count
+  means_pushed = versions_mean (picture_under newest g old blocks) (versions_on g new) sound.records replace
 
 pub pushed_is_sound : PushedIsSound
-pushed_is_sound g old new blocks content frames sound is_group may made = sound_pushed g old new blocks content frames sound is_group may made
+pushed_is_sound newest g old new blocks content frames sound is_group may made = sound_pushed newest g old new blocks content frames sound is_group may made
 
 pub pushed_means : PushedMeans
-pushed_means g old new blocks content frames sound is_group may made = means_pushed g old new blocks content frames sound is_group may made
+pushed_means newest g old new blocks content frames sound is_group may made = means_pushed newest g old new blocks content frames sound is_group may made

@@ -2,7 +2,7 @@
 use Rattle.flash_cache.specs.Pushed.{changes_of_push}
 use Rattle.stage_out.specs.Staged.{HasStaged, changes_of}
 use Rattle.image_changes.specs.Reached.{IsFrontOf}
-use Rattle.std.proofs.Common.{◌⊎◌, ◌≢◌, inl, inr, ℕ, ◌<◌, List, [], ◌∷◌, Some, sym, subst, ◌∙◌, ◌++◌}
+use Rattle.std.proofs.Common.{◌⊎◌, ◌≢◌, inl, inr, ℕ, ◌<◌, List, [], ◌∷◌, Option, Some, sym, subst, ◌∙◌, ◌++◌}
 use Rattle.std.specs.List.{AllByRecursion}
 use Rattle.site.specs.declared.geometry.Geometry.{Geometry}
 use Rattle.site.specs.State.{Image}
@@ -10,15 +10,16 @@ use Rattle.site.specs.Laws.{leaves_weaker}
 use Rattle.log_records.specs.declared.log_record.LogRecord.{LogRecord}
 use Rattle.log_laws.specs.NewImage.{Replaces}
 use Rattle.slotted_page.specs.Layout as page
+use Rattle.checkpoint.specs.declared.master.Master.{Master}
 use Rattle.image_changes.specs.Rings.{RingName, Masters, Blocks, Groups, Segments, KeepsUnits, shape_of}
 use Rattle.image_changes.specs.Changes.{Change, SealsBlock, RewritesPages, AppendsGroup, AppendsSegment, AppendsMaster, ring_of, SameSizes, Makes, Reaches}
 use Rattle.image_changes.proofs.Sequence.{ring_kept}
 use Rattle.log_store.proofs.BlockLaws.{blocks_stay}
 use Rattle.flash_cache.specs.Held.{version_on}
-use Rattle.image_meaning.specs.Meaning.{AreOctetsSound, IsSound, picture, version_in}
-use Rattle.image_meaning.specs.Moments.{LeavesTable}
+use Rattle.image_meaning.specs.Meaning.{picture_under, AreOctetsSoundUnder, IsSoundUnder, version_in}
+use Rattle.image_meaning.specs.Moments.{LeavesTableUnder}
 use Rattle.image_meaning.specs.Reached.{ChangesPages, IsKeptOrReplaced, IsPushed, LeavesPushed, ReachedIsSound, ReachedMeans, PushedStands, PushChangesPages}
-use Rattle.image_meaning.proofs.Sames.{lengths_stay, unused_stays}
+use Rattle.image_meaning.proofs.Sames.{lengths_stay, unused_stays, newest_stays}
 use Rattle.image_meaning.proofs.Reading.{groups_are_read}
 use Rattle.image_meaning.proofs.Replacing.{version_replaces, replaced_is_sound, replaced_means}
 
@@ -46,52 +47,52 @@ all_not_to : (ring : RingName) → Groups ≢ ring → (changes : List Change) �
 all_not_to ring ne [] of_pages = tt
 all_not_to ring ne (change ∷ changes) of_pages = (not_to ring ne change of_pages.0, all_not_to ring ne changes of_pages.1)
 
-module _ (g : Geometry) (old new : Image) (blocks : List (List LogRecord)) (sound : IsSound g old blocks) (p : IsPushed g old new blocks) where
+module _ (newest : Option Master) (g : Geometry) (old new : Image) (blocks : List (List LogRecord)) (sound : IsSoundUnder newest g old blocks) (p : IsPushed newest g old new blocks) where
   kept : (ring : RingName) → Groups ≢ ring → KeepsUnits (shape_of g ring) old new
   kept ring ne = ring_kept g ring p.changes old new (all_not_to ring ne p.changes p.of_pages) p.reaches
 
   version_sound : (number : ℕ) → number < g.pages → page.IsSound (version_on g new number)
   version_sound number within = by (p.versions number within)
     where
-      by : IsKeptOrReplaced g old new blocks number → page.IsSound (version_on g new number)
+      by : IsKeptOrReplaced newest g old new blocks number → page.IsSound (version_on g new number)
       by (inl same) = subst page.IsSound (sym same) (sound.octets.versions number within)
       by (inr replaced) = replaced.0
 
-  pub replaces : (number : ℕ) → number < g.pages → Replaces (picture g old blocks) number (version_in (version_on g new number))
+  pub replaces : (number : ℕ) → number < g.pages → Replaces (picture_under newest g old blocks) number (version_in (version_on g new number))
   replaces number within = by (p.versions number within)
     where
-      by : IsKeptOrReplaced g old new blocks number → Replaces (picture g old blocks) number (version_in (version_on g new number))
-      by (inl same) = subst (λ (octets : List ℕ). Replaces (picture g old blocks) number (version_in octets)) (sym same) (version_replaces g old blocks number sound within)
+      by : IsKeptOrReplaced newest g old new blocks number → Replaces (picture_under newest g old blocks) number (version_in (version_on g new number))
+      by (inl same) = subst (λ (octets : List ℕ). Replaces (picture_under newest g old blocks) number (version_in octets)) (sym same) (version_replaces newest g old blocks number sound within)
       by (inr replaced) = replaced.1
 
-  all_octets : AreOctetsSound g new
+  all_octets : AreOctetsSoundUnder newest g new
   all_octets = record {
     limits = sound.octets.limits;
     lengths = lengths_stay g old new (sizes_reached g p.changes old new p.reaches) sound.octets.lengths;
-    masters = unused_stays g Masters old new (kept Masters (λ h. cc)) sound.octets.masters;
+    masters = newest_stays newest g old new (kept Masters (λ h. cc)) sound.octets.masters;
     segments = unused_stays g Segments old new (kept Segments (λ h. cc)) sound.octets.segments;
     groups = (groups_are_read g p.first p.groups new p.has p.sound).0;
     versions = version_sound;
     clean = p.clean;
   }
 
-  pub sound_there : IsSound g new blocks
-  sound_there = replaced_is_sound g old new blocks sound all_octets (blocks_stay g _ blocks old new sound.held (kept Blocks (λ h. cc))) replaces
+  pub sound_there : IsSoundUnder newest g new blocks
+  sound_there = replaced_is_sound newest g old new blocks sound all_octets (blocks_stay g _ blocks old new sound.held (kept Blocks (λ h. cc))) replaces
 
 pub reached_is_sound : ReachedIsSound
-reached_is_sound g old new blocks sound p = sound_there g old new blocks sound p
+reached_is_sound newest g old new blocks sound p = sound_there newest g old new blocks sound p
 
 pub reached_means : ReachedMeans
-reached_means g old new blocks sound p table count means = replaced_means g old new blocks sound (replaces g old new blocks sound p) table count means
+reached_means newest g old new blocks sound p table count means = replaced_means newest g old new blocks sound (replaces newest g old new blocks sound p) table count means
 
 pub pushed_stands : PushedStands
-pushed_stands g old new blocks table count sound means leaves =
-    leaves_weaker old new (LeavesPushed g blocks old) (LeavesTable g table count old.told) (λ snapshot is. record {
+pushed_stands newest g old new blocks table count sound means leaves =
+    leaves_weaker old new (LeavesPushed newest g blocks old) (LeavesTableUnder newest g table count old.told) (λ snapshot is. record {
       told = is.told;
       stands = record {
         blocks = blocks;
-        sound = reached_is_sound g old.image snapshot.image blocks sound is.pushed;
-        means = reached_means g old.image snapshot.image blocks sound is.pushed table count means;
+        sound = reached_is_sound newest g old.image snapshot.image blocks sound is.pushed;
+        means = reached_means newest g old.image snapshot.image blocks sound is.pushed table count means;
       };
     }) leaves
 

@@ -1,5 +1,5 @@
 -- Changes that keep the rings sound.
-use Rattle.std.proofs.Common.{◌≡◌, ℕ, ◌-◌, ◌≤◌, List, [], ◌∷◌, ◌++◌, length, drop, sym, ap, subst, ◌∙◌, arith}
+use Rattle.std.proofs.Common.{◌≡◌, ℕ, ◌-◌, ◌≤◌, List, [], ◌∷◌, ◌++◌, length, drop, Option, sym, ap, subst, ◌∙◌, arith}
 use Rattle.std.specs.List.{AllByRecursion}
 use Rattle.std.proofs.lemmas.List.{length-append, drop-append-le}
 use Rattle.site.specs.declared.geometry.Geometry.{Geometry}
@@ -9,28 +9,31 @@ use Rattle.frame_group.specs.Groups.{Frame, IsGroup, frames_in}
 use Rattle.frame_group.specs.Versions.{frames_of}
 use Rattle.frame_group.proofs.Contents.{frames_are_in, frames_more}
 use Rattle.log_laws.proofs.Lists.{all_append}
+use Rattle.checkpoint.specs.declared.master.Master.{Master}
 use Rattle.image_changes.specs.Rings.{Masters, Segments, Groups, shape_of, group_shape, units_on, KeepsUnits}
 use Rattle.image_changes.specs.Changes.{Change, SealsBlock, RewritesPages, AppendsGroup, AppendsSegment, AppendsMaster, SameSizes, Makes}
 use Rattle.flash_cache.specs.Held.{frames_on}
 use Rattle.image_meaning.specs.Meaning.{IsFrameOf, AreGroups}
-use Rattle.image_meaning.specs.Beside.{AreRingsSound, KeepsRings, RingsKept}
+use Rattle.image_meaning.specs.Beside.{AreRingsSoundUnder, KeepsRings, RingsKeptUnder, RingsSaved}
+use Rattle.image_meaning.specs.Below.{MasterLaws}
 use Rattle.image_meaning.specs.Changes.{leaving, front_on, rest_on}
-use Rattle.image_meaning.proofs.Sames.{lengths_stay, unused_stays, groups_stay}
+use Rattle.image_meaning.proofs.Sames.{lengths_stay, unused_stays, newest_stays, groups_stay}
+use Rattle.image_meaning.proofs.Saves.{newest_appended}
 use Rattle.image_meaning.proofs.Appends.{all_right, all_drop, frames_before}
 
 -- rings that keep their units
-rings_stay : (g : Geometry) (old new : Image) → SameSizes old new → KeepsUnits (shape_of g Masters) old new → KeepsUnits (shape_of g Segments) old new → KeepsUnits (group_shape g) old new →
-    AreRingsSound g old → AreRingsSound g new
-rings_stay g old new sizes masters segments groups sound = record {
+rings_stay : (newest : Option Master) (g : Geometry) (old new : Image) → SameSizes old new → KeepsUnits (shape_of g Masters) old new → KeepsUnits (shape_of g Segments) old new → KeepsUnits (group_shape g) old new →
+    AreRingsSoundUnder newest g old → AreRingsSoundUnder newest g new
+rings_stay newest g old new sizes masters segments groups sound = record {
   limits = sound.limits;
   lengths = lengths_stay g old new sizes sound.lengths;
-  masters = unused_stays g Masters old new masters sound.masters;
+  masters = newest_stays newest g old new masters sound.masters;
   segments = unused_stays g Segments old new segments sound.segments;
   groups = groups_stay g old new groups sound.groups;
 }
 
 -- a group more
-module _ (g : Geometry) (old new : Image) (content : List ℕ) (frames : List Frame) (sound : AreRingsSound g old) (is_group : IsGroup content frames) (are_frames : AllByRecursion (IsFrameOf g) frames)
+module _ (newest : Option Master) (g : Geometry) (old new : Image) (content : List ℕ) (frames : List Frame) (sound : AreRingsSoundUnder newest g old) (is_group : IsGroup content frames) (are_frames : AllByRecursion (IsFrameOf g) frames)
     (made : Makes g (AppendsGroup content) old new) where
   abbrev live : List (List ℕ)
   live = (units_on (group_shape g) old).live
@@ -59,20 +62,30 @@ module _ (g : Geometry) (old new : Image) (content : List ℕ) (frames : List Fr
         (all_right (IsFrameOf g) (front_on g old) (rest_on g old) (subst (AllByRecursion (IsFrameOf g)) (frames_before g old) sound.groups.frames)) are_frames);
   }
 
-one_kept : (g : Geometry) (change : Change) (old new : Image) → AreRingsSound g old → KeepsRings g change → Makes g change old new → AreRingsSound g new
-one_kept g (SealsBlock records) old new sound keeps made = rings_stay g old new made.1.sizes (made.1.others Masters (λ h. cc)) (made.1.others Segments (λ h. cc)) (made.1.others Groups (λ h. cc)) sound
-one_kept g (RewritesPages pages) old new sound keeps made = rings_stay g old new made.sizes (made.rings Masters) (made.rings Segments) (made.rings Groups) sound
-one_kept g (AppendsGroup content) old new sound keeps made = record {
+one_kept : (newest : Option Master) (g : Geometry) (change : Change) (old new : Image) → AreRingsSoundUnder newest g old → KeepsRings g change → Makes g change old new → AreRingsSoundUnder newest g new
+one_kept newest g (SealsBlock records) old new sound keeps made = rings_stay newest g old new made.1.sizes (made.1.others Masters (λ h. cc)) (made.1.others Segments (λ h. cc)) (made.1.others Groups (λ h. cc)) sound
+one_kept newest g (RewritesPages pages) old new sound keeps made = rings_stay newest g old new made.sizes (made.rings Masters) (made.rings Segments) (made.rings Groups) sound
+one_kept newest g (AppendsGroup content) old new sound keeps made = record {
   limits = sound.limits;
   lengths = lengths_stay g old new made.sizes sound.lengths;
-  masters = unused_stays g Masters old new (made.others Masters (λ h. cc)) sound.masters;
+  masters = newest_stays newest g old new (made.others Masters (λ h. cc)) sound.masters;
   segments = unused_stays g Segments old new (made.others Segments (λ h. cc)) sound.segments;
-  groups = groups_more g old new content keeps.0 sound keeps.1 keeps.2 made;
+  groups = groups_more newest g old new content keeps.0 sound keeps.1 keeps.2 made;
 }
-one_kept g (AppendsSegment content) old new sound keeps made = absurd keeps
-one_kept g (AppendsMaster content) old new sound keeps made = absurd keeps
+one_kept newest g (AppendsSegment content) old new sound keeps made = absurd keeps
+one_kept newest g (AppendsMaster content) old new sound keeps made = absurd keeps
 
-pub rings_kept : RingsKept
-rings_kept g [] old new sound all reads = rings_stay g old new reads.sizes (reads.rings Masters) (reads.rings Segments) (reads.rings Groups) sound
-rings_kept g (change ∷ changes) old new sound all reached =
-    rings_kept g changes reached.0 new (one_kept g change old reached.0 sound all.0 reached.1) all.1 reached.2
+pub rings_kept : (newest : Option Master) → RingsKeptUnder newest
+rings_kept newest g [] old new sound all reads = rings_stay newest g old new reads.sizes (reads.rings Masters) (reads.rings Segments) (reads.rings Groups) sound
+rings_kept newest g (change ∷ changes) old new sound all reached =
+    rings_kept newest g changes reached.0 new (one_kept newest g change old reached.0 sound all.0 reached.1) all.1 reached.2
+
+-- a master unit more
+pub rings_saved : MasterLaws → RingsSaved
+rings_saved below newest g content old new sound unit made = record {
+  limits = sound.limits;
+  lengths = lengths_stay g old new made.sizes sound.lengths;
+  masters = newest_appended below g old new content unit made;
+  segments = unused_stays g Segments old new (made.others Segments (λ h. cc)) sound.segments;
+  groups = groups_stay g old new (made.others Groups (λ h. cc)) sound.groups;
+}

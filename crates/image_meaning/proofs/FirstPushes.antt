@@ -1,6 +1,7 @@
 -- The first page that is pushed.
 use Rattle.std.proofs.Common.{◌≡◌, ℕ, zero, suc, ◌+◌, ◌-◌, ◌*◌, ◌/◌, ◌%◌, ◌<◌, ◌≤◌, ◌==◌, ◌||◌, true, true≢false, List, [], ◌∷◌, length, take, replicate, Some, None, refl, sym, ap, subst, ◌∙◌, arith}
 use Rattle.std.specs.Prelude.{slice_set, nat_lt, if◌then◌else◌}
+use Rattle.std.proofs.lemmas.Bool.{eq-eqb}
 use Rattle.std.proofs.lemmas.Option.{none-some, cond_some}
 use Rattle.site.specs.declared.geometry.Geometry.{Geometry}
 use Rattle.site.specs.Geometry.{HasLimits, blank_image}
@@ -12,6 +13,7 @@ use Rattle.log_records.specs.declared.log_record.LogRecord.{LogRecord}
 use Rattle.log_records.specs.declared.log_record.LogRecord.TheVariants.{Begin}
 use Rattle.log_records.specs.Spelling.{spelling, IsShort}
 use Rattle.log_records.proofs.SetBlocks.{length_begin}
+use Rattle.log_records.specs.Sound.{Means}
 use Rattle.log_records.specs.Log.{Entry, Version, version_at, number_of}
 use Rattle.log_laws.specs.ShownLaws.{TableAt}
 use Rattle.log_laws.specs.SetLaws.{set_records}
@@ -25,6 +27,7 @@ use Rattle.frame_group.proofs.LastFrames.{last_is_of_page}
 use Rattle.image_changes.specs.Rings.{Groups, group_shape, units_on}
 use Rattle.image_changes.specs.Changes.{SealsBlock, AppendsGroup, Makes}
 use Rattle.log_store.specs.Laws.{BlankHasNoBlocks}
+use Rattle.flash_cache.specs.Held.{version_on}
 use Rattle.image_meaning.specs.Meaning.{picture, version_in, versions_on, IsSound, Stands}
 use Rattle.image_meaning.specs.Changes.{front_on, MayAppend}
 use Rattle.image_meaning.specs.Redone.{ShowsAll, Redoes}
@@ -33,7 +36,7 @@ use Rattle.image_meaning.proofs.Versions.{version_is, version_stays}
 use Rattle.image_meaning.proofs.Redos.{slot_of_page, shows_more, shows_elsewhere, current_replaces}
 use Rattle.image_meaning.proofs.Blanks.{no_live, blank_page}
 use Rattle.image_meaning.proofs.FirstSets.{sound_set, means_set}
-use Rattle.image_meaning.proofs.Appends.{pushed_is_sound, pushed_means}
+use Rattle.image_meaning.proofs.Appends.{pushed_is_sound, pushed_means, version_of_frame}
 
 take_none : (n : ℕ) (none : List (List ℕ)) → none ≡ [] → take n none ≡ []
 take_none zero none is = refl
@@ -102,7 +105,7 @@ module _ (ring_of_zeros : BlankIsRing) (no_blocks : BlankHasNoBlocks) (at : Tabl
     is_f : (n : ℕ) (frame : Frame) → last_frame n (f ∷ []) ≡ Some frame → f ≡ frame
     is_f n frame last = (cond_some (number / 32 == n) f frame last).1
 
-    may_append : MayAppend g mid (records ∷ []) (f ∷ [])
+    may_append : MayAppend None g mid (records ∷ []) (f ∷ [])
     may_append = record {
       are_frames = (record { exists = page_exists; sound = sound_page }, tt);
       pushed = record {
@@ -115,15 +118,26 @@ module _ (ring_of_zeros : BlankIsRing) (no_blocks : BlankHasNoBlocks) (at : Tabl
           subst (λ (x : Frame). Replaces (picture g mid (records ∷ [])) n (version_in x.octets)) is (subst (λ (k : ℕ). Replaces (picture g mid (records ∷ [])) k (version_in octets)) same replaces);
     }
 
-    pub stands_pushed : (content : List ℕ) (new : Image) → IsGroup content (f ∷ []) → Makes g (AppendsGroup content) mid new → Stands g new (slice_set (replicate (32 * g.pages) None) number value) 1
-    stands_pushed content new is_group pushed =
-        let sound : IsSound g mid (records ∷ []) = sound_set ring_of_zeros no_blocks at g number value limits within short mid made in
-        record {
-          blocks = records ∷ [];
-          sound = pushed_is_sound g mid new (records ∷ []) content (f ∷ []) sound is_group may_append pushed;
-          means = pushed_means g mid new (records ∷ []) content (f ∷ []) sound is_group may_append pushed (slice_set (replicate (32 * g.pages) None) number value) 1
-              (means_set ring_of_zeros no_blocks at g number value limits within short mid made);
-        }
+    module _ (content : List ℕ) (new : Image) (is_group : IsGroup content (f ∷ [])) (pushed : Makes g (AppendsGroup content) mid new) where
+      sound_mid : IsSound g mid (records ∷ [])
+      sound_mid = sound_set ring_of_zeros no_blocks at g number value limits within short mid made
+
+      pub sound_after : IsSound g new (records ∷ [])
+      sound_after = pushed_is_sound None g mid new (records ∷ []) content (f ∷ []) sound_mid is_group may_append pushed
+
+      pub means_after : Means (picture g new (records ∷ [])) (slice_set (replicate (32 * g.pages) None) number value) 1
+      means_after =
+          pushed_means None g mid new (records ∷ []) content (f ∷ []) sound_mid is_group may_append pushed (slice_set (replicate (32 * g.pages) None) number value) 1
+          (means_set ring_of_zeros no_blocks at g number value limits within short mid made)
+
+      pub stands_pushed : Stands g new (slice_set (replicate (32 * g.pages) None) number value) 1
+      stands_pushed = record { blocks = records ∷ []; sound = sound_after; means = means_after }
+
+      -- the page that was pushed has the Update's LSN
+      pub version_after : version_on g new (number / 32) ≡ octets
+      version_after =
+          version_of_frame None g mid new (records ∷ []) content (f ∷ []) sound_mid is_group may_append pushed (number / 32) f
+          (ap (λ b. if b then Some f else None) (eq-eqb (number / 32) (number / 32) refl))
 
 pub first_push_stands : BlankIsRing → BlankHasNoBlocks → TableAt → FirstPushStands
 first_push_stands ring_of_zeros no_blocks at g number value mid new octets content limits within short made sound_page lsn slots is_group pushed =

@@ -38,11 +38,11 @@ module _ (ring_of_zeros : BlankIsRing) (no_blocks : BlankHasNoBlocks) (at : Tabl
 
   module _ (new : Image) (made : Makes g (SealsBlock (set_records (picture g (blank_image g) []) number value)) (blank_image g) new) where
     pub sound_set : IsSound g new (set_records (picture g (blank_image g) []) number value ∷ [])
-    sound_set = sound_sealed g (blank_image g) new [] (set_records (picture g (blank_image g) []) number value) made sound (set_goes_on (picture g (blank_image g) []) number value may_set)
+    sound_set = sound_sealed None g (blank_image g) new [] (set_records (picture g (blank_image g) []) number value) made sound (set_goes_on (picture g (blank_image g) []) number value may_set)
 
     pub means_set : Means (picture g new (set_records (picture g (blank_image g) []) number value ∷ [])) (slice_set (replicate (32 * g.pages) None) number value) 1
     means_set =
-        means_sealed g (blank_image g) new [] (set_records (picture g (blank_image g) []) number value) made (slice_set (replicate (32 * g.pages) None) number value) 1
+        means_sealed None g (blank_image g) new [] (set_records (picture g (blank_image g) []) number value) made (slice_set (replicate (32 * g.pages) None) number value) 1
         (set_means (picture g (blank_image g) []) number value may_set (replicate (32 * g.pages) None) 0 (means_blank ring_of_zeros g limits at))
 
 pub first_set_stands : BlankIsRing → BlankHasNoBlocks → TableAt → FirstSetStands

@@ -72,7 +72,7 @@ module _ (ring_of_zeros : BlankIsRing) (leaves_others : LeavesOthers) (g : Geome
   segments = record { units = (flash_stays (shape_of g Segments)).0; form = (flash_stays (shape_of g Segments)).1 }
 
   all_octets : AreOctetsSound g image
-  all_octets = octets_stay g (blank_image g) image sizes masters segments groups alone.disk (octets ring_of_zeros g alone.limits)
+  all_octets = octets_stay None g (blank_image g) image sizes masters segments groups alone.disk (octets ring_of_zeros g alone.limits)
 
   -- each version is a blank page
   version_blank : (number : ℕ) → number < g.pages → IsBlank (version_on g image number)

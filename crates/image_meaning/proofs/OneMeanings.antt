@@ -1,41 +1,77 @@
 -- An image stands for one table.
-use Rattle.std.proofs.Common.{◌≡◌, ℕ, List, [], replicate, refl, sym, ap, ◌∙◌, arith}
-use Rattle.std.specs.Prelude.{false}
+use Rattle.std.proofs.Common.{◌≡◌, ℕ, zero, suc, false, List, [], replicate, Option, Some, None, refl, sym, ap, subst, ◌∙◌, arith}
 use Rattle.site.specs.declared.geometry.Geometry.{Geometry}
 use Rattle.site.specs.State.{Image}
+use Rattle.sealed_ring.specs.Ring.{live}
 use Rattle.record_model.specs.State.{Content}
 use Rattle.log_records.specs.declared.log_record.LogRecord.{LogRecord}
 use Rattle.log_records.specs.Log.{table_of}
 use Rattle.log_records.specs.Sound.{commit_count}
-use Rattle.image_changes.specs.Rings.{log_shape}
+use Rattle.checkpoint.specs.declared.master.Master.{Master}
+use Rattle.checkpoint.specs.Newest.{newest_of, blank, IsOf}
+use Rattle.checkpoint.specs.Laws.{OneNewest}
+use Rattle.image_changes.specs.Rings.{master_shape, log_shape, units_on}
 use Rattle.log_store.specs.declared.store.LogStore.{LogStore}
 use Rattle.log_store.specs.LogList.{LogList}
 use Rattle.log_store.specs.Held.{HasBlocks, Holds}
 use Rattle.log_store.specs.Laws.{OneLog}
-use Rattle.image_meaning.specs.Meaning.{picture, IsSound}
-use Rattle.image_meaning.specs.Laws.{OneMeaning}
+use Rattle.image_meaning.specs.Meaning.{saved_by, kept_by, picture_under, HasNewest, IsSoundUnder, StandsUnder}
+use Rattle.image_meaning.specs.Laws.{OneMeaning, OneMeaningFor, OneMasterStands, NewestIsRead, ReadIsNewest}
 
 -- a store that has found no block
 abbrev empty_store : Geometry → LogStore
 empty_store g = record { geometry = g; ring = record { shape = log_shape g; hi = 0; ended = false }; kept = 0; tail = replicate 503 0; used = 2 }
 
-abbrev list_of : List (List LogRecord) → LogList
-list_of blocks = record { first = 0; blocks = blocks; tail = [] }
+abbrev list_of : ℕ → List (List LogRecord) → LogList
+list_of first blocks = record { first = first; blocks = blocks; tail = [] }
 
-holds : (g : Geometry) (image : Image) (blocks : List (List LogRecord)) → HasBlocks g 0 blocks image → Holds (empty_store g) image (list_of blocks)
-holds g image blocks has = record { kept = omega arith; blocks = has; tail = record { end = refl; have_form = tt; fit_fields = tt; text = refl } }
+holds : (g : Geometry) (image : Image) (first : ℕ) (blocks : List (List LogRecord)) → HasBlocks g first blocks image → Holds (empty_store g) image (list_of first blocks)
+holds g image first blocks has = record { kept = omega arith; blocks = has; tail = record { end = refl; have_form = tt; fit_fields = tt; text = refl } }
 
--- an image has one list of blocks
-same_blocks : OneLog → (g : Geometry) (image : Image) (a b : List (List LogRecord)) → IsSound g image a → IsSound g image b → a ≡ b
-same_blocks one g image a b first second = ap (λ (l : LogList). l.blocks) (one (empty_store g) image (list_of a) (list_of b) (holds g image a first.held) (holds g image b second.held) refl)
+module _ (one : OneLog) (newest : Option Master) (g : Geometry) (image : Image) where
+  -- an image has one list of blocks
+  same_blocks : (a b : List (List LogRecord)) → IsSoundUnder newest g image a → IsSoundUnder newest g image b → a ≡ b
+  same_blocks a b first second =
+      ap (λ (l : LogList). l.blocks) (one (empty_store g) image (list_of (kept_by newest) a) (list_of (kept_by newest) b) (holds g image (kept_by newest) a first.held) (holds g image (kept_by newest) b second.held) refl)
+
+  pub one_meaning_under : (table other : List Content) (commits many : ℕ) → StandsUnder newest g image table commits → StandsUnder newest g image other many → (table ≡ other) × (commits ≡ many)
+  one_meaning_under table other commits many stands too =
+      let same = same_blocks stands.blocks too.blocks stands.sound too.sound in
+      (stands.means.table_is ∙ (λ i. table_by (same i)) ∙ sym too.means.table_is, stands.means.count_is ∙ (λ i. count_by (same i)) ∙ sym too.means.count_is)
+    where
+      table_by : List (List LogRecord) → List Content
+      table_by blocks = table_of (picture_under newest g image blocks).log (picture_under newest g image blocks).pages
+
+      count_by : List (List LogRecord) → ℕ
+      count_by blocks = commit_count (picture_under newest g image blocks)
 
 pub one_meaning : OneLog → OneMeaning
-one_meaning one g image table other commits many stands too =
-    let same = same_blocks one g image stands.blocks too.blocks stands.sound too.sound in
-    (stands.means.table_is ∙ (λ i. table_by (same i)) ∙ sym too.means.table_is, stands.means.count_is ∙ (λ i. count_by (same i)) ∙ sym too.means.count_is)
-  where
-    table_by : List (List LogRecord) → List Content
-    table_by blocks = table_of (picture g image blocks).log (picture g image blocks).pages
+one_meaning one g image table other commits many stands too = one_meaning_under one None g image table other commits many stands too
 
-    count_by : List (List LogRecord) → ℕ
-    count_by blocks = commit_count (picture g image blocks)
+pub one_master_stands : OneNewest → OneMasterStands
+one_master_stands one g image None None first second = refl
+one_master_stands one g image None (Some m) first second = absurd (let none = first.none in let some = second.some in omega (arith, none, some))
+one_master_stands one g image (Some m) None first second = absurd (let some = first.some in let none = second.none in omega (arith, none, some))
+one_master_stands one g image (Some a) (Some b) first second = ap Some (one image a b first.master second.master)
+
+pub one_meaning_for : OneLog → OneNewest → OneMeaningFor
+one_meaning_for one newest g image table other commits many stands too =
+    one_meaning_under one too.newest g image table other commits many
+    (subst (λ (n : Option Master). StandsUnder n g image table commits) (one_master_stands newest g image stands.newest too.newest stands.stands.sound.octets.masters too.stands.sound.octets.masters) stands.stands)
+    too.stands
+
+-- The newest master is the one that is read.
+
+no_units : (image : Image) → (units_on master_shape image).hi ≡ 0 → (units_on master_shape image).live ≡ []
+no_units image none = ap (λ (hi : ℕ). live master_shape hi image.log) none
+
+pub newest_is_read : NewestIsRead
+newest_is_read None g image unused = subst (λ (units : List (List ℕ)). IsOf (newest_of units) blank) (sym (no_units image unused.none)) refl
+newest_is_read (Some m) g image is = is.master
+
+pub read_is_newest : ReadIsNewest
+read_is_newest g image m form has = by (units_on master_shape image).hi refl
+  where
+    by : (hi : ℕ) → (units_on master_shape image).hi ≡ hi → (newest : Option Master) × HasNewest newest g image × (m ≡ saved_by newest)
+    by zero none = (None, record { form = form; none = none }, subst (λ (units : List (List ℕ)). IsOf (newest_of units) m) (no_units image none) has)
+    by (suc hi) some = (Some m, record { form = form; some = omega (arith, some); master = has }, refl)

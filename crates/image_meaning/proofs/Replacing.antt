@@ -1,33 +1,34 @@
 -- New versions of the pages of an image.
-use Rattle.std.proofs.Common.{ℕ, ◌<◌, List, sym, subst, ◌∙◌, arith}
+use Rattle.std.proofs.Common.{ℕ, ◌<◌, List, Option, sym, subst, ◌∙◌, arith}
 use Rattle.site.specs.declared.geometry.Geometry.{Geometry}
 use Rattle.site.specs.State.{Image}
 use Rattle.log_records.specs.declared.log_record.LogRecord.{LogRecord}
 use Rattle.log_laws.specs.NewImage.{Replaces}
+use Rattle.checkpoint.specs.declared.master.Master.{Master}
 use Rattle.flash_cache.specs.Held.{version_on}
-use Rattle.image_meaning.specs.Meaning.{picture, version_in, versions_on}
+use Rattle.image_meaning.specs.Meaning.{picture_under, version_in, versions_on}
 use Rattle.image_meaning.specs.Pictures.{ReplaceAll}
 use Rattle.image_meaning.specs.Laws.{ReplacedIsSound, ReplacedMeans, VersionReplaces}
 use Rattle.image_meaning.proofs.Versions.{length-versions, version_is}
 use Rattle.image_meaning.proofs.OtherVersions.{versions_are_sound, versions_mean, version_replaces_itself}
 
-pub replace_all : (g : Geometry) (old new : Image) (blocks : List (List LogRecord)) → ((number : ℕ) → number < g.pages → Replaces (picture g old blocks) number (version_in (version_on g new number))) →
-    ReplaceAll (picture g old blocks) (versions_on g new)
-replace_all g old new blocks replace = record {
+pub replace_all : (newest : Option Master) (g : Geometry) (old new : Image) (blocks : List (List LogRecord)) → ((number : ℕ) → number < g.pages → Replaces (picture_under newest g old blocks) number (version_in (version_on g new number))) →
+    ReplaceAll (picture_under newest g old blocks) (versions_on g new)
+replace_all newest g old new blocks replace = record {
   count = length-versions g new ∙ sym (length-versions g old);
-  each = λ number less. let within : number < g.pages = omega (arith, less, length-versions g old) in subst (Replaces (picture g old blocks) number) (sym (version_is g new number within)) (replace number within);
+  each = λ number less. let within : number < g.pages = omega (arith, less, length-versions g old) in subst (Replaces (picture_under newest g old blocks) number) (sym (version_is g new number within)) (replace number within);
 }
 
 pub version_replaces : VersionReplaces
-version_replaces g image blocks number sound within =
-    subst (Replaces (picture g image blocks) number) (version_is g image number within) (version_replaces_itself (picture g image blocks) number sound.records (omega (arith, within, length-versions g image)))
+version_replaces newest g image blocks number sound within =
+    subst (Replaces (picture_under newest g image blocks) number) (version_is g image number within) (version_replaces_itself (picture_under newest g image blocks) number sound.records (omega (arith, within, length-versions g image)))
 
 pub replaced_is_sound : ReplacedIsSound
-replaced_is_sound g old new blocks sound octets held replace = record {
+replaced_is_sound newest g old new blocks sound octets held replace = record {
   octets = octets;
   held = held;
-  records = versions_are_sound (picture g old blocks) (versions_on g new) sound.records (replace_all g old new blocks replace);
+  records = versions_are_sound (picture_under newest g old blocks) (versions_on g new) sound.records (replace_all newest g old new blocks replace);
 }
 
 pub replaced_means : ReplacedMeans
-replaced_means g old new blocks sound replace table count means = versions_mean (picture g old blocks) (versions_on g new) sound.records (replace_all g old new blocks replace) table count means
+replaced_means newest g old new blocks sound replace table count means = versions_mean (picture_under newest g old blocks) (versions_on g new) sound.records (replace_all newest g old new blocks replace) table count means

@@ -1,24 +1,35 @@
 -- A block that goes on is sealed.
-use Rattle.std.proofs.Common.{◌≡◌, ℕ, ◌+◌, List, [], ◌∷◌, ◌++◌, sym, subst, arith}
+use Rattle.std.proofs.Common.{◌≡◌, ℕ, ◌+◌, List, [], ◌∷◌, ◌++◌, Option, sym, ap, subst, ◌∙◌, arith, length-append, ◌*◌}
 use Rattle.site.specs.declared.geometry.Geometry.{Geometry}
 use Rattle.site.specs.State.{Image}
 use Rattle.record_model.specs.State.{Content, table_with}
 use Rattle.log_records.specs.declared.log_record.LogRecord.{LogRecord}
+use Rattle.log_records.specs.Log.{log_from, entries_from}
 use Rattle.log_records.specs.Sound.{Picture, Means}
 use Rattle.log_records.specs.Sound as lists
 use Rattle.log_laws.specs.Follow.{GoesOn, sealed, writes_in}
-use Rattle.log_laws.proofs.Tails.{plain_sealed}
+use Rattle.log_laws.proofs.Tails.{log_from-append}
 use Rattle.log_laws.proofs.Seals.{sealed_is_sound}
 use Rattle.log_laws.proofs.Commits.{means_without_commit, means_with_commit}
+use Rattle.checkpoint.specs.declared.master.Master.{Master}
 use Rattle.image_changes.specs.Rings.{Masters, Groups, Segments, KeepsUnits, shape_of}
 use Rattle.image_changes.specs.Changes.{SealsBlock, Makes}
 use Rattle.log_store.proofs.BlockLaws.{blocks_more}
-use Rattle.image_meaning.specs.Meaning.{IsSound, picture, versions_on}
+use Rattle.image_meaning.specs.Meaning.{master_of, kept_by, next_block_under, picture_under, IsSoundUnder, versions_on}
 use Rattle.image_meaning.specs.Laws as laws
 use Rattle.image_meaning.proofs.Versions.{versions_same, version_stays}
-use Rattle.image_meaning.proofs.Sames.{octets_stay}
+use Rattle.image_meaning.proofs.Sames.{next_block_is, octets_stay, same_picture}
 
-module _ (g : Geometry) (old new : Image) (blocks : List (List LogRecord)) (records : List LogRecord) (made : Makes g (SealsBlock records) old new) where
+-- the picture of an image with one more block
+pub blocks_sealed : (newest : Option Master) (g : Geometry) (image : Image) (blocks : List (List LogRecord)) (records : List LogRecord) →
+    picture_under newest g image (blocks ++ records ∷ []) ≡ sealed (picture_under newest g image blocks) records
+blocks_sealed newest g image blocks records =
+    let next = next_block_is newest blocks in
+    let log = log_from-append blocks records (kept_by newest) ∙ ap (λ n. log_from (kept_by newest) blocks ++ entries_from (512 * n + 2) records) (sym next) in
+    let hi : next_block_under newest (blocks ++ records ∷ []) ≡ next_block_under newest blocks + 1 = omega (arith, next, next_block_is newest (blocks ++ records ∷ []), length-append blocks (records ∷ [])) in
+    λ i. record { master = master_of newest; log = log i; hi = hi i; blocks = g.blocks; pages = versions_on g image }
+
+module _ (newest : Option Master) (g : Geometry) (old new : Image) (blocks : List (List LogRecord)) (records : List LogRecord) (made : Makes g (SealsBlock records) old new) where
   masters : KeepsUnits (shape_of g Masters) old new
   masters = made.1.others Masters (λ h. cc)
 
@@ -32,29 +43,27 @@ module _ (g : Geometry) (old new : Image) (blocks : List (List LogRecord)) (reco
   versions = versions_same g old new (version_stays g old new groups made.1.disk)
 
   -- the picture of the new image is that of the old one with the block sealed
-  pub sealed_picture : picture g new (blocks ++ records ∷ []) ≡ sealed (picture g old blocks) records
-  sealed_picture =
-      let same = sym (plain_sealed g.pages g.blocks blocks records) in
-      λ i. record { master = (picture g old blocks).master; log = (same i).log; hi = (same i).hi; blocks = g.blocks; pages = versions i }
+  pub sealed_picture : picture_under newest g new (blocks ++ records ∷ []) ≡ sealed (picture_under newest g old blocks) records
+  sealed_picture = blocks_sealed newest g new blocks records ∙ ap (λ (p : Picture). sealed p records) (same_picture newest g old new blocks versions)
 
-  pub sound_sealed : IsSound g old blocks → GoesOn (picture g old blocks) records → IsSound g new (blocks ++ records ∷ [])
+  pub sound_sealed : IsSoundUnder newest g old blocks → GoesOn (picture_under newest g old blocks) records → IsSoundUnder newest g new (blocks ++ records ∷ [])
   sound_sealed sound goes = record {
-    octets = octets_stay g old new made.1.sizes masters segments groups made.1.disk sound.octets;
-    held = blocks_more g _ blocks records old new sound.held (let room = goes.room in omega (arith, room)) goes.are_block made.1.form made.1.units;
-    records = subst lists.IsSound (sym sealed_picture) (sealed_is_sound (picture g old blocks) records sound.records goes);
+    octets = octets_stay newest g old new made.1.sizes masters segments groups made.1.disk sound.octets;
+    held = blocks_more g _ blocks records old new sound.held (let room = goes.room in omega (arith, room, next_block_is newest blocks)) goes.are_block made.1.form made.1.units;
+    records = subst lists.IsSound (sym sealed_picture) (sealed_is_sound (picture_under newest g old blocks) records sound.records goes);
   }
 
-  pub means_sealed : (table : List Content) (count : ℕ) → Means (sealed (picture g old blocks) records) table count → Means (picture g new (blocks ++ records ∷ [])) table count
+  pub means_sealed : (table : List Content) (count : ℕ) → Means (sealed (picture_under newest g old blocks) records) table count → Means (picture_under newest g new (blocks ++ records ∷ [])) table count
   means_sealed table count means = subst (λ (p : Picture). Means p table count) (sym sealed_picture) means
 
 pub sealed_image_is_sound : laws.SealedIsSound
-sealed_image_is_sound g old new blocks records sound goes made = sound_sealed g old new blocks records made sound goes
+sealed_image_is_sound newest g old new blocks records sound goes made = sound_sealed newest g old new blocks records made sound goes
 
 pub sealed_without_commit : laws.SealedWithoutCommit
-sealed_without_commit g old new blocks records sound goes made none table count means =
-    means_sealed g old new blocks records made table count (means_without_commit (picture g old blocks) records sound.records goes table count means none)
+sealed_without_commit newest g old new blocks records sound goes made none table count means =
+    means_sealed newest g old new blocks records made table count (means_without_commit (picture_under newest g old blocks) records sound.records goes table count means none)
 
 pub sealed_with_commit : laws.SealedWithCommit
-sealed_with_commit g old new blocks records sound goes made before after lsn t number parts none none' table count means =
-    means_sealed g old new blocks records made (table_with table (writes_in t ((picture g old blocks).log ++ before))) (count + 1)
-    (means_with_commit (picture g old blocks) records sound.records goes table count means before after lsn t number parts none none')
+sealed_with_commit newest g old new blocks records sound goes made before after lsn t number parts none none' table count means =
+    means_sealed newest g old new blocks records made (table_with table (writes_in t ((picture_under newest g old blocks).log ++ before))) (count + 1)
+    (means_with_commit (picture_under newest g old blocks) records sound.records goes table count means before after lsn t number parts none none')

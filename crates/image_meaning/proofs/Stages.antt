@@ -1,5 +1,5 @@
 -- Valid dirty frames are staged.
-use Rattle.std.proofs.Common.{◌≡◌, inl, inr, ℕ, ◌+◌, ◌*◌, ◌<◌, ◌≤◌, false, true≢false, List, [], take, Some, None, sym, ap, subst, ◌∙◌, arith}
+use Rattle.std.proofs.Common.{◌≡◌, inl, inr, ℕ, ◌+◌, ◌*◌, ◌<◌, ◌≤◌, false, true≢false, List, [], take, Option, Some, None, sym, ap, subst, ◌∙◌, arith}
 use Rattle.std.specs.Prelude.{Contains}
 use Rattle.std.proofs.lemmas.Bool.{cases_lt, cases_order}
 use Rattle.std.proofs.Math.ListN.{drop_of_length-le}
@@ -17,15 +17,16 @@ use Rattle.frame_group.specs.Versions.{last_frame, version, CleanAsDisk}
 use Rattle.frame_group.specs.Laws.{StagingKeepsVersions, StagingKeepsClean}
 use Rattle.disk_pages.specs.Pages.{page_on}
 use Rattle.disk_pages.proofs.PageLaws.{page_stays}
+use Rattle.checkpoint.specs.declared.master.Master.{Master}
 use Rattle.image_changes.specs.Rings.{Masters, Blocks, Groups, Segments}
 use Rattle.image_changes.specs.Changes.{RewritesPages, Makes}
 use Rattle.log_store.proofs.BlockLaws.{blocks_stay}
 use Rattle.flash_cache.specs.Held.{frames_on, disk_on, version_on, IsCleanOn}
-use Rattle.image_meaning.specs.Meaning.{IsSound, picture, versions_on}
+use Rattle.image_meaning.specs.Meaning.{picture_under, IsSoundUnder, versions_on}
 use Rattle.image_meaning.specs.Changes.{MayStage}
 use Rattle.image_meaning.specs.Laws.{StagedIsSound, StagedMeans}
 use Rattle.image_meaning.proofs.Versions.{versions_same, frames_stay}
-use Rattle.image_meaning.proofs.Sames.{lengths_stay, unused_stays, groups_stay, same_picture}
+use Rattle.image_meaning.proofs.Sames.{lengths_stay, unused_stays, newest_stays, groups_stay, same_picture}
 
 -- no octet of a page is one of another page
 apart : (number other place : ℕ) → (number ≡ other → ⊥) → 4096 * number ≤ place → place < 4096 * number + 4096 → IsBeside (4096 * other) 4096 place
@@ -38,7 +39,7 @@ apart number other place ne from below =
       ]
     ]
 
-module _ (versions_kept : StagingKeepsVersions) (clean_kept : StagingKeepsClean) (g : Geometry) (old new : Image) (blocks : List (List LogRecord)) (pages : List ℕ) (sound : IsSound g old blocks)
+module _ (versions_kept : StagingKeepsVersions) (clean_kept : StagingKeepsClean) (newest : Option Master) (g : Geometry) (old new : Image) (blocks : List (List LogRecord)) (pages : List ℕ) (sound : IsSoundUnder newest g old blocks)
     (may : MayStage g old pages) (made : Makes g (RewritesPages pages) old new) where
   frames : List Frame
   frames = frames_on g old
@@ -84,26 +85,26 @@ module _ (versions_kept : StagingKeepsVersions) (clean_kept : StagingKeepsClean)
   pub same_versions : versions_on g new ≡ versions_on g old
   same_versions = versions_same g old new version_kept
 
-  pub sound_staged : IsSound g new blocks
+  pub sound_staged : IsSoundUnder newest g new blocks
   sound_staged = record {
     octets = record {
       limits = sound.octets.limits;
       lengths = lengths_stay g old new made.sizes sound.octets.lengths;
-      masters = unused_stays g Masters old new (made.rings Masters) sound.octets.masters;
+      masters = newest_stays newest g old new (made.rings Masters) sound.octets.masters;
       segments = unused_stays g Segments old new (made.rings Segments) sound.octets.segments;
       groups = groups_stay g old new (made.rings Groups) sound.octets.groups;
       versions = λ number within. subst page.IsSound (sym (version_kept number)) (sound.octets.versions number within);
       clean = clean;
     };
     held = blocks_stay g _ blocks old new sound.held (made.rings Blocks);
-    records = subst lists.IsSound (sym (same_picture g old new blocks same_versions)) sound.records;
+    records = subst lists.IsSound (sym (same_picture newest g old new blocks same_versions)) sound.records;
   }
 
-  pub means_staged : (table : List Content) (count : ℕ) → Means (picture g old blocks) table count → Means (picture g new blocks) table count
-  means_staged table count means = subst (λ (p : Picture). Means p table count) (sym (same_picture g old new blocks same_versions)) means
+  pub means_staged : (table : List Content) (count : ℕ) → Means (picture_under newest g old blocks) table count → Means (picture_under newest g new blocks) table count
+  means_staged table count means = subst (λ (p : Picture). Means p table count) (sym (same_picture newest g old new blocks same_versions)) means
 
 pub staged_is_sound : StagingKeepsVersions → StagingKeepsClean → StagedIsSound
-staged_is_sound versions_kept clean_kept g old new blocks pages sound may made = sound_staged versions_kept clean_kept g old new blocks pages sound may made
+staged_is_sound versions_kept clean_kept newest g old new blocks pages sound may made = sound_staged versions_kept clean_kept newest g old new blocks pages sound may made
 
 pub staged_means : StagingKeepsVersions → StagingKeepsClean → StagedMeans
-staged_means versions_kept clean_kept g old new blocks pages sound may made table count means = means_staged versions_kept clean_kept g old new blocks pages sound may made table count means
+staged_means versions_kept clean_kept newest g old new blocks pages sound may made table count means = means_staged versions_kept clean_kept newest g old new blocks pages sound may made table count means

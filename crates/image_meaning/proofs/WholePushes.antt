@@ -1,5 +1,5 @@
 -- Pages are staged, then a group is appended.
-use Rattle.std.proofs.Common.{◌≡◌, ◌⊎◌, inl, inr, ℕ, ◌+◌, ◌-◌, List, [], ◌∷◌, ◌++◌, length, take, drop, Some, None, sym, ap, subst, ◌∙◌, arith}
+use Rattle.std.proofs.Common.{◌≡◌, ◌⊎◌, inl, inr, ℕ, ◌+◌, ◌-◌, List, [], ◌∷◌, ◌++◌, length, take, drop, Option, Some, None, sym, ap, subst, ◌∙◌, arith}
 use Rattle.std.specs.Prelude.{Contains, slice_index}
 use Rattle.std.specs.Option.{option_or}
 use Rattle.std.proofs.lemmas.List.{get_or_default}
@@ -16,6 +16,7 @@ use Rattle.frame_group.specs.Versions.{frames_of, last_frame}
 use Rattle.frame_group.specs.Laws.{IsStaged, StagingKeepsVersions, StagingKeepsClean}
 use Rattle.frame_group.proofs.LastFrames.{last_of_both}
 use Rattle.disk_pages.specs.Pages.{page_on}
+use Rattle.checkpoint.specs.declared.master.Master.{Master}
 use Rattle.image_changes.specs.Rings.{Groups}
 use Rattle.image_changes.specs.Changes.{Change, RewritesPages, AppendsGroup, ReadsAs, Rewrites, Makes, Reaches}
 use Rattle.image_changes.specs.Reached.{IsFrontOf}
@@ -23,7 +24,7 @@ use Rattle.image_changes.proofs.Sequence.{reads_itself}
 use Rattle.stage_out.specs.Staged.{HasStaged, changes_of}
 use Rattle.flash_cache.specs.Held.{frames_on, disk_on}
 use Rattle.flash_cache.specs.Pushed.{changes_of_push}
-use Rattle.image_meaning.specs.Meaning.{IsSound, picture, version_in}
+use Rattle.image_meaning.specs.Meaning.{picture_under, IsSoundUnder, version_in}
 use Rattle.image_meaning.specs.Changes.{front_on, rest_on, MayStage, MayAppend}
 use Rattle.image_meaning.specs.PushLaws.{MayPushGroup, PushKeepsSound, PushKeepsMeaning}
 use Rattle.image_meaning.proofs.Sames.{same_is_sound, same_means, same_picture}
@@ -60,8 +61,8 @@ front_cases g [] (change ∷ changes) a b front reached = let long = ap length f
 front_cases g (page ∷ pages) (change ∷ changes) a b front reached =
     inr (rewritten g (page ∷ pages) a b (subst (λ (l : List Change). Reaches g l a b) (one_front (RewritesPages (page ∷ pages)) change changes front.0 front.1) reached))
 
-module _ (versions_kept : StagingKeepsVersions) (clean_kept : StagingKeepsClean) (g : Geometry) (pages : List ℕ) (contents : List (List ℕ)) (group : List ℕ) (frames : List Frame) (old new : Image)
-    (blocks : List (List LogRecord)) (sound : IsSound g old blocks) (is_group : IsGroup group frames) (may : MayPushGroup g old blocks pages contents frames) where
+module _ (versions_kept : StagingKeepsVersions) (clean_kept : StagingKeepsClean) (newest : Option Master) (g : Geometry) (pages : List ℕ) (contents : List (List ℕ)) (group : List ℕ) (frames : List Frame) (old new : Image)
+    (blocks : List (List LogRecord)) (sound : IsSoundUnder newest g old blocks) (is_group : IsGroup group frames) (may : MayPushGroup newest g old blocks pages contents frames) where
   page_at : (number : ℕ) (listed : Contains pages number) → slice_index pages listed.0 ≡ number
   page_at number listed = get_or_default pages listed.0 0 number listed.1 ∙ listed.2
 
@@ -72,21 +73,21 @@ module _ (versions_kept : StagingKeepsVersions) (clean_kept : StagingKeepsClean)
       (s.frame, ap (λ (n : ℕ). last_frame n (frames_on g old)) (sym (page_at number listed)) ∙ s.last, s.dirty)
 
   -- while pages are staged
-  sound_before : Rewrites g pages old new → IsSound g new blocks
-  sound_before made = staged_is_sound versions_kept clean_kept g old new blocks pages sound may_stage made
+  sound_before : Rewrites g pages old new → IsSoundUnder newest g new blocks
+  sound_before made = staged_is_sound versions_kept clean_kept newest g old new blocks pages sound may_stage made
 
-  part_sound : ReadsAs g old new ⊎ Rewrites g pages old new → IsSound g new blocks
-  part_sound (inl reads) = same_is_sound g old new blocks sound reads
+  part_sound : ReadsAs g old new ⊎ Rewrites g pages old new → IsSoundUnder newest g new blocks
+  part_sound (inl reads) = same_is_sound newest g old new blocks sound reads
   part_sound (inr made) = sound_before made
 
-  part_means : ReadsAs g old new ⊎ Rewrites g pages old new → (table : List Content) (count : ℕ) → Means (picture g old blocks) table count → Means (picture g new blocks) table count
-  part_means (inl reads) table count means = same_means g old new blocks reads table count means
-  part_means (inr made) table count means = staged_means versions_kept clean_kept g old new blocks pages sound may_stage made table count means
+  part_means : ReadsAs g old new ⊎ Rewrites g pages old new → (table : List Content) (count : ℕ) → Means (picture_under newest g old blocks) table count → Means (picture_under newest g new blocks) table count
+  part_means (inl reads) table count means = same_means newest g old new blocks reads table count means
+  part_means (inr made) table count means = staged_means versions_kept clean_kept newest g old new blocks pages sound may_stage made table count means
 
   -- Once they are staged, the group is appended.
   module _ (mid : Image) (made : Rewrites g pages old mid) (disk : new.disk ≡ mid.disk) (staged : HasStaged pages contents old.disk new.disk) where
-    sound_mid : IsSound g mid blocks
-    sound_mid = staged_is_sound versions_kept clean_kept g old mid blocks pages sound may_stage made
+    sound_mid : IsSoundUnder newest g mid blocks
+    sound_mid = staged_is_sound versions_kept clean_kept newest g old mid blocks pages sound may_stage made
 
     page_staged : (number : ℕ) (frame : Frame) → Contains pages number → last_frame number (frames_on g old) ≡ Some frame → disk_on mid number ≡ frame.octets
     page_staged number frame listed last =
@@ -102,53 +103,53 @@ module _ (versions_kept : StagingKeepsVersions) (clean_kept : StagingKeepsClean)
     front_staged : (number : ℕ) → last_frame number frames ≡ None → IsStaged (disk_on mid) (front_on g old) (rest_on g old) number
     front_staged number absent frame none some dirty = page_staged number frame (may.left number frame absent none some dirty) (last_in_front number frame none some)
 
-    pub may_append : MayAppend g mid blocks frames
+    pub may_append : MayAppend newest g mid blocks frames
     may_append = record {
       are_frames = may.are_frames;
       pushed = record {
         clean = λ number frame last not_dirty.
             may.clean number frame last not_dirty
-            ∙ sym (page_kept versions_kept clean_kept g old mid blocks pages sound may_stage made number (may.apart number frame last not_dirty));
+            ∙ sym (page_kept versions_kept clean_kept newest g old mid blocks pages sound may_stage made number (may.apart number frame last not_dirty));
         staged = λ number absent.
             subst (λ (u : Units). IsStaged (disk_on mid) (frames_of (take (length u.live + 1 - (g.groups - 1)) u.live)) (frames_of (drop (length u.live + 1 - (g.groups - 1)) u.live)) number)
             (sym (made.rings Groups).units) (front_staged number absent);
       };
       replace = λ number frame last.
           subst (λ (p : Picture). Replaces p number (version_in frame.octets))
-          (sym (same_picture g old mid blocks (same_versions versions_kept clean_kept g old mid blocks pages sound may_stage made))) (may.replace number frame last);
+          (sym (same_picture newest g old mid blocks (same_versions versions_kept clean_kept newest g old mid blocks pages sound may_stage made))) (may.replace number frame last);
     }
 
     module _ (after : Image) (appended : Makes g (AppendsGroup group) mid after) (reads : ReadsAs g after new) where
-      pub all_sound : IsSound g new blocks
-      all_sound = same_is_sound g after new blocks (pushed_is_sound g mid after blocks group frames sound_mid is_group may_append appended) reads
+      pub all_sound : IsSoundUnder newest g new blocks
+      all_sound = same_is_sound newest g after new blocks (pushed_is_sound newest g mid after blocks group frames sound_mid is_group may_append appended) reads
 
-      pub all_means : (table : List Content) (count : ℕ) → Means (picture g old blocks) table count → Means (picture g new blocks) table count
+      pub all_means : (table : List Content) (count : ℕ) → Means (picture_under newest g old blocks) table count → Means (picture_under newest g new blocks) table count
       all_means table count means =
-          same_means g after new blocks reads table count
-          (pushed_means g mid after blocks group frames sound_mid is_group may_append appended table count
-          (staged_means versions_kept clean_kept g old mid blocks pages sound may_stage made table count means))
+          same_means newest g after new blocks reads table count
+          (pushed_means newest g mid after blocks group frames sound_mid is_group may_append appended table count
+          (staged_means versions_kept clean_kept newest g old mid blocks pages sound may_stage made table count means))
 
 pub push_keeps_sound : StagingKeepsVersions → StagingKeepsClean → PushKeepsSound
-push_keeps_sound versions_kept clean_kept g pages contents group frames old snapshot blocks sound is_group may leaves = by leaves.either
+push_keeps_sound versions_kept clean_kept newest g pages contents group frames old snapshot blocks sound is_group may leaves = by leaves.either
   where
     by : ((changes : List Change) × IsFrontOf (changes_of pages) changes × Reaches g changes old.image snapshot.image)
-        ⊎ (HasStaged pages contents old.image.disk snapshot.image.disk × Reaches g (changes_of_push pages group) old.image snapshot.image) → IsSound g snapshot.image blocks
-    by (inl part) = part_sound versions_kept clean_kept g pages contents group frames old.image snapshot.image blocks sound is_group may (front_cases g pages part.0 old.image snapshot.image part.1 part.2)
+        ⊎ (HasStaged pages contents old.image.disk snapshot.image.disk × Reaches g (changes_of_push pages group) old.image snapshot.image) → IsSoundUnder newest g snapshot.image blocks
+    by (inl part) = part_sound versions_kept clean_kept newest g pages contents group frames old.image snapshot.image blocks sound is_group may (front_cases g pages part.0 old.image snapshot.image part.1 part.2)
     by (inr whole) =
         let parts = reaches_parts g (changes_of pages) (AppendsGroup group ∷ []) old.image snapshot.image whole.1 in
         let last = parts.2 in
-        all_sound versions_kept clean_kept g pages contents group frames old.image snapshot.image blocks sound is_group may parts.0 (rewritten g pages old.image parts.0 parts.1)
+        all_sound versions_kept clean_kept newest g pages contents group frames old.image snapshot.image blocks sound is_group may parts.0 (rewritten g pages old.image parts.0 parts.1)
         (last.2.disk ∙ last.1.disk) whole.0 last.0 last.1 last.2
 
 pub push_keeps_meaning : StagingKeepsVersions → StagingKeepsClean → PushKeepsMeaning
-push_keeps_meaning versions_kept clean_kept g pages contents group frames old snapshot blocks sound is_group may leaves = by leaves.either
+push_keeps_meaning versions_kept clean_kept newest g pages contents group frames old snapshot blocks sound is_group may leaves = by leaves.either
   where
     by : ((changes : List Change) × IsFrontOf (changes_of pages) changes × Reaches g changes old.image snapshot.image)
         ⊎ (HasStaged pages contents old.image.disk snapshot.image.disk × Reaches g (changes_of_push pages group) old.image snapshot.image) →
-        (table : List Content) (count : ℕ) → Means (picture g old.image blocks) table count → Means (picture g snapshot.image blocks) table count
-    by (inl part) = part_means versions_kept clean_kept g pages contents group frames old.image snapshot.image blocks sound is_group may (front_cases g pages part.0 old.image snapshot.image part.1 part.2)
+        (table : List Content) (count : ℕ) → Means (picture_under newest g old.image blocks) table count → Means (picture_under newest g snapshot.image blocks) table count
+    by (inl part) = part_means versions_kept clean_kept newest g pages contents group frames old.image snapshot.image blocks sound is_group may (front_cases g pages part.0 old.image snapshot.image part.1 part.2)
     by (inr whole) =
         let parts = reaches_parts g (changes_of pages) (AppendsGroup group ∷ []) old.image snapshot.image whole.1 in
         let last = parts.2 in
-        all_means versions_kept clean_kept g pages contents group frames old.image snapshot.image blocks sound is_group may parts.0 (rewritten g pages old.image parts.0 parts.1)
+        all_means versions_kept clean_kept newest g pages contents group frames old.image snapshot.image blocks sound is_group may parts.0 (rewritten g pages old.image parts.0 parts.1)
         (last.2.disk ∙ last.1.disk) whole.0 last.0 last.1 last.2

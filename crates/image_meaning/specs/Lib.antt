@@ -11,3 +11,6 @@ pub mod Reached
 pub mod PictureLaws
 pub mod Plain
 pub mod Beside
+pub mod Flushed
+pub mod Below
+pub mod Checkpoints

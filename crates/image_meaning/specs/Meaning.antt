@@ -1,5 +1,5 @@
 -- What three contents mean: when they are sound, and which table they stand for.
-use Rattle.std.specs.Prelude.{◌≡◌, ℕ, ◌<◌, List, [], length, map}
+use Rattle.std.specs.Prelude.{◌≡◌, ℕ, ◌+◌, ◌<◌, List, [], length, map, Option, Some, None}
 use Rattle.std.specs.List.{range_with_len, AllByRecursion}
 use Rattle.site.specs.declared.geometry.Geometry.{Geometry}
 use Rattle.site.specs.Geometry.{HasLimits, HasLengths}
@@ -8,12 +8,14 @@ use Rattle.sealed_ring.specs.Ring.{IsRing}
 use Rattle.record_model.specs.State.{Content}
 use Rattle.log_records.specs.declared.log_record.LogRecord.{LogRecord}
 use Rattle.log_records.specs.Log.{Version, log_from}
-use Rattle.log_records.specs.Sound.{Master, Picture, Means}
+use Rattle.log_records.specs.Sound.{Picture, Means}
 use Rattle.log_records.specs.Sound as lists
 use Rattle.slotted_page.specs.Layout.{lsn_of, slots_of}
 use Rattle.slotted_page.specs.Layout as page
 use Rattle.frame_group.specs.Groups.{Frame, IsGroup, frames_in}
-use Rattle.image_changes.specs.Rings.{RingName, Masters, Segments, shape_of, octets_of, group_shape, units_on}
+use Rattle.image_changes.specs.Rings.{RingName, Masters, Segments, shape_of, octets_of, master_shape, group_shape, units_on}
+use Rattle.checkpoint.specs.declared.master.Master.{Master}
+use Rattle.checkpoint.specs.Newest.{blank, HasMaster, seen}
 use Rattle.log_store.specs.Held.{HasBlocks}
 use Rattle.flash_cache.specs.Held.{frames_on, version_on, IsCleanOn}
 
@@ -28,18 +30,39 @@ abbrev pub versions_on : Geometry → Image → List Version
 versions_on g image = map (λ number. version_in (version_on g image number)) (range_with_len 0 g.pages)
 
 -- As long as no checkpoint is made no master unit stands: redo begins with block 0, and every block is kept.
-abbrev pub blank_master : Master
+abbrev pub blank_master : lists.Master
 blank_master = record { redo = 0; kept = 0; commits = 0; active = [] }
 
--- the records of these log blocks, from block 0 on, and the versions of the image's pages
-abbrev pub picture : Geometry → Image → List (List LogRecord) → Picture
-picture g image blocks = record {
-  master = blank_master;
-  log = log_from 0 blocks;
-  hi = length blocks;
+-- the master of the newest unit, and the blank one where no unit stands
+abbrev pub saved_by : Option Master → Master
+saved_by None = blank
+saved_by (Some m) = m
+
+abbrev pub master_of : Option Master → lists.Master
+master_of newest = seen (saved_by newest)
+
+-- its oldest kept block
+abbrev pub kept_by : Option Master → ℕ
+kept_by newest = (master_of newest).kept
+
+-- the number of the next block, behind these ones from the oldest kept one on
+abbrev pub next_block_under : Option Master → List (List LogRecord) → ℕ
+next_block_under None blocks = length blocks
+next_block_under (Some m) blocks = m.kept + length blocks
+
+-- the records of these log blocks, from the oldest kept one on, and the versions of the image's pages
+abbrev pub picture_under : Option Master → Geometry → Image → List (List LogRecord) → Picture
+picture_under newest g image blocks = record {
+  master = master_of newest;
+  log = log_from (kept_by newest) blocks;
+  hi = next_block_under newest blocks;
   blocks = g.blocks;
   pages = versions_on g image;
 }
+
+-- where no master unit stands: the blocks from block 0 on
+abbrev pub picture : Geometry → Image → List (List LogRecord) → Picture
+picture = picture_under None
 
 -- Soundness.
 
@@ -47,6 +70,17 @@ picture g image blocks = record {
 pub record IsUnused (g : Geometry) (ring : RingName) (image : Image) : Type 0 where
   pub form : IsRing (shape_of g ring) (octets_of (shape_of g ring) image)
   pub none : (units_on (shape_of g ring) image).hi ≡ 0
+
+-- a ring of the form in which a unit stands, the newest of which is that of a master
+pub record IsNewest (image : Image) (m : Master) : Type 0 where
+  pub form : IsRing master_shape image.log
+  pub some : 0 < (units_on master_shape image).hi
+  pub master : HasMaster image m
+
+-- what stands in the master ring
+abbrev pub HasNewest : Option Master → Geometry → Image → Type 0
+HasNewest None g image = IsUnused g Masters image
+HasNewest (Some m) g image = IsNewest image m
 
 -- a frame of a page that exists, with a sound page's octets
 pub record IsFrameOf (g : Geometry) (frame : Frame) : Type 0 where
@@ -59,11 +93,11 @@ pub record AreGroups (g : Geometry) (image : Image) : Type 0 where
   pub each : AllByRecursion (λ content. IsGroup content (frames_in content)) (units_on (group_shape g) image).live
   pub frames : AllByRecursion (IsFrameOf g) (frames_on g image)
 
--- The part of soundness that speaks of octets, but for the log's blocks. Master units and segments aren't written yet.
-pub record AreOctetsSound (g : Geometry) (image : Image) : Type 0 where
+-- The part of soundness that speaks of octets, but for the log's blocks. Segments aren't written yet.
+pub record AreOctetsSoundUnder (newest : Option Master) (g : Geometry) (image : Image) : Type 0 where
   pub limits : HasLimits g
   pub lengths : HasLengths g image
-  pub masters : IsUnused g Masters image
+  pub masters : HasNewest newest g image
   pub segments : IsUnused g Segments image
   pub groups : AreGroups g image
   -- each version is a sound page
@@ -71,14 +105,30 @@ pub record AreOctetsSound (g : Geometry) (image : Image) : Type 0 where
   -- a valid frame that isn't dirty equals its disk page
   pub clean : IsCleanOn g image
 
--- An image is sound: its octets are, its log has these blocks, and their records and the versions belong together.
-pub record IsSound (g : Geometry) (image : Image) (blocks : List (List LogRecord)) : Type 0 where
-  pub octets : AreOctetsSound g image
-  pub held : HasBlocks g 0 blocks image
-  pub records : lists.IsSound (picture g image blocks)
+-- An image is sound under its newest master: its octets are, its log has these blocks from the oldest kept one on, and their
+-- records, the versions and the master belong together.
+pub record IsSoundUnder (newest : Option Master) (g : Geometry) (image : Image) (blocks : List (List LogRecord)) : Type 0 where
+  pub octets : AreOctetsSoundUnder newest g image
+  pub held : HasBlocks g (kept_by newest) blocks image
+  pub records : lists.IsSound (picture_under newest g image blocks)
 
--- an image is sound, and stands for this table and this number of commits
-pub record Stands (g : Geometry) (image : Image) (table : List Content) (commits : ℕ) : Type 0 where
+-- an image is sound under its newest master, and stands for this table and this number of commits
+pub record StandsUnder (newest : Option Master) (g : Geometry) (image : Image) (table : List Content) (commits : ℕ) : Type 0 where
   pub blocks : List (List LogRecord)
-  pub sound : IsSound g image blocks
-  pub means : Means (picture g image blocks) table commits
+  pub sound : IsSoundUnder newest g image blocks
+  pub means : Means (picture_under newest g image blocks) table commits
+
+-- it is so under some newest master
+pub record StandsFor (g : Geometry) (image : Image) (table : List Content) (commits : ℕ) : Type 0 where
+  pub newest : Option Master
+  pub stands : StandsUnder newest g image table commits
+
+-- The same where no master unit stands.
+abbrev pub AreOctetsSound : Geometry → Image → Type 0
+AreOctetsSound = AreOctetsSoundUnder None
+
+abbrev pub IsSound : Geometry → Image → List (List LogRecord) → Type 0
+IsSound = IsSoundUnder None
+
+abbrev pub Stands : Geometry → Image → List Content → ℕ → Type 0
+Stands = StandsUnder None

@@ -1,5 +1,5 @@
 -- Laws on the picture of an image.
-use Rattle.std.specs.Prelude.{◌≡◌, ◌≢◌, ℕ, ◌+◌, ◌-◌, ◌*◌, ◌/◌, ◌==◌, ◌<◌, ◌≤◌, true, List, [], ◌∷◌, ◌++◌, length, replicate, map, slice_set, None, if◌then◌else◌, ⊤}
+use Rattle.std.specs.Prelude.{◌≡◌, ◌≢◌, ℕ, ◌+◌, ◌-◌, ◌*◌, ◌/◌, ◌==◌, ◌<◌, ◌≤◌, true, List, [], ◌∷◌, ◌++◌, length, replicate, map, slice_set, Option, None, if◌then◌else◌, ⊤}
 use Rattle.site.specs.declared.geometry.Geometry.{Geometry}
 use Rattle.site.specs.Geometry.{HasLimits, blank_image}
 use Rattle.site.specs.State.{Image}
@@ -16,40 +16,63 @@ use Rattle.log_laws.specs.Tail.{whole}
 use Rattle.slotted_page.specs.Layout.{lsn_of, slots_of}
 use Rattle.slotted_page.specs.Layout as page
 use Rattle.frame_group.specs.Groups.{IsGroup}
+use Rattle.checkpoint.specs.declared.master.Master.{Master}
 use Rattle.image_changes.specs.Changes.{SealsBlock, RewritesPages, AppendsGroup, Makes}
 use Rattle.flash_cache.specs.Held.{version_on}
-use Rattle.image_meaning.specs.Meaning.{picture, versions_on, version_in, IsSound, Stands}
+use Rattle.image_meaning.specs.Meaning.{kept_by, next_block_under, picture_under, picture, versions_on, version_in, IsSoundUnder, Stands}
 use Rattle.image_meaning.specs.Pictures.{ReplaceAll}
-use Rattle.image_meaning.specs.Changes.{MayStage, MayMakeAll, blocks_after_all}
+use Rattle.image_meaning.specs.Changes.{MayStage, MayMakeAll, newest_after_all, blocks_after_all}
 
 -- a sealed block is the picture's next one
 abbrev pub PictureSealed : Type 0
 PictureSealed =
-    (g : Geometry) (old new : Image) (blocks : List (List LogRecord)) (records : List LogRecord) → Makes g (SealsBlock records) old new →
-    picture g new (blocks ++ records ∷ []) ≡ sealed (picture g old blocks) records
+    (newest : Option Master) (g : Geometry) (old new : Image) (blocks : List (List LogRecord)) (records : List LogRecord) → Makes g (SealsBlock records) old new →
+    picture_under newest g new (blocks ++ records ∷ []) ≡ sealed (picture_under newest g old blocks) records
+
+-- as it is on one image
+abbrev pub BlocksSealed : Type 0
+BlocksSealed =
+    (newest : Option Master) (g : Geometry) (image : Image) (blocks : List (List LogRecord)) (records : List LogRecord) →
+    picture_under newest g image (blocks ++ records ∷ []) ≡ sealed (picture_under newest g image blocks) records
 
 -- where each page has the same version the picture is the same
 abbrev pub PictureStays : Type 0
 PictureStays =
-    (g : Geometry) (old new : Image) (blocks : List (List LogRecord)) → ((number : ℕ) → version_on g new number ≡ version_on g old number) → picture g new blocks ≡ picture g old blocks
+    (newest : Option Master) (g : Geometry) (old new : Image) (blocks : List (List LogRecord)) → ((number : ℕ) → version_on g new number ≡ version_on g old number) → picture_under newest g new blocks ≡ picture_under newest g old blocks
 
 -- as while pages are staged
 abbrev pub StagedVersions : Type 0
 StagedVersions =
-    (g : Geometry) (old new : Image) (blocks : List (List LogRecord)) (pages : List ℕ) → IsSound g old blocks → MayStage g old pages → Makes g (RewritesPages pages) old new →
+    (newest : Option Master) (g : Geometry) (old new : Image) (blocks : List (List LogRecord)) (pages : List ℕ) → IsSoundUnder newest g old blocks → MayStage g old pages → Makes g (RewritesPages pages) old new →
     (number : ℕ) → version_on g new number ≡ version_on g old number
 
 -- where each page's version replaces the one before, all of them do
-abbrev pub EachReplaces : Type 0
-EachReplaces =
-    (g : Geometry) (old new : Image) (blocks : List (List LogRecord)) → ((number : ℕ) → number < g.pages → Replaces (picture g old blocks) number (version_in (version_on g new number))) →
-    ReplaceAll (picture g old blocks) (versions_on g new)
+abbrev pub EachReplacesUnder : Option Master → Type 0
+EachReplacesUnder newest =
+    (g : Geometry) (old new : Image) (blocks : List (List LogRecord)) → ((number : ℕ) → number < g.pages → Replaces (picture_under newest g old blocks) number (version_in (version_on g new number))) →
+    ReplaceAll (picture_under newest g old blocks) (versions_on g new)
 
--- There is room for a tail as long as all records and what is owed have room.
+abbrev pub EachReplaces : Type 0
+EachReplaces = EachReplacesUnder None
+
+-- The next block's number, by the oldest kept one.
+abbrev pub NextBlock : Type 0
+NextBlock = (newest : Option Master) (blocks : List (List LogRecord)) → next_block_under newest blocks ≡ kept_by newest + length blocks
+
+-- There is room for a tail as long as the kept blocks, one more and what is owed have room,
+abbrev pub RoomForBlock : Type 0
+RoomForBlock =
+    (newest : Option Master) (g : Geometry) (image : Image) (blocks : List (List LogRecord)) (tail : List LogRecord) →
+    length blocks + 1 + owed (whole (picture_under newest g image blocks) tail) ≤ g.blocks - 1 → HasRoom (sealed (picture_under newest g image blocks) tail)
+
+-- and so it is as long as all records of these blocks and what is owed have room.
+abbrev pub RoomForTailUnder : Option Master → Type 0
+RoomForTailUnder newest =
+    (g : Geometry) (image : Image) (blocks : List (List LogRecord)) (tail : List LogRecord) → IsSoundUnder newest g image blocks → tail ≢ [] →
+    length (whole (picture_under newest g image blocks) tail) + owed (whole (picture_under newest g image blocks) tail) ≤ g.blocks - 1 → HasRoom (sealed (picture_under newest g image blocks) tail)
+
 abbrev pub RoomForTail : Type 0
-RoomForTail =
-    (g : Geometry) (image : Image) (blocks : List (List LogRecord)) (tail : List LogRecord) → IsSound g image blocks → tail ≢ [] →
-    length (whole (picture g image blocks) tail) + owed (whole (picture g image blocks) tail) ≤ g.blocks - 1 → HasRoom (sealed (picture g image blocks) tail)
+RoomForTail = RoomForTailUnder None
 
 -- All commits of the log count.
 abbrev pub AllCommitsCount : Type 0
@@ -61,10 +84,13 @@ GoOn p [] = ⊤
 GoOn p (records ∷ later) = GoesOn p records × GoOn (sealed p records) later
 
 abbrev pub SealsMayBeMade : Type 0
-SealsMayBeMade = (g : Geometry) (image : Image) (blocks later : List (List LogRecord)) → GoOn (picture g image blocks) later → MayMakeAll g image blocks (map SealsBlock later)
+SealsMayBeMade =
+    (newest : Option Master) (g : Geometry) (image : Image) (blocks later : List (List LogRecord)) → GoOn (picture_under newest g image blocks) later → MayMakeAll newest g image blocks (map SealsBlock later)
 
 abbrev pub BlocksAfterSeals : Type 0
-BlocksAfterSeals = (blocks later : List (List LogRecord)) → blocks_after_all blocks (map SealsBlock later) ≡ blocks ++ later
+BlocksAfterSeals =
+    (newest : Option Master) (blocks later : List (List LogRecord)) →
+    (blocks_after_all newest blocks (map SealsBlock later) ≡ blocks ++ later) × (newest_after_all newest (map SealsBlock later) ≡ newest)
 
 -- The first set on blank devices: its block makes an image that stands for the table with its record, and for one commit.
 abbrev pub FirstSetStands : Type 0

@@ -1,5 +1,5 @@
 -- Laws on pushes: pages are staged, then a group is appended.
-use Rattle.std.specs.Prelude.{◌≡◌, ℕ, ◌-◌, ◌<◌, true, false, List, [], length, Contains, slice_index, slice_index_or, Some, None, map, flat_map}
+use Rattle.std.specs.Prelude.{◌≡◌, ℕ, ◌-◌, ◌<◌, true, false, List, [], length, Contains, slice_index, slice_index_or, Option, Some, None, map, flat_map}
 use Rattle.std.specs.List.{AllByRecursion}
 use Rattle.site.specs.declared.geometry.Geometry.{Geometry}
 use Rattle.site.specs.State.{State, Image, Snapshot}
@@ -10,10 +10,11 @@ use Rattle.log_laws.specs.NewImage.{Replaces}
 use Rattle.slotted_page.specs.Layout as page
 use Rattle.frame_group.specs.Groups.{Frame, IsGroup, frames_in}
 use Rattle.frame_group.specs.Versions.{last_frame, CleanAsDisk}
+use Rattle.checkpoint.specs.declared.master.Master.{Master}
 use Rattle.image_changes.specs.Rings.{group_shape, units_on}
 use Rattle.flash_cache.specs.Held.{HasGroups, frames_on, disk_on}
 use Rattle.flash_cache.specs.Pushed.{LeavesPush}
-use Rattle.image_meaning.specs.Meaning.{picture, version_in, IsFrameOf, AreGroups, IsSound}
+use Rattle.image_meaning.specs.Meaning.{picture_under, version_in, IsFrameOf, AreGroups, IsSoundUnder}
 use Rattle.image_meaning.specs.Changes.{front_on, rest_on}
 
 -- A staged page has a valid dirty frame, whose octets are written.
@@ -24,9 +25,9 @@ pub record IsStagedFrom (g : Geometry) (image : Image) (number : ℕ) (octets : 
   pub same : octets ≡ frame.octets
 
 -- These pages may be staged, with these octets, and a group with these frames appended behind them.
-pub record MayPushGroup (g : Geometry) (image : Image) (blocks : List (List LogRecord)) (pages : List ℕ) (contents : List (List ℕ)) (frames : List Frame) : Type 0 where
+pub record MayPushGroup (newest : Option Master) (g : Geometry) (image : Image) (blocks : List (List LogRecord)) (pages : List ℕ) (contents : List (List ℕ)) (frames : List Frame) : Type 0 where
   pub are_frames : AllByRecursion (IsFrameOf g) frames
-  pub replace : (number : ℕ) (frame : Frame) → last_frame number frames ≡ Some frame → Replaces (picture g image blocks) number (version_in frame.octets)
+  pub replace : (number : ℕ) (frame : Frame) → last_frame number frames ≡ Some frame → Replaces (picture_under newest g image blocks) number (version_in frame.octets)
   -- a clean frame of the group equals its disk page, which isn't staged
   pub clean : CleanAsDisk (disk_on image) frames
   pub apart : (number : ℕ) (frame : Frame) → last_frame number frames ≡ Some frame → frame.dirty ≡ false → Contains pages number → ⊥
@@ -38,16 +39,16 @@ pub record MayPushGroup (g : Geometry) (image : Image) (blocks : List (List LogR
 -- Whatever a crash leaves of it is sound,
 abbrev pub PushKeepsSound : Type 0
 PushKeepsSound =
-    (g : Geometry) (pages : List ℕ) (contents : List (List ℕ)) (group : List ℕ) (frames : List Frame) (old : State) (snapshot : Snapshot) (blocks : List (List LogRecord)) →
-    IsSound g old.image blocks → IsGroup group frames → MayPushGroup g old.image blocks pages contents frames → LeavesPush g pages contents group old snapshot →
-    IsSound g snapshot.image blocks
+    (newest : Option Master) (g : Geometry) (pages : List ℕ) (contents : List (List ℕ)) (group : List ℕ) (frames : List Frame) (old : State) (snapshot : Snapshot) (blocks : List (List LogRecord)) →
+    IsSoundUnder newest g old.image blocks → IsGroup group frames → MayPushGroup newest g old.image blocks pages contents frames → LeavesPush g pages contents group old snapshot →
+    IsSoundUnder newest g snapshot.image blocks
 
 -- and stands for the same.
 abbrev pub PushKeepsMeaning : Type 0
 PushKeepsMeaning =
-    (g : Geometry) (pages : List ℕ) (contents : List (List ℕ)) (group : List ℕ) (frames : List Frame) (old : State) (snapshot : Snapshot) (blocks : List (List LogRecord)) →
-    IsSound g old.image blocks → IsGroup group frames → MayPushGroup g old.image blocks pages contents frames → LeavesPush g pages contents group old snapshot →
-    (table : List Content) (count : ℕ) → Means (picture g old.image blocks) table count → Means (picture g snapshot.image blocks) table count
+    (newest : Option Master) (g : Geometry) (pages : List ℕ) (contents : List (List ℕ)) (group : List ℕ) (frames : List Frame) (old : State) (snapshot : Snapshot) (blocks : List (List LogRecord)) →
+    IsSoundUnder newest g old.image blocks → IsGroup group frames → MayPushGroup newest g old.image blocks pages contents frames → LeavesPush g pages contents group old snapshot →
+    (table : List Content) (count : ℕ) → Means (picture_under newest g old.image blocks) table count → Means (picture_under newest g snapshot.image blocks) table count
 
 -- Groups that a cache knows of are of the form, where their pages are sound, and their frames are those of the image.
 abbrev pub GroupsAreRead : Type 0

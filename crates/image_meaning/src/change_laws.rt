@@ -1,16 +1,22 @@
 // Laws on changes of images, one after the other.
-ghost use Rattle.image_meaning.specs.Laws.{ChangeKeepsSound, FrontKeepsSound, FrontKeepsMeaning};
-ghost use Rattle.image_meaning.specs.Beside.{RingsKept};
+ghost use Rattle.std.specs.Prelude.{Option};
+ghost use Rattle.image_meaning.specs.Laws.{ChangeKeepsSound, ChangeKeepsMeaning, FrontKeepsSound, FrontKeepsMeaning};
+ghost use Rattle.image_meaning.specs.Beside.{RingsKept, RingsKeptUnder};
+ghost use Rattle.checkpoint.specs.declared.master.Master.{Master};
 ghost use Rattle.image_meaning.specs.PushLaws.{PushKeepsSound, PushKeepsMeaning, GroupsAreRead, GroupsAreThere};
+
+use crate::checkpoint_laws::master_laws;
 
 /// Each change that may be made keeps an image sound, and so do the first ones of a list. Where none of them seals a
 /// Commit the image stands for the same.
 pub fn changes_kept()
     ensures one { ChangeKeepsSound }
+    ensures one_means { ChangeKeepsMeaning }
     ensures sound { FrontKeepsSound }
     ensures means { FrontKeepsMeaning }
 {
     frame_group::staged();
+    master_laws();
 }
 
 /// Whatever a crash leaves of a push is sound, and stands for the same.
@@ -31,4 +37,9 @@ pub fn groups_are_read()
 /// Sealed blocks, rewritten disk pages and groups of sound pages keep the rings sound.
 pub fn rings_kept()
     ensures { RingsKept }
+{}
+
+/// So they do under whatever master is the newest.
+pub fn rings_kept_under()
+    ensures { (newest : Option Master) → RingsKeptUnder newest }
 {}

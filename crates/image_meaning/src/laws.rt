@@ -1,7 +1,8 @@
 // Laws on images.
-ghost use Rattle.image_meaning.specs.Laws.{BlankStands, OneMeaning, SameIsSound, SameMeans, SealedIsSound, SealedWithoutCommit, SealedWithCommit, StagedIsSound, StagedMeans, PushedIsSound, PushedMeans, ReplacedIsSound, ReplacedMeans, VersionReplaces};
+ghost use Rattle.image_meaning.specs.Laws.{BlankStands, OneMeaning, OneMeaningFor, OneMasterStands, NewestIsRead, ReadIsNewest, SameIsSound, SameMeans, SealedIsSound, SealedWithoutCommit, SealedWithCommit, StagedIsSound, StagedMeans, PushedIsSound, PushedMeans, ReplacedIsSound, ReplacedMeans, VersionReplaces};
 ghost use Rattle.image_meaning.specs.Plain.{LogAloneIsSound, LogAloneMeans};
 
+use checkpoint::one_master;
 use log_laws::table_at;
 use log_store::{blank_log, one_log};
 use sealed_ring::{blank_is_ring, leaves_others};
@@ -30,6 +31,17 @@ pub fn one_meaning()
     ensures { OneMeaning }
 {
     one_log();
+}
+
+/// So it does whatever its newest master is. There is one at most, which is the one that is read.
+pub fn one_master_stands()
+    ensures meaning { OneMeaningFor }
+    ensures one { OneMasterStands }
+    ensures read { NewestIsRead }
+    ensures found { ReadIsNewest }
+{
+    one_log();
+    one_master();
 }
 
 /// What reads the same as a sound image is sound, and stands for the same.

@@ -3,22 +3,30 @@
 #![tactic(auto)]
 
 mod change_laws;
+mod checkpoint_laws;
 mod laws;
 mod list_laws;
 mod moment_laws;
 mod picture_laws;
 
-pub use change_laws::{changes_kept, groups_are_read, push_kept, rings_kept};
+pub use change_laws::{changes_kept, groups_are_read, push_kept, rings_kept, rings_kept_under};
+pub use checkpoint_laws::{
+    active_are_kept, checkpoint_stands, first_checkpoint_stands, master_may_save, master_saved,
+    orderly_kept,
+};
 pub use laws::{
-    blank_stands, log_alone, one_meaning, pushed, reads_the_same, replaced, sealed, staged,
+    blank_stands, log_alone, one_master_stands, one_meaning, pushed, reads_the_same, replaced,
+    sealed, staged,
 };
 pub use list_laws::{
-    new_versions, pushed_frames, redoing, redone_versions, showing, tail_goes_on,
-    versions_beside_the_tail, write_ahead,
+    checkpoint_needs, master_is_saved, new_versions, pushed_frames, redoing, redone_versions,
+    showing, tail_goes_on, versions_beside_the_tail, write_ahead,
 };
 pub use moment_laws::{
-    calls_with_commit, calls_without_commit, pushes_change_pages, versions_at_moments, whole_push,
+    calls_with_commit, calls_without_commit, pushes_change_pages, under_some_master,
+    versions_at_moments, whole_push,
 };
 pub use picture_laws::{
-    first_push_stands, first_set_stands, pictures, room_and_count, sealed_in_turn, versions_by_page,
+    first_push_stands, first_set_stands, pictures, room_and_count, room_under, sealed_in_turn,
+    versions_by_page,
 };

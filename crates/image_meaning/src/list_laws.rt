@@ -2,7 +2,10 @@
 ghost use Rattle.image_meaning.specs.Pictures.{VersionsAreSound, VersionsMean, VersionReplacesItself};
 ghost use Rattle.image_meaning.specs.Redone.{RedoneReplaces, CurrentReplaces, VersionIsRedone, NextIsRedone, RedoneIsCurrent, ShowsMore, ShowsElsewhere};
 ghost use Rattle.image_meaning.specs.Ahead.{SealedPageReplaces, ShownStays, TableStays, ShowsStill, CarriesStill, GoesOnStill, TailGoesOn};
+ghost use Rattle.image_meaning.specs.Flushed.{CheckpointNeeds, OldestIsThere, MasterIsSaved};
 ghost use Rattle.image_meaning.specs.Pushes.{PushedClean, PushedVersion, OthersKeepVersions};
+
+use log_laws::losers_listed;
 
 /// New versions of any pages at once keep a picture sound, and what it stands for. The version that a page has is one.
 pub fn new_versions()
@@ -59,3 +62,18 @@ pub fn pushed_frames()
     ensures version { PushedVersion }
     ensures others { OthersKeepVersions }
 {}
+
+/// A checkpoint may be made exactly where the pages are flushed and the blocks of all unfinished transactions are kept. The oldest
+/// of these blocks is one of the kept ones, or the next.
+pub fn checkpoint_needs()
+    ensures exactly { CheckpointNeeds }
+    ensures oldest { OldestIsThere }
+{}
+
+/// A master under which redo begins with the next block and all commits count, and that names the unfinished transactions by
+/// ascending Begins, each with its last record, is the one that a checkpoint saves.
+pub fn master_is_saved()
+    ensures { MasterIsSaved }
+{
+    losers_listed();
+}

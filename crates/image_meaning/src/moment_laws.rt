@@ -1,14 +1,24 @@
 // Laws on what a crash leaves of calls.
 ghost use Rattle.image_meaning.specs.Reached.{ReachedIsSound, ReachedMeans, PushedStands, PushChangesPages, GroupsAreSound};
-ghost use Rattle.image_meaning.specs.Moments.{FrontStands, PushStands, CommitStands};
+ghost use Rattle.image_meaning.specs.Moments.{UnderLeavesFor, UnderLeavesEitherFor, FrontStandsFor, FrontStands, PushStands, CommitStands};
+
+use crate::checkpoint_laws::master_laws;
 
 /// Calls of which a crash leaves the first ones of changes that may be made leave devices that stand for the same table at
-/// each moment, as long as no Commit is sealed.
+/// each moment, as long as no Commit is sealed: under the same newest master where no master unit is appended.
 pub fn calls_without_commit()
-    ensures { FrontStands }
+    ensures whole { FrontStandsFor }
+    ensures under { FrontStands }
 {
     frame_group::staged();
+    master_laws();
 }
+
+/// What stands under a newest master stands whatever it is.
+pub fn under_some_master()
+    ensures table { UnderLeavesFor }
+    ensures either { UnderLeavesEitherFor }
+{}
 
 /// So does a push.
 pub fn whole_push()
@@ -23,6 +33,7 @@ pub fn calls_with_commit()
     ensures { CommitStands }
 {
     frame_group::staged();
+    master_laws();
 }
 
 /// Pushes of which is known what versions pages have at each moment, as before or new ones, leave devices that stand for

@@ -1,5 +1,7 @@
 // Laws on the picture of an image.
-ghost use Rattle.image_meaning.specs.PictureLaws.{PictureSealed, PictureStays, StagedVersions, EachReplaces, RoomForTail, AllCommitsCount, SealsMayBeMade, BlocksAfterSeals, FirstSetStands, FirstPushStands, VersionOfPage, CountOfVersions};
+ghost use Rattle.std.specs.Prelude.{Option};
+ghost use Rattle.checkpoint.specs.declared.master.Master.{Master};
+ghost use Rattle.image_meaning.specs.PictureLaws.{PictureSealed, BlocksSealed, PictureStays, StagedVersions, EachReplaces, EachReplacesUnder, NextBlock, RoomForBlock, RoomForTail, RoomForTailUnder, AllCommitsCount, SealsMayBeMade, BlocksAfterSeals, FirstSetStands, FirstPushStands, VersionOfPage, CountOfVersions};
 
 use log_laws::table_at;
 use log_store::blank_log;
@@ -8,9 +10,11 @@ use sealed_ring::blank_is_ring;
 /// What changes make of an image's picture: a sealed block is its next one, staging leaves it, and a push replaces versions.
 pub fn pictures()
     ensures sealed { PictureSealed }
+    ensures more { BlocksSealed }
     ensures stays { PictureStays }
     ensures staged { StagedVersions }
     ensures replaced { EachReplaces }
+    ensures replaced_under { (newest : Option Master) → EachReplacesUnder newest }
 {
     frame_group::staged();
 }
@@ -19,6 +23,14 @@ pub fn pictures()
 pub fn room_and_count()
     ensures room { RoomForTail }
     ensures count { AllCommitsCount }
+{}
+
+/// Under whatever master is the newest there is room for a tail as long as the kept blocks, or their records, one block more
+/// and what is owed have room.
+pub fn room_under()
+    ensures next { NextBlock }
+    ensures block { RoomForBlock }
+    ensures tail { (newest : Option Master) → RoomForTailUnder newest }
 {}
 
 /// Blocks of which each goes on behind the ones before it may be sealed one after the other.

@@ -1,28 +1,28 @@
 -- Transactions at work, and transactions that are undone.
 use Rattle.std.proofs.Common.{◌≡◌, ℕ, ◌+◌, ◌*◌, ◌<◌, ◌≤◌, ◌⊎◌, ⊎_elim, Bool, true, false, cond, not, ◌&&◌, ◌||◌, List, [], ◌∷◌, ◌++◌, length, map, drop, Some, None, refl, sym, ap, subst, ◌∙◌, arith}
-use Rattle.std.specs.Prelude.{filter, filter_map, IsTrue, ◌==◌, nat_le}
+use Rattle.std.specs.Prelude.{filter, filter_map, IsTrue, ◌==◌, nat_lt, nat_le}
 use Rattle.std.specs.List.{AllByRecursion, list_any}
 use Rattle.std.proofs.lemmas.List.{append-nil}
 use Rattle.std.proofs.lemmas.List.Elements.{filter-append, filter_map-append}
 use Rattle.std.proofs.lemmas.List.Folds.{list_any-append}
-use Rattle.std.proofs.lemmas.Bool.{and_from, and_parts, and_left, and_right, or_left, or_right, or_cases, cases_Bool, eqb-true, eq-eqb, le-leb, not-true, not_from_false}
+use Rattle.std.proofs.lemmas.Bool.{and_from, and_parts, and_left, and_right, or_left, or_right, or_parts, or_cases, cases_Bool, eqb-true, eq-eqb, le-leb, le-ltb, not-true, not_from_false}
 use Rattle.std.proofs.lemmas.Option.{same_Some}
 use Rattle.record_model.specs.State.{Content, Write}
 use Rattle.log_records.specs.declared.log_record.LogRecord.{LogRecord}
 use Rattle.log_records.specs.declared.log_record.LogRecord.TheVariants.{Begin, Update, Clr, Commit, End}
 use Rattle.log_records.specs.Log.{Entry, Version, txn_of, is_of, is_on, is_update, is_closing, is_closed, is_loser, entries_of, updates_in, last_where, last_on, first_update}
-use Rattle.log_records.specs.Unfinished.{is_begin, is_clr, clrs_in, open_by, open_updates, left_open, owed_by}
-use Rattle.log_records.specs.Sound.{Active, Master, Picture, IsOpen, IsLoserChain, IsInTable, is_known, from_block, last_lsn, last_number}
-use Rattle.log_laws.specs.Follow.{Follows, IsActive, IsFresh, IsFreeFor, IsUndoable, write_of, shown}
-use Rattle.log_laws.specs.Tail.{Carries, whole}
+use Rattle.log_records.specs.Unfinished.{is_begin, is_clr, clrs_in, open_by, open_updates, left_open, losers, owed_by}
+use Rattle.log_records.specs.Sound.{Active, Master, Picture, IsOpen, IsLoserChain, IsInTable, is_known, before_block, from_block, last_lsn, last_number}
+use Rattle.log_laws.specs.Follow.{Follows, IsActive, IsFresh, IsFreeFor, IsUndoable, next_entries, write_of, shown}
+use Rattle.log_laws.specs.Tail.{Carries, whole, next_lsn}
 use Rattle.log_laws.proofs.Lists.{all_weaker, any_find, some_or_none}
 use Rattle.log_laws.proofs.Values.{with, closed_same, closed_by, last_is_own, update_of}
 use Rattle.log_laws.proofs.Chains.{any_open, none_any}
-use Rattle.log_laws.proofs.Parts.{all_filter, all_passed}
+use Rattle.log_laws.proofs.Orders.{filter_none, all_from, entries_in_order}
+use Rattle.log_laws.proofs.Parts.{all_filter, all_passed, parts_at}
 use Rattle.log_laws.proofs.Appends.{begins, chain_start, chain_more, fresh_entries, fresh_open, update_follows, clr_follows, free_off, has_written_is}
 use Rattle.log_laws.proofs.Owing.{left_is_written}
-use Rattle.log_laws.proofs.Orderly.{all_from_first}
-use Rattle.log_laws.proofs.Tails.{whole_is_undoable}
+use Rattle.log_laws.proofs.Tails.{whole_in_order, whole_is_undoable}
 
 -- The records of a transaction.
 
@@ -153,17 +153,84 @@ any_of_those test other (x ∷ xs) h = by_test (other x) (any_of_those test othe
     by_test true f h = ⊎_elim (λ a. or_left (test x) (list_any test xs) a) (λ a. or_right (test x) (list_any test xs) (f a)) (or_cases (test x) (list_any test (filter other xs)) h)
     by_test false f h = or_right (test x) (list_any test xs) (f h)
 
+-- a transaction whose Begin is among these records, and that none of them closes, is one of their losers
+begin_is_listed : (closed : ℕ → Bool) (t : ℕ) (xs : List Entry) → closed t ≡ false → list_any (λ x. is_begin x.rec && (x.lsn == t)) xs ≡ true →
+    list_any (λ s. s == t) (map (λ (x : Entry). x.lsn) (filter (λ x. is_begin x.rec && not (closed x.lsn)) xs)) ≡ true
+begin_is_listed closed t [] lives h = h
+begin_is_listed closed t (x ∷ xs) lives h =
+    ⊎_elim here (λ rest. by_test (is_begin x.rec && not (closed x.lsn)) (begin_is_listed closed t xs lives rest)) (or_cases (is_begin x.rec && (x.lsn == t)) (list_any (λ y. is_begin y.rec && (y.lsn == t)) xs) h)
+  where
+    listed : List Entry → Bool
+    listed ys = list_any (λ s. s == t) (map (λ (y : Entry). y.lsn) ys)
+
+    here : (is_begin x.rec && (x.lsn == t)) ≡ true → listed (filter (λ y. is_begin y.rec && not (closed y.lsn)) (x ∷ xs)) ≡ true
+    here both =
+        let parts = and_parts (is_begin x.rec) (x.lsn == t) both in
+        let passes = and_from (is_begin x.rec) (not (closed x.lsn)) parts.0 (not_from_false (closed x.lsn) (ap closed (eqb-true x.lsn t parts.1) ∙ lives)) in
+        ap (λ b. listed (cond b (x ∷ filter (λ y. is_begin y.rec && not (closed y.lsn)) xs) (filter (λ y. is_begin y.rec && not (closed y.lsn)) xs))) passes
+        ∙ or_left (x.lsn == t) (listed (filter (λ y. is_begin y.rec && not (closed y.lsn)) xs)) parts.1
+
+    by_test : (b : Bool) → listed (filter (λ y. is_begin y.rec && not (closed y.lsn)) xs) ≡ true →
+        listed (cond b (x ∷ filter (λ y. is_begin y.rec && not (closed y.lsn)) xs) (filter (λ y. is_begin y.rec && not (closed y.lsn)) xs)) ≡ true
+    by_test true k = or_right (x.lsn == t) (listed (filter (λ y. is_begin y.rec && not (closed y.lsn)) xs)) k
+    by_test false k = k
+
+any_of_map : {X Y : Type 0} (test : Y → Bool) (f : X → Y) (xs : List X) → list_any test (map f xs) ≡ list_any (λ x. test (f x)) xs
+any_of_map test f [] = refl
+any_of_map test f (x ∷ xs) = ap (λ b. test (f x) || b) (any_of_map test f xs)
+
+-- An unfinished transaction is open: its Begin stands from the redo block on, or it was active there.
+module _ (p : Picture) (tail : List LogRecord) (t : ℕ) (c : Carries p tail) (loser : is_loser (whole p tail) t ≡ true) where
+  abbrev old : List Entry
+  old = before_block p.master.redo p.log
+
+  abbrev new : List Entry
+  new = from_block p.master.redo (whole p tail)
+
+  abbrev begins_there : List Entry → Bool
+  begins_there l = list_any (λ x. is_begin x.rec && (x.lsn == t)) l
+
+  tail_is_new : before_block p.master.redo (next_entries p tail) ≡ []
+  tail_is_new =
+      filter_none (λ e. nat_lt e.lsn (512 * p.master.redo)) (next_entries p tail)
+      (all_weaker (λ e. 512 * p.hi + 2 ≤ e.lsn) (λ e. nat_lt e.lsn (512 * p.master.redo) ≡ false) (λ e late. le-ltb e.lsn (512 * p.master.redo) (let before = c.sound.redo_before_end in omega (arith, late, before)))
+      (next_entries p tail) (all_from (512 * p.hi + 2) (next_entries p tail) _ (entries_in_order (512 * p.hi + 2) tail)))
+
+  parts : whole p tail ≡ before_block p.master.redo p.log ++ from_block p.master.redo (whole p tail)
+  parts =
+      parts_at p.master.redo (512 * p.master.kept) (whole p tail) (next_lsn p tail) (whole_in_order p tail c)
+      ∙ ap (λ (l : List Entry). l ++ from_block p.master.redo (whole p tail))
+      (filter-append (λ e. nat_lt e.lsn (512 * p.master.redo)) p.log (next_entries p tail) ∙ ap (λ (l : List Entry). before_block p.master.redo p.log ++ l) tail_is_new ∙ append-nil (before_block p.master.redo p.log))
+
+  not_closed : is_closed (whole p tail) t ≡ false
+  not_closed = loser_is_not_closed (whole p tail) t loser
+
+  open_before : is_closed (before_block p.master.redo p.log) t ≡ false
+  open_before =
+      (or_parts (is_closed old t) (is_closed new t) (sym (list_any-append (λ e. is_of t e && is_closing e.rec) old new) ∙ ap (λ (l : List Entry). is_closed l t) (sym parts) ∙ not_closed)).0
+
+  begun : (begins_there old || begins_there new) ≡ true
+  begun =
+      let chain = (whole_is_undoable p tail c).undone t loser in
+      sym (list_any-append (λ x. is_begin x.rec && (x.lsn == t)) old new) ∙ ap begins_there (sym parts)
+      ∙ any_of_those (λ x. is_begin x.rec && (x.lsn == t)) (is_of t) (whole p tail)
+      (ap begins_there chain.begins ∙ or_left (t == t) (begins_there (drop 1 (entries_of t (whole p tail)))) (eq-eqb t t refl))
+
+  named : begins_there old ≡ true → list_any (λ a. a.begin == t) p.master.active ≡ true
+  named there =
+      ap (list_any (λ (a : Active). a.begin == t)) c.sound.master_names_the_active
+      ∙ any_of_map (λ (a : Active). a.begin == t) (λ s. record { begin = s; last = last_lsn (entries_of s old) }) (losers old)
+      ∙ begin_is_listed (is_closed old) t old open_before there
+
+  pub loser_is_known : IsOpen p.master (whole p tail) t
+  loser_is_known = record {
+    known = ⊎_elim (λ there. or_left (list_any (λ a. a.begin == t) p.master.active) (begins_there new) (named there)) (λ there. or_right (list_any (λ a. a.begin == t) p.master.active) (begins_there new) there)
+        (or_cases (begins_there old) (begins_there new) begun);
+    not_closed = not_closed;
+  }
+
 pub loser_is_open : (p : Picture) (tail : List LogRecord) (t : ℕ) → Carries p tail → p.master.redo ≡ 0 → is_loser (whole p tail) t ≡ true → IsOpen p.master (whole p tail) t
-loser_is_open p tail t c first loser =
-    let chain = (whole_is_undoable p tail c).undone t loser in
-    record {
-      known = or_right (list_any (λ a. a.begin == t) p.master.active) (list_any (λ x. is_begin x.rec && (x.lsn == t)) (from_block p.master.redo (whole p tail)))
-          (ap (λ n. list_any (λ x. is_begin x.rec && (x.lsn == t)) (from_block n (whole p tail))) first
-          ∙ ap (list_any (λ x. is_begin x.rec && (x.lsn == t))) (all_from_first (whole p tail))
-          ∙ any_of_those (λ x. is_begin x.rec && (x.lsn == t)) (is_of t) (whole p tail)
-          (ap (list_any (λ x. is_begin x.rec && (x.lsn == t))) chain.begins ∙ or_left (t == t) (list_any (λ x. is_begin x.rec && (x.lsn == t)) (drop 1 (entries_of t (whole p tail)))) (eq-eqb t t refl)));
-      not_closed = loser_is_not_closed (whole p tail) t loser;
-    }
+loser_is_open p tail t c first loser = loser_is_known p tail t c loser
 
 all_drop : {X : Type 0} (P : X → Type 0) (xs : List X) → AllByRecursion P xs → AllByRecursion P (drop 1 xs)
 all_drop P [] h = tt

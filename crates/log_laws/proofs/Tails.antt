@@ -71,6 +71,16 @@ whole_is_orderly p tail c first = orderly_of p.master (512 * p.master.kept) (who
 pub fresh_at_end : (p : Picture) (tail : List LogRecord) (lsn : ℕ) → Carries p tail → p.master.redo ≡ 0 → next_lsn p tail ≤ lsn → IsFresh lsn (whole p tail)
 fresh_at_end p tail lsn c first late = fresh_behind (512 * p.master.kept) (whole p tail) (next_lsn p tail) lsn (whole_in_order p tail c) (whole_is_orderly p tail c first) late
 
+-- Wherever redo begins, over an orderly log.
+
+pub whole_stays_orderly : (p : Picture) (tail : List LogRecord) → Carries p tail → AreOrderly p.log → AreOrderly (whole p tail)
+whole_stays_orderly p tail c orderly =
+    orderly_behind p (next_entries p tail) (512 * p.hi + 2 + length (flat_map spelling tail)) c.sound orderly
+    (in_order_from (512 * p.hi + 2) (512 * p.hi) (next_entries p tail) (512 * p.hi + 2 + length (flat_map spelling tail)) (omega arith) (entries_in_order (512 * p.hi + 2) tail)) c.follow
+
+pub fresh_behind_all : (p : Picture) (tail : List LogRecord) (lsn : ℕ) → Carries p tail → AreOrderly p.log → next_lsn p tail ≤ lsn → IsFresh lsn (whole p tail)
+fresh_behind_all p tail lsn c orderly late = fresh_behind (512 * p.master.kept) (whole p tail) (next_lsn p tail) lsn (whole_in_order p tail c) (whole_stays_orderly p tail c orderly) late
+
 pub table_more : (p : Picture) (tail : List LogRecord) (e : Entry) → Carries p tail → Follows p.master p.pages (whole p tail) e →
     table_of (whole p tail ++ e ∷ []) p.pages ≡ table_after (table_of (whole p tail) p.pages) (whole p tail) e.rec
 table_more p tail e c f = table_behind p.master p.pages (whole p tail) (whole_is_undoable p tail c) e f
@@ -168,10 +178,7 @@ plain_room pages room blocks tail full some fits =
     )
 
 pub sealed_is_orderly : (p : Picture) (records : List LogRecord) → IsSound p → AreOrderly p.log → GoesOn p records → AreOrderly (sealed p records).log
-sealed_is_orderly p records sound orderly goes =
-    orderly_behind p (next_entries p records) (512 * p.hi + 2 + length (flat_map spelling records)) sound orderly
-    (in_order_from (512 * p.hi + 2) (512 * p.hi) (next_entries p records) (512 * p.hi + 2 + length (flat_map spelling records)) (omega arith) (entries_in_order (512 * p.hi + 2) records))
-    goes.follow
+sealed_is_orderly p records sound orderly goes = whole_stays_orderly p records (record { sound = sound; follow = goes.follow }) orderly
 
 pub carries_front : (p : Picture) (front : List LogRecord) (rec : LogRecord) → Carries p (front ++ rec ∷ []) → Carries p front × Follows p.master p.pages (whole p front) (record { lsn = next_lsn p front; rec = rec })
 carries_front p front rec c =

@@ -17,7 +17,7 @@ use Rattle.log_laws.specs.UndoSteps.{IsToUndo}
 use Rattle.log_laws.proofs.Values.{with}
 use Rattle.log_laws.proofs.Appends.{end_follows}
 use Rattle.log_laws.proofs.Owing.{left_is_written}
-use Rattle.log_laws.proofs.Losers.{any_of_those, clr_of_last_follows, left_keep, loser_goes_on, loser_is_not_closed, loser_is_open}
+use Rattle.log_laws.proofs.Losers.{any_of_those, clr_of_last_follows, left_keep, loser_goes_on, loser_is_not_closed, loser_is_known}
 use Rattle.log_laws.proofs.Tails.{whole_in_order, whole_in_table, whole_is_undoable}
 use Rattle.log_laws.proofs.Undoing.{next_to_undo, next_of_active}
 use Rattle.log_laws.proofs.Analysing.{at_own}
@@ -30,9 +30,9 @@ some_left : (us : List Entry) → 0 < length us → (u : Entry) × (rest : List 
 some_left [] h = absurd (omega (arith, h))
 some_left (u ∷ rest) h = (u, rest, refl)
 
-module _ (p : Picture) (tail : List LogRecord) (x : Unfinished) (c : Carries p tail) (first : p.master.redo ≡ 0) (is : IsUnfinished (whole p tail) x) where
+module _ (p : Picture) (tail : List LogRecord) (x : Unfinished) (c : Carries p tail) (is : IsUnfinished (whole p tail) x) where
   lives : IsOpen p.master (whole p tail) x.txn
-  lives = loser_is_open p tail x.txn c first is.loser
+  lives = loser_is_known p tail x.txn c is.loser
 
   to_undo : (at : ℕ) (rec : LogRecord) (rest : List Entry) → left_open (whole p tail) x.txn ≡ record { lsn = at; rec = rec } ∷ rest → IsNext (whole p tail) x.txn (record { lsn = at; rec = rec }) rest →
       IsInTable p.pages (record { lsn = at; rec = rec }) → IsToUndo p (whole p tail) x rec

@@ -69,6 +69,10 @@ abbrev pub LoserIsOpen : Type 0
 LoserIsOpen =
     (p : Picture) (tail : List LogRecord) (t : ℕ) → Carries p tail → p.master.redo ≡ 0 → is_loser (whole p tail) t ≡ true → IsOpen p.master (whole p tail) t
 
+-- So it is wherever redo begins: the master names those that were active there.
+abbrev pub LoserIsKnown : Type 0
+LoserIsKnown = (p : Picture) (tail : List LogRecord) (t : ℕ) → Carries p tail → is_loser (whole p tail) t ≡ true → IsOpen p.master (whole p tail) t
+
 -- what is left to be undone are Updates of the transaction, of which holds what holds of all records
 abbrev pub LeftAreItsUpdates : Type 0
 LeftAreItsUpdates = (log : List Entry) (t : ℕ) → AllByRecursion (λ u. (is_update u.rec ≡ true) × (txn_of u ≡ t)) (left_open log t)

@@ -44,6 +44,13 @@ WholeIsOrderly = (p : Picture) (tail : List LogRecord) → Carries p tail → p.
 abbrev pub FreshAtEnd : Type 0
 FreshAtEnd = (p : Picture) (tail : List LogRecord) (lsn : ℕ) → Carries p tail → p.master.redo ≡ 0 → next_lsn p tail ≤ lsn → IsFresh lsn (whole p tail)
 
+-- So it is wherever redo begins, as long as the sealed log is orderly.
+abbrev pub WholeStaysOrderly : Type 0
+WholeStaysOrderly = (p : Picture) (tail : List LogRecord) → Carries p tail → AreOrderly p.log → AreOrderly (whole p tail)
+
+abbrev pub FreshBehind : Type 0
+FreshBehind = (p : Picture) (tail : List LogRecord) (lsn : ℕ) → Carries p tail → AreOrderly p.log → next_lsn p tail ≤ lsn → IsFresh lsn (whole p tail)
+
 -- So it is for each record in the log.
 abbrev pub OrderlyAt : Type 0
 OrderlyAt =

@@ -28,6 +28,17 @@ UndoEnd =
     (p : Picture) (tail : List LogRecord) (x : Unfinished) → Carries p tail → p.master.redo ≡ 0 → IsUnfinished (whole p tail) x → x.remaining ≡ 0 →
     (lsn : ℕ) → Follows p.master p.pages (whole p tail) (record { lsn = lsn; rec = End x.txn })
 
+-- So it is wherever redo begins.
+abbrev pub UndoGoesOn : Type 0
+UndoGoesOn =
+    (p : Picture) (tail : List LogRecord) (x : Unfinished) → Carries p tail → IsUnfinished (whole p tail) x → 0 < x.remaining →
+    (u : Entry) × (find (λ e. e.lsn == x.next) (whole p tail) ≡ Some u) × IsToUndo p (whole p tail) x u.rec
+
+abbrev pub UndoEnds : Type 0
+UndoEnds =
+    (p : Picture) (tail : List LogRecord) (x : Unfinished) → Carries p tail → IsUnfinished (whole p tail) x → x.remaining ≡ 0 →
+    (lsn : ℕ) → Follows p.master p.pages (whole p tail) (record { lsn = lsn; rec = End x.txn })
+
 -- what one more record of its own makes of an unfinished transaction
 abbrev pub UnfinishedStep : Type 0
 UnfinishedStep = (log : List Entry) (e : Entry) (x : Unfinished) → IsUnfinished log x → x.txn ≡ txn_of e → is_closing e.rec ≡ false → IsUnfinished (log ++ e ∷ []) (after_record x e)

@@ -1,5 +1,5 @@
 // Transactions at work, and transactions that are undone.
-ghost use Rattle.log_laws.specs.ActiveLaws.{ActiveBegun, ActiveMayWrite, ActiveWrites, ActiveStays, ActiveOwes, LoserStays, LoserGoesOn, LoserIsClosed, LoserIsNotClosed, LastMore, LoserIsOpen, LeftAreItsUpdates, ClrFollows};
+ghost use Rattle.log_laws.specs.ActiveLaws.{ActiveBegun, ActiveMayWrite, ActiveWrites, ActiveStays, ActiveOwes, LoserStays, LoserGoesOn, LoserIsClosed, LoserIsNotClosed, LastMore, LoserIsOpen, LoserIsKnown, LeftAreItsUpdates, ClrFollows};
 
 /// A transaction that has begun is active and has written nothing.
 pub fn active_begun()
@@ -42,6 +42,11 @@ pub fn last_more()
 /// Where redo begins with the first block an unfinished transaction is open.
 pub fn loser_is_open()
     ensures { LoserIsOpen }
+{}
+
+/// It is wherever redo begins: the master names those that were active there.
+pub fn loser_is_known()
+    ensures { LoserIsKnown }
 {}
 
 /// What is left to be undone of a transaction are Updates of its own.

@@ -18,7 +18,7 @@ mod undo_laws;
 
 pub use active_laws::{
     active_begun, active_may_write, active_owes, active_stays, active_writes, clr_follows,
-    last_more, left_are_its_updates, loser_is_open, losers_after,
+    last_more, left_are_its_updates, loser_is_known, loser_is_open, losers_after,
 };
 pub use analysis_laws::{unfinished_more, unfinished_owed, unfinished_there};
 pub use examples::{a_loser, a_stray};
@@ -35,11 +35,11 @@ pub use shown_laws::{
     shown_at, shown_blank, shown_is_seen, shown_is_table, shown_is_value, shown_push, shown_set,
     shown_stays, table_at, value_by_last, value_held, writer_is_loser,
 };
-pub use step_laws::{active_is_unfinished, undo_end, undo_step, unfinished_step};
+pub use step_laws::{active_is_unfinished, undo_end, undo_goes_on, undo_step, unfinished_step};
 pub use tail_laws::{
     blank_is_sound, carries_front, carries_more, carries_nothing, commits_more, fresh_at_end,
-    orderly_at, plain_count, plain_room, plain_sealed, sealed_count, sealed_tail, table_more,
-    tail_with_commit, tail_without_commit, whole_in_order, whole_in_table, whole_is_orderly,
-    whole_is_undoable, whole_more, whole_sealed,
+    orderly_at, orderly_goes_on, plain_count, plain_room, plain_sealed, sealed_count, sealed_tail,
+    table_more, tail_with_commit, tail_without_commit, whole_in_order, whole_in_table,
+    whole_is_orderly, whole_is_undoable, whole_more, whole_sealed,
 };
 pub use undo_laws::{found_by_lsn, next_more, next_of_active, next_of_undone, next_to_undo};

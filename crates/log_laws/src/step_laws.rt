@@ -1,5 +1,5 @@
 // One step of undo.
-ghost use Rattle.log_laws.specs.UndoSteps.{UndoStep, UndoEnd, UnfinishedStep, ActiveIsUnfinished};
+ghost use Rattle.log_laws.specs.UndoSteps.{UndoStep, UndoEnd, UndoGoesOn, UndoEnds, UnfinishedStep, ActiveIsUnfinished};
 
 /// As long as an Update of an unfinished transaction remains, the record at the LSN where undoing goes on is one, and the
 /// CLR that compensates it may follow.
@@ -10,6 +10,12 @@ pub fn undo_step()
 /// Where none remains the End may follow.
 pub fn undo_end()
     ensures { UndoEnd }
+{}
+
+/// So it is wherever redo begins.
+pub fn undo_goes_on()
+    ensures step { UndoGoesOn }
+    ensures end { UndoEnds }
 {}
 
 /// What one more record of its own makes of an unfinished transaction.

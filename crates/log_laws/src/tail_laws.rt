@@ -1,5 +1,5 @@
 // A log that goes on record by record.
-ghost use Rattle.log_laws.specs.TailLaws.{CarriesNothing, CarriesMore, WholeMore, WholeInOrder, WholeIsUndoable, WholeIsOrderly, FreshAtEnd, TableMore, CommitsMore, CommitsStay, TailWithoutCommit, SealedTail, SealedCount, BlankIsSound, PlainSealed, PlainCount, WholeInTable, OrderlyAt, WholeSealed, PlainRoom, TailWithCommit, CarriesFront};
+ghost use Rattle.log_laws.specs.TailLaws.{CarriesNothing, CarriesMore, WholeMore, WholeInOrder, WholeIsUndoable, WholeIsOrderly, FreshAtEnd, WholeStaysOrderly, FreshBehind, TableMore, CommitsMore, CommitsStay, TailWithoutCommit, SealedTail, SealedCount, BlankIsSound, PlainSealed, PlainCount, WholeInTable, OrderlyAt, WholeSealed, PlainRoom, TailWithCommit, CarriesFront};
 
 /// A sound picture carries the empty tail.
 pub fn carries_nothing()
@@ -34,6 +34,12 @@ pub fn whole_is_orderly()
 /// So a transaction that begins behind it is a new one.
 pub fn fresh_at_end()
     ensures { FreshAtEnd }
+{}
+
+/// So it is wherever redo begins, as long as the sealed log is orderly.
+pub fn orderly_goes_on()
+    ensures orderly { WholeStaysOrderly }
+    ensures fresh { FreshBehind }
 {}
 
 /// A record that follows changes the table only where it is a Commit, by what its transaction has written.

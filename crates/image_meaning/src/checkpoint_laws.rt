@@ -1,0 +1,79 @@
+// Laws on a new master.
+ghost use Rattle.image_meaning.specs.Below.{MasterLaws};
+ghost use Rattle.image_meaning.specs.Beside.{RingsSaved};
+ghost use Rattle.image_meaning.specs.Checkpoints.{MasterMaySave, EmptyMasterMaySave, CheckpointMaySave, SavedOctets, SavedPicture, SavedIsSound, SavedMeans, SavedIsOrderly, ChangeKeepsOrderly, FrontKeepsOrderly, CheckpointStands, PushedCheckpointStands, SaveStands, FirstCheckpointStands, ActiveAreKept};
+
+use checkpoint::{one_master, stays_newest};
+use log_laws::{empty_master, losers_listed, new_master, sealed_is_orderly, table_at};
+use log_store::blank_log;
+use sealed_ring::blank_is_ring;
+
+// What the laws rest on.
+pub(crate) fn master_laws()
+    ensures { MasterLaws }
+{
+    new_master();
+    empty_master();
+    sealed_is_orderly();
+    losers_listed();
+    one_master();
+    stays_newest();
+}
+
+/// A master unit may be appended where each page's version knows of all of its records and the blocks of unfinished
+/// transactions are kept: over an orderly log, and over every log where no block is kept. A checkpoint's is one.
+pub fn master_may_save()
+    ensures orderly { MasterMaySave }
+    ensures empty { EmptyMasterMaySave }
+    ensures checkpoint { CheckpointMaySave }
+{
+    master_laws();
+}
+
+/// Appending a master unit keeps an image sound, and what it stands for, from the new oldest kept block on, and leaves an
+/// orderly log: its octets stay sound, and its picture is the one before with the new master.
+pub fn master_saved()
+    ensures octets { SavedOctets }
+    ensures rings { RingsSaved }
+    ensures picture { SavedPicture }
+    ensures sound { SavedIsSound }
+    ensures means { SavedMeans }
+    ensures orderly { SavedIsOrderly }
+{
+    master_laws();
+}
+
+/// Changes that may be made keep an orderly log.
+pub fn orderly_kept()
+    ensures one { ChangeKeepsOrderly }
+    ensures front { FrontKeepsOrderly }
+{
+    frame_group::staged();
+    master_laws();
+}
+
+/// Changes that seal no Commit, pushes of pages, and then a master unit leave devices that stand for the same table at each
+/// moment.
+pub fn checkpoint_stands()
+    ensures whole { CheckpointStands }
+    ensures pushes { PushedCheckpointStands }
+    ensures last { SaveStands }
+{
+    frame_group::staged();
+    master_laws();
+}
+
+/// And so does the first checkpoint on devices on which one record was set, with its page pushed: no block is kept then.
+pub fn first_checkpoint_stands()
+    ensures { FirstCheckpointStands }
+{
+    master_laws();
+    blank_is_ring();
+    blank_log();
+    table_at();
+}
+
+/// A sound image keeps the blocks of the transactions that its master names as active.
+pub fn active_are_kept()
+    ensures { ActiveAreKept }
+{}
