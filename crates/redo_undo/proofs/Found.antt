@@ -38,7 +38,7 @@ last_after from [] e to order = order.0
 last_after from (x ∷ xs) e to order = let a = order.0 in let b = last_after (x.lsn + 1) xs e to order.1 in omega (arith, a, b)
 
 -- the last of records in order has the greatest LSN
-up_to_last : (from : ℕ) (xs : List Entry) (e : Entry) (to : ℕ) → IsInOrder from (xs ++ e ∷ []) to → AreUpTo e.lsn (xs ++ e ∷ [])
+pub up_to_last : (from : ℕ) (xs : List Entry) (e : Entry) (to : ℕ) → IsInOrder from (xs ++ e ∷ []) to → AreUpTo e.lsn (xs ++ e ∷ [])
 up_to_last from [] e to order = (omega arith, tt)
 up_to_last from (x ∷ xs) e to order = (let a = last_after (x.lsn + 1) xs e to order.1 in omega (arith, a), up_to_last (x.lsn + 1) xs e to order.1)
 
@@ -65,7 +65,7 @@ said : (b : Bool) (x y : Open) (active : Bool) → active ≡ b → Some x ≡ (
 said true x y active is says = (is, same_Some x y says)
 said false x y active is says = absurd (none-some x (sym says))
 
-head_of : (updates : List Entry) (lsn : ℕ) → IsTop lsn (map (λ u. u.lsn) updates) → (u : Entry) × (rest : List Entry) × (updates ≡ u ∷ rest) × (u.lsn ≡ lsn)
+pub head_of : (updates : List Entry) (lsn : ℕ) → IsTop lsn (map (λ u. u.lsn) updates) → (u : Entry) × (rest : List Entry) × (updates ≡ u ∷ rest) × (u.lsn ≡ lsn)
 head_of [] lsn top = absurd top
 head_of (u ∷ rest) lsn top = (u, rest, refl, top)
 
@@ -74,7 +74,7 @@ some_at_top [] lsn top = absurd top
 some_at_top (u ∷ us) lsn top = omega arith
 
 module _ (found_laws : FoundLaws) (laws : UndoLaws) (log : LogStore) (pages : PageStore) (site : State) (records : List Entry) (table : List Content) (commits : ℕ) (found : Analysis) (h : Holds log pages site records table commits) (is : IsAnalysis blank_master records found) where
-  undoable : IsUndoable records
+  pub undoable : IsUndoable records
   undoable = subst IsUndoable h.log_holds.runs_on.records_are (laws.undoable (picture pages.flash.geometry site.image h.log_holds.blocks) h.log_holds.tail h.log_holds.runs_on.carries)
 
   pub order : IsInOrder 0 records (next_lsn (picture pages.flash.geometry site.image h.log_holds.blocks) h.log_holds.tail)
@@ -82,10 +82,10 @@ module _ (found_laws : FoundLaws) (laws : UndoLaws) (log : LogStore) (pages : Pa
       let p = picture pages.flash.geometry site.image h.log_holds.blocks in
       subst (λ (l : List Entry). IsInOrder 0 l (next_lsn p h.log_holds.tail)) h.log_holds.runs_on.records_are (laws.in_order p h.log_holds.tail h.log_holds.runs_on.carries)
 
-  open_is : (t : ℕ) (x : Open) → found_in (listed found.table) t ≡ Some x → (is_active [] records t ≡ true) × (x ≡ open_at [] records t)
+  pub open_is : (t : ℕ) (x : Open) → found_in (listed found.table) t ≡ Some x → (is_active [] records t ≡ true) × (x ≡ open_at [] records t)
   open_is t x there = said (is_active [] records t) x (open_at [] records t) (is_active [] records t) refl (sym there ∙ is.table.says t)
 
-  lives : (t : ℕ) (x : Open) → found_in (listed found.table) t ≡ Some x → is_loser records t ≡ true
+  pub lives : (t : ℕ) (x : Open) → found_in (listed found.table) t ≡ Some x → is_loser records t ≡ true
   lives t x there = found_laws.loser records t (sym (found_laws.active [] records t tt) ∙ (open_is t x there).0)
 
   -- an active transaction is unfinished
@@ -179,7 +179,7 @@ module _ (page_laws : PageLaws) (laws : UndoLaws) (log : LogStore) (pages : Page
 
 -- One record more.
 module _ (laws : UndoLaws) (log : LogStore) (pages : PageStore) (site : State) (records : List Entry) (table : List Content) (commits : ℕ) (found : Analysis) where
-  pub one_more : (e : Entry) → Holds log pages site (records ++ e ∷ []) table commits → IsAnalysis blank_master (records ++ e ∷ []) found → IsNextUndo records e → owed records ≡ owed (records ++ e ∷ []) + 1 →
+  unfoldable pub one_more : (e : Entry) → Holds log pages site (records ++ e ∷ []) table commits → IsAnalysis blank_master (records ++ e ∷ []) found → IsNextUndo records e → owed records ≡ owed (records ++ e ∷ []) + 1 →
       UndoesSome log pages site records table commits found e.lsn
   one_more e h is next owes =
       let p = picture pages.flash.geometry site.image h.log_holds.blocks in
@@ -196,7 +196,7 @@ module _ (laws : UndoLaws) (log : LogStore) (pages : PageStore) (site : State) (
       }
 
   -- an End
-  pub one_end : (t lsn : ℕ) → Holds log pages site (records ++ record { lsn = lsn; rec = End t } ∷ []) table commits → IsAnalysis blank_master (records ++ record { lsn = lsn; rec = End t } ∷ []) found →
+  unfoldable pub one_end : (t lsn : ℕ) → Holds log pages site (records ++ record { lsn = lsn; rec = End t } ∷ []) table commits → IsAnalysis blank_master (records ++ record { lsn = lsn; rec = End t } ∷ []) found →
       owed records ≡ owed (records ++ record { lsn = lsn; rec = End t } ∷ []) + 1 → UndoesSome log pages site records table commits found lsn
   one_end t lsn h is owes =
       one_more (record { lsn = lsn; rec = End t }) h is (record { ends_first = λ clr. absurd (true≢false (sym clr)); greatest = λ clr. absurd (true≢false (sym clr)) }) owes
@@ -211,12 +211,12 @@ module _ (laws : UndoLaws) (log : LogStore) (pages : PageStore) (site : State) (
 
 -- Records in turn.
 
-in_turn_join : (P : List Entry → Entry → Type 0) (earlier xs ys : List Entry) → InTurn P earlier xs → InTurn P (earlier ++ xs) ys → InTurn P earlier (xs ++ ys)
+pub in_turn_join : (P : List Entry → Entry → Type 0) (earlier xs ys : List Entry) → InTurn P earlier xs → InTurn P (earlier ++ xs) ys → InTurn P earlier (xs ++ ys)
 in_turn_join P earlier [] ys first second = subst (λ (l : List Entry). InTurn P l ys) (append-nil earlier) second
 in_turn_join P earlier (x ∷ xs) ys first second = (first.0, in_turn_join P (earlier ++ x ∷ []) xs ys first.1 (subst (λ (l : List Entry). InTurn P l ys) (sym (append_assoc earlier (x ∷ []) xs)) second))
 
 -- nothing is undone yet
-pub nothing_undone : (log : LogStore) (pages : PageStore) (site : State) (records : List Entry) (table : List Content) (commits : ℕ) (found : Analysis) (known : ℕ) → IsUndoing log pages site records table commits found known →
+unfoldable pub nothing_undone : (log : LogStore) (pages : PageStore) (site : State) (records : List Entry) (table : List Content) (commits : ℕ) (found : Analysis) (known : ℕ) → IsUndoing log pages site records table commits found known →
     UndoesSome log pages site records table commits found known
 nothing_undone log pages site records table commits found known is = record {
   more = [];
@@ -226,7 +226,7 @@ nothing_undone log pages site records table commits found known is = record {
 }
 
 -- and more is, behind what was
-pub more_undone : (log log' : LogStore) (pages pages' : PageStore) (site site' : State) (records : List Entry) (table : List Content) (commits : ℕ) (found found' : Analysis) (known known' : ℕ) →
+unfoldable pub more_undone : (log log' : LogStore) (pages pages' : PageStore) (site site' : State) (records : List Entry) (table : List Content) (commits : ℕ) (found found' : Analysis) (known known' : ℕ) →
     (a : UndoesSome log pages site records table commits found known) → UndoesSome log' pages' site' (records ++ a.more) table commits found' known' → UndoesSome log' pages' site' records table commits found' known'
 more_undone log log' pages pages' site site' records table commits found found' known known' a b =
     let count = a.count in

@@ -21,7 +21,7 @@ use Rattle.redo_undo.proofs.Compensations.{chain, found_at, entries_are}
 use Rattle.std.proofs.lemmas.Bool.{eqb-true}
 
 -- what passes a test stands in the list
-split_at : (test : Entry → Bool) (xs front : List Entry) (e : Entry) (back : List Entry) → filter test xs ≡ front ++ e ∷ back → (a : List Entry) × (b : List Entry) × (xs ≡ a ++ e ∷ b) × (test e ≡ true)
+pub split_at : (test : Entry → Bool) (xs front : List Entry) (e : Entry) (back : List Entry) → filter test xs ≡ front ++ e ∷ back → (a : List Entry) × (b : List Entry) × (xs ≡ a ++ e ∷ b) × (test e ≡ true)
 split_at test [] [] e back is = absurd (let l = ap length is in omega (arith, l))
 split_at test [] (f ∷ front) e back is = absurd (let l = ap length is in omega (arith, l))
 split_at test (x ∷ xs) front e back is = by (test x) refl front is (split_at test xs)

@@ -19,3 +19,12 @@ pub mod LogBlocks
 pub mod NextRecords
 pub mod Names
 pub mod TakenRecords
+pub mod Costs
+pub mod Asking
+pub mod AskingUndo
+pub mod LeftUpdates
+pub mod UndoSoFar
+pub mod UndoneUpdates
+pub mod Pendings
+pub mod UndoneWrites
+pub mod RedoWorks

@@ -1,12 +1,12 @@
 -- The next record of an opened log is redone.
-use Rattle.std.proofs.Common.{◌≡◌, ◌≢◌, ◌⊎◌, inl, inr, ℕ, ◌+◌, ◌*◌, ◌/◌, ◌≤◌, ◌<◌, List, [], ◌∷◌, ◌++◌, length, Some, refl, sym, ap, subst, ◌∙◌, arith}
+use Rattle.std.proofs.Common.{◌≡◌, ◌≢◌, ◌⊎◌, inl, inr, ℕ, ◌+◌, ◌-◌, ◌*◌, ◌/◌, ◌≤◌, ◌<◌, List, [], ◌∷◌, ◌++◌, length, map, Some, refl, sym, ap, subst, ◌∙◌, arith}
 use Rattle.std.specs.List.{AllByRecursion}
 use Rattle.std.proofs.lemmas.Bool.{cases_eq}
 use Rattle.std.proofs.lemmas.Option.{same_Some}
 use Rattle.site.specs.State.{State, Image}
 use Rattle.log_records.specs.declared.log_record.LogRecord.{LogRecord}
 use Rattle.log_records.specs.Log.{Entry, log_from, number_of}
-use Rattle.log_records.specs.Sound.{IsInOrder, IsInTable}
+use Rattle.log_records.specs.Sound.{Picture, IsInOrder, IsInTable, last_lsn, last_number}
 use Rattle.slotted_page.specs.Layout.{lsn_of}
 use Rattle.log_store.specs.declared.store.LogStore.{LogStore}
 use Rattle.buffer_pool.specs.Frames.{front_of}
@@ -20,7 +20,7 @@ use Rattle.redo_undo.specs.Holding.{IsOnPage}
 use Rattle.redo_undo.specs.Laws.{PageLaws}
 use Rattle.redo_undo.proofs.Changed.{front_is_current}
 use Rattle.redo_undo.specs.RedoLaws.{RedoLaws}
-use Rattle.redo_undo.specs.Redoing.{Opening, opened, IsRedoing}
+use Rattle.redo_undo.specs.Redoing.{Opening, opened, IsFrom, IsRedoing}
 
 all_append : {X : Type 0} (P : X → Type 0) (xs ys : List X) → AllByRecursion P xs → AllByRecursion P ys → AllByRecursion P (xs ++ ys)
 all_append P [] ys front rest = rest
@@ -42,6 +42,25 @@ order_ends from to (e ∷ log) ordered = let later = order_ends (e.lsn + 1) to l
 before_end : (from to : ℕ) (front : List Entry) (e : Entry) (rest : List Entry) → IsInOrder from (front ++ e ∷ rest) to → e.lsn < to
 before_end from to [] e rest ordered = let later = order_ends (e.lsn + 1) to rest ordered.1 in omega (arith, later)
 before_end from to (x ∷ front) e rest ordered = before_end (x.lsn + 1) to front e rest ordered.1
+
+-- the last of some records stands below the next one
+comes_after : (from to : ℕ) (front : List Entry) (e : Entry) (rest : List Entry) → IsInOrder from (front ++ e ∷ rest) to → from ≤ e.lsn
+comes_after from to [] e rest ordered = ordered.0
+comes_after from to (x ∷ front) e rest ordered = let later = comes_after (x.lsn + 1) to front e rest ordered.1 in let first = ordered.0 in omega (arith, later, first)
+
+last_before : (from to n : ℕ) (front : List Entry) (e : Entry) (rest : List Entry) → IsInOrder from (front ++ e ∷ rest) to → n ≤ e.lsn - 1 → last_number n (map (λ x. x.lsn) front) ≤ e.lsn - 1
+last_before from to n [] e rest ordered low = low
+last_before from to n (x ∷ front) e rest ordered low =
+    let later = comes_after (x.lsn + 1) to front e rest ordered.1 in
+    last_before (x.lsn + 1) to x.lsn front e rest ordered.1 (omega (arith, later))
+
+last_of : (n : ℕ) (front : List Entry) (e : Entry) → last_number n (map (λ x. x.lsn) (front ++ e ∷ [])) ≡ e.lsn
+last_of n [] e = refl
+last_of n (x ∷ front) e = last_of x.lsn front e
+
+from_more : (p : Picture) (front : List Entry) (e : Entry) (page lsn : ℕ) → last_lsn front ≤ e.lsn - 1 → IsFrom p front page lsn → IsFrom p (front ++ e ∷ []) page lsn
+from_more p front e page lsn low (inl same) = inl same
+from_more p front e page lsn low (inr less) = let last : last_lsn (front ++ e ∷ []) ≡ e.lsn = last_of 0 front e in inr (omega (arith, low, less, last))
 
 -- the page in front knows of a record on it
 pub front_knows : (pages : PageStore) (image : Image) (rec : LogRecord) (lsn page : ℕ) → 0 < length pages.pool.frames → (front_of pages.pool.frames).page ≡ page → IsOnPage page rec → lsn ≤ lsn_of (front_of pages.pool.frames).content →
@@ -71,12 +90,21 @@ module _ (laws : PageLaws) (redo : RedoLaws) (o : Opening) (log : LogStore) (pag
       let hi = hi_is in
       omega (arith, below, hi)
 
+  -- those before it have smaller ones
+  pub last_below : last_lsn front ≤ e.lsn - 1
+  last_below =
+      last_before (512 * 0) (512 * length o.blocks) 0 front e rest
+      (subst (λ (l : List Entry). IsInOrder (512 * 0) l (512 * length o.blocks)) is h.sound.in_order) (omega arith)
+
+  from_still : (page : ℕ) → page < o.sizes.pages → IsFrom (opened o) (front ++ e ∷ []) page (lsn_of (current pages site.image page))
+  from_still page exists = from_more (opened o) front e page (lsn_of (current pages site.image page)) last_below (h.from page exists)
+
   -- analysis may take it
   pub may_step : Steps [] front e
   may_step = let all = redo.all_taken (opened o) h.sound refl in redo.steps (opened o) front e rest h.sound (all.0 ∙ is)
 
   with_known : (pages' : PageStore) → pages'.flash.geometry ≡ pages.flash.geometry → Fits pages' site → IsAhead log pages' site.image →
-      ((page : ℕ) → page < o.sizes.pages → IsRedone (opened o) page (version_in (current pages' site.image page)) × AreKnown (front ++ e ∷ []) page (lsn_of (current pages' site.image page))) →
+      ((page : ℕ) → page < o.sizes.pages → IsRedone (opened o) page (version_in (current pages' site.image page)) × AreKnown (front ++ e ∷ []) page (lsn_of (current pages' site.image page)) × IsFrom (opened o) (front ++ e ∷ []) page (lsn_of (current pages' site.image page))) →
       IsRedoing o log pages' site (front ++ e ∷ [])
   with_known pages' same fits are_ahead each = record {
     geometry = same ∙ h.geometry;
@@ -88,6 +116,7 @@ module _ (laws : PageLaws) (redo : RedoLaws) (o : Opening) (log : LogStore) (pag
     replace = h.replace;
     redone = λ page exists. (each page exists).0;
     known = λ page exists. (each page exists).1;
+    from = λ page exists. (each page exists).2;
   }
 
   -- It is on no page, or its page knows of it.
@@ -98,6 +127,7 @@ module _ (laws : PageLaws) (redo : RedoLaws) (o : Opening) (log : LogStore) (pag
         h.redone page exists,
         all_append (λ (x : Entry). (number : ℕ) → number_of x.rec ≡ Some number → number / 32 ≡ page → x.lsn ≤ lsn_of (current pages site.image page)) front (e ∷ []) (h.known page exists)
             ((λ number own at. knows page number exists own at), tt),
+        from_still page exists,
       ))
 
   -- it is on one page, whose LSN is smaller, and which is changed by it
@@ -105,20 +135,23 @@ module _ (laws : PageLaws) (redo : RedoLaws) (o : Opening) (log : LogStore) (pag
       (redoes : Redoes on e number (version_in (current pages site.image on)) (version_in (current pages' site.image on)))
       (others : (page : ℕ) → page ≢ on → current pages' site.image page ≡ current pages site.image page) where
     each_page : (page : ℕ) → page < o.sizes.pages → (page ≡ on) ⊎ (page ≢ on) →
-        IsRedone (opened o) page (version_in (current pages' site.image page)) × AreKnown (front ++ e ∷ []) page (lsn_of (current pages' site.image page))
+        IsRedone (opened o) page (version_in (current pages' site.image page)) × AreKnown (front ++ e ∷ []) page (lsn_of (current pages' site.image page)) × IsFrom (opened o) (front ++ e ∷ []) page (lsn_of (current pages' site.image page))
     each_page page exists (inl same) =
         let there = subst (λ n. n < o.sizes.pages) same exists in
         let set = redoes.lsn in
-        subst (λ n. IsRedone (opened o) n (version_in (current pages' site.image n)) × AreKnown (front ++ e ∷ []) n (lsn_of (current pages' site.image n))) (sym same) (
+        let last : last_lsn (front ++ e ∷ []) ≡ e.lsn = last_of 0 front e in
+        subst (λ n. IsRedone (opened o) n (version_in (current pages' site.image n)) × AreKnown (front ++ e ∷ []) n (lsn_of (current pages' site.image n)) × IsFrom (opened o) (front ++ e ∷ []) n (lsn_of (current pages' site.image n))) (sym same) (
           redo.next (opened o) on (version_in (current pages site.image on)) (version_in (current pages' site.image on)) front rest e number h.sound is own at later (h.known on there) (h.redone on there) redoes,
           all_append (λ (x : Entry). (n : ℕ) → number_of x.rec ≡ Some n → n / 32 ≡ on → x.lsn ≤ lsn_of (current pages' site.image on)) front (e ∷ [])
               (known_more front on (lsn_of (current pages site.image on)) (lsn_of (current pages' site.image on)) (omega (arith, later, set)) (h.known on there)) ((λ n of_n here. omega (arith, set)), tt),
+          inr (omega (arith, set, last)),
         )
     each_page page exists (inr other) =
-        subst (λ (c : List ℕ). IsRedone (opened o) page (version_in c) × AreKnown (front ++ e ∷ []) page (lsn_of c)) (sym (others page other)) (
+        subst (λ (c : List ℕ). IsRedone (opened o) page (version_in c) × AreKnown (front ++ e ∷ []) page (lsn_of c) × IsFrom (opened o) (front ++ e ∷ []) page (lsn_of c)) (sym (others page other)) (
           h.redone page exists,
           all_append (λ (x : Entry). (n : ℕ) → number_of x.rec ≡ Some n → n / 32 ≡ page → x.lsn ≤ lsn_of (current pages site.image page)) front (e ∷ []) (h.known page exists)
               ((λ n of_n here. let same : n ≡ number = same_Some n number (sym of_n ∙ own) in absurd (other (sym here ∙ ap (λ k. k / 32) same ∙ at))), tt),
+          from_still page exists,
         )
 
     pub changed : pages'.flash.geometry ≡ pages.flash.geometry → Fits pages' site → IsAhead log pages' site.image → IsRedoing o log pages' site (front ++ e ∷ [])

@@ -14,7 +14,7 @@ use Rattle.image_changes.specs.Rings.{log_shape}
 use Rattle.record_model.specs.State.{Content}
 use Rattle.log_records.specs.declared.log_record.LogRecord.{LogRecord}
 use Rattle.log_records.specs.Log.{Entry, Version, log_from}
-use Rattle.log_records.specs.Sound.{Picture, Means}
+use Rattle.log_records.specs.Sound.{Means}
 use Rattle.log_records.specs.Sound as lists
 use Rattle.log_laws.specs.NewImage.{Replaces}
 use Rattle.slotted_page.specs.Layout as page
@@ -38,7 +38,7 @@ use Rattle.redo_undo.specs.Holding.{Holds, ShowRecords}
 use Rattle.redo_undo.specs.HoldingLaws.{OpenedHolds}
 use Rattle.redo_undo.specs.Laws.{PageLaws}
 use Rattle.redo_undo.specs.RedoLaws.{RedoLaws}
-use Rattle.redo_undo.specs.Redoing.{IsOpened, Opening, opened, LeavesOpened, IsRedoing}
+use Rattle.redo_undo.specs.Redoing.{IsOpened, Opening, opened, IsFrom, LeavesOpened, IsRedoing}
 use Rattle.redo_undo.proofs.Standing.{current_sound}
 
 -- an empty tail is never forced
@@ -175,6 +175,7 @@ module _ (laws : PageLaws) (redo : RedoLaws) (o : Opening) (log : LogStore) (pag
       replace = replaced (snapshot_of new) (left_so leaves);
       redone = λ number exists. subst (λ (c : List ℕ). IsRedone (opened o) number (version_in c)) (sym (kept_so number exists)) (h.redone number exists);
       known = λ number exists. subst (λ (c : List ℕ). AreKnown front number (lsn_of c)) (sym (kept_so number exists)) (h.known number exists);
+      from = λ number exists. subst (λ (c : List ℕ). IsFrom (opened o) front number (lsn_of c)) (sym (kept_so number exists)) (h.from number exists);
     }
       where
         kept_so : (number : ℕ) → number < o.sizes.pages → current pages' new.image number ≡ current pages site.image number
@@ -244,6 +245,7 @@ module _ (laws : PageLaws) (redo : RedoLaws) (log : LogStore) (pages : PageStore
         subst (λ (c : List ℕ). IsRedone (opened begun) number (version_in c)) (sym (unpooled number))
         (subst (IsRedone (opened begun) number) (laws.at pages.flash.geometry site.image number exists) (redo.first (opened begun) number h.sound.records (listed_there number exists)));
     known = λ number exists. tt;
+    from = λ number exists. inl (ap lsn_of (unpooled number) ∙ sym (ap (λ (v : Version). v.lsn) (laws.at pages.flash.geometry site.image number exists)));
   }
 
 -- All is redone.
@@ -305,6 +307,7 @@ redoing_still redo o log pages old new front goes same h =
       replace = subst (λ (i : Image). ReplaceAll (opened o) (versions_on o.sizes i)) (sym same.image) h.replace;
       redone = subst (λ (i : Image). (page : ℕ) → page < o.sizes.pages → IsRedone (opened o) page (version_in (current pages i page))) (sym same.image) h.redone;
       known = subst (λ (i : Image). (page : ℕ) → page < o.sizes.pages → AreKnown front page (lsn_of (current pages i page))) (sym same.image) h.known;
+      from = subst (λ (i : Image). (page : ℕ) → page < o.sizes.pages → IsFrom (opened o) front page (lsn_of (current pages i page))) (sym same.image) h.from;
     }
 
 -- one call behind others

@@ -24,7 +24,7 @@ use Rattle.redo_undo.specs.Rollback.{AreClrsOf, left_of, Compensates, RollsBack}
 use Rattle.redo_undo.specs.Laws.{PageLaws, UndoLaws}
 use Rattle.redo_undo.proofs.Compensations.{to_undo, chain}
 
-all_append : {X : Type 0} (P : X → Type 0) (xs ys : List X) → AllByRecursion P xs → AllByRecursion P ys → AllByRecursion P (xs ++ ys)
+pub all_append : {X : Type 0} (P : X → Type 0) (xs ys : List X) → AllByRecursion P xs → AllByRecursion P ys → AllByRecursion P (xs ++ ys)
 all_append P [] ys front rest = rest
 all_append P (x ∷ xs) ys front rest = (front.0, all_append P xs ys front.1 rest)
 
@@ -33,7 +33,7 @@ none_left [] is = refl
 none_left (x ∷ xs) is = absurd (omega (arith, is))
 
 -- nothing is compensated yet
-pub starts : (log : LogStore) (pages : PageStore) (site : State) (records : List Entry) (table : List Content) (commits : ℕ) (x : Unfinished) (first : Undoing) → Holds log pages site records table commits → IsUnfinished records x → IsAt first x →
+unfoldable pub starts : (log : LogStore) (pages : PageStore) (site : State) (records : List Entry) (table : List Content) (commits : ℕ) (x : Unfinished) (first : Undoing) → Holds log pages site records table commits → IsUnfinished records x → IsAt first x →
     Compensates log pages site records table commits x.txn (blocks_to log) site.log_reads first
 starts log pages site records table commits x first holds unfinished at =
     let same : x ≡ left_of first x.remaining = λ i. record { txn = sym at.txn i; last = sym at.last i; next = sym at.next i; remaining = x.remaining } in
@@ -82,7 +82,7 @@ module _ (pages_laws : PageLaws) (laws : UndoLaws) (log : LogStore) (pages : Pag
           absurd (omega (arith, more, same))
 
   -- one more CLR
-  pub goes_on : (log' : LogStore) (pages' : PageStore) (new : State) (next : Undoing) → Undone log' pages' new (records ++ c.clrs) table commits (left_of now c.remaining) next → blocks_to log' ≤ blocks_to log + 1 → new.log_reads ≤ site.log_reads + 1 →
+  unfoldable pub goes_on : (log' : LogStore) (pages' : PageStore) (new : State) (next : Undoing) → Undone log' pages' new (records ++ c.clrs) table commits (left_of now c.remaining) next → blocks_to log' ≤ blocks_to log + 1 → new.log_reads ≤ site.log_reads + 1 →
       Compensates log' pages' new records table commits txn blocks reads next
   goes_on log' pages' new next u one one_read =
       let y = after_record (left_of now c.remaining) u.e in

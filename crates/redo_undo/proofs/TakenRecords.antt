@@ -1,6 +1,6 @@
 -- The records of a block are taken, one after the other.
 use Rattle.std.proofs.Common.{◌≡◌, ℕ, suc, ◌+◌, ◌-◌, ◌*◌, ◌≤◌, ◌<◌, List, [], ◌∷◌, ◌++◌, length, take, drop, append-nil, refl, sym, ap, subst, ◌∙◌, arith}
-use Rattle.std.specs.Prelude.{Result, Ok, Err}
+use Rattle.std.specs.Prelude.{⊤, Result, Ok, Err}
 use Rattle.site.specs.Calls.{Goes, IsUnchanged}
 use Rattle.record_model.specs.State.{Content}
 use Rattle.site.specs.State.{State, IsQuiet}
@@ -18,25 +18,30 @@ use Rattle.page_store.specs.declared.store.PageStore.{PageStore}
 use Rattle.redo_undo.specs.declared.redo_pass.Redone.{Redone}
 use Rattle.redo_undo.specs.Laws.{PageLaws}
 use Rattle.redo_undo.specs.RedoLaws.{RedoLaws}
-use Rattle.redo_undo.specs.Redoing.{IsOpened, Opening, LeavesOpened, HasTaken}
+use Rattle.redo_undo.specs.Redoing.{IsOpened, Opening, touches_of, LeavesOpened, HasTaken}
+use Rattle.redo_undo.specs.Works.{Asks}
 use Rattle.redo_undo.proofs.BlockRecords.{IsPast, past_none}
 use Rattle.redo_undo.proofs.LogBlocks.{block_of, log_split, log_take, take_whole}
 use Rattle.redo_undo.proofs.Redoings.{nothing_happens, redoing_still, then_read, begins}
+use Rattle.redo_undo.proofs.RedoWorks.{nothing_asked}
 
--- up to a place of a block all records are taken, and at each moment so far the devices stood for the same table
-pub record IsPartWay (o : Opening) (log : LogStore) (pages : PageStore) (old site : State) (so_far : Redone) (front : List Entry) (block : ℕ) (octets : List ℕ) (used at : ℕ) (records : List LogRecord) : Type 0 where
+-- up to a place of a block all records are taken, and at each moment so far the devices stood for the same table; the cache was asked for
+-- their work
+pub record IsPartWay (o : Opening) (log : LogStore) (entry pages : PageStore) (old site : State) (so_far : Redone) (front : List Entry) (block : ℕ) (octets : List ℕ) (used at : ℕ) (records : List LogRecord) : Type 0 where
   pub done : List Entry
   pub past : IsPast block octets used at records done
   pub taken : HasTaken o log pages site so_far (front ++ done)
   pub moments : IsQuiet old → LeavesOnly old site (LeavesOpened o old.told)
+  pub asked : Asks {T = ⊤} (Ok tt) (touches_of o done) entry pages old site
 
 pub part_begins : PageLaws → RedoLaws → (o : Opening) (log : LogStore) (pages : PageStore) (site : State) (so_far : Redone) (front : List Entry) (block : ℕ) (octets : List ℕ) (used : ℕ) (records : List LogRecord) →
-    log.geometry ≡ pages.flash.geometry → HasTaken o log pages site so_far front → IsBlock octets records → used ≡ used_by records → IsPartWay o log pages site site so_far front block octets used 2 records
+    log.geometry ≡ pages.flash.geometry → HasTaken o log pages site so_far front → IsBlock octets records → used ≡ used_by records → IsPartWay o log pages pages site site so_far front block octets used 2 records
 part_begins laws redo o log pages site so_far front block octets used records sizes h is end = record {
   done = [];
   past = past_none block octets used records is end;
   taken = subst (HasTaken o log pages site so_far) (sym (append-nil front)) h;
   moments = nothing_happens laws redo o log pages site front h.pages_are sizes;
+  asked = nothing_asked pages site;
 }
 
 -- the first blocks are read, and at each moment so far the devices stood for the same table
@@ -47,6 +52,12 @@ pub record IsUpTo (o : Opening) (log : LogStore) (pages : PageStore) (old site :
 take_nothing : (blocks : List (List LogRecord)) → take 0 blocks ≡ []
 take_nothing [] = refl
 take_nothing (records ∷ blocks) = refl
+
+pub asks_first : (o : Opening) (pages : PageStore) (site : State) (block : ℕ) → block ≤ 0 → Asks {T = ⊤} (Ok tt) (touches_of o (log_from 0 (take block o.blocks))) pages pages site site
+asks_first o pages site block low =
+    let zero_is : 0 ≡ block = omega (arith, low) in
+    let none : [] ≡ log_from 0 (take block o.blocks) = sym (ap (log_from 0) (take_nothing o.blocks)) ∙ ap (λ (n : ℕ). log_from 0 (take n o.blocks)) zero_is in
+    subst (λ (done : List Entry). Asks {T = ⊤} (Ok tt) (touches_of o done) pages pages site site) none (nothing_asked pages site)
 
 -- before the first block
 pub up_to_none : PageLaws → RedoLaws → (log : LogStore) (pages : PageStore) (site : State) (blocks : List (List LogRecord)) (table : List Content) (commits : ℕ) (found : Analysis) (block : ℕ) →

@@ -7,7 +7,7 @@ use Rattle.log_laws.specs.LoserLaws.{ListedIsLoser, LoserIsListed}
 use Rattle.analysis.specs.Laws.{ActiveIsUnfinished}
 use Rattle.log_laws.specs.UndoSteps.{UndoStep, UndoEnd, UnfinishedStep}
 use Rattle.log_laws.specs.ActiveLaws.{LoserStays, LoserIsClosed, LoserIsNotClosed}
-use Rattle.log_laws.specs.RoomLaws.{OwedClr, OwedClosing, OwedNone}
+use Rattle.log_laws.specs.RoomLaws.{OwedClr, OwedClosing, OwedNone, LeftPush}
 use Rattle.log_store.specs.Laws.{FullTail}
 use Rattle.page_store.specs.Laws.{FitsBeside, VersionsBeside, LeavesBeside, SealedBeside}
 use Rattle.image_meaning.specs.Beside.{RingsKept}
@@ -61,6 +61,7 @@ pub record UndoLaws : Type 0 where
   pub lives : LoserIsNotClosed
   pub owed_clr : OwedClr
   pub owed_closing : OwedClosing
+  pub left_push : LeftPush
 
 -- on what analysis knows of unfinished transactions
 pub record FoundLaws : Type 0 where

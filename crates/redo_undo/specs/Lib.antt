@@ -9,3 +9,5 @@ pub mod Committing
 pub mod SessionLaws
 pub mod Redoing
 pub mod RedoLaws
+pub mod Works
+pub mod UndoWorks

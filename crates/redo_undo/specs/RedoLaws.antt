@@ -3,7 +3,7 @@ use Rattle.image_meaning.specs.Pictures.{VersionsAreSound}
 use Rattle.image_meaning.specs.Ahead.{ShowsStill}
 use Rattle.image_meaning.specs.Redone.{RedoneReplaces, VersionIsRedone, NextIsRedone, RedoneIsCurrent}
 use Rattle.analysis.specs.Taken.{StepsOn, AllAreTaken}
-use Rattle.page_store.specs.Laws.{FitsBeside}
+use Rattle.page_store.specs.Laws.{FitsBeside, TouchThenChange}
 
 pub record RedoLaws : Type 0 where
   pub versions_sound : VersionsAreSound
@@ -15,3 +15,4 @@ pub record RedoLaws : Type 0 where
   pub steps : StepsOn
   pub all_taken : AllAreTaken
   pub fits : FitsBeside
+  pub change : TouchThenChange

@@ -1,11 +1,13 @@
 -- What analysis and redo of a restart begin with, and how far they are.
-use Rattle.std.specs.Prelude.{◌≡◌, ℕ, ◌<◌, List, [], length}
+use Rattle.std.specs.Prelude.{◌≡◌, ◌⊎◌, ℕ, ◌≤◌, ◌<◌, List, [], length, filter_map}
 use Rattle.site.specs.declared.geometry.Geometry.{Geometry}
 use Rattle.site.specs.State.{State, Image, Snapshot}
 use Rattle.record_model.specs.State.{Content}
+use Rattle.record_model.specs.Touches.{CacheWork}
 use Rattle.log_records.specs.declared.log_record.LogRecord.{LogRecord}
-use Rattle.log_records.specs.Log.{Entry}
-use Rattle.log_records.specs.Sound.{Picture, Means}
+use Rattle.log_records.specs.Log.{Entry, version_at}
+use Rattle.log_records.specs.Restart.{redo_touch}
+use Rattle.log_records.specs.Sound.{Picture, Means, last_lsn}
 use Rattle.log_records.specs.Sound as lists
 use Rattle.slotted_page.specs.Layout.{lsn_of}
 use Rattle.log_store.specs.declared.store.LogStore.{LogStore}
@@ -40,13 +42,21 @@ pub record Opening : Type 0 where
 abbrev pub opened : Opening → Picture
 opened o = picture o.sizes o.image o.blocks
 
+-- what redoing these records of the log asks of the cache
+abbrev pub touches_of : Opening → List Entry → List CacheWork
+touches_of o records = filter_map (redo_touch (opened o)) records
+
+-- an LSN is that of the page's version, or none above the last of these records
+abbrev pub IsFrom : Picture → List Entry → ℕ → ℕ → Type 0
+IsFrom p front page lsn = (lsn ≡ (version_at p.pages page).lsn) ⊎ (lsn ≤ last_lsn front)
+
 -- a snapshot stands for the same table
 abbrev pub LeavesOpened : Opening → List ℕ → Snapshot → Type 0
 LeavesOpened o told snapshot = LeavesTable o.sizes o.table o.commits told snapshot
 
 -- While these records of an opened log are redone: log and pages fit the site, and nothing of the log is unsealed. Each page's version may
 -- replace the one that it had when the log was opened. Each page's content is that version with the records up to the page's LSN redone,
--- and it knows of all of these records.
+-- and it knows of all of these records. Its LSN is that version's, or none above the last of these records.
 pub record IsRedoing (o : Opening) (log : LogStore) (pages : PageStore) (site : State) (front : List Entry) : Type 0 where
   pub geometry : pages.flash.geometry ≡ o.sizes
   pub sound : lists.IsSound (opened o)
@@ -57,6 +67,7 @@ pub record IsRedoing (o : Opening) (log : LogStore) (pages : PageStore) (site : 
   pub replace : ReplaceAll (opened o) (versions_on o.sizes site.image)
   pub redone : (page : ℕ) → page < o.sizes.pages → IsRedone (opened o) page (version_in (current pages site.image page))
   pub known : (page : ℕ) → page < o.sizes.pages → AreKnown front page (lsn_of (current pages site.image page))
+  pub from : (page : ℕ) → page < o.sizes.pages → IsFrom (opened o) front page (lsn_of (current pages site.image page))
 
 -- These records are read: the pages have them redone, analysis knows of them, and they are counted.
 pub record HasTaken (o : Opening) (log : LogStore) (pages : PageStore) (site : State) (so_far : Redone) (front : List Entry) : Type 0 where

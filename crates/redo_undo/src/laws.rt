@@ -7,9 +7,9 @@ use image_meaning::{
     new_versions, pictures, rings_kept, versions_beside_the_tail, versions_by_page, write_ahead,
 };
 use log_laws::{
-    carries_more, carries_nothing, commits_more, found_by_lsn, losers_after, losers_listed,
-    next_of_undone, next_to_undo, orderly_at, owed_closing, owed_clr, owed_none, plain_sealed,
-    sealed_count, sealed_tail, shown_push, tail_without_commit, undo_end, undo_step,
+    carries_more, carries_nothing, commits_more, found_by_lsn, left_push, losers_after,
+    losers_listed, next_of_undone, next_to_undo, orderly_at, owed_closing, owed_clr, owed_none,
+    plain_sealed, sealed_count, sealed_tail, shown_push, tail_without_commit, undo_end, undo_step,
     unfinished_step, whole_in_order, whole_is_orderly, whole_is_undoable, whole_more, whole_sealed,
 };
 use log_store::full_tail;
@@ -65,6 +65,7 @@ pub(crate) fn undo_laws()
     losers_after();
     owed_clr();
     owed_closing();
+    left_push();
 }
 
 // On what analysis knows of unfinished transactions.

@@ -14,12 +14,14 @@ mod undo;
 mod undo_losers;
 #[cfg(test)]
 mod undo_tests;
+mod work_laws;
 
 pub use committing::commit;
 pub use forcing::force;
 pub use laws::hold_together;
 pub use logging::{log_change, log_record, touch};
 pub use redo_pass::{Redone, redo};
-pub use session_laws::{sessions_go_on, sessions_see};
+pub use session_laws::{sessions_are_undone, sessions_go_on, sessions_see};
 pub use undo::undo_one;
 pub use undo_losers::undo_all;
+pub use work_laws::{changes_cost_a_touch, works_add_up};

@@ -21,6 +21,7 @@ ghost use Rattle.page_store.specs.Stopping.{MayStop};
 ghost use Rattle.image_meaning.specs.Moments.{LeavesTable};
 ghost use Rattle.redo_undo.specs.Holding.{MayGoOn, HoldsLog, Holds, MayGrow, KeepsPages, IsOnPage, blocks_to};
 ghost use Rattle.redo_undo.specs.Committing.{EndsWith};
+ghost use Rattle.redo_undo.specs.Works.{Asks, one_touch};
 
 use crate::changing::change_front;
 use crate::laws::{beside_laws, log_laws, page_laws};
@@ -65,6 +66,7 @@ pub fn touch<S: Site>(
 
     // Of every site.
     ensures machine { OnOk result (cache_of pages.new ≡ touched (rules pages.old) page false (cache_of pages.old)) }
+    ensures asks { Asks result (one_touch page) pages.old pages.new (S.state site.old) (S.state site.new) }
     ensures front { OnOk result ((front_of pages.new.pool.frames).page ≡ page) }
     ensures there { OnOk result (0 < length pages.new.pool.frames) }
     ensures going { OnOk result (MayGoOn log.new pages.new (S.state site.new)) }

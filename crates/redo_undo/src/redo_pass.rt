@@ -15,7 +15,7 @@ ghost use Rattle.buffer_pool.specs.Frames.{front_of};
 ghost use Rattle.page_store.specs.Stopping.{MayStop};
 ghost use Rattle.checkpoint.specs.Actives.{Ascend};
 ghost use Rattle.checkpoint.specs.Newest.{blank, seen};
-ghost use Rattle.image_meaning.specs.Meaning.{blank_master};
+ghost use Rattle.image_meaning.specs.Meaning.{picture, blank_master};
 ghost use Rattle.image_meaning.specs.Moments.{LeavesTable};
 ghost use Rattle.analysis.specs.Open.{owed_for};
 ghost use Rattle.analysis.specs.Table.{listed};
@@ -23,8 +23,9 @@ ghost use Rattle.analysis.specs.Read as read;
 ghost use Rattle.analysis.specs.Read.{IsAnalysis};
 ghost use Rattle.analysis.specs.Taken.{is_named, is_taken, Steps};
 ghost use Rattle.redo_undo.specs.Holding.{MayGoOn, Holds, IsOnPage, blocks_to};
-ghost use Rattle.redo_undo.specs.Redoing.{IsOpened, Opening, LeavesOpened, IsRedoing, HasTaken};
+ghost use Rattle.redo_undo.specs.Redoing.{IsOpened, Opening, LeavesOpened, IsRedoing, HasTaken, touches_of};
 ghost use Rattle.redo_undo.specs.RedoLaws.{RedoLaws};
+ghost use Rattle.redo_undo.specs.Works.{Asks, one_touch, redo_works};
 
 use crate::changing::change_front;
 use crate::laws::{log_laws, page_laws};
@@ -33,7 +34,7 @@ use checkpoint::Master;
 use image_meaning::{new_versions, redoing, redone_versions, versions_beside_the_tail};
 use log_records::{BLOCK_LEN, LogRecord, read_again, read_record};
 use log_store::LogStore;
-use page_store::{PageStore, stays_beside};
+use page_store::{PageStore, stays_beside, touch_then_change};
 use site::{Site, Stop};
 use std::alloc::Global;
 
@@ -55,6 +56,7 @@ fn redo_laws()
     sound_log_steps();
     losers_are_taken();
     stays_beside();
+    touch_then_change();
 }
 
 // The page that an Update or a CLR is on, and none of any other record.
@@ -157,6 +159,7 @@ fn touch_page<S: Site>(
         → IfErr result (λ stop. ((d : Dev) → stop ≢ Stop.Device d) → IsQuiet (S.state site.new)) }
 
     // Of every site.
+    ensures asks { Asks result (one_touch page) pages.old pages.new (S.state site.old) (S.state site.new) }
     ensures front { OnOk result ((front_of pages.new.pool.frames).page ≡ page) }
     ensures there { OnOk result (0 < length pages.new.pool.frames) }
     ensures going { OnOk result (MayGoOn log.new pages.new (S.state site.new)) }
@@ -201,6 +204,9 @@ fn redo_record<S: Site>(
         → IsErrOf result Stop.Foreign → ⊥ }
     ensures worn_end { (o : Opening) (front : List Entry) → IsRedoing o log.old pages.old (S.state site.old) front
         → IsErrOf result (Stop.Worn Dev.Flash) → IsWorn o.sizes (S.state site.new).image }
+    ensures asks { (o : Opening) (front rest : List Entry) → IsRedoing o log.old pages.old (S.state site.old) front
+        → log_from 0 o.blocks ≡ front ++ record { lsn = lsn; rec = rec.now } ∷ rest
+        → Asks result (touches_of o (record { lsn = lsn; rec = rec.now } ∷ [])) pages.old pages.new (S.state site.old) (S.state site.new) }
     ensures left { IsTrue (S.state site.old).honest → (S.state site.new).left ≡ (S.state site.old).left }
     ensures stays_quiet { IsTrue (S.state site.old).honest → IsQuiet (S.state site.old)
         → OnOk result (IsQuiet (S.state site.new)) }
@@ -273,6 +279,10 @@ fn take_record<S: Site>(
     ensures worn_end { (o : Opening) (front : List Entry)
         → HasTaken o log.old pages.old (S.state site.old) so_far.old front
         → IsErrOf result (Stop.Worn Dev.Flash) → IsWorn o.sizes (S.state site.new).image }
+    ensures asks { (o : Opening) (front rest : List Entry) → master.now ≡ blank
+        → HasTaken o log.old pages.old (S.state site.old) so_far.old front
+        → log_from 0 o.blocks ≡ front ++ record { lsn = lsn; rec = rec.now } ∷ rest
+        → Asks result (touches_of o (record { lsn = lsn; rec = rec.now } ∷ [])) pages.old pages.new (S.state site.old) (S.state site.new) }
     ensures left { IsTrue (S.state site.old).honest → (S.state site.new).left ≡ (S.state site.old).left }
     ensures stays_quiet { IsTrue (S.state site.old).honest → IsQuiet (S.state site.old)
         → OnOk result (IsQuiet (S.state site.new)) }
@@ -351,6 +361,11 @@ fn take_block<S: Site>(
         → IsBlock content.now records → used ≡ used_by records
         → log_from 0 o.blocks ≡ front ++ (entries_from (512 * block + 2) records ++ rest)
         → IsErrOf result (Stop.Worn Dev.Flash) → IsWorn o.sizes (S.state site.new).image }
+    ensures asks { (o : Opening) (front rest : List Entry) (records : List LogRecord) → master.now ≡ blank
+        → HasTaken o log.old pages.old (S.state site.old) so_far.old front
+        → IsBlock content.now records → used ≡ used_by records
+        → log_from 0 o.blocks ≡ front ++ (entries_from (512 * block + 2) records ++ rest)
+        → Asks result (touches_of o (entries_from (512 * block + 2) records)) pages.old pages.new (S.state site.old) (S.state site.new) }
     ensures left { IsTrue (S.state site.old).honest → (S.state site.new).left ≡ (S.state site.old).left }
     ensures stays_quiet { IsTrue (S.state site.old).honest → IsQuiet (S.state site.old)
         → OnOk result (IsQuiet (S.state site.new)) }
@@ -440,6 +455,10 @@ pub fn redo<S: Site>(
     ensures worn_end { (blocks : List (List LogRecord)) (table : List Content) (commits : ℕ) → master.now ≡ blank
         → IsOpened pages.old.flash.geometry log.old pages.old (S.state site.old) blocks table commits
         → IsErrOf result (Stop.Worn Dev.Flash) → IsWorn pages.old.flash.geometry (S.state site.new).image }
+    ensures asks { (blocks : List (List LogRecord)) (table : List Content) (commits : ℕ) → master.now ≡ blank
+        → IsOpened pages.old.flash.geometry log.old pages.old (S.state site.old) blocks table commits
+        → Asks result (redo_works (picture pages.old.flash.geometry (S.state site.old).image blocks))
+        pages.old pages.new (S.state site.old) (S.state site.new) }
     ensures left { IsTrue (S.state site.old).honest → (S.state site.new).left ≡ (S.state site.old).left }
     ensures stays_quiet { IsTrue (S.state site.old).honest → IsQuiet (S.state site.old)
         → OnOk result (IsQuiet (S.state site.new)) }

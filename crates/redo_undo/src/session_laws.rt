@@ -1,5 +1,6 @@
 // Laws for sessions over log and pages that hold together. The functions do nothing.
 ghost use Rattle.redo_undo.specs.SessionLaws.{NextIsFresh, BeginMayGrow, UpdateMayGrow, ActiveMayCommit, ActiveMayBeUndone, EndMayGrow, HoldsSize, FrontIsCommitted, FrontIsSeen};
+ghost use Rattle.redo_undo.specs.Works.{ActiveIsUndoneBy};
 
 use crate::laws::{hold_together, log_laws, page_laws, undo_laws};
 use log_laws::{
@@ -45,3 +46,8 @@ pub fn sessions_see()
     page_laws();
     hold_together();
 }
+
+/// Law: undoing an active transaction asks the page cache for a change of the page of each of its writes, the last one first.
+pub fn sessions_are_undone()
+    ensures { ActiveIsUndoneBy }
+{}

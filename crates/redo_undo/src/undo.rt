@@ -1,14 +1,15 @@
 // Undoing an Update: a compensation record, and what stood before it.
-ghost use Rattle.std.specs.Prelude.{◌≡◌, ◌≢◌, ◌⊎◌, ◌↔◌, ◌+◌, ◌*◌, ◌<◌, ◌≤◌, ◌++◌, ◌∷◌, [], ◌^◌, ℕ, List, length, IsTrue, true, false, IfOk, IfErr, IfSome, IfNone, OnOk, IsErrOf};
+ghost use Rattle.std.specs.Prelude.{◌≡◌, ◌≢◌, ◌⊎◌, ◌↔◌, ◌+◌, ◌*◌, ◌<◌, ◌≤◌, ◌++◌, ◌∷◌, [], ◌^◌, ℕ, List, length, Some, IsTrue, true, false, IfOk, IfErr, IfSome, IfNone, OnOk, IsErrOf};
 ghost use Rattle.site.specs.declared.outside.Dev.{Dev};
 ghost use Rattle.site.specs.declared.outside.Stop.{Stop};
-ghost use Rattle.site.specs.State.{IsQuiet};
+ghost use Rattle.site.specs.State.{IsQuiet, reads_of};
 ghost use Rattle.site.specs.Calls.{Goes, IsUnchanged, FaultRose};
 ghost use Rattle.site.specs.Moments.{LeavesOnly};
 ghost use Rattle.record_model.specs.State.{Content};
 ghost use Rattle.log_records.specs.declared.log_record.LogRecord.{LogRecord};
-ghost use Rattle.log_records.specs.Log.{Entry, txn_by, is_closing};
+ghost use Rattle.log_records.specs.Log.{Entry, txn_by, is_closing, number_of};
 ghost use Rattle.log_records.specs.Spelling.{IsShort};
+ghost use Rattle.log_records.specs.Unfinished.{left_open};
 ghost use Rattle.log_laws.specs.Analysis.{Unfinished, IsUnfinished};
 ghost use Rattle.log_laws.specs.UndoLaws.{next_by};
 ghost use Rattle.flash_cache.specs.Held.{IsWorn};
@@ -20,12 +21,14 @@ ghost use Rattle.image_meaning.specs.Moments.{LeavesTable};
 ghost use Rattle.redo_undo.specs.Holding.{MayGoOn, Holds, MayGrow, blocks_to};
 ghost use Rattle.redo_undo.specs.Undoing.{IsAt, IsWanted, Undone};
 ghost use Rattle.redo_undo.specs.Rollback.{Compensates, RollsBack};
+ghost use Rattle.redo_undo.specs.Works.{Asks, one_change, undo_one_works};
+ghost use Rattle.redo_undo.specs.UndoWorks.{works_of};
 
 use crate::laws::{beside_laws, found_laws, page_laws, undo_laws};
 use crate::logging::{log_change, log_record, touch};
 use log_records::LogRecord;
 use log_store::LogStore;
-use page_store::PageStore;
+use page_store::{PageStore, touch_then_change};
 use record_model::Octets;
 use site::{Site, Stop};
 
@@ -79,6 +82,12 @@ fn read_update<S: Site>(log: &LogStore, site: &mut S, at: &Undoing) -> Result<Wa
         → Holds log.now pages (S.state site.old) records table commits
         → IsUnfinished records x → IsAt at.now x → 0 < x.remaining
         → IfErr result (λ stop. stop ≢ Stop.Foreign) }
+    ensures last_left { (pages : PageStore) (records : List Entry) (table : List Content) (commits : ℕ) (x : Unfinished)
+        (u : Entry) (rest : List Entry)
+        → log.now.geometry ≡ pages.flash.geometry
+        → Holds log.now pages (S.state site.old) records table commits
+        → IsUnfinished records x → IsAt at.now x → left_open records x.txn ≡ u ∷ rest
+        → IfOk result (λ wanted. number_of u.rec ≡ Some (32 * wanted.page + wanted.slot)) }
 
     // Of every site.
     ensures form { IfOk result (λ wanted. (wanted.slot < 32) × IsShort wanted.before) }
@@ -88,12 +97,15 @@ fn read_update<S: Site>(log: &LogStore, site: &mut S, at: &Undoing) -> Result<Wa
         → IsUnchanged (S.state site.old) (S.state site.new) }
     ensures goes { Goes (S.state site.old) (S.state site.new) }
     ensures log_reads { (S.state site.new).log_reads ≤ (S.state site.old).log_reads + 1 }
+    ensures others { (d : Dev) → d ≢ Dev.Log
+        → reads_of d (S.state site.new) ≡ reads_of d (S.state site.old) }
     ensures device { IsErrOf result (Stop.Device Dev.Log)
         → FaultRose Dev.Log (S.state site.old) (S.state site.new) }
     ensures stops { IfErr result (λ stop. (stop ≡ Stop.Device Dev.Log) ⊎ (stop ≡ Stop.Foreign)) }
 {
     page_laws();
     undo_laws();
+    found_laws();
     if at.next > at.last {
         return Err(Stop::Foreign);
     }
@@ -174,6 +186,7 @@ fn compensate<S: Site>(
         → IfErr result (λ stop. ((d : Dev) → stop ≢ Stop.Device d) → IsQuiet (S.state site.new)) }
 
     // Of every site.
+    ensures asks { Asks result (one_change wanted.page) pages.old pages.new (S.state site.old) (S.state site.new) }
     ensures before { IfOk result (λ lsn. lsn < end_of log.new) }
     ensures going { OnOk result (MayGoOn log.new pages.new (S.state site.new)) }
     ensures blocks { OnOk result (blocks_to log.new ≤ blocks_to log.old + 1) }
@@ -191,6 +204,7 @@ fn compensate<S: Site>(
     ensures stops { IfErr result (λ stop. MayStop stop) }
 {
     page_laws();
+    touch_then_change();
     let page = wanted.page;
     let clr = LogRecord::Clr {
         txn: at.txn,
@@ -241,6 +255,11 @@ pub(crate) fn undo_update<S: Site>(
         → Holds log.old pages.old (S.state site.old) records table commits
         → IsQuiet (S.state site.old)
         → IfErr result (λ stop. ((d : Dev) → stop ≢ Stop.Device d) → IsQuiet (S.state site.new)) }
+
+    ensures asks { (records : List Entry) (table : List Content) (commits : ℕ) (x : Unfinished) (u : Entry) (rest : List Entry)
+        → Holds log.old pages.old (S.state site.old) records table commits
+        → IsUnfinished records x → IsAt at x → left_open records x.txn ≡ u ∷ rest
+        → Asks result (works_of (u ∷ [])) pages.old pages.new (S.state site.old) (S.state site.new) }
 
     // Of every site.
     ensures last { IfOk result (λ now. now.last < end_of log.new) }
@@ -330,6 +349,10 @@ fn undo_updates<S: Site>(
         → Holds log.old pages.old (S.state site.old) records table commits
         → IsUnfinished records x → IsAt first x
         → IsErrOf result (Stop.Worn Dev.Log) → 2 ^ 40 ≤ blocks_to log.old + x.remaining }
+    ensures asks { (records : List Entry) (table : List Content) (commits : ℕ) (x : Unfinished)
+        → Holds log.old pages.old (S.state site.old) records table commits
+        → IsUnfinished records x → IsAt first x
+        → Asks result (undo_one_works records x.txn) pages.old pages.new (S.state site.old) (S.state site.new) }
 
     // Of every site.
     ensures none { IfOk result (λ now. now.next ≡ now.txn) }
@@ -397,6 +420,8 @@ fn read_last<S: Site>(log: &LogStore, site: &mut S, txn: u64, last: u64) -> Resu
         → IsUnchanged (S.state site.old) (S.state site.new) }
     ensures goes { Goes (S.state site.old) (S.state site.new) }
     ensures log_reads { (S.state site.new).log_reads ≤ (S.state site.old).log_reads + 1 }
+    ensures others { (d : Dev) → d ≢ Dev.Log
+        → reads_of d (S.state site.new) ≡ reads_of d (S.state site.old) }
     ensures device { IsErrOf result (Stop.Device Dev.Log)
         → FaultRose Dev.Log (S.state site.old) (S.state site.new) }
     ensures stops { IfErr result (λ stop. (stop ≡ Stop.Device Dev.Log) ⊎ (stop ≡ Stop.Foreign)) }
@@ -476,6 +501,10 @@ pub fn undo_one<S: Site>(
         → Holds log.old pages.old (S.state site.old) records table commits
         → IsUnfinished records x → x.txn ≡ txn → x.last ≡ last
         → IsErrOf result (Stop.Worn Dev.Log) → 2 ^ 40 ≤ blocks_to log.old + (x.remaining + 1) }
+    ensures asks { (records : List Entry) (table : List Content) (commits : ℕ) (x : Unfinished)
+        → Holds log.old pages.old (S.state site.old) records table commits
+        → IsUnfinished records x → x.txn ≡ txn → x.last ≡ last
+        → Asks result (undo_one_works records txn) pages.old pages.new (S.state site.old) (S.state site.new) }
 
     // Of every site.
     ensures going { OnOk result (MayGoOn log.new pages.new (S.state site.new)) }

@@ -1,9 +1,9 @@
 // Undoing all transactions that a log leaves unfinished.
-ghost use Rattle.std.specs.Prelude.{◌≡◌, ◌≢◌, ◌⊎◌, ◌+◌, ◌<◌, ◌≤◌, [], ◌^◌, ℕ, List, length, drop, false, None, Some, IsTrue, IfOk, IfErr, IfSome, IfNone, OnOk, IsErrOf};
+ghost use Rattle.std.specs.Prelude.{◌≡◌, ◌≢◌, ◌⊎◌, ◌+◌, ◌<◌, ◌≤◌, [], ◌∷◌, ◌^◌, ℕ, List, length, drop, false, None, Some, IsTrue, IfOk, IfErr, IfSome, IfNone, OnOk, IsErrOf};
 ghost use Rattle.site.specs.declared.outside.Dev.{Dev};
 ghost use Rattle.site.specs.declared.outside.Stop.{Stop};
 ghost use Rattle.site.specs.State.{IsQuiet};
-ghost use Rattle.site.specs.Calls.{Goes, FaultRose};
+ghost use Rattle.site.specs.Calls.{Goes, SameReads, FaultRose};
 ghost use Rattle.site.specs.Moments.{LeavesOnly};
 ghost use Rattle.record_model.specs.State.{Content};
 ghost use Rattle.log_records.specs.Log.{Entry};
@@ -18,6 +18,8 @@ ghost use Rattle.analysis.specs.Open.{Open, found_in, IsTop, Replaces, Remains, 
 ghost use Rattle.analysis.specs.Table.{listed};
 ghost use Rattle.analysis.specs.Read as analysis;
 ghost use Rattle.redo_undo.specs.Holding.{MayGoOn, Holds, blocks_to};
+ghost use Rattle.redo_undo.specs.Works.{Asks, undo_works};
+ghost use Rattle.redo_undo.specs.UndoWorks.{works_of, IsLastAt, UndoesUpdates};
 ghost use Rattle.redo_undo.specs.UndoingAll.{IsOf, Remain, HasNone, IsGreatest, IsUndoing, UndoesSome, UndoesAll};
 
 use crate::laws::{found_laws, page_laws, undo_laws};
@@ -90,6 +92,10 @@ fn end_one<S: Site>(
         → log.old.geometry ≡ pages.flash.geometry
         → IsUndoing log.old pages (S.state site.old) records table commits found.old known
         → IfErr result (λ stop. stop ≢ Stop.Foreign) }
+    ensures updates { (pages : PageStore) (records : List Entry) (table : List Content) (commits known : ℕ)
+        → log.old.geometry ≡ pages.flash.geometry
+        → IsUndoing log.old pages (S.state site.old) records table commits found.old known
+        → IfOk result (λ lsn. UndoesUpdates log.new pages (S.state site.new) records table commits found.new lsn []) }
     ensures left { IsTrue (S.state site.old).honest → (S.state site.new).left ≡ (S.state site.old).left }
     ensures stays_quiet { IsTrue (S.state site.old).honest → IsQuiet (S.state site.old)
         → OnOk result (IsQuiet (S.state site.new)) }
@@ -112,6 +118,7 @@ fn end_one<S: Site>(
     ensures geometry { log.new.geometry ≡ log.old.geometry }
     ensures goes { Goes (S.state site.old) (S.state site.new) }
     ensures log_reads { (S.state site.new).log_reads ≡ (S.state site.old).log_reads }
+    ensures reads { SameReads (S.state site.old) (S.state site.new) }
 
     // When each answer comes.
     ensures worn { IsErrOf result (Stop.Worn Dev.Log) → log.old.ring.hi ≡ 2 ^ 40 }
@@ -161,6 +168,10 @@ fn end_undone<S: Site>(
         → MayGoOn log.old pages (S.state site.old)
         → IsUndoing log.old pages (S.state site.old) records table commits found.old known
         → IfErr result (λ stop. stop ≢ Stop.Foreign) }
+    ensures updates { (pages : PageStore) (records : List Entry) (table : List Content) (commits : ℕ)
+        → MayGoOn log.old pages (S.state site.old)
+        → IsUndoing log.old pages (S.state site.old) records table commits found.old known
+        → IfOk result (λ lsn. UndoesUpdates log.new pages (S.state site.new) records table commits found.new lsn []) }
     ensures left { IsTrue (S.state site.old).honest → (S.state site.new).left ≡ (S.state site.old).left }
     ensures stays_quiet { IsTrue (S.state site.old).honest → IsQuiet (S.state site.old)
         → OnOk result (IsQuiet (S.state site.new)) }
@@ -185,6 +196,7 @@ fn end_undone<S: Site>(
     ensures geometry { log.new.geometry ≡ log.old.geometry }
     ensures goes { Goes (S.state site.old) (S.state site.new) }
     ensures log_reads { (S.state site.new).log_reads ≡ (S.state site.old).log_reads }
+    ensures reads { SameReads (S.state site.old) (S.state site.new) }
 
     // When each answer comes.
     ensures worn { IsErrOf result (Stop.Worn Dev.Log)
@@ -233,6 +245,14 @@ fn undo_greatest<S: Site>(
     ensures readable { (records : List Entry) (table : List Content) (commits known : ℕ)
         → IsUndoing log.old pages.old (S.state site.old) records table commits found.old known
         → IfErr result (λ stop. stop ≢ Stop.Foreign) }
+    ensures updates { (records : List Entry) (table : List Content) (commits known : ℕ) (u : Entry)
+        → IsUndoing log.old pages.old (S.state site.old) records table commits found.old known
+        → IsLastAt records loser.txn lsn u
+        → IfOk result (λ last. UndoesUpdates log.new pages.new (S.state site.new) records table commits found.new last (u ∷ [])) }
+    ensures asks { (records : List Entry) (table : List Content) (commits known : ℕ) (u : Entry)
+        → IsUndoing log.old pages.old (S.state site.old) records table commits found.old known
+        → IsLastAt records loser.txn lsn u
+        → Asks result (works_of (u ∷ [])) pages.old pages.new (S.state site.old) (S.state site.new) }
     ensures worn_end { (records : List Entry) (table : List Content) (commits : ℕ)
         → Holds log.old pages.old (S.state site.old) records table commits
         → IsErrOf result (Stop.Worn Dev.Flash) → IsWorn pages.old.flash.geometry (S.state site.new).image }
@@ -315,6 +335,14 @@ fn undo_next<S: Site>(
         → IsUndoing log.old pages.old (S.state site.old) records table commits found.old known
         → IsGreatest records next.0
         → IfErr result (λ stop. stop ≢ Stop.Foreign) }
+    ensures updates { (records : List Entry) (table : List Content) (commits : ℕ) (u : Entry)
+        → IsUndoing log.old pages.old (S.state site.old) records table commits found.old known
+        → IsLastAt records next.0 next.1 u
+        → IfOk result (λ last. UndoesUpdates log.new pages.new (S.state site.new) records table commits found.new last (u ∷ [])) }
+    ensures asks { (records : List Entry) (table : List Content) (commits : ℕ) (u : Entry)
+        → IsUndoing log.old pages.old (S.state site.old) records table commits found.old known
+        → IsLastAt records next.0 next.1 u
+        → Asks result (works_of (u ∷ [])) pages.old pages.new (S.state site.old) (S.state site.new) }
     ensures worn_end { (records : List Entry) (table : List Content) (commits : ℕ)
         → Holds log.old pages.old (S.state site.old) records table commits
         → IsErrOf result (Stop.Worn Dev.Flash) → IsWorn pages.old.flash.geometry (S.state site.new).image }
@@ -404,6 +432,11 @@ pub fn undo_all<S: Site>(
         → Holds log.old pages.old (S.state site.old) records table commits
         → analysis.IsAnalysis blank_master records found.old
         → IsErrOf result (Stop.Worn Dev.Flash) → IsWorn pages.old.flash.geometry (S.state site.new).image }
+    ensures asks { (records : List Entry) (table : List Content) (commits : ℕ)
+        → has_tail log.old ≡ false
+        → Holds log.old pages.old (S.state site.old) records table commits
+        → analysis.IsAnalysis blank_master records found.old
+        → Asks result (undo_works records) pages.old pages.new (S.state site.old) (S.state site.new) }
     ensures left { IsTrue (S.state site.old).honest → (S.state site.new).left ≡ (S.state site.old).left }
     ensures stays_quiet { IsTrue (S.state site.old).honest → IsQuiet (S.state site.old)
         → OnOk result (IsQuiet (S.state site.new)) }

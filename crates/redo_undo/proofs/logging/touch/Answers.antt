@@ -1,9 +1,12 @@
-use Rattle.std.proofs.Common.{Bool, sym, subst, ◌∙◌}
+use Rattle.std.proofs.Common.{◌≤◌, Bool, arith, sym, subst, ◌∙◌}
 use Rattle.site.specs.declared.geometry.Geometry.{Geometry}
 use Rattle.page_store.specs.Ahead.{forces, pushed_by_touch}
 use Rattle.log_store.specs.LogList.{LogList}
 use Rattle.redo_undo.specs.Holding.{HoldsIn, Holds}
 use Rattle.redo_undo.proofs.Touched.{forced_tail, leaves_table, touched_holds, ok_seven}
+use Rattle.second_chance.specs.Machine.{rules_of}
+use Rattle.page_store.specs.Caching.{cache_of, rules}
+use Rattle.redo_undo.proofs.Asking.{touch_overflows, touch_reads}
 use Rattle.redo_undo.proofs.logging.touch.Goals as goal
 
 pub returns-clause-any_moment : goal.returns-clause-any_moment
@@ -42,3 +45,15 @@ returns-clause-quiet g c records table commits h quiet = c.touch.ensures.quiet (
 
 pub returns-clause-worn_end : goal.returns-clause-worn_end
 returns-clause-worn_end g c records table commits h = c.touch.ensures.worn_end (record { first = 0; blocks = h.log_holds.blocks; tail = h.log_holds.tail }) h.log_holds.ready
+
+pub returns-clause-asks : goal.returns-clause-asks
+returns-clause-asks g c =
+    let pages = c.args.pages.now in
+    let new = c.touch.new.self in
+    let some : 1 ≤ (rules pages).groups = omega (arith, c.requires.going.pages_going.flash.limits.groups) in
+    record {
+      machine = c.touch.ensures.machine;
+      worn = λ is. (let full = c.touch.ensures.worn_flash is in touch_overflows (rules pages) c.args.page (cache_of pages) some full.0 (c.requires.going.pages_going.flash.next ∙ full.1));
+      reads = touch_reads (rules pages) c.args.page (cache_of pages) (g.S.Site.state c.args.site.now) (g.S.Site.state c.touch.new.site) some c.touch.ensures.flash_reads c.touch.ensures.disk_reads;
+      rules_are = (λ i. rules_of (c.touch.ensures.size i) (c.touch.ensures.geometry i).groups);
+    }

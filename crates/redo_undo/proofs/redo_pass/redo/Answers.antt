@@ -1,17 +1,20 @@
-use Rattle.std.proofs.Common.{◌≡◌, ◌+◌, ◌<◌, List, [], length, take, drop, suc, Err, refl, ap, subst, ◌∙◌, arith}
+use Rattle.std.proofs.Common.{◌≡◌, ◌≤◌, ◌+◌, ◌<◌, List, [], length, take, drop, suc, Err, refl, sym, ap, subst, ◌∙◌, arith}
+use Rattle.std.specs.Prelude.{⊤}
 use Rattle.site.specs.Laws.{stays_honest, goes_in_sequence, goes_nowhere}
 use Rattle.log_records.specs.Log.{Entry, log_from}
 use Rattle.checkpoint.specs.declared.master.Master.{Master}
 use Rattle.checkpoint.specs.Newest.{seen}
 use Rattle.image_meaning.specs.Meaning.{blank_master}
 use Rattle.analysis.specs.Read.{IsAnalysis}
-use Rattle.redo_undo.specs.Redoing.{Opening, IsRedoing, HasTaken}
-use Rattle.redo_undo.proofs.LogBlocks.{block_of}
+use Rattle.page_store.specs.Caching.{rules}
+use Rattle.redo_undo.specs.Redoing.{Opening, touches_of, IsRedoing, HasTaken}
+use Rattle.redo_undo.proofs.LogBlocks.{block_of, log_split}
 use Rattle.redo_undo.proofs.Sames.{going_still, opened_holds}
 use Rattle.redo_undo.proofs.Redoings.{read_quiet, begins, nothing_happens, then_read, and_opened, holds_all}
-use Rattle.redo_undo.proofs.TakenRecords.{up_to_none, opened_count, finds, next_block, one_more_block, all_blocks, same_stop}
+use Rattle.redo_undo.proofs.TakenRecords.{asks_first, up_to_none, opened_count, finds, next_block, one_more_block, all_blocks, same_stop}
 use Rattle.site.specs.declared.outside.Stop.TheVariants.{Worn}
 use Rattle.site.specs.declared.outside.Dev.TheVariants.{Flash}
+use Rattle.redo_undo.proofs.RedoWorks.{stops_first, not_worn_log, stops_reading, asks_with_read, asks_more, asks_all, stops_within, redo_asks}
 use Rattle.redo_undo.proofs.redo_pass.redo.Goals as goal
 
 pub returns-in-Err-clause-any_moment : goal.returns-in-Err-clause-any_moment
@@ -46,6 +49,10 @@ loop-block-init g c =
           let first = h.ready.records.kept in
           up_to_none c.page_laws.ensures c.redo_laws.ensures c.args.log.now c.args.pages.now (g.S.Site.state c.args.site.now) blocks table commits c.in-Ok.found c.kept-block.result c.requires.going.sizes h
           (subst (λ (m : Master). IsAnalysis (seen m) [] c.in-Ok.found) blank c.in-Ok.ensures.read) (omega (arith, kept, first));
+      asked = λ blocks table commits blank h.
+          let first = h.ready.records.kept in
+          let o : Opening = record { sizes = c.args.pages.now.flash.geometry; image = (g.S.Site.state c.args.site.now).image; blocks = blocks; table = table; commits = commits } in
+          asks_first o c.args.pages.now (g.S.Site.state c.args.site.now) c.kept-block.result (omega (arith, kept, first));
     }
 
 pub returns-in-Err-read_block-clause-any_moment : goal.returns-in-Err-read_block-clause-any_moment
@@ -165,6 +172,19 @@ loop-block-preserved g c =
                 (t.any_moment o (log_from 0 (take c.loop-block.block blocks)) (log_from (c.loop-block.block + 1) (drop (suc c.loop-block.block) blocks)) (block_of blocks c.loop-block.block) blank next.taken next.content_is next.used_is next.split
                 (read_quiet mid read (c.read_block.ensures.same up.taken.pages_are.ready.blocks.honest) (i.stays_quiet h.ready.blocks.honest quiet)));
           };
+      asked = λ blocks table commits blank h.
+          let o : Opening = record { sizes = c.args.pages.now.flash.geometry; image = old.image; blocks = blocks; table = table; commits = commits } in
+          let up = i.up_to blocks table commits blank h in
+          let count = opened_count c.args.log.now c.args.pages.now old blocks table commits h in
+          let inside : c.loop-block.block < length blocks = omega (arith, count, c.sealed_end-block-end.ensures, c.loop-block-test.true) in
+          let next = next_block c.redo_laws.ensures o c.loop-block.log c.loop-block.pages old mid c.loop-block.so_far c.loop-block.block up read c.read_block.new.into c.in-Ok-read_block.used c.read_block.ensures.goes
+          (c.read_block.ensures.same up.taken.pages_are.ready.blocks.honest) inside
+          (c.in-Ok-read_block.ensures.holds (record { first = 0; blocks = blocks; tail = [] }) (finds c.redo_laws.ensures o c.loop-block.log c.loop-block.pages old mid c.loop-block.so_far c.loop-block.block up)
+          up.taken.pages_are.ready.records (omega arith)) in
+          let front = log_from 0 (take c.loop-block.block blocks) in
+          asks_more o c.args.pages.now c.loop-block.pages c.take_block.new.pages old read new front
+          (asks_with_read o c.args.pages.now c.loop-block.pages old mid read front (i.asked blocks table commits blank h) c.read_block.ensures.reads.others) _ _ _ (sym (one_more_block c.loop-block.block blocks inside))
+          (t.asks o front (log_from (c.loop-block.block + 1) (drop (suc c.loop-block.block) blocks)) (block_of blocks c.loop-block.block) blank next.taken next.content_is next.used_is next.split);
     }
 
 pub returns-clause-holds : goal.returns-clause-holds
@@ -251,3 +271,57 @@ returns-in-Err-take_block-clause-worn_end g c blocks table commits blank h worn 
     let same : c.in-Err-take_block.stop ≡ Worn Flash = cc in
     c.in-Err-take_block.ensures.worn_end o (log_from 0 (take c.loop-block.block blocks)) (log_from (c.loop-block.block + 1) (drop (suc c.loop-block.block) blocks)) (block_of blocks c.loop-block.block) blank next.taken next.content_is next.used_is
     next.split (ap Err same)
+
+pub returns-in-Err-clause-asks : goal.returns-in-Err-clause-asks
+returns-in-Err-clause-asks g c blocks table commits blank h =
+    let site = g.S.Site.state c.args.site.now in
+    let pages = c.args.pages.now in
+    let o : Opening = record { sizes = pages.flash.geometry; image = site.image; blocks = blocks; table = table; commits = commits } in
+    let some : 1 ≤ (rules pages).groups = omega (arith, c.requires.going.pages_going.flash.limits.groups) in
+    redo_asks _ o pages pages site site (stops_first c.in-Err.stop (touches_of o (log_from 0 blocks)) pages site some (λ same. let memory = c.in-Err.ensures.stops in cc))
+
+pub returns-in-Err-read_block-clause-asks : goal.returns-in-Err-read_block-clause-asks
+returns-in-Err-read_block-clause-asks g c blocks table commits blank h =
+    let old = g.S.Site.state c.args.site.now in
+    let mid = g.S.Site.state c.loop-block.site in
+    let read = g.S.Site.state c.read_block.new.site in
+    let pages = c.loop-block.pages in
+    let o : Opening = record { sizes = c.args.pages.now.flash.geometry; image = old.image; blocks = blocks; table = table; commits = commits } in
+    let some : 1 ≤ (rules c.args.pages.now).groups = omega (arith, c.requires.going.pages_going.flash.limits.groups) in
+    let count = opened_count c.args.log.now c.args.pages.now old blocks table commits h in
+    let inside : c.loop-block.block < length blocks = omega (arith, count, c.sealed_end-block-end.ensures, c.loop-block-test.true) in
+    redo_asks _ o c.args.pages.now pages old read (stops_within o c.args.pages.now pages pages old mid read (log_from 0 (take c.loop-block.block blocks)) (c.loop-block.invariant.asked blocks table commits blank h)
+    {A = ⊤} c.in-Err-read_block.stop [] _ (log_from 0 blocks) some (log_split 0 c.loop-block.block c.loop-block.block blocks (omega arith) inside)
+    (stops_reading c.in-Err-read_block.stop pages mid read c.read_block.ensures.reads.others (not_worn_log c.in-Err-read_block.stop c.in-Err-read_block.ensures.stops)))
+
+pub returns-in-Err-take_block-clause-asks : goal.returns-in-Err-take_block-clause-asks
+returns-in-Err-take_block-clause-asks g c blocks table commits blank h =
+    let old = g.S.Site.state c.args.site.now in
+    let mid = g.S.Site.state c.loop-block.site in
+    let read = g.S.Site.state c.read_block.new.site in
+    let o : Opening = record { sizes = c.args.pages.now.flash.geometry; image = old.image; blocks = blocks; table = table; commits = commits } in
+    let some : 1 ≤ (rules c.args.pages.now).groups = omega (arith, c.requires.going.pages_going.flash.limits.groups) in
+    let up = c.loop-block.invariant.up_to blocks table commits blank h in
+    let count = opened_count c.args.log.now c.args.pages.now old blocks table commits h in
+    let inside : c.loop-block.block < length blocks = omega (arith, count, c.sealed_end-block-end.ensures, c.loop-block-test.true) in
+    let next = next_block c.redo_laws.ensures o c.loop-block.log c.loop-block.pages old mid c.loop-block.so_far c.loop-block.block up read c.read_block.new.into c.in-Ok-read_block.used c.read_block.ensures.goes
+    (c.read_block.ensures.same up.taken.pages_are.ready.blocks.honest) inside
+    (c.in-Ok-read_block.ensures.holds (record { first = 0; blocks = blocks; tail = [] }) (finds c.redo_laws.ensures o c.loop-block.log c.loop-block.pages old mid c.loop-block.so_far c.loop-block.block up)
+    up.taken.pages_are.ready.records (omega arith)) in
+    let front = log_from 0 (take c.loop-block.block blocks) in
+    let behind = log_from (c.loop-block.block + 1) (drop (suc c.loop-block.block) blocks) in
+    redo_asks _ o c.args.pages.now c.take_block.new.pages old (g.S.Site.state c.take_block.new.site)
+    (stops_within o c.args.pages.now c.loop-block.pages c.take_block.new.pages old read (g.S.Site.state c.take_block.new.site) front
+    (asks_with_read o c.args.pages.now c.loop-block.pages old mid read front (c.loop-block.invariant.asked blocks table commits blank h) c.read_block.ensures.reads.others)
+    c.in-Err-take_block.stop _ behind (log_from 0 blocks) some next.split
+    (c.in-Err-take_block.ensures.asks o front behind (block_of blocks c.loop-block.block) blank next.taken next.content_is next.used_is next.split))
+
+pub returns-clause-asks : goal.returns-clause-asks
+returns-clause-asks g c blocks table commits blank h =
+    let old = g.S.Site.state c.args.site.now in
+    let o : Opening = record { sizes = c.args.pages.now.flash.geometry; image = old.image; blocks = blocks; table = table; commits = commits } in
+    let count = opened_count c.args.log.now c.args.pages.now old blocks table commits h in
+    let most = c.loop-block.auto.block-end in
+    let all : c.loop-block.block ≡ length blocks = omega (arith, count, c.sealed_end-block-end.ensures, c.loop-block-test.false, most) in
+    redo_asks _ o c.args.pages.now c.loop-block.pages old (g.S.Site.state c.loop-block.site)
+    (asks_all _ o c.args.pages.now c.loop-block.pages old (g.S.Site.state c.loop-block.site) _ _ (all_blocks c.loop-block.block blocks all) (c.loop-block.invariant.asked blocks table commits blank h))

@@ -1,14 +1,19 @@
-use Rattle.std.proofs.Common.{◌≡◌, sym, ap, ◌∙◌, arith}
+use Rattle.std.proofs.Common.{◌≡◌, ◌≤◌, ◌∷◌, [], sym, ap, ◌∙◌, arith}
+use Rattle.site.specs.declared.outside.Stop.TheVariants.{Foreign}
+use Rattle.redo_undo.specs.Redoing.{touches_of}
 use Rattle.std.proofs.lemmas.Option.{none-some}
 use Rattle.site.specs.declared.geometry.Geometry.{Geometry}
 use Rattle.log_records.specs.Log.{Entry}
 use Rattle.slotted_page.specs.Layout.{lsn_of}
 use Rattle.buffer_pool.specs.Frames.{front_of}
 use Rattle.flash_cache.specs.declared.cache.FlashCache.{FlashCache}
+use Rattle.second_chance.specs.Machine.{rules_of}
 use Rattle.page_store.specs.Held.{current}
+use Rattle.page_store.specs.Caching.{rules}
 use Rattle.redo_undo.proofs.Changed.{front_is_current}
 use Rattle.redo_undo.proofs.Redoings.{nothing_happens}
 use Rattle.redo_undo.proofs.NextRecords.{page_exists, lsn_sealed, no_change, changed, front_knows}
+use Rattle.redo_undo.proofs.RedoWorks.{stops_first, asks_no_page, stops_in_touch, asks_known, asks_redone}
 use Rattle.redo_undo.proofs.redo_pass.redo_record.Goals as goal
 
 pub returns-in_default-clause-redoing : goal.returns-in_default-clause-redoing
@@ -65,3 +70,42 @@ returns-in-Err-clause-quiet g c o front h quiet = c.in-Err.ensures.quiet o front
 
 pub returns-in-Err-clause-worn_end : goal.returns-in-Err-clause-worn_end
 returns-in-Err-clause-worn_end g c o front h = c.in-Err.ensures.worn_end o front h
+
+pub returns-in_default-clause-asks : goal.returns-in_default-clause-asks
+returns-in_default-clause-asks g c o front rest h is =
+    asks_no_page _ o (record { lsn = c.args.lsn; rec = c.args.rec.now }) c.args.pages.now (g.S.Site.state c.args.site.now) c.in_default.ensures.none
+
+pub returns-then-page-geometry-clause-asks : goal.returns-then-page-geometry-clause-asks
+returns-then-page-geometry-clause-asks g c o front rest h is =
+    let some : 1 ≤ (rules c.args.pages.now).groups = omega (arith, c.requires.going.pages_going.flash.limits.groups) in
+    stops_first Foreign (touches_of o (record { lsn = c.args.lsn; rec = c.args.rec.now } ∷ [])) c.args.pages.now (g.S.Site.state c.args.site.now) some (λ same. cc)
+
+pub returns-in-Err-clause-asks : goal.returns-in-Err-clause-asks
+returns-in-Err-clause-asks g c o front rest h is =
+    let on = c.in-Some.ensures.on in
+    let some : 1 ≤ (rules c.args.pages.now).groups = omega (arith, c.requires.going.pages_going.flash.limits.groups) in
+    stops_in_touch c.in-Err.stop o (record { lsn = c.args.lsn; rec = c.args.rec.now }) c.in-Some.page on.0 c.args.pages.now c.touch_page.new.pages (g.S.Site.state c.args.site.now) (g.S.Site.state c.touch_page.new.site)
+    on.1 on.2 some c.in-Err.ensures.asks
+
+pub returns-then-front_lsn-lsn-clause-asks : goal.returns-then-front_lsn-lsn-clause-asks
+returns-then-front_lsn-lsn-clause-asks g c o front rest h is =
+    let pages = c.touch_page.new.pages in
+    let site = g.S.Site.state c.touch_page.new.site in
+    let on = c.in-Some.ensures.on in
+    asks_known c.page_laws.ensures c.redo_laws.ensures o c.touch_page.new.log pages site front (c.in-Ok.ensures.redoing o front h) (record { lsn = c.args.lsn; rec = c.args.rec.now }) rest is
+    c.in-Some.page on.0 on.1 on.2 c.args.pages.now (g.S.Site.state c.args.site.now) _ c.in-Ok.ensures.asks
+    (front_knows pages site.image c.args.rec.now c.args.lsn c.in-Some.page c.in-Ok.ensures.there c.in-Ok.ensures.front on
+    (omega (arith, c.front_lsn.ensures, c.if-front_lsn-lsn.true)) c.in-Some.page on.0 on.1 on.2)
+
+pub returns-clause-asks : goal.returns-clause-asks
+returns-clause-asks g c o front rest h is =
+    let pages = c.touch_page.new.pages in
+    let site = g.S.Site.state c.touch_page.new.site in
+    let on = c.in-Some.ensures.on in
+    let some : 1 ≤ (rules c.args.pages.now).groups = omega (arith, c.requires.going.pages_going.flash.limits.groups) in
+    let content : lsn_of (current pages site.image c.in-Some.page) ≡ lsn_of (front_of pages.pool.frames).content =
+    ap (λ page. lsn_of (current pages site.image page)) (sym c.in-Ok.ensures.front) ∙ ap lsn_of (front_is_current pages site.image c.in-Ok.ensures.there) in
+    asks_redone c.page_laws.ensures c.redo_laws.ensures o c.touch_page.new.log pages site front (c.in-Ok.ensures.redoing o front h) (record { lsn = c.args.lsn; rec = c.args.rec.now }) rest is
+    c.in-Some.page on.0 on.1 on.2 c.args.pages.now (g.S.Site.state c.args.site.now) _ c.in-Ok.ensures.asks
+    (omega (arith, content, c.front_lsn.ensures, c.if-front_lsn-lsn.false)) c.change_front.new.pages some c.change_front.ensures.machine
+    (λ i. rules_of (c.change_front.ensures.size i) (c.change_front.ensures.flash i).geometry.groups)

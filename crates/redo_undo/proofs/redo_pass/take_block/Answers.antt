@@ -1,10 +1,12 @@
-use Rattle.std.proofs.Common.{◌+◌, ◌*◌, ◌++◌, ◌∷◌, [], List, refl, subst, append_assoc, ◌∙◌, arith}
+use Rattle.std.proofs.Common.{◌≤◌, ◌+◌, ◌*◌, ◌++◌, ◌∷◌, [], List, append-nil, refl, sym, subst, append_assoc, ◌∙◌, arith}
 use Rattle.site.specs.Laws.{stays_honest, goes_in_sequence, goes_nowhere}
-use Rattle.log_records.specs.Log.{Entry}
+use Rattle.log_records.specs.Log.{Entry, entries_from}
+use Rattle.page_store.specs.Caching.{rules}
 use Rattle.redo_undo.specs.Redoing.{HasTaken}
 use Rattle.redo_undo.proofs.BlockRecords.{some_octet, next_of_log, past_one, none_there, past_all}
 use Rattle.redo_undo.proofs.Redoings.{and_opened}
 use Rattle.redo_undo.proofs.TakenRecords.{part_begins}
+use Rattle.redo_undo.proofs.RedoWorks.{asks_more, asks_all, stops_within}
 use Rattle.redo_undo.proofs.redo_pass.take_block.Goals as goal
 
 pub loop-at-init : goal.loop-at-init
@@ -106,6 +108,7 @@ loop-at-preserved g c =
             taken = subst (HasTaken o c.take_record.new.log c.take_record.new.pages new c.take_record.new.so_far) (append_assoc front a.done (e ∷ []))
                 (t.taken o (front ++ a.done) next.0 blank a.taken next.1);
             moments = λ quiet. and_opened o old mid new (a.moments quiet) (t.any_moment o (front ++ a.done) a.taken (i.stays_quiet h.pages_are.ready.blocks.honest quiet));
+            asked = asks_more o c.args.pages.now c.loop-at.pages c.take_record.new.pages old mid new a.done a.asked _ (e ∷ []) (a.done ++ e ∷ []) refl (t.asks o (front ++ a.done) next.0 blank a.taken next.1);
           };
     }
 
@@ -135,3 +138,25 @@ pub returns-in-Err-clause-worn_end : goal.returns-in-Err-clause-worn_end
 returns-in-Err-clause-worn_end g c o front rest records blank h block used is =
     let a = c.loop-at.invariant.part o front rest records blank h block used is in
     c.in-Err.ensures.worn_end o (front ++ a.done) a.taken
+
+pub returns-in_default-clause-asks : goal.returns-in_default-clause-asks
+returns-in_default-clause-asks g c o front rest records blank h block used is =
+    let a = c.loop-at.invariant.part o front rest records blank h block used is in
+    absurd (none_there c.read_again.ensures.only c.args.block c.args.content.now c.args.used c.loop-at.at records a.done a.past c.loop-at-test.true c.in_default.ensures.bad)
+
+pub returns-in-Err-clause-asks : goal.returns-in-Err-clause-asks
+returns-in-Err-clause-asks g c o front rest records blank h block used is =
+    let a = c.loop-at.invariant.part o front rest records blank h block used is in
+    let e : Entry = record { lsn = 512 * c.args.block + c.loop-at.at; rec = c.in-Ok.rec } in
+    let entries = entries_from (512 * c.args.block + 2) records in
+    let next = next_of_log c.read_again.ensures.only c.args.block c.args.content.now c.args.used c.loop-at.at records a.done a.past front c.in-Ok.rec c.in-Ok.end _ rest c.loop-at-test.true c.in-Ok.ensures.found is in
+    let later = next_of_log c.read_again.ensures.only c.args.block c.args.content.now c.args.used c.loop-at.at records a.done a.past [] c.in-Ok.rec c.in-Ok.end entries [] c.loop-at-test.true c.in-Ok.ensures.found (sym (append-nil entries)) in
+    let some : 1 ≤ (rules c.args.pages.now).groups = omega (arith, c.requires.going.pages_going.flash.limits.groups) in
+    stops_within o c.args.pages.now c.loop-at.pages c.take_record.new.pages (g.S.Site.state c.args.site.now) (g.S.Site.state c.loop-at.site) (g.S.Site.state c.take_record.new.site) a.done a.asked
+    c.in-Err.stop (e ∷ []) later.0 entries some later.1 (c.in-Err.ensures.asks o (front ++ a.done) next.0 blank a.taken next.1)
+
+pub returns-clause-asks : goal.returns-clause-asks
+returns-clause-asks g c o front rest records blank h block used is =
+    let a = c.loop-at.invariant.part o front rest records blank h block used is in
+    asks_all _ o c.args.pages.now c.loop-at.pages (g.S.Site.state c.args.site.now) (g.S.Site.state c.loop-at.site) a.done (entries_from (512 * c.args.block + 2) records)
+    (past_all c.read_again.ensures.only c.args.block c.args.content.now c.args.used c.loop-at.at records a.done a.past c.loop-at-test.false) a.asked

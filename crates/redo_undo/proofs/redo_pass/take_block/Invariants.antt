@@ -37,7 +37,7 @@ invariant-loop-at g l =
       stays_quiet : IsTrue old.honest → IsQuiet old → IsQuiet now;
       log_reads : now.log_reads ≡ old.log_reads;
       part : (o : Opening) (front rest : List Entry) (records : List LogRecord) → l.master ≡ blank → HasTaken o l.fn.log l.fn.pages old l.fn.so_far front → IsBlock l.content records → l.used ≡ used_by records →
-          log_from 0 o.blocks ≡ front ++ (entries_from (512 * l.block + 2) records ++ rest) → IsPartWay o l.log l.pages old now l.so_far front l.block l.content l.used l.at records;
+          log_from 0 o.blocks ≡ front ++ (entries_from (512 * l.block + 2) records ++ rest) → IsPartWay o l.log l.fn.pages l.pages old now l.so_far front l.block l.content l.used l.at records;
     }
 
 abbrev pub decreases-loop-at : goal.decreases-loop-at

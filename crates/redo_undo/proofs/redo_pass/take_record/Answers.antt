@@ -1,8 +1,12 @@
-use Rattle.std.proofs.Common.{◌∷◌, [], arith}
+use Rattle.std.proofs.Common.{◌≡◌, ◌≤◌, ◌∷◌, [], ap, arith}
 use Rattle.std.proofs.lemmas.List.{length-append}
 use Rattle.log_records.specs.Log.{Entry}
+use Rattle.checkpoint.specs.declared.master.Master.{Master}
+use Rattle.page_store.specs.Caching.{rules}
+use Rattle.redo_undo.specs.Redoing.{touches_of}
 use Rattle.redo_undo.proofs.Redoings.{nothing_happens, ok_one_of}
 use Rattle.redo_undo.proofs.NextRecords.{may_step}
+use Rattle.redo_undo.proofs.RedoWorks.{stops_first, not_worn}
 use Rattle.redo_undo.proofs.redo_pass.take_record.Goals as goal
 
 pub returns-in-Err-clause-any_moment : goal.returns-in-Err-clause-any_moment
@@ -38,3 +42,17 @@ returns-clause-quiet g c o front h quiet = c.redo_record.ensures.quiet o front h
 
 pub returns-clause-worn_end : goal.returns-clause-worn_end
 returns-clause-worn_end g c o front h = c.redo_record.ensures.worn_end o front h.pages_are
+
+pub returns-in-Err-clause-asks : goal.returns-in-Err-clause-asks
+returns-in-Err-clause-asks g c o front rest blank h is =
+    let e : Entry = record { lsn = c.args.lsn; rec = c.args.rec.now } in
+    let some : 1 ≤ (rules c.args.pages.now).groups = omega (arith, c.requires.going.pages_going.flash.limits.groups) in
+    stops_first c.in-Err.stop (touches_of o (e ∷ [])) c.args.pages.now (g.S.Site.state c.args.site.now) some (not_worn c.in-Err.stop c.in-Err.ensures.stops)
+
+pub returns-then-lsn-master-clause-asks : goal.returns-then-lsn-master-clause-asks
+returns-then-lsn-master-clause-asks g c o front rest blank h is =
+    let none : c.args.master.now.redo ≡ 0 = ap (λ (m : Master). m.redo) blank in
+    absurd (omega (arith, none, c.if-lsn-master.true))
+
+pub returns-clause-asks : goal.returns-clause-asks
+returns-clause-asks g c o front rest blank h is = c.redo_record.ensures.asks o front rest h.pages_are is

@@ -1,4 +1,4 @@
-use Rattle.std.proofs.Common.{Bool, false, [], subst}
+use Rattle.std.proofs.Common.{◌≤◌, Bool, false, [], arith, subst, ◌∙◌}
 use Rattle.std.specs.Prelude.{◌≡◌}
 use Rattle.page_store.specs.Ahead.{forces, pushed_by_touch}
 use Rattle.log_store.specs.LogList.{LogList}
@@ -6,6 +6,9 @@ use Rattle.redo_undo.specs.Redoing.{IsRedoing}
 use Rattle.redo_undo.proofs.Redoings.{never_forced, rings_given, rings_of, touch_leaves, touched, ok_five_of}
 use Rattle.flash_cache.specs.Held.{IsWorn}
 use Rattle.site.specs.declared.geometry.Geometry.{Geometry}
+use Rattle.second_chance.specs.Machine.{rules_of}
+use Rattle.page_store.specs.Caching.{cache_of, rules}
+use Rattle.redo_undo.proofs.Asking.{touch_overflows, touch_reads}
 use Rattle.redo_undo.proofs.redo_pass.touch_page.Goals as goal
 
 pub returns-clause-redoing : goal.returns-clause-redoing
@@ -44,3 +47,14 @@ returns-clause-quiet g c o front h quiet = c.touch.ensures.quiet (record { first
 pub returns-clause-worn_end : goal.returns-clause-worn_end
 returns-clause-worn_end g c o front h worn =
     subst (λ (k : Geometry). IsWorn k (g.S.Site.state c.touch.new.site).image) h.geometry (c.touch.ensures.worn_end (record { first = 0; blocks = o.blocks; tail = [] }) h.ready worn)
+
+pub returns-clause-asks : goal.returns-clause-asks
+returns-clause-asks g c =
+    let pages = c.args.pages.now in
+    let some : 1 ≤ (rules pages).groups = omega (arith, c.requires.going.pages_going.flash.limits.groups) in
+    record {
+      machine = c.touch.ensures.machine;
+      worn = λ is. (let full = c.touch.ensures.worn_flash is in touch_overflows (rules pages) c.args.page (cache_of pages) some full.0 (c.requires.going.pages_going.flash.next ∙ full.1));
+      reads = touch_reads (rules pages) c.args.page (cache_of pages) (g.S.Site.state c.args.site.now) (g.S.Site.state c.touch.new.site) some c.touch.ensures.flash_reads c.touch.ensures.disk_reads;
+      rules_are = (λ i. rules_of (c.touch.ensures.size i) (c.touch.ensures.geometry i).groups);
+    }

@@ -1,4 +1,4 @@
-use Rattle.std.proofs.Common.{◌≡◌, ◌∙◌, ◌+◌, ◌*◌, ◌++◌, ◌∷◌, [], ℕ, Err, ap, refl, arith}
+use Rattle.std.proofs.Common.{◌≡◌, ◌∙◌, ◌+◌, ◌*◌, ◌++◌, ◌∷◌, [], ◌≤◌, ℕ, Err, ap, refl, arith}
 use Rattle.site.specs.declared.outside.Dev.TheVariants.{Log, Flash}
 use Rattle.site.specs.Laws.{stays_honest}
 use Rattle.site.specs.declared.outside.Stop.TheVariants.{Foreign, Worn}
@@ -8,6 +8,9 @@ use Rattle.redo_undo.specs.Holding.{Holds, MayGrow}
 use Rattle.redo_undo.proofs.Sames.{and_then}
 use Rattle.redo_undo.proofs.Compensations.{may_moved}
 use Rattle.redo_undo.proofs.Appended.{if_ok_one}
+use Rattle.second_chance.specs.Machine.{rules_of}
+use Rattle.page_store.specs.Caching.{rules}
+use Rattle.redo_undo.proofs.AskingUndo.{change_made, change_stopped, never_worn}
 use Rattle.redo_undo.proofs.undo.compensate.Goals as goal
 
 pub returns-in-Ok-clause-any_moment : goal.returns-in-Ok-clause-any_moment
@@ -52,3 +55,19 @@ returns-in-Ok-clause-log_reads g c = c.log_change.ensures.reads Log ∙ c.touch.
 
 pub returns-in-Err-clause-worn_end : goal.returns-in-Err-clause-worn_end
 returns-in-Err-clause-worn_end g c records table commits h worn = let same : c.in-Err.stop ≡ Worn Flash = cc in c.in-Err.ensures.worn_end records table commits h (ap Err same)
+
+pub returns-in-Ok-clause-asks : goal.returns-in-Ok-clause-asks
+returns-in-Ok-clause-asks g c =
+    let pages = c.args.pages.now in
+    let mid = c.touch.new.pages in
+    let new = c.log_change.new.pages in
+    let some : 1 ≤ (rules pages).groups = omega (arith, c.requires.going.pages_going.flash.limits.groups) in
+    change_made tt c.log_change.result c.args.wanted.page pages mid new (g.S.Site.state c.args.site.now) (g.S.Site.state c.touch.new.site) (g.S.Site.state c.log_change.new.site) some c.touch_then_change.ensures
+    c.in-Ok.ensures.asks c.log_change.ensures.machine (λ i. rules_of (c.log_change.ensures.size i) (c.log_change.ensures.geometry i).groups) c.log_change.ensures.reads
+    (never_worn c.log_change.result c.log_change.ensures.stops)
+
+pub returns-in-Err-clause-asks : goal.returns-in-Err-clause-asks
+returns-in-Err-clause-asks g c =
+    let pages = c.args.pages.now in
+    let some : 1 ≤ (rules pages).groups = omega (arith, c.requires.going.pages_going.flash.limits.groups) in
+    change_stopped c.in-Err.stop c.args.wanted.page pages c.touch.new.pages (g.S.Site.state c.args.site.now) (g.S.Site.state c.touch.new.site) some c.in-Err.ensures.asks

@@ -4,6 +4,8 @@ use Rattle.log_records.specs.declared.log_record.LogRecord.TheVariants.{Update}
 use Rattle.log_store.specs.Held.{Finds}
 use Rattle.image_meaning.specs.Meaning.{picture}
 use Rattle.redo_undo.proofs.Compensations.{to_undo, read_is, wanted_is, is_there, next_below, is_one}
+use Rattle.log_records.specs.Log.{number_of}
+use Rattle.redo_undo.proofs.LeftUpdates.{last_left_is}
 use Rattle.redo_undo.proofs.undo.read_update.Goals as goal
 
 pub returns-then-at-clause-readable : goal.returns-then-at-clause-readable
@@ -63,3 +65,10 @@ returns-in_default-clause-readable g c pages records table commits x sizes h unf
     let is = read_is c.page_laws.ensures c.undo_laws.ensures c.args.log.now pages (g.S.Site.state c.args.site.now) records table commits h x unfinished c.args.at.now.next c.in-Ok.rec some at.next
     (c.in-Ok.ensures.found _ finds h.log_holds.ready.records (omega arith)) in
     is_one (picture pages.flash.geometry (g.S.Site.state c.args.site.now).image h.log_holds.blocks) records x c.in-Ok.rec is (λ txn prev page slot before after e. c.in_default.not-Update txn prev page slot before after e)
+
+pub returns-else-page-geometry-clause-last_left : goal.returns-else-page-geometry-clause-last_left
+returns-else-page-geometry-clause-last_left g c pages records table commits x u rest sizes h unfinished at left =
+    let ready = h.log_holds.ready.blocks in
+    let finds : Finds c.args.log.now (g.S.Site.state c.args.site.now) = record { honest = ready.honest; form = ready.form; hi = ready.hi } in
+    ap number_of (last_left_is c.page_laws.ensures c.found_laws.ensures c.undo_laws.ensures c.args.log.now pages (g.S.Site.state c.args.site.now) records table commits h x unfinished u rest left c.args.at.now.next (Update _ _ _ _ _ _) at.next
+    (c.in-Ok.ensures.found _ finds h.log_holds.ready.records (omega arith) ∙ ap Some c.in-Update.is))

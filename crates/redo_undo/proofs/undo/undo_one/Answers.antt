@@ -1,7 +1,8 @@
-use Rattle.std.proofs.Common.{Err, ◌≡◌, ◌+◌, ◌++◌, ◌∷◌, [], ℕ, length, true≢false, refl, sym, ap, subst, ◌∙◌, arith}
+use Rattle.std.specs.Prelude.{⊤, IsErrOf}
+use Rattle.std.proofs.Common.{Ok, Err, inr, ◌≤◌, ◌≡◌, ◌+◌, ◌++◌, ◌∷◌, [], ℕ, length, true≢false, refl, sym, ap, subst, ◌∙◌, arith}
 use Rattle.site.specs.declared.geometry.Geometry.{Geometry}
 use Rattle.site.specs.declared.outside.Dev.TheVariants.{Log, Flash}
-use Rattle.site.specs.declared.outside.Stop.TheVariants.{Worn}
+use Rattle.site.specs.declared.outside.Stop.TheVariants.{Worn, Foreign}
 use Rattle.site.specs.Laws.{stays_honest}
 use Rattle.log_records.specs.declared.log_record.LogRecord.TheVariants.{End}
 use Rattle.log_records.specs.Unfinished.{left_open, owed}
@@ -9,6 +10,9 @@ use Rattle.redo_undo.specs.Holding.{MayGrow, blocks_to}
 use Rattle.redo_undo.specs.Rollback.{AreClrsOf}
 use Rattle.redo_undo.proofs.Sames.{and_then, holds_still, going_still, leaves_still}
 use Rattle.redo_undo.proofs.Rollbacks.{none_remains, room_for_end, may_end, owes_all, rolls_back}
+use Rattle.page_store.specs.Caching.{rules}
+use Rattle.redo_undo.specs.Works.{Asks, undo_one_works}
+use Rattle.redo_undo.proofs.AskingUndo.{log_alone, none_read, not_worn, not_worn_flash, is_error, asks_refused, asks_later, asks_before, stops_again}
 use Rattle.redo_undo.proofs.undo.undo_one.Goals as goal
 
 pub returns-in-Err-clause-any_moment : goal.returns-in-Err-clause-any_moment
@@ -305,3 +309,80 @@ returns-in-Err-undo_updates-clause-worn_end g c records table commits x h unfini
     let at = c.in-Ok.ensures.at pages records table commits x c.requires.going.sizes h unfinished own last in
     let same' : c.in-Err-undo_updates.stop ≡ Worn Flash = cc in
     c.in-Err-undo_updates.ensures.worn_end records table commits x still unfinished at (ap Err same')
+
+pub returns-in-Err-clause-asks : goal.returns-in-Err-clause-asks
+returns-in-Err-clause-asks g c records table commits x h unfinished own last =
+    let pages = c.args.pages.now in
+    let old = g.S.Site.state c.args.site.now in
+    let mid = g.S.Site.state c.read_last.new.site in
+    let some : 1 ≤ (rules pages).groups = omega (arith, c.requires.going.pages_going.flash.limits.groups) in
+    let alone = log_alone old mid c.read_last.ensures.others in
+    asks_refused c.in-Err.stop (undo_one_works records c.args.txn) pages old mid some (not_worn c.in-Err.stop c.in-Err.ensures.stops) alone
+
+pub returns-in-Err-undo_updates-clause-asks : goal.returns-in-Err-undo_updates-clause-asks
+returns-in-Err-undo_updates-clause-asks g c records table commits x h unfinished own last =
+    let pages = c.args.pages.now in
+    let old = g.S.Site.state c.args.site.now in
+    let mid = g.S.Site.state c.read_last.new.site in
+    let some : 1 ≤ (rules pages).groups = omega (arith, c.requires.going.pages_going.flash.limits.groups) in
+    let alone = log_alone old mid c.read_last.ensures.others in
+    let same = c.read_last.ensures.same h.log_holds.ready.blocks.honest in
+    let still = holds_still c.beside_laws.ensures.fits c.args.log.now pages old mid records table commits c.read_last.ensures.goes same h in
+    let at = c.in-Ok.ensures.at pages records table commits x c.requires.going.sizes h unfinished own last in
+    let now = g.S.Site.state c.undo_updates.new.site in
+    let new = c.undo_updates.new.pages in
+    let stop = c.in-Err-undo_updates.stop in
+    subst (λ (t : ℕ). Asks {T = ⊤} (Err stop) (undo_one_works records t) pages new old now) own
+    (stops_again stop (undo_one_works records x.txn) pages new old now
+    (asks_later (Err stop) (undo_one_works records x.txn) pages new old mid now alone (c.in-Err-undo_updates.ensures.asks records table commits x still unfinished at)))
+
+pub returns-then-not-has_room-clause-asks : goal.returns-then-not-has_room-clause-asks
+returns-then-not-has_room-clause-asks g c records table commits x h unfinished own last =
+    let pages = c.args.pages.now in
+    let old = g.S.Site.state c.args.site.now in
+    let mid = g.S.Site.state c.read_last.new.site in
+    let some : 1 ≤ (rules pages).groups = omega (arith, c.requires.going.pages_going.flash.limits.groups) in
+    let alone = log_alone old mid c.read_last.ensures.others in
+    let same = c.read_last.ensures.same h.log_holds.ready.blocks.honest in
+    let still = holds_still c.beside_laws.ensures.fits c.args.log.now pages old mid records table commits c.read_last.ensures.goes same h in
+    let at = c.in-Ok.ensures.at pages records table commits x c.requires.going.sizes h unfinished own last in
+    let now = g.S.Site.state c.undo_updates.new.site in
+    let new = c.undo_updates.new.pages in
+    let asks = c.in-Ok-undo_updates.ensures.asks records table commits x still unfinished at in
+    subst (λ (t : ℕ). Asks {T = ⊤} (Err Foreign) (undo_one_works records t) pages new old now) own
+    (asks_before c.in-Ok-undo_updates.at (Err Foreign) (undo_one_works records x.txn) pages new old now now some (record { flash = refl; disk = refl }) (λ is. not_worn Foreign (inr refl) (is_error Foreign (Worn Flash) is))
+    (asks_later (Ok c.in-Ok-undo_updates.at) (undo_one_works records x.txn) pages new old mid now alone asks))
+
+pub returns-in-Ok-log_record-clause-asks : goal.returns-in-Ok-log_record-clause-asks
+returns-in-Ok-log_record-clause-asks g c records table commits x h unfinished own last =
+    let pages = c.args.pages.now in
+    let old = g.S.Site.state c.args.site.now in
+    let mid = g.S.Site.state c.read_last.new.site in
+    let some : 1 ≤ (rules pages).groups = omega (arith, c.requires.going.pages_going.flash.limits.groups) in
+    let alone = log_alone old mid c.read_last.ensures.others in
+    let same = c.read_last.ensures.same h.log_holds.ready.blocks.honest in
+    let still = holds_still c.beside_laws.ensures.fits c.args.log.now pages old mid records table commits c.read_last.ensures.goes same h in
+    let at = c.in-Ok.ensures.at pages records table commits x c.requires.going.sizes h unfinished own last in
+    let now = g.S.Site.state c.undo_updates.new.site in
+    let new = c.undo_updates.new.pages in
+    let asks = c.in-Ok-undo_updates.ensures.asks records table commits x still unfinished at in
+    subst (λ (t : ℕ). Asks {T = ⊤} (Ok tt) (undo_one_works records t) pages new old (g.S.Site.state c.log_record.new.site)) own
+    (asks_before c.in-Ok-undo_updates.at (Ok tt) (undo_one_works records x.txn) pages new old now (g.S.Site.state c.log_record.new.site) some (none_read now (g.S.Site.state c.log_record.new.site) c.log_record.ensures.reads) (λ (is : IsErrOf {T = ⊤} (Ok tt) (Worn Flash)). cc)
+    (asks_later (Ok c.in-Ok-undo_updates.at) (undo_one_works records x.txn) pages new old mid now alone asks))
+
+pub returns-in-Err-log_record-clause-asks : goal.returns-in-Err-log_record-clause-asks
+returns-in-Err-log_record-clause-asks g c records table commits x h unfinished own last =
+    let pages = c.args.pages.now in
+    let old = g.S.Site.state c.args.site.now in
+    let mid = g.S.Site.state c.read_last.new.site in
+    let some : 1 ≤ (rules pages).groups = omega (arith, c.requires.going.pages_going.flash.limits.groups) in
+    let alone = log_alone old mid c.read_last.ensures.others in
+    let same = c.read_last.ensures.same h.log_holds.ready.blocks.honest in
+    let still = holds_still c.beside_laws.ensures.fits c.args.log.now pages old mid records table commits c.read_last.ensures.goes same h in
+    let at = c.in-Ok.ensures.at pages records table commits x c.requires.going.sizes h unfinished own last in
+    let now = g.S.Site.state c.undo_updates.new.site in
+    let new = c.undo_updates.new.pages in
+    let asks = c.in-Ok-undo_updates.ensures.asks records table commits x still unfinished at in
+    subst (λ (t : ℕ). Asks {T = ⊤} (Err c.in-Err-log_record.stop) (undo_one_works records t) pages new old (g.S.Site.state c.log_record.new.site)) own
+    (asks_before c.in-Ok-undo_updates.at (Err c.in-Err-log_record.stop) (undo_one_works records x.txn) pages new old now (g.S.Site.state c.log_record.new.site) some (none_read now (g.S.Site.state c.log_record.new.site) c.log_record.ensures.reads) (λ is. not_worn_flash c.in-Err-log_record.stop c.in-Err-log_record.ensures.stops (is_error c.in-Err-log_record.stop (Worn Flash) is))
+    (asks_later (Ok c.in-Ok-undo_updates.at) (undo_one_works records x.txn) pages new old mid now alone asks))

@@ -1,4 +1,4 @@
-use Rattle.std.proofs.Common.{true≢false, Err, refl, sym, ap, subst, ◌∙◌, arith, ◌≡◌}
+use Rattle.std.proofs.Common.{true≢false, Ok, Err, inr, ◌∷◌, [], ◌≤◌, refl, sym, ap, subst, ◌∙◌, arith, ◌≡◌}
 use Rattle.site.specs.declared.geometry.Geometry.{Geometry}
 use Rattle.site.specs.State.{Image}
 use Rattle.site.specs.Laws.{stays_honest}
@@ -6,8 +6,11 @@ use Rattle.log_records.specs.declared.log_record.LogRecord.TheVariants.{Clr}
 use Rattle.redo_undo.specs.Undoing.{IsWanted}
 use Rattle.redo_undo.proofs.Sames.{and_then, holds_still, going_still, leaves_still}
 use Rattle.redo_undo.proofs.Compensations.{may_compensate, room_for_clr, owes_less, undone}
-use Rattle.site.specs.declared.outside.Stop.TheVariants.{Worn}
+use Rattle.site.specs.declared.outside.Stop.TheVariants.{Worn, Foreign}
 use Rattle.site.specs.declared.outside.Dev.TheVariants.{Flash}
+use Rattle.page_store.specs.Caching.{rules}
+use Rattle.redo_undo.specs.UndoWorks.{works_of}
+use Rattle.redo_undo.proofs.AskingUndo.{log_alone, not_worn, asks_refused, asks_of_update, stops_again, ends_again}
 use Rattle.redo_undo.proofs.undo.undo_update.Goals as goal
 
 pub returns-in-Err-clause-any_moment : goal.returns-in-Err-clause-any_moment
@@ -102,3 +105,41 @@ returns-in-Err-compensate-clause-worn_end g c records table commits h worn =
     let same : c.in-Err-compensate.stop ≡ Worn Flash = cc in
     c.in-Err-compensate.ensures.worn_end records table commits
     (holds_still c.beside_laws.ensures.fits c.args.log.now c.args.pages.now old mid records table commits c.read_update.ensures.goes (c.read_update.ensures.same h.log_holds.ready.blocks.honest) h) (ap Err same)
+
+pub returns-in-Err-clause-asks : goal.returns-in-Err-clause-asks
+returns-in-Err-clause-asks g c records table commits x u rest h unfinished at left =
+    let pages = c.args.pages.now in
+    let some : 1 ≤ (rules pages).groups = omega (arith, c.requires.going.pages_going.flash.limits.groups) in
+    asks_refused c.in-Err.stop (works_of (u ∷ [])) pages (g.S.Site.state c.args.site.now) (g.S.Site.state c.read_update.new.site) some (not_worn c.in-Err.stop c.in-Err.ensures.stops)
+    (log_alone (g.S.Site.state c.args.site.now) (g.S.Site.state c.read_update.new.site) c.read_update.ensures.others)
+
+pub returns-then-not-has_room-clause-asks : goal.returns-then-not-has_room-clause-asks
+returns-then-not-has_room-clause-asks g c records table commits x u rest h unfinished at left =
+    let pages = c.args.pages.now in
+    let some : 1 ≤ (rules pages).groups = omega (arith, c.requires.going.pages_going.flash.limits.groups) in
+    asks_refused Foreign (works_of (u ∷ [])) pages (g.S.Site.state c.args.site.now) (g.S.Site.state c.read_update.new.site) some (not_worn Foreign (inr refl))
+    (log_alone (g.S.Site.state c.args.site.now) (g.S.Site.state c.read_update.new.site) c.read_update.ensures.others)
+
+pub returns-in-Err-compensate-clause-asks : goal.returns-in-Err-compensate-clause-asks
+returns-in-Err-compensate-clause-asks g c records table commits x u rest h unfinished at left =
+    let pages = c.args.pages.now in
+    let new = c.compensate.new.pages in
+    let old = g.S.Site.state c.args.site.now in
+    let mid = g.S.Site.state c.read_update.new.site in
+    let now = g.S.Site.state c.compensate.new.site in
+    let w = c.in-Ok.wanted in
+    stops_again c.in-Err-compensate.stop (works_of (u ∷ [])) pages new old now
+    (asks_of_update (Err c.in-Err-compensate.stop) u w.page w.slot pages new old mid now c.in-Ok.ensures.form.0
+    (c.in-Ok.ensures.last_left pages records table commits x u rest c.requires.going.sizes h unfinished at left) (log_alone old mid c.read_update.ensures.others) c.in-Err-compensate.ensures.asks)
+
+pub returns-clause-asks : goal.returns-clause-asks
+returns-clause-asks g c records table commits x u rest h unfinished at left =
+    let pages = c.args.pages.now in
+    let new = c.compensate.new.pages in
+    let old = g.S.Site.state c.args.site.now in
+    let mid = g.S.Site.state c.read_update.new.site in
+    let now = g.S.Site.state c.compensate.new.site in
+    let w = c.in-Ok.wanted in
+    ends_again c.in-Ok-compensate.last _ (works_of (u ∷ [])) pages new old now
+    (asks_of_update (Ok c.in-Ok-compensate.last) u w.page w.slot pages new old mid now c.in-Ok.ensures.form.0
+    (c.in-Ok.ensures.last_left pages records table commits x u rest c.requires.going.sizes h unfinished at left) (log_alone old mid c.read_update.ensures.others) c.in-Ok-compensate.ensures.asks)

@@ -1,13 +1,19 @@
-use Rattle.std.proofs.Common.{◌≡◌, Err, refl, ap, ◌∙◌, arith, subst}
+use Rattle.std.proofs.Common.{◌≡◌, ◌≤◌, List, [], ◌∷◌, ◌++◌, append-nil, Err, refl, sym, ap, ◌∙◌, arith, subst}
 use Rattle.site.specs.Laws.{goes_nowhere, goes_in_sequence, fault_since, stays_honest}
 use Rattle.site.specs.declared.outside.Dev.TheVariants.{Log, Flash}
 use Rattle.site.specs.declared.outside.Stop.TheVariants.{Device, Worn}
 use Rattle.redo_undo.specs.Holding.{blocks_to}
 use Rattle.redo_undo.specs.Rollback.{left_of}
 use Rattle.redo_undo.proofs.Sames.{and_then, nothing_happens}
-use Rattle.redo_undo.proofs.Rollbacks.{starts, remains, goes_on}
+use Rattle.redo_undo.proofs.Rollbacks.{starts, remains, none_remains, goes_on}
 use Rattle.flash_cache.specs.Held.{IsWorn}
 use Rattle.site.specs.declared.geometry.Geometry.{Geometry}
+use Rattle.log_records.specs.Log.{Entry}
+use Rattle.log_records.specs.Unfinished.{left_open}
+use Rattle.page_store.specs.Caching.{rules}
+use Rattle.redo_undo.proofs.LeftUpdates.{first_of, none_of}
+use Rattle.redo_undo.proofs.AskingUndo.{more_work_stopped, all_work}
+use Rattle.redo_undo.proofs.UndoSoFar.{starts_asking, goes_on_asking}
 use Rattle.redo_undo.proofs.undo.undo_updates.Goals as goal
 
 pub loop-at-init : goal.loop-at-init
@@ -24,6 +30,7 @@ loop-at-init g c = record {
   left = λ honest. refl;
   stays_quiet = λ honest quiet. quiet;
   undone = λ records table commits x h unfinished at. starts c.args.log.now c.args.pages.now (g.S.Site.state c.args.site.now) records table commits x c.args.first h unfinished at;
+  asked = λ records table commits x h unfinished at. starts_asking c.args.log.now c.args.pages.now (g.S.Site.state c.args.site.now) records table commits x c.args.first h unfinished at;
   any_moment = λ records table commits x h unfinished at quiet. nothing_happens c.args.log.now c.args.pages.now (g.S.Site.state c.args.site.now) records table commits c.requires.going.sizes h quiet;
 }
 
@@ -77,6 +84,16 @@ loop-at-preserved g c =
           goes_on c.page_laws.ensures c.undo_laws.ensures c.loop-at.log c.loop-at.pages mid records table commits x.txn (blocks_to c.args.log.now) (g.S.Site.state c.args.site.now).log_reads c.loop-at.at before c.undo_update.new.log c.undo_update.new.pages new c.in-Ok.next
           (c.in-Ok.ensures.undone _ table commits (left_of c.loop-at.at before.remaining) before.holds before.left (record { txn = refl; last = refl; next = refl }) some)
           c.in-Ok.ensures.blocks c.undo_update.ensures.log_reads;
+      asked = λ records table commits x h unfinished at.
+          let both = inv.asked records table commits x h unfinished at in
+          let before = both.0 in
+          let some = remains c.page_laws.ensures c.undo_laws.ensures c.loop-at.log c.loop-at.pages mid records table commits x.txn (blocks_to c.args.log.now) (g.S.Site.state c.args.site.now).log_reads c.loop-at.at before c.loop-at-test.true in
+          let done = c.in-Ok.ensures.undone _ table commits (left_of c.loop-at.at before.remaining) before.holds before.left (record { txn = refl; last = refl; next = refl }) some in
+          let count = before.left.remaining_is in
+          let u = first_of (left_open (records ++ before.clrs) c.loop-at.at.txn) (omega (arith, some, count)) in
+          goes_on_asking c.page_laws.ensures c.undo_laws.ensures c.loop-at.log c.loop-at.pages mid records table commits x.txn (blocks_to c.args.log.now) c.loop-at.at c.args.pages.now old both c.undo_update.new.log c.undo_update.new.pages new c.in-Ok.next u.0 u.1 u.2
+          done c.in-Ok.ensures.blocks c.undo_update.ensures.log_reads
+          (c.in-Ok.ensures.asks _ table commits (left_of c.loop-at.at before.remaining) u.0 u.1 before.holds before.left (record { txn = refl; last = refl; next = refl }) u.2);
       any_moment = λ records table commits x h unfinished at quiet.
           let before = inv.undone records table commits x h unfinished at in
           and_then c.args.pages.now.flash.geometry c.loop-at.pages.flash.geometry old mid new table commits inv.geometry
@@ -128,3 +145,31 @@ returns-in-Err-clause-worn_end g c records table commits x h unfinished at worn 
     let inv = c.loop-at.invariant.undone records table commits x h unfinished at in
     let same : c.in-Err.stop ≡ Worn Flash = cc in
     subst (λ (k : Geometry). IsWorn k (g.S.Site.state c.undo_update.new.site).image) c.loop-at.invariant.geometry (c.in-Err.ensures.worn_end _ table commits inv.holds (ap Err same))
+
+pub returns-in-Err-clause-asks : goal.returns-in-Err-clause-asks
+returns-in-Err-clause-asks g c records table commits x h unfinished at =
+    let old = g.S.Site.state c.args.site.now in
+    let mid = g.S.Site.state c.loop-at.site in
+    let new = g.S.Site.state c.undo_update.new.site in
+    let both = c.loop-at.invariant.asked records table commits x h unfinished at in
+    let before = both.0 in
+    let remain = remains c.page_laws.ensures c.undo_laws.ensures c.loop-at.log c.loop-at.pages mid records table commits x.txn (blocks_to c.args.log.now) old.log_reads c.loop-at.at before c.loop-at-test.true in
+    let count = before.left.remaining_is in
+    let u = first_of (left_open (records ++ before.clrs) c.loop-at.at.txn) (omega (arith, remain, count)) in
+    let some : 1 ≤ (rules c.args.pages.now).groups = omega (arith, c.requires.going.pages_going.flash.limits.groups) in
+    let left : left_open (records ++ before.clrs) x.txn ≡ u.0 ∷ u.1 = sym (ap (left_open (records ++ before.clrs)) before.same) ∙ u.2 in
+    let all : left_open records x.txn ≡ both.1.done ++ u.0 ∷ u.1 = both.1.are ∙ ap (λ (l : List Entry). both.1.done ++ l) left in
+    more_work_stopped tt c.in-Err.stop (left_open records x.txn) both.1.done u.1 u.0 c.args.pages.now c.loop-at.pages c.undo_update.new.pages old mid new some all both.1.asks
+    (c.in-Err.ensures.asks _ table commits (left_of c.loop-at.at before.remaining) u.0 u.1 before.holds before.left (record { txn = refl; last = refl; next = refl }) u.2)
+
+pub returns-clause-asks : goal.returns-clause-asks
+returns-clause-asks g c records table commits x h unfinished at =
+    let old = g.S.Site.state c.args.site.now in
+    let mid = g.S.Site.state c.loop-at.site in
+    let both = c.loop-at.invariant.asked records table commits x h unfinished at in
+    let before = both.0 in
+    let none = none_remains c.page_laws.ensures c.undo_laws.ensures c.loop-at.log c.loop-at.pages mid records table commits x.txn (blocks_to c.args.log.now) old.log_reads c.loop-at.at before c.loop-at-test.false in
+    let count = before.left.remaining_is in
+    let empty : left_open (records ++ before.clrs) x.txn ≡ [] = sym (ap (left_open (records ++ before.clrs)) before.same) ∙ none_of (left_open (records ++ before.clrs) c.loop-at.at.txn) (omega (arith, none, count)) in
+    all_work tt _ (left_open records x.txn) both.1.done c.args.pages.now c.loop-at.pages old mid
+    (both.1.are ∙ ap (λ (l : List Entry). both.1.done ++ l) empty ∙ append-nil both.1.done) both.1.asks

@@ -10,6 +10,7 @@ use Rattle.image_meaning.specs.Moments.{LeavesTable}
 use Rattle.redo_undo.specs.Holding.{MayGoOn, Holds, blocks_to}
 use Rattle.redo_undo.specs.Undoing.{IsAt}
 use Rattle.redo_undo.specs.Rollback.{Compensates}
+use Rattle.redo_undo.proofs.UndoSoFar.{AsksFor}
 use Rattle.redo_undo.proofs.undo.undo_updates.Given as goal
 
 abbrev pub invariant-loop-at : goal.invariant-loop-at
@@ -29,6 +30,8 @@ invariant-loop-at g l =
       left : IsTrue old.honest → now.left ≡ old.left;
       stays_quiet : IsTrue old.honest → IsQuiet old → IsQuiet now;
       undone : (records : List Entry) (table : List Content) (commits : ℕ) (x : Unfinished) → Holds l.fn.log l.fn.pages old records table commits → IsUnfinished records x → IsAt l.fn.first x → Compensates l.log l.pages now records table commits x.txn (blocks_to l.fn.log) old.log_reads l.at;
+      asked : (records : List Entry) (table : List Content) (commits : ℕ) (x : Unfinished) → Holds l.fn.log l.fn.pages old records table commits → IsUnfinished records x → IsAt l.fn.first x →
+          AsksFor l.log l.pages now records table commits x.txn (blocks_to l.fn.log) l.at l.fn.pages old;
       any_moment : (records : List Entry) (table : List Content) (commits : ℕ) (x : Unfinished) → Holds l.fn.log l.fn.pages old records table commits → IsUnfinished records x → IsAt l.fn.first x → IsQuiet old → LeavesOnly old now (LeavesTable l.fn.pages.flash.geometry table commits old.told);
     }
 

@@ -6,6 +6,9 @@ use Rattle.log_laws.specs.UndoLaws.{next_of}
 use Rattle.image_meaning.specs.Meaning.{blank_master}
 use Rattle.redo_undo.proofs.Sames.{nothing_happens}
 use Rattle.redo_undo.proofs.Found.{unfinished_of, room_to_end, end_may, owes_end, one_end}
+use Rattle.log_records.specs.Unfinished.{left_open}
+use Rattle.redo_undo.proofs.LeftUpdates.{none_of}
+use Rattle.redo_undo.proofs.UndoneUpdates.{end_updates}
 use Rattle.redo_undo.proofs.undo_losers.end_one.Goals as goal
 
 pub returns-then-not-has_room-clause-readable : goal.returns-then-not-has_room-clause-readable
@@ -45,3 +48,18 @@ returns-in-Err-clause-log_reads g c = c.log_record.ensures.reads Log
 
 pub returns-clause-log_reads : goal.returns-clause-log_reads
 returns-clause-log_reads g c = c.log_record.ensures.reads Log
+
+pub returns-clause-updates : goal.returns-clause-updates
+returns-clause-updates g c pages records table commits known sizes h =
+    let log = c.args.log.now in
+    let site = g.S.Site.state c.args.site.now in
+    let new = g.S.Site.state c.log_record.new.site in
+    let lsn = c.in-Ok.lsn in
+    let n = c.requires.none in
+    let x : Unfinished = record { txn = c.args.txn; last = n.x.last; next = next_of records c.args.txn; remaining = length n.x.updates } in
+    let u = unfinished_of c.found_laws.ensures c.undo_laws.ensures log pages site records table commits c.args.found.now h.holds h.analysis c.args.txn n.x n.there in
+    end_updates c.undo_laws.ensures c.log_record.new.log pages new records table commits c.finished.new.self c.args.txn lsn
+    (none_of (left_open records c.args.txn) (sym (ap length n.none) ∙ u.remaining_is))
+    (c.in-Ok.ensures.holds pages records table commits sizes h.holds refl (end_may c.page_laws.ensures c.undo_laws.ensures log pages site records table commits h.holds x u (ap length n.none) lsn))
+    (c.finished.ensures.read blank_master records lsn h.analysis)
+    (owes_end c.page_laws.ensures c.undo_laws.ensures log pages site records table commits h.holds x u (ap length n.none) lsn)

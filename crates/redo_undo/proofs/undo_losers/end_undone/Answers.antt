@@ -1,8 +1,9 @@
-use Rattle.std.proofs.Common.{◌≡◌, Err, refl, ap, ◌∙◌, arith}
+use Rattle.std.proofs.Common.{◌≡◌, [], Err, refl, ap, ◌∙◌, arith}
 use Rattle.site.specs.Laws.{goes_nowhere, goes_in_sequence, fault_since, stays_honest}
 use Rattle.site.specs.declared.outside.Stop.TheVariants.{Device}
 use Rattle.redo_undo.proofs.Sames.{and_then, nothing_happens}
 use Rattle.redo_undo.proofs.Found.{nothing_undone, more_undone}
+use Rattle.redo_undo.proofs.UndoneUpdates.{no_updates, more_updates}
 use Rattle.redo_undo.proofs.undo_losers.end_undone.Goals as goal
 
 pub loop-txn-init : goal.loop-txn-init
@@ -21,6 +22,8 @@ loop-txn-init g c = record {
   log_reads = refl;
   fewer = omega arith;
   undone = λ pages records table commits going h. nothing_undone c.args.log.now pages (g.S.Site.state c.args.site.now) records table commits c.args.found.now c.args.known h;
+  updates = λ pages records table commits going h. no_updates c.args.log.now pages (g.S.Site.state c.args.site.now) records table commits c.args.found.now c.args.known h;
+  reads = λ d. refl;
   any_moment = λ pages records table commits going h quiet. nothing_happens c.args.log.now pages (g.S.Site.state c.args.site.now) records table commits going.sizes h.holds quiet;
 }
 
@@ -51,6 +54,11 @@ loop-txn-preserved g c =
           let before = inv.undone pages records table commits going h in
           more_undone c.loop-txn.log c.end_one.new.log pages pages mid new records table commits c.loop-txn.found c.end_one.new.found c.loop-txn.last c.in-Ok.lsn before
           (c.in-Ok.ensures.undone pages _ table commits c.loop-txn.last (inv.going pages going).sizes before.now);
+      updates = λ pages records table commits going h.
+          let before = inv.updates pages records table commits going h in
+          more_updates c.loop-txn.log c.end_one.new.log pages pages mid new records table commits c.loop-txn.found c.end_one.new.found c.loop-txn.last c.in-Ok.lsn [] [] before
+          (c.in-Ok.ensures.updates pages _ table commits c.loop-txn.last (inv.going pages going).sizes before.some.now);
+      reads = λ d. c.end_one.ensures.reads d ∙ inv.reads d;
       any_moment = λ pages records table commits going h quiet.
           let before = inv.undone pages records table commits going h in
           and_then pages.flash.geometry pages.flash.geometry old mid new table commits refl
@@ -85,3 +93,6 @@ returns-in-Err-clause-log_reads g c = c.end_one.ensures.log_reads ∙ c.loop-txn
 pub returns-in-Err-clause-quiet : goal.returns-in-Err-clause-quiet
 returns-in-Err-clause-quiet g c pages records table commits going h quiet =
     c.in-Err.ensures.quiet pages _ table commits (c.loop-txn.invariant.undone pages records table commits going h).now.holds (c.loop-txn.invariant.stays_quiet h.holds.log_holds.ready.blocks.honest quiet)
+
+pub returns-in-Err-clause-reads : goal.returns-in-Err-clause-reads
+returns-in-Err-clause-reads g c = λ d. c.end_one.ensures.reads d ∙ c.loop-txn.invariant.reads d

@@ -1,6 +1,6 @@
-use Rattle.std.proofs.Common.{◌≡◌, ◌+◌, ◌≤◌, ◌<◌, ℕ, List, IsTrue}
+use Rattle.std.proofs.Common.{◌≡◌, ◌+◌, ◌≤◌, ◌<◌, ℕ, List, [], IsTrue}
 use Rattle.site.specs.State.{IsQuiet}
-use Rattle.site.specs.Calls.{Goes}
+use Rattle.site.specs.Calls.{Goes, SameReads}
 use Rattle.site.specs.Moments.{LeavesOnly}
 use Rattle.record_model.specs.State.{Content}
 use Rattle.log_records.specs.Log.{Entry}
@@ -13,6 +13,7 @@ use Rattle.analysis.specs.Table.{listed}
 use Rattle.analysis.specs.Read as analysis
 use Rattle.redo_undo.specs.Holding.{MayGoOn, blocks_to}
 use Rattle.redo_undo.specs.UndoingAll.{IsUndoing, UndoesSome}
+use Rattle.redo_undo.specs.UndoWorks.{UndoesUpdates}
 use Rattle.redo_undo.proofs.undo_losers.end_undone.Given as goal
 
 abbrev pub invariant-loop-txn : goal.invariant-loop-txn
@@ -35,6 +36,9 @@ invariant-loop-txn g l =
       fewer : owed_for (listed l.found.table) ≤ owed_for (listed l.fn.found.table);
       undone : (pages : PageStore) (records : List Entry) (table : List Content) (commits : ℕ) → MayGoOn l.fn.log pages old → IsUndoing l.fn.log pages old records table commits l.fn.found l.fn.known →
           UndoesSome l.log pages now records table commits l.found l.last;
+      updates : (pages : PageStore) (records : List Entry) (table : List Content) (commits : ℕ) → MayGoOn l.fn.log pages old → IsUndoing l.fn.log pages old records table commits l.fn.found l.fn.known →
+          UndoesUpdates l.log pages now records table commits l.found l.last [];
+      reads : SameReads old now;
       any_moment : (pages : PageStore) (records : List Entry) (table : List Content) (commits : ℕ) → MayGoOn l.fn.log pages old → IsUndoing l.fn.log pages old records table commits l.fn.found l.fn.known →
           IsQuiet old → LeavesOnly old now (LeavesTable pages.flash.geometry table commits old.told);
     }

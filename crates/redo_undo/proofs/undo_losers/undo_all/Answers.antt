@@ -1,4 +1,5 @@
-use Rattle.std.proofs.Common.{◌≡◌, ◌++◌, ◌+◌, [], true, refl, ◌∙◌, arith, Err, ap, subst}
+use Rattle.std.proofs.Common.{◌≡◌, ◌++◌, ◌+◌, ◌≤◌, [], true, refl, ◌∙◌, arith, Ok, Err, ap, subst}
+use Rattle.std.specs.Prelude.{⊤, IsErrOf}
 use Rattle.std.specs.List.{AllByRecursion}
 use Rattle.site.specs.Laws.{goes_in_sequence, stays_honest}
 use Rattle.log_records.specs.Log.{last_where}
@@ -12,6 +13,11 @@ use Rattle.site.specs.declared.outside.Stop.TheVariants.{Worn}
 use Rattle.site.specs.declared.outside.Dev.TheVariants.{Flash}
 use Rattle.flash_cache.specs.Held.{IsWorn}
 use Rattle.site.specs.declared.geometry.Geometry.{Geometry}
+use Rattle.page_store.specs.Caching.{rules}
+use Rattle.redo_undo.specs.Works.{undo_works}
+use Rattle.redo_undo.proofs.Asking.{asks_nothing}
+use Rattle.redo_undo.proofs.AskingUndo.{none_read, not_worn_either, asks_refused}
+use Rattle.redo_undo.proofs.UndoneUpdates.{next_is_last, none_is_next, updates_asked_more, updates_asked_stopped, updates_asked}
 use Rattle.redo_undo.proofs.undo_losers.undo_all.Goals as goal
 
 pub loop-next-init : goal.loop-next-init
@@ -34,6 +40,12 @@ loop-next-init g c =
       log_reads = let fewer = c.in-Ok.ensures.fewer in omega (arith, fewer, c.end_undone.ensures.log_reads);
       undone = λ records table commits none h is. c.in-Ok.ensures.undone c.args.pages.now records table commits c.requires.going
           (record { holds = h; analysis = is; up_to = sealed_up_to c.undo_laws.ensures c.args.log.now c.args.pages.now old records table commits (c.sealed_end-sealed.result + 1) h none (omega (arith, c.sealed_end-sealed.ensures)) });
+      asked = λ records table commits none h is. record {
+        done = [];
+        updates = c.in-Ok.ensures.updates c.args.pages.now records table commits c.requires.going
+            (record { holds = h; analysis = is; up_to = sealed_up_to c.undo_laws.ensures c.args.log.now c.args.pages.now old records table commits (c.sealed_end-sealed.result + 1) h none (omega (arith, c.sealed_end-sealed.ensures)) });
+        asks = asks_nothing {T = ⊤} (Ok tt) c.args.pages.now old (g.S.Site.state c.end_undone.new.site) c.end_undone.ensures.reads (λ (worn : IsErrOf {T = ⊤} (Ok tt) (Worn Flash)). cc);
+      };
       any_moment = λ records table commits none h is. c.end_undone.ensures.any_moment c.args.pages.now records table commits c.requires.going
           (record { holds = h; analysis = is; up_to = sealed_up_to c.undo_laws.ensures c.args.log.now c.args.pages.now old records table commits (c.sealed_end-sealed.result + 1) h none (omega (arith, c.sealed_end-sealed.ensures)) });
     }
@@ -80,6 +92,14 @@ loop-next-preserved g c =
           let greatest = next_is_greatest c.next_undo.result c.in-Some.next (last_where (λ v. true) (pending all)) c.in-Some.is (c.next_undo.ensures.of_records blank_master all 0 _ before.now.analysis ordered) in
           more_undone c.loop-next.log c.undo_next.new.log c.loop-next.pages c.undo_next.new.pages mid new records table commits c.loop-next.found c.undo_next.new.found c.loop-next.known c.in-Ok-undo_next.lsn before
           (c.in-Ok-undo_next.ensures.undone all table commits before.now greatest);
+      asked = λ records table commits none h is.
+          let before = inv.asked records table commits none h is in
+          let undone = before.updates.some in
+          let all = records ++ undone.more in
+          let ordered = order c.found_laws.ensures c.undo_laws.ensures c.loop-next.log c.loop-next.pages mid all table commits c.loop-next.found undone.now.holds undone.now.analysis in
+          let last = next_is_last all c.next_undo.result c.in-Some.next c.in-Some.is (c.next_undo.ensures.of_records blank_master all 0 _ undone.now.analysis ordered) in
+          updates_asked_more c.in-Ok-undo_next.lsn c.loop-next.log c.undo_next.new.log c.loop-next.pages c.undo_next.new.pages mid new records table commits c.loop-next.found c.undo_next.new.found c.loop-next.known c.in-Ok-undo_next.lsn c.args.pages.now old
+          before last.0 (c.in-Ok-undo_next.ensures.updates all table commits last.0 undone.now last.1) (c.in-Ok-undo_next.ensures.asks all table commits last.0 undone.now last.1);
       any_moment = λ records table commits none h is quiet.
           let before = inv.undone records table commits none h is in
           let all = records ++ before.more in
@@ -156,3 +176,37 @@ returns-in-Err-undo_next-clause-worn_end g c records table commits none h is wor
     let before = inv.undone records table commits none h is in
     let same : c.in-Err-undo_next.stop ≡ Worn Flash = cc in
     subst (λ (k : Geometry). IsWorn k (g.S.Site.state c.undo_next.new.site).image) inv.geometry (c.in-Err-undo_next.ensures.worn_end (records ++ before.more) table commits before.now.holds (ap Err same))
+
+pub returns-in-Err-clause-asks : goal.returns-in-Err-clause-asks
+returns-in-Err-clause-asks g c records table commits none h is =
+    let pages = c.args.pages.now in
+    let some : 1 ≤ (rules pages).groups = omega (arith, c.requires.going.pages_going.flash.limits.groups) in
+    let old = g.S.Site.state c.args.site.now in
+    let new = g.S.Site.state c.end_undone.new.site in
+    asks_refused c.in-Err.stop (undo_works records) pages old new some (not_worn_either c.in-Err.stop c.in-Err.ensures.stops) (none_read old new c.end_undone.ensures.reads)
+
+pub returns-in-Err-undo_next-clause-asks : goal.returns-in-Err-undo_next-clause-asks
+returns-in-Err-undo_next-clause-asks g c records table commits none h is =
+    let pages = c.args.pages.now in
+    let some : 1 ≤ (rules pages).groups = omega (arith, c.requires.going.pages_going.flash.limits.groups) in
+    let old = g.S.Site.state c.args.site.now in
+    let mid = g.S.Site.state c.loop-next.site in
+    let new = g.S.Site.state c.undo_next.new.site in
+    let inv = c.loop-next.invariant in
+    let before = inv.asked records table commits none h is in
+    let undone = before.updates.some in
+    let all = records ++ undone.more in
+    let ordered = order c.found_laws.ensures c.undo_laws.ensures c.loop-next.log c.loop-next.pages mid all table commits c.loop-next.found undone.now.holds undone.now.analysis in
+    let last = next_is_last all c.next_undo.result c.in-Some.next c.in-Some.is (c.next_undo.ensures.of_records blank_master all 0 _ undone.now.analysis ordered) in
+    updates_asked_stopped c.in-Err-undo_next.stop c.loop-next.log c.loop-next.pages c.undo_next.new.pages mid new records table commits c.loop-next.found c.loop-next.known pages old some before last.0 c.in-Some.next.0 c.in-Some.next.1 last.1
+    (c.in-Err-undo_next.ensures.asks all table commits last.0 undone.now last.1)
+
+pub returns-clause-asks : goal.returns-clause-asks
+returns-clause-asks g c records table commits none h is =
+    let mid = g.S.Site.state c.loop-next.site in
+    let before = c.loop-next.invariant.asked records table commits none h is in
+    let undone = before.updates.some in
+    let all = records ++ undone.more in
+    let ordered = order c.found_laws.ensures c.undo_laws.ensures c.loop-next.log c.loop-next.pages mid all table commits c.loop-next.found undone.now.holds undone.now.analysis in
+    updates_asked tt c.loop-next.log c.loop-next.pages mid records table commits c.loop-next.found c.loop-next.known c.args.pages.now (g.S.Site.state c.args.site.now) before
+    (none_is_next all c.next_undo.result (λ at is_some. c.in_default.not-Some at is_some) (c.next_undo.ensures.of_records blank_master all 0 _ undone.now.analysis ordered))

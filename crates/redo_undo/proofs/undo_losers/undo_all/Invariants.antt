@@ -12,6 +12,7 @@ use Rattle.analysis.specs.Table.{listed}
 use Rattle.analysis.specs.Read as analysis
 use Rattle.redo_undo.specs.Holding.{MayGoOn, Holds, blocks_to}
 use Rattle.redo_undo.specs.UndoingAll.{Remain, UndoesSome}
+use Rattle.redo_undo.proofs.UndoneUpdates.{AsksUpdates}
 use Rattle.redo_undo.proofs.undo_losers.undo_all.Given as goal
 
 abbrev pub invariant-loop-next : goal.invariant-loop-next
@@ -35,6 +36,8 @@ invariant-loop-next g l =
       log_reads : now.log_reads + owed_for (listed l.found.table) ≤ old.log_reads + owed_for (listed l.fn.found.table);
       undone : (records : List Entry) (table : List Content) (commits : ℕ) → has_tail l.fn.log ≡ false → Holds l.fn.log l.fn.pages old records table commits → analysis.IsAnalysis blank_master records l.fn.found →
           UndoesSome l.log l.pages now records table commits l.found l.known;
+      asked : (records : List Entry) (table : List Content) (commits : ℕ) → has_tail l.fn.log ≡ false → Holds l.fn.log l.fn.pages old records table commits → analysis.IsAnalysis blank_master records l.fn.found →
+          AsksUpdates l.log l.pages now records table commits l.found l.known l.fn.pages old;
       any_moment : (records : List Entry) (table : List Content) (commits : ℕ) → has_tail l.fn.log ≡ false → Holds l.fn.log l.fn.pages old records table commits → analysis.IsAnalysis blank_master records l.fn.found →
           IsQuiet old → LeavesOnly old now (LeavesTable l.fn.pages.flash.geometry table commits old.told);
     }

@@ -1,9 +1,12 @@
-use Rattle.std.proofs.Common.{refl, ◌≡◌, Err, ap}
+use Rattle.std.proofs.Common.{refl, ◌≡◌, [], ◌∷◌, Err, ap}
 use Rattle.log_laws.specs.Analysis.{Unfinished}
 use Rattle.image_meaning.specs.Meaning.{blank_master}
-use Rattle.redo_undo.proofs.Found.{unfinished_loser, each_remains, one_clr}
+use Rattle.redo_undo.proofs.Found.{order, unfinished_loser, each_remains, one_clr}
 use Rattle.site.specs.declared.outside.Stop.TheVariants.{Worn}
 use Rattle.site.specs.declared.outside.Dev.TheVariants.{Flash}
+use Rattle.redo_undo.specs.UndoWorks.{works_of}
+use Rattle.redo_undo.proofs.AskingUndo.{stops_again, ends_again}
+use Rattle.redo_undo.proofs.UndoneUpdates.{last_is_left, clr_updates}
 use Rattle.redo_undo.proofs.undo_losers.undo_greatest.Goals as goal
 
 pub returns-in-Err-clause-readable : goal.returns-in-Err-clause-readable
@@ -30,3 +33,45 @@ returns-clause-undone g c records table commits known h greatest =
 
 pub returns-in-Err-clause-worn_end : goal.returns-in-Err-clause-worn_end
 returns-in-Err-clause-worn_end g c records table commits h worn = let same : c.in-Err.stop ≡ Worn Flash = cc in c.in-Err.ensures.worn_end records table commits h (ap Err same)
+
+pub returns-in-Err-clause-asks : goal.returns-in-Err-clause-asks
+returns-in-Err-clause-asks g c records table commits known u h last =
+    let log = c.args.log.now in
+    let pages = c.args.pages.now in
+    let site = g.S.Site.state c.args.site.now in
+    let new = g.S.Site.state c.undo_update.new.site in
+    let found = c.args.found.now in
+    let x : Unfinished = record { txn = c.args.loser.txn; last = c.args.loser.last; next = c.args.lsn; remaining = c.args.loser.remaining } in
+    let standing = unfinished_loser c.found_laws.ensures c.undo_laws.ensures log pages site records table commits found h.holds h.analysis c.args.loser c.args.lsn c.requires.there c.requires.greatest in
+    let left = last_is_left c.found_laws.ensures c.undo_laws.ensures log pages site records table commits found h.holds h.analysis c.args.loser.txn c.args.lsn u c.requires.greatest last in
+    stops_again c.in-Err.stop (works_of (u ∷ [])) pages c.undo_update.new.pages site new
+    (c.in-Err.ensures.asks records table commits x u left.0 h.holds standing.0 (record { txn = refl; last = refl; next = refl }) left.1)
+
+pub returns-clause-asks : goal.returns-clause-asks
+returns-clause-asks g c records table commits known u h last =
+    let log = c.args.log.now in
+    let pages = c.args.pages.now in
+    let site = g.S.Site.state c.args.site.now in
+    let new = g.S.Site.state c.undo_update.new.site in
+    let found = c.args.found.now in
+    let x : Unfinished = record { txn = c.args.loser.txn; last = c.args.loser.last; next = c.args.lsn; remaining = c.args.loser.remaining } in
+    let standing = unfinished_loser c.found_laws.ensures c.undo_laws.ensures log pages site records table commits found h.holds h.analysis c.args.loser c.args.lsn c.requires.there c.requires.greatest in
+    let left = last_is_left c.found_laws.ensures c.undo_laws.ensures log pages site records table commits found h.holds h.analysis c.args.loser.txn c.args.lsn u c.requires.greatest last in
+    ends_again c.in-Ok.now _ (works_of (u ∷ [])) pages c.undo_update.new.pages site new
+    (c.in-Ok.ensures.asks records table commits x u left.0 h.holds standing.0 (record { txn = refl; last = refl; next = refl }) left.1)
+
+pub returns-clause-updates : goal.returns-clause-updates
+returns-clause-updates g c records table commits known u h last =
+    let log = c.args.log.now in
+    let pages = c.args.pages.now in
+    let site = g.S.Site.state c.args.site.now in
+    let new = g.S.Site.state c.undo_update.new.site in
+    let found = c.args.found.now in
+    let x : Unfinished = record { txn = c.args.loser.txn; last = c.args.loser.last; next = c.args.lsn; remaining = c.args.loser.remaining } in
+    let standing = unfinished_loser c.found_laws.ensures c.undo_laws.ensures log pages site records table commits found h.holds h.analysis c.args.loser c.args.lsn c.requires.there c.requires.greatest in
+    let left = last_is_left c.found_laws.ensures c.undo_laws.ensures log pages site records table commits found h.holds h.analysis c.args.loser.txn c.args.lsn u c.requires.greatest last in
+    let done = c.in-Ok.ensures.undone records table commits x h.holds standing.0 (record { txn = refl; last = refl; next = refl }) standing.1 in
+    let ordered = order c.found_laws.ensures c.undo_laws.ensures log pages site records table commits found h.holds h.analysis in
+    clr_updates c.undo_laws.ensures c.undo_update.new.log c.undo_update.new.pages new records table commits c.compensated.new.self x c.in-Ok.now done
+    (c.compensated.ensures.read blank_master records c.args.loser.last done.page done.slot done.before h.analysis)
+    (each_remains c.found_laws.ensures c.undo_laws.ensures log pages site records table commits found h.holds h.analysis c.requires.remain) 0 _ ordered c.args.lsn u left.0 last left.1

@@ -1,4 +1,4 @@
-use Rattle.std.proofs.Common.{◌∙◌, ◌++◌, ℕ, drop, sym, subst, arith, ◌≡◌, Err, ap}
+use Rattle.std.proofs.Common.{◌∙◌, ◌++◌, [], ◌∷◌, ◌≤◌, inr, refl, ℕ, drop, sym, subst, arith, ◌≡◌, Err, ap}
 use Rattle.analysis.specs.Open.{Open, Replaces, TakesOut}
 use Rattle.analysis.specs.Table.{listed}
 use Rattle.redo_undo.specs.UndoingAll.{Remain, HasNone, IsGreatest, UndoesSome}
@@ -7,8 +7,12 @@ use Rattle.redo_undo.proofs.Sames.{and_then, nothing_happens}
 use Rattle.redo_undo.proofs.Opens.{still_remain, none_remains_of, others_remain, ok_one}
 use Rattle.redo_undo.proofs.Found.{last_known, more_undone}
 use Rattle.site.specs.Laws.{stays_honest}
-use Rattle.site.specs.declared.outside.Stop.TheVariants.{Worn}
+use Rattle.site.specs.declared.outside.Stop.TheVariants.{Worn, Foreign}
 use Rattle.site.specs.declared.outside.Dev.TheVariants.{Flash}
+use Rattle.page_store.specs.Caching.{rules}
+use Rattle.redo_undo.specs.UndoWorks.{works_of, IsLastAt, UndoesUpdates}
+use Rattle.redo_undo.proofs.AskingUndo.{none_read, not_worn, never_worn, asks_refused, asks_before}
+use Rattle.redo_undo.proofs.UndoneUpdates.{more_updates}
 use Rattle.redo_undo.proofs.undo_losers.undo_next.Goals as goal
 
 pub returns-then-loser-known-clause-any_moment : goal.returns-then-loser-known-clause-any_moment
@@ -93,3 +97,43 @@ returns-clause-left g c honest =
 
 pub returns-in-Err-clause-worn_end : goal.returns-in-Err-clause-worn_end
 returns-in-Err-clause-worn_end g c records table commits h worn = let same : c.in-Err.stop ≡ Worn Flash = cc in c.in-Err.ensures.worn_end records table commits h (ap Err same)
+
+pub returns-then-loser-gt1-clause-updates : goal.returns-then-loser-gt1-clause-updates
+returns-then-loser-gt1-clause-updates g c records table commits u h last =
+    c.in-Ok.ensures.updates records table commits c.args.known u h (subst (λ (t : ℕ). IsLastAt records t c.args.next.1 u) (sym c.in-Some.ensures.named) last)
+
+pub returns-clause-updates : goal.returns-clause-updates
+returns-clause-updates g c records table commits u h last =
+    let mid = g.S.Site.state c.undo_greatest.new.site in
+    let new = g.S.Site.state c.end_one.new.site in
+    let pages = c.undo_greatest.new.pages in
+    let first = c.in-Ok.ensures.updates records table commits c.args.known u h (subst (λ (t : ℕ). IsLastAt records t c.args.next.1 u) (sym c.in-Some.ensures.named) last) in
+    if_ok_one c.end_one.result
+    (λ lsn. UndoesUpdates c.end_one.new.log pages new (records ++ first.some.more) table commits c.end_one.new.found lsn [])
+    (λ lsn. UndoesUpdates c.end_one.new.log pages new records table commits c.end_one.new.found lsn (u ∷ []))
+    (λ lsn second. more_updates c.undo_greatest.new.log c.end_one.new.log pages pages mid new records table commits c.undo_greatest.new.found c.end_one.new.found c.in-Ok.last lsn (u ∷ []) [] first second)
+    (c.end_one.ensures.updates pages (records ++ first.some.more) table commits c.in-Ok.last c.in-Ok.ensures.going.sizes first.some.now)
+
+pub returns-then-loser-known-clause-asks : goal.returns-then-loser-known-clause-asks
+returns-then-loser-known-clause-asks g c records table commits u h last =
+    let pages = c.args.pages.now in
+    let some : 1 ≤ (rules pages).groups = omega (arith, c.requires.going.pages_going.flash.limits.groups) in
+    asks_refused Foreign (works_of (u ∷ [])) pages (g.S.Site.state c.args.site.now) (g.S.Site.state c.args.site.now) some (not_worn Foreign (inr refl)) (record { flash = refl; disk = refl })
+
+pub returns-in-Err-clause-asks : goal.returns-in-Err-clause-asks
+returns-in-Err-clause-asks g c records table commits u h last =
+    c.in-Err.ensures.asks records table commits c.args.known u h (subst (λ (t : ℕ). IsLastAt records t c.args.next.1 u) (sym c.in-Some.ensures.named) last)
+
+pub returns-then-loser-gt1-clause-asks : goal.returns-then-loser-gt1-clause-asks
+returns-then-loser-gt1-clause-asks g c records table commits u h last =
+    c.in-Ok.ensures.asks records table commits c.args.known u h (subst (λ (t : ℕ). IsLastAt records t c.args.next.1 u) (sym c.in-Some.ensures.named) last)
+
+pub returns-clause-asks : goal.returns-clause-asks
+returns-clause-asks g c records table commits u h last =
+    let pages = c.args.pages.now in
+    let some : 1 ≤ (rules pages).groups = omega (arith, c.requires.going.pages_going.flash.limits.groups) in
+    let mid = g.S.Site.state c.undo_greatest.new.site in
+    let new = g.S.Site.state c.end_one.new.site in
+    asks_before c.in-Ok.last c.end_one.result (works_of (u ∷ [])) pages c.undo_greatest.new.pages (g.S.Site.state c.args.site.now) mid new some (none_read mid new c.end_one.ensures.reads)
+    (never_worn c.end_one.result c.end_one.ensures.stops)
+    (c.in-Ok.ensures.asks records table commits c.args.known u h (subst (λ (t : ℕ). IsLastAt records t c.args.next.1 u) (sym c.in-Some.ensures.named) last))

@@ -1,0 +1,100 @@
+-- Calls that ask the cache for work, one after the other.
+use Rattle.std.proofs.Common.{◌≡◌, ℕ, ◌+◌, ◌*◌, ◌^◌, ◌<◌, ◌≤◌, Bool, true, false, List, [], ◌++◌, arith, refl, sym, ap, subst, ◌∙◌}
+use Rattle.std.specs.Prelude.{Result, Ok, Err, OnOk, IsErrOf, if◌then◌else◌}
+use Rattle.site.specs.declared.outside.Dev.TheVariants.{Flash, Disk}
+use Rattle.site.specs.declared.outside.Stop.{Stop}
+use Rattle.site.specs.declared.outside.Stop.TheVariants.{Worn}
+use Rattle.site.specs.State.{State}
+use Rattle.site.specs.Calls.{SameReads}
+use Rattle.record_model.specs.Touches.{CacheWork}
+use Rattle.second_chance.specs.Machine.{Rules, Cache, touched, finds, misses, after_works}
+use Rattle.page_store.specs.declared.store.PageStore.{PageStore}
+use Rattle.page_store.specs.Caching.{cache_of, rules, pushes}
+use Rattle.redo_undo.specs.Works.{next_group, one_touch, one_change, Overflows, ReadsFor, Asks}
+use Rattle.redo_undo.proofs.Costs.{works_add_up, reads_add_up, reads_for_more, overflows_with_more, touched_next}
+
+-- an error that is Ok's or another's
+pub err_again : {A B : Type 0} (stop is : Stop) → IsErrOf {T = A} (Err stop) is → IsErrOf {T = B} (Err stop) is
+err_again stop is same = let equal : stop ≡ is = cc in ap Err equal
+
+-- One touch.
+
+eight_times : (b : Bool) → (if b then 8 else 0) ≡ 8 * (if b then 1 else 0)
+eight_times true = refl
+eight_times false = refl
+
+pub touch_reads : (r : Rules) (page : ℕ) (cache : Cache) (before now : State) → 1 ≤ r.groups →
+    now.flash_reads ≤ before.flash_reads + (if pushes r page cache then 8 else 0) + (if finds r page cache then 1 else 0) →
+    now.disk_reads ≤ before.disk_reads + (if misses r page cache then 1 else 0) → ReadsFor r (one_touch page) cache before now
+touch_reads r page cache before now some flash disk = record {
+  flash = omega (arith, flash, eight_times (pushes r page cache), touched_next r page false cache some);
+  disk = omega (arith, disk);
+}
+
+-- where it pushes to a ring that stands at its end it overflows
+pub touch_overflows : (r : Rules) (page : ℕ) (cache : Cache) → 1 ≤ r.groups → pushes r page cache ≡ true → next_group cache ≡ 2 ^ 40 → Overflows r (one_touch page) cache
+touch_overflows r page cache some pushed full =
+    let one : ◌≡◌ {A = ℕ} (if pushes r page cache then 1 else 0) 1 = ap (λ (b : Bool). if b then 1 else 0) pushed in
+    omega (arith, full, one, touched_next r page false cache some)
+
+-- A change costs what the touch costs.
+
+change_next : (r : Rules) (page : ℕ) (cache : Cache) → 1 ≤ r.groups → next_group (touched r page true cache) ≡ next_group (touched r page false cache)
+change_next r page cache some = touched_next r page true cache some ∙ sym (touched_next r page false cache some)
+
+pub change_reads : (r : Rules) (page : ℕ) (cache : Cache) (before now : State) → 1 ≤ r.groups → ReadsFor r (one_touch page) cache before now → ReadsFor r (one_change page) cache before now
+change_reads r page cache before now some reads = record {
+  flash = omega (arith, reads.flash, change_next r page cache some);
+  disk = reads.disk;
+}
+
+pub change_overflows : (r : Rules) (page : ℕ) (cache : Cache) → 1 ≤ r.groups → Overflows r (one_touch page) cache → Overflows r (one_change page) cache
+change_overflows r page cache some over = omega (arith, over, change_next r page cache some)
+
+-- no work
+pub no_reads : (r : Rules) (cache : Cache) (before now : State) → SameReads before now → ReadsFor r [] cache before now
+no_reads r cache before now same = record { flash = omega (arith, same Flash); disk = omega (arith, same Disk) }
+
+-- a call that does no work and can't find flash worn
+pub asks_nothing : {T : Type 0} (result : Result T Stop) (pages : PageStore) (before now : State) → SameReads before now → (IsErrOf result (Worn Flash) → ⊥) →
+    Asks result [] pages pages before now
+asks_nothing result pages before now same never = record {
+  machine = every_ok result refl;
+  worn = λ is. absurd (never is);
+  reads = no_reads (rules pages) (cache_of pages) before now same;
+  rules_are = refl;
+}
+  where
+    every_ok : {T : Type 0} {P : Type 0} (r : Result T Stop) → P → OnOk r P
+    every_ok (Ok x) p = p
+    every_ok (Err stop) p = tt
+
+-- a call after one that was Ok
+pub asks_then : {A B : Type 0} (a : A) (result : Result B Stop) (first later : List CacheWork) (old mid new : PageStore) (before between now : State) →
+    Asks {T = A} (Ok a) first old mid before between → Asks result later mid new between now → Asks result (first ++ later) old new before now
+asks_then a result first later old mid new before between now one two =
+    let start : cache_of mid ≡ after_works (rules old) first (cache_of old) = one.machine in
+    let all : after_works (rules old) (first ++ later) (cache_of old) ≡ after_works (rules old) later (after_works (rules old) first (cache_of old)) = works_add_up (rules old) first later (cache_of old) in
+    let there : after_works (rules mid) later (cache_of mid) ≡ after_works (rules old) (first ++ later) (cache_of old) =
+    ap (λ r. after_works r later (cache_of mid)) one.rules_are ∙ ap (after_works (rules old) later) start ∙ sym all in
+    record {
+      machine = on_ok result (cache_of new) (after_works (rules mid) later (cache_of mid)) (after_works (rules old) (first ++ later) (cache_of old)) two.machine there;
+      worn = λ is. subst (λ (c : Cache). 2 ^ 40 < next_group c) there (two.worn is);
+      reads = reads_add_up (rules old) first later (cache_of old) before between now one.reads
+          (subst (λ (c : Cache). ReadsFor (rules old) later c between now) start (subst (λ (r : Rules). ReadsFor r later (cache_of mid) between now) one.rules_are two.reads));
+      rules_are = two.rules_are ∙ one.rules_are;
+    }
+  where
+    on_ok : {B : Type 0} (r : Result B Stop) (c d e : Cache) → OnOk r (c ≡ d) → d ≡ e → OnOk r (c ≡ e)
+    on_ok (Ok x) c d e is there = is ∙ there
+    on_ok (Err stop) c d e is there = tt
+
+-- a call that stops before all of some work is done
+pub asks_stopped : {A B : Type 0} (stop : Stop) (first later : List CacheWork) (old new : PageStore) (before now : State) → 1 ≤ (rules old).groups →
+    Asks {T = A} (Err stop) first old new before now → Asks {T = B} (Err stop) (first ++ later) old new before now
+asks_stopped {A} {B} stop first later old new before now some asks = record {
+  machine = tt;
+  worn = λ is. overflows_with_more (rules old) first later (cache_of old) some (asks.worn (err_again stop (Worn Flash) is));
+  reads = reads_for_more (rules old) first later (cache_of old) before now some asks.reads;
+  rules_are = asks.rules_are;
+}

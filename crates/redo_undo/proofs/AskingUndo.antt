@@ -1,0 +1,187 @@
+-- What undo asks of the cache: calls on the log alone, and one Update after the other.
+use Rattle.std.proofs.Common.{◌≡◌, ◌≢◌, ◌⊎◌, inl, inr, ℕ, ◌+◌, ◌*◌, ◌<◌, ◌≤◌, true, List, [], ◌∷◌, ◌++◌, append_assoc, Option, Some, arith, refl, sym, ap, subst, ◌∙◌}
+use Rattle.std.specs.Prelude.{Result, Ok, Err, OnOk, IfErr, IsErrOf, option_map, ⊤}
+use Rattle.std.specs.List.{cons_option}
+use Rattle.std.proofs.lemmas.List.Elements.{filter_map-append}
+use Rattle.site.specs.declared.outside.Dev.{Dev}
+use Rattle.site.specs.declared.outside.Dev.TheVariants.{Log, Flash, Disk}
+use Rattle.site.specs.declared.outside.Stop.{Stop}
+use Rattle.site.specs.declared.outside.Stop.TheVariants.{Device, Worn, Foreign}
+use Rattle.site.specs.State.{State, reads_of}
+use Rattle.site.specs.Calls.{SameReads}
+use Rattle.record_model.specs.Touches.{CacheWork, touch, page_of, write_touch}
+use Rattle.log_records.specs.Log.{Entry, number_of}
+use Rattle.log_records.specs.Restart.{undo_touch}
+use Rattle.second_chance.specs.Machine.{Rules, Cache, touched}
+use Rattle.page_store.specs.declared.store.PageStore.{PageStore}
+use Rattle.page_store.specs.Caching.{cache_of, rules, with_change}
+use Rattle.page_store.specs.Laws.{TouchThenChange}
+use Rattle.redo_undo.specs.Works.{one_touch, one_change, ReadsFor, Asks}
+use Rattle.redo_undo.specs.UndoWorks.{works_of}
+use Rattle.redo_undo.proofs.Costs.{reads_add_up}
+use Rattle.redo_undo.proofs.Asking.{err_again, change_reads, change_overflows, asks_then, asks_stopped}
+
+-- Calls on the log alone.
+
+-- neither the flash nor the disk is read
+pub record SameElse (before now : State) : Type 0 where
+  pub flash : now.flash_reads ≡ before.flash_reads
+  pub disk : now.disk_reads ≡ before.disk_reads
+
+pub log_alone : (before now : State) → ((d : Dev) → d ≢ Log → reads_of d now ≡ reads_of d before) → SameElse before now
+log_alone before now others = record { flash = others Flash (λ h. cc); disk = others Disk (λ h. cc) }
+
+pub none_read : (before now : State) → SameReads before now → SameElse before now
+none_read before now same = record { flash = same Flash; disk = same Disk }
+
+no_reads_else : (r : Rules) (cache : Cache) (before now : State) → SameElse before now → ReadsFor r [] cache before now
+no_reads_else r cache before now same = record { flash = omega (arith, same.flash); disk = omega (arith, same.disk) }
+
+-- why a call on the log stops
+pub not_worn : (stop : Stop) → (stop ≡ Device Log) ⊎ (stop ≡ Foreign) → stop ≢ Worn Flash
+not_worn stop (inl device) = λ worn. cc
+not_worn stop (inr foreign) = λ worn. cc
+
+pub not_worn_flash : (stop : Stop) → (stop ≡ Device Log) ⊎ (stop ≡ Worn Log) → stop ≢ Worn Flash
+not_worn_flash stop (inl device) = λ worn. cc
+not_worn_flash stop (inr log) = λ worn. cc
+
+pub not_worn_either : (stop : Stop) → (stop ≡ Device Log) ⊎ ((stop ≡ Worn Log) ⊎ (stop ≡ Foreign)) → stop ≢ Worn Flash
+not_worn_either stop (inl device) = λ worn. cc
+not_worn_either stop (inr (inl log)) = λ worn. cc
+not_worn_either stop (inr (inr foreign)) = λ worn. cc
+
+pub never_worn : {T : Type 0} (result : Result T Stop) → IfErr result (λ stop. (stop ≡ Device Log) ⊎ ((stop ≡ Worn Log) ⊎ (stop ≡ Foreign))) → IsErrOf result (Worn Flash) → ⊥
+never_worn (Ok x) stops is = cc
+never_worn (Err stop) stops is = let equal : stop ≡ Worn Flash = cc in not_worn_either stop stops equal
+
+pub is_error : {T : Type 0} (stop is : Stop) → IsErrOf {T = T} (Err stop) is → stop ≡ is
+is_error stop is same = cc
+
+-- a call that stops before it asks for anything
+pub asks_refused : {T : Type 0} (stop : Stop) (works : List CacheWork) (pages : PageStore) (before now : State) → 1 ≤ (rules pages).groups → stop ≢ Worn Flash → SameElse before now →
+    Asks {T = T} (Err stop) works pages pages before now
+asks_refused {T} stop works pages before now some other same =
+    asks_stopped stop [] works pages pages before now some (stopped stop other)
+  where
+    stopped : (stop : Stop) → stop ≢ Worn Flash → Asks {T = T} (Err stop) [] pages pages before now
+    stopped stop other = record {
+      machine = tt;
+      worn = λ is. absurd (other (is_error {T = T} stop (Worn Flash) is));
+      reads = no_reads_else (rules pages) (cache_of pages) before now same;
+      rules_are = refl;
+    }
+
+-- a call that reads the log before it asks
+pub asks_later : {T : Type 0} (result : Result T Stop) (works : List CacheWork) (old new : PageStore) (before between now : State) → SameElse before between → Asks result works old new between now →
+    Asks result works old new before now
+asks_later result works old new before between now same asks = record {
+  machine = asks.machine;
+  worn = asks.worn;
+  reads = reads_add_up (rules old) [] works (cache_of old) before between now (no_reads_else (rules old) (cache_of old) before between same) asks.reads;
+  rules_are = asks.rules_are;
+}
+
+-- a call that goes on with the log once all that it asked for is done
+pub asks_before : {A B : Type 0} (a : A) (result : Result B Stop) (works : List CacheWork) (old new : PageStore) (before between now : State) → 1 ≤ (rules old).groups → SameElse between now →
+    (IsErrOf result (Worn Flash) → ⊥) → Asks {T = A} (Ok a) works old new before between → Asks result works old new before now
+asks_before a result works old new before between now some same never asks = record {
+  machine = each_ok result asks.machine;
+  worn = λ is. absurd (never is);
+  reads = record {
+    flash = (let read = asks.reads.flash in omega (arith, read, same.flash));
+    disk = (let read = asks.reads.disk in omega (arith, read, same.disk));
+  };
+  rules_are = asks.rules_are;
+}
+  where
+    each_ok : {B : Type 0} {P : Type 0} (r : Result B Stop) → P → OnOk r P
+    each_ok (Ok x) p = p
+    each_ok (Err stop) p = tt
+
+-- One Update.
+
+-- its page is touched, which stops
+pub change_stopped : {A B : Type 0} (stop : Stop) (page : ℕ) (old new : PageStore) (before now : State) → 1 ≤ (rules old).groups →
+    Asks {T = A} (Err stop) (one_touch page) old new before now → Asks {T = B} (Err stop) (one_change page) old new before now
+change_stopped {A} {B} stop page old new before now some asks = record {
+  machine = tt;
+  worn = λ is. change_overflows (rules old) page (cache_of old) some (asks.worn (err_again stop (Worn Flash) is));
+  reads = change_reads (rules old) page (cache_of old) before now some asks.reads;
+  rules_are = asks.rules_are;
+}
+
+-- and changed then
+pub change_made : {A B : Type 0} (a : A) (result : Result B Stop) (page : ℕ) (old mid new : PageStore) (before between now : State) → 1 ≤ (rules old).groups → TouchThenChange →
+    Asks {T = A} (Ok a) (one_touch page) old mid before between → OnOk result (cache_of new ≡ with_change (cache_of mid)) → rules new ≡ rules mid → SameReads between now →
+    (IsErrOf result (Worn Flash) → ⊥) → Asks result (one_change page) old new before now
+change_made a result page old mid new before between now some law asks changed same read never =
+    let there : with_change (cache_of mid) ≡ touched (rules old) page true (cache_of old) = ap with_change asks.machine ∙ sym (law (rules old) page (cache_of old)) in
+    let none = none_read between now read in
+    let touches = asks.reads in
+    record {
+      machine = on_ok result (cache_of new) (with_change (cache_of mid)) (touched (rules old) page true (cache_of old)) changed there;
+      worn = λ is. absurd (never is);
+      reads = change_reads (rules old) page (cache_of old) before now some (record {
+        flash = (let reads = touches.flash in omega (arith, reads, none.flash));
+        disk = (let reads = touches.disk in omega (arith, reads, none.disk));
+      });
+      rules_are = same ∙ asks.rules_are;
+    }
+  where
+    on_ok : {B : Type 0} (r : Result B Stop) (c d e : Cache) → OnOk r (c ≡ d) → d ≡ e → OnOk r (c ≡ e)
+    on_ok (Ok x) c d e is there = is ∙ there
+    on_ok (Err stop) c d e is there = tt
+
+page_is : (page slot : ℕ) → slot < 32 → page_of (32 * page + slot) ≡ page
+page_is page slot less = omega (arith, less)
+
+-- the work of the Update itself
+pub work_is : (u : Entry) (page slot : ℕ) → slot < 32 → number_of u.rec ≡ Some (32 * page + slot) → one_change page ≡ works_of (u ∷ [])
+work_is u page slot less is =
+    ap (λ (n : ℕ). touch n true ∷ []) (sym (page_is page slot less)) ∙ sym (ap (λ (o : Option ℕ). cons_option (option_map write_touch o) []) is)
+
+-- More Updates.
+
+-- all that are left: those that were undone, the next one, and the others
+works_are : (done rest : List Entry) (u : Entry) → works_of (done ++ u ∷ rest) ≡ (works_of done ++ works_of (u ∷ [])) ++ works_of rest
+works_are done rest u =
+    let all : (done ++ u ∷ []) ++ rest ≡ done ++ u ∷ rest = simp append_assoc in
+    sym (ap works_of all) ∙ filter_map-append undo_touch (done ++ u ∷ []) rest ∙ ap (λ (w : List CacheWork). w ++ works_of rest) (filter_map-append undo_touch done (u ∷ []))
+
+-- one more is undone
+pub one_more_work : {A B : Type 0} (a : A) (b : B) (done : List Entry) (u : Entry) (old mid new : PageStore) (before between now : State) →
+    Asks {T = A} (Ok a) (works_of done) old mid before between → Asks {T = B} (Ok b) (works_of (u ∷ [])) mid new between now → Asks {T = ⊤} (Ok tt) (works_of (done ++ u ∷ [])) old new before now
+one_more_work a b done u old mid new before between now first second =
+    let both = asks_then a (Ok b) (works_of done) (works_of (u ∷ [])) old mid new before between now first second in
+    subst (λ (w : List CacheWork). Asks {T = ⊤} (Ok tt) w old new before now) (sym (filter_map-append undo_touch done (u ∷ [])))
+    (record { machine = both.machine; worn = λ is. cc; reads = both.reads; rules_are = both.rules_are })
+
+-- or it stops there
+pub more_work_stopped : {A B C : Type 0} (a : A) (stop : Stop) (all done rest : List Entry) (u : Entry) (old mid new : PageStore) (before between now : State) → 1 ≤ (rules old).groups → all ≡ done ++ u ∷ rest →
+    Asks {T = A} (Ok a) (works_of done) old mid before between → Asks {T = B} (Err stop) (works_of (u ∷ [])) mid new between now → Asks {T = C} (Err stop) (works_of all) old new before now
+more_work_stopped {A} {B} {C} a stop all done rest u old mid new before between now some is first second =
+    subst (λ (w : List CacheWork). Asks {T = C} (Err stop) w old new before now) (sym (ap works_of is ∙ works_are done rest u))
+    (asks_stopped stop (works_of done ++ works_of (u ∷ [])) (works_of rest) old new before now some
+    (asks_then a (Err stop) (works_of done) (works_of (u ∷ [])) old mid new before between now first second))
+
+-- until all are
+pub all_work : {A B : Type 0} (a : A) (b : B) (all done : List Entry) (old new : PageStore) (before now : State) → all ≡ done → Asks {T = A} (Ok a) (works_of done) old new before now →
+    Asks {T = B} (Ok b) (works_of all) old new before now
+all_work {A} {B} a b all done old new before now is asks =
+    subst (λ (l : List Entry). Asks {T = B} (Ok b) (works_of l) old new before now) (sym is)
+    (record { machine = asks.machine; worn = λ is. cc; reads = asks.reads; rules_are = asks.rules_are })
+
+-- The same of another type of result.
+
+pub stops_again : {A B : Type 0} (stop : Stop) (works : List CacheWork) (old new : PageStore) (before now : State) → Asks {T = A} (Err stop) works old new before now → Asks {T = B} (Err stop) works old new before now
+stops_again stop works old new before now asks = record { machine = tt; worn = λ is. asks.worn (err_again stop (Worn Flash) is); reads = asks.reads; rules_are = asks.rules_are }
+
+pub ends_again : {A B : Type 0} (a : A) (b : B) (works : List CacheWork) (old new : PageStore) (before now : State) → Asks {T = A} (Ok a) works old new before now → Asks {T = B} (Ok b) works old new before now
+ends_again a b works old new before now asks = record { machine = asks.machine; worn = λ is. cc; reads = asks.reads; rules_are = asks.rules_are }
+
+-- an Update is undone behind a read of the log
+pub asks_of_update : {T : Type 0} (result : Result T Stop) (u : Entry) (page slot : ℕ) (old new : PageStore) (before between now : State) → slot < 32 → number_of u.rec ≡ Some (32 * page + slot) → SameElse before between →
+    Asks result (one_change page) old new between now → Asks result (works_of (u ∷ [])) old new before now
+asks_of_update result u page slot old new before between now less is same asks =
+    asks_later result (works_of (u ∷ [])) old new before between now same (subst (λ (w : List CacheWork). Asks result w old new between now) (work_is u page slot less is) asks)

@@ -1,0 +1,121 @@
+-- What work costs the cache: the groups that it appends, and the pages that it reads.
+use Rattle.std.proofs.Common.{◌≡◌, ℕ, zero, suc, ◌+◌, ◌≤◌, Bool, true, false, ◌&&◌, List, [], ◌∷◌, ◌++◌, length, drop, reverse, arith, refl, ap, ◌∙◌, length-append}
+use Rattle.std.specs.Prelude.{if◌then◌else◌}
+use Rattle.std.proofs.lemmas.Bool.{leb-true}
+use Rattle.std.proofs.lemmas.List.{length-drop}
+use Rattle.record_model.specs.Touches.{CacheWork, touch, flush}
+use Rattle.second_chance.specs.declared.frame.Frame.{Frame}
+use Rattle.second_chance.specs.Queue.{Queue, pushed, groups_read, with_read}
+use Rattle.second_chance.specs.Machine.{Rules, PoolPage, Cache, holds, is_full, push_evicted, push_changed, must_be_pushed, after_eviction, evict_first, evict_coldest, lacks_room, with_room, in_front, touched, wants_flush, flushed_by, worked, after_works}
+use Rattle.page_store.specs.Caching.{first_pushed, is_pushed, pushes}
+use Rattle.redo_undo.specs.Works.{next_group, finds_in, misses_in, WorksAddUp, ReadsAddUp, ReadsForMore, NumbersRise, OverflowsWithMore}
+
+-- Work after work.
+
+pub works_add_up : WorksAddUp
+works_add_up rules [] later cache = refl
+works_add_up rules (work ∷ works) later cache = works_add_up rules works later (worked rules work cache)
+
+finds_add_up : (rules : Rules) (first later : List CacheWork) (cache : Cache) → finds_in rules (first ++ later) cache ≡ finds_in rules first cache + finds_in rules later (after_works rules first cache)
+finds_add_up rules [] later cache = omega arith
+finds_add_up rules (work ∷ works) later cache = omega (arith, finds_add_up rules works later (worked rules work cache))
+
+misses_add_up : (rules : Rules) (first later : List CacheWork) (cache : Cache) → misses_in rules (first ++ later) cache ≡ misses_in rules first cache + misses_in rules later (after_works rules first cache)
+misses_add_up rules [] later cache = omega arith
+misses_add_up rules (work ∷ works) later cache = omega (arith, misses_add_up rules works later (worked rules work cache))
+
+pub reads_add_up : ReadsAddUp
+reads_add_up rules first later cache old mid new one two =
+    let all : next_group (after_works rules (first ++ later) cache) ≡ next_group (after_works rules later (after_works rules first cache)) = ap next_group (works_add_up rules first later cache) in
+    record {
+      flash = omega (arith, one.flash, two.flash, all, finds_add_up rules first later cache);
+      disk = omega (arith, one.disk, two.disk, misses_add_up rules first later cache);
+    }
+
+-- The numbers of groups.
+
+-- a push appends one group
+full_has_one : (rules : Rules) (queue : Queue) → 1 ≤ rules.groups → is_full rules queue ≡ true → 1 ≤ length queue.groups
+full_has_one rules queue some full = omega (arith, some, leb-true rules.groups (length queue.groups) full)
+
+pushed_next : (leaves : Bool) (group : List Frame) (queue : Queue) → (leaves ≡ true → 1 ≤ length queue.groups) →
+    (pushed leaves group queue).first + length (pushed leaves group queue).groups ≡ queue.first + length queue.groups + 1
+pushed_next true group queue some = omega (arith, some refl, length-append (drop 1 queue.groups) (group ∷ []), length-drop 1 queue.groups)
+pushed_next false group queue some = omega (arith, length-append queue.groups (group ∷ []))
+
+pub evicted_next : (rules : Rules) (own : PoolPage) (cache : Cache) → 1 ≤ rules.groups → next_group (push_evicted rules own cache) ≡ next_group cache + 1
+evicted_next rules own cache some = pushed_next (is_full rules cache.queue) _ cache.queue (full_has_one rules cache.queue some)
+
+changed_next : (rules : Rules) (cache : Cache) → 1 ≤ rules.groups → next_group (push_changed rules cache) ≡ next_group cache + 1
+changed_next rules cache some = pushed_next (is_full rules cache.queue) _ cache.queue (full_has_one rules cache.queue some)
+
+-- an eviction appends one group where it pushes
+eviction_next : (rules : Rules) (own : PoolPage) (cache : Cache) → 1 ≤ rules.groups →
+    next_group (after_eviction rules own cache) ≡ next_group cache + (if must_be_pushed cache.queue own then 1 else 0)
+eviction_next rules own cache some = by (must_be_pushed cache.queue own)
+  where
+    by : (b : Bool) → next_group (if b then push_evicted rules own cache else cache) ≡ next_group cache + (if b then 1 else 0)
+    by true = evicted_next rules own cache some
+    by false = omega arith
+
+first_next : (rules : Rules) (pool : List PoolPage) (cache : Cache) → 1 ≤ rules.groups →
+    next_group (evict_first rules pool cache) ≡ next_group cache + (if first_pushed cache.queue pool then 1 else 0)
+first_next rules [] cache some = omega arith
+first_next rules (coldest ∷ warmer) cache some = eviction_next rules coldest (record cache { pool = reverse warmer }) some
+
+room_next : (rules : Rules) (page : ℕ) (cache : Cache) → 1 ≤ rules.groups →
+    next_group (with_room rules page cache) ≡ next_group cache + (if pushes rules page cache then 1 else 0)
+room_next rules page cache some = by (lacks_room rules page cache)
+  where
+    by : (b : Bool) → next_group (if b then evict_coldest rules cache else cache) ≡ next_group cache + (if b && is_pushed cache then 1 else 0)
+    by true = first_next rules (reverse cache.pool) cache some
+    by false = omega arith
+
+-- a read keeps the number of groups
+read_length : (page : ℕ) (groups : List (List Frame)) → length (groups_read page groups) ≡ length groups
+read_length page [] = refl
+read_length page (group ∷ later) = ap suc (read_length page later)
+
+front_next : (page : ℕ) (change : Bool) (cache : Cache) → next_group (in_front page change cache) ≡ next_group cache
+front_next page change cache = by (holds cache.pool page)
+  where
+    by : (b : Bool) → (if b then cache.queue else with_read page cache.queue).first + length (if b then cache.queue else with_read page cache.queue).groups ≡ next_group cache
+    by true = refl
+    by false = ap (λ n. cache.queue.first + n) (read_length page cache.queue.groups)
+
+-- a touch appends a group where it pushes
+pub touched_next : (rules : Rules) (page : ℕ) (change : Bool) (cache : Cache) → 1 ≤ rules.groups →
+    next_group (touched rules page change cache) ≡ next_group cache + (if pushes rules page cache then 1 else 0)
+touched_next rules page change cache some = front_next page change (with_room rules page cache) ∙ room_next rules page cache some
+
+flushed_next : (pushes : ℕ) (rules : Rules) (cache : Cache) → 1 ≤ rules.groups → next_group cache ≤ next_group (flushed_by pushes rules cache)
+flushed_next zero rules cache some = omega arith
+flushed_next (suc pushes) rules cache some = by (wants_flush cache) (flushed_next pushes rules (push_changed rules cache) some)
+  where
+    by : (b : Bool) → next_group (push_changed rules cache) ≤ next_group (flushed_by pushes rules (push_changed rules cache)) →
+        next_group cache ≤ next_group (if b then flushed_by pushes rules (push_changed rules cache) else cache)
+    by true later = omega (arith, later, changed_next rules cache some)
+    by false later = omega arith
+
+work_next : (rules : Rules) (work : CacheWork) (cache : Cache) → 1 ≤ rules.groups → next_group cache ≤ next_group (worked rules work cache)
+work_next rules (touch page change) cache some = omega (arith, touched_next rules page change cache some)
+work_next rules flush cache some = flushed_next (length cache.pool) rules cache some
+
+pub numbers_rise : NumbersRise
+numbers_rise rules [] cache some = omega arith
+numbers_rise rules (work ∷ works) cache some = omega (arith, work_next rules work cache some, numbers_rise rules works (worked rules work cache) some)
+
+more_next : (rules : Rules) (first later : List CacheWork) (cache : Cache) → 1 ≤ rules.groups →
+    next_group (after_works rules first cache) ≤ next_group (after_works rules (first ++ later) cache)
+more_next rules first later cache some =
+    let all : next_group (after_works rules (first ++ later) cache) ≡ next_group (after_works rules later (after_works rules first cache)) = ap next_group (works_add_up rules first later cache) in
+    omega (arith, all, numbers_rise rules later (after_works rules first cache) some)
+
+pub overflows_with_more : OverflowsWithMore
+overflows_with_more rules first later cache some over = omega (arith, over, more_next rules first later cache some)
+
+pub reads_for_more : ReadsForMore
+reads_for_more rules first later cache old new some reads = record {
+  flash = omega (arith, reads.flash, more_next rules first later cache some, finds_add_up rules first later cache);
+  disk = omega (arith, reads.disk, misses_add_up rules first later cache);
+}

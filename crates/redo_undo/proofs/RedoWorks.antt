@@ -1,0 +1,177 @@
+-- What redo asks of the cache.
+use Rattle.std.proofs.Common.{◌≡◌, ◌≢◌, ◌⊎◌, inl, inr, ℕ, ◌-◌, ◌/◌, ◌≤◌, ◌<◌, nat_lt, Bool, true, false, cond, List, [], ◌∷◌, ◌++◌, Option, Some, None, append-nil, append_assoc, refl, sym, ap, subst, ◌∙◌, arith}
+use Rattle.std.specs.Prelude.{⊤, Result, Ok, Err, OnOk, IsErrOf, filter_map, option_map}
+use Rattle.std.proofs.lemmas.Bool.{le-leb, lt-ltb, le-ltb}
+use Rattle.std.proofs.lemmas.List.Elements.{filter_map-append}
+use Rattle.site.specs.declared.outside.Dev.{Dev}
+use Rattle.site.specs.declared.outside.Dev.TheVariants.{Log, Flash, Disk}
+use Rattle.site.specs.declared.outside.Stop.{Stop}
+use Rattle.site.specs.declared.outside.Stop.TheVariants.{Worn, Memory, Foreign, Device}
+use Rattle.site.specs.State.{State, reads_of}
+use Rattle.record_model.specs.Touches.{CacheWork, touch, page_of}
+use Rattle.log_records.specs.Log.{Entry, version_at, number_of, log_from}
+use Rattle.log_records.specs.Restart.{redo_touch}
+use Rattle.log_records.specs.Sound.{from_block, last_lsn}
+use Rattle.slotted_page.specs.Layout.{lsn_of}
+use Rattle.log_store.specs.declared.store.LogStore.{LogStore}
+use Rattle.page_store.specs.declared.store.PageStore.{PageStore}
+use Rattle.page_store.specs.Held.{current}
+use Rattle.page_store.specs.Caching.{cache_of, rules, with_change}
+use Rattle.page_store.specs.Laws.{TouchThenChange}
+use Rattle.redo_undo.specs.Laws.{PageLaws}
+use Rattle.redo_undo.specs.RedoLaws.{RedoLaws}
+use Rattle.redo_undo.specs.Redoing.{Opening, opened, touches_of, IsFrom, IsRedoing}
+use Rattle.redo_undo.specs.Works.{one_touch, one_change, redo_works, Asks}
+use Rattle.redo_undo.proofs.Asking.{change_reads, change_overflows, asks_nothing, asks_then, asks_stopped}
+use Rattle.redo_undo.proofs.NextRecords.{last_below, page_exists}
+
+-- nothing is asked yet
+pub nothing_asked : (pages : PageStore) (site : State) → Asks {T = ⊤} (Ok tt) [] pages pages site site
+nothing_asked pages site = asks_nothing {T = ⊤} (Ok tt) pages site site (λ dev. refl) (λ is. cc)
+
+-- a call that stops before it asks for anything, and not since flash is worn
+pub stops_first : {A : Type 0} (stop : Stop) (works : List CacheWork) (pages : PageStore) (site : State) → 1 ≤ (rules pages).groups → stop ≢ Worn Flash → Asks {T = A} (Err stop) works pages pages site site
+stops_first {A} stop works pages site some never =
+    asks_stopped {A = A} {B = A} stop [] works pages pages site site some
+    (asks_nothing {T = A} (Err stop) pages site site (λ dev. refl) (λ is. never (let same : stop ≡ Worn Flash = cc in same)))
+
+-- why analysis stops
+pub not_worn : (stop : Stop) → (stop ≡ Memory) ⊎ (stop ≡ Foreign) → stop ≢ Worn Flash
+not_worn stop (inl is) = λ same. cc
+not_worn stop (inr is) = λ same. cc
+
+-- and reading a block of the log
+pub not_worn_log : (stop : Stop) → (stop ≡ Device Log) ⊎ (stop ≡ Foreign) → stop ≢ Worn Flash
+not_worn_log stop (inl is) = λ same. cc
+not_worn_log stop (inr is) = λ same. cc
+
+-- a call that reads the log alone
+pub asks_reading : {A : Type 0} (result : Result A Stop) (pages : PageStore) (old new : State) → ((dev : Dev) → dev ≢ Log → reads_of dev new ≡ reads_of dev old) → (IsErrOf result (Worn Flash) → ⊥) →
+    Asks result [] pages pages old new
+asks_reading result pages old new same never =
+    let flash = same Flash (λ is. cc) in
+    let disk = same Disk (λ is. cc) in
+    let none = nothing_asked pages old in
+    record {
+      machine = every_ok result refl;
+      worn = λ is. absurd (never is);
+      reads = record { flash = omega (arith, none.reads.flash, flash); disk = omega (arith, none.reads.disk, disk) };
+      rules_are = refl;
+    }
+  where
+    every_ok : {A : Type 0} {P : Type 0} (r : Result A Stop) → P → OnOk r P
+    every_ok (Ok x) p = p
+    every_ok (Err stop) p = tt
+
+-- Records after records.
+
+module _ (o : Opening) (entry mid new : PageStore) (old between now : State) (done : List Entry) (asked : Asks {T = ⊤} (Ok tt) (touches_of o done) entry mid old between) where
+  pub asks_more : {A : Type 0} (x : A) (more all : List Entry) → all ≡ done ++ more → Asks {T = A} (Ok x) (touches_of o more) mid new between now → Asks {T = ⊤} (Ok tt) (touches_of o all) entry new old now
+  asks_more x more all is asks =
+      let both = asks_then tt (Ok x) (touches_of o done) (touches_of o more) entry mid new old between now asked asks in
+      let split : touches_of o all ≡ touches_of o done ++ touches_of o more = ap (touches_of o) is ∙ filter_map-append (redo_touch (opened o)) done more in
+      subst (λ (works : List CacheWork). Asks {T = ⊤} (Ok tt) works entry new old now) (sym split)
+      (record { machine = both.machine; worn = λ worn. cc; reads = both.reads; rules_are = both.rules_are })
+
+  pub stops_within : {A B : Type 0} (stop : Stop) (more others all : List Entry) → 1 ≤ (rules entry).groups → all ≡ done ++ (more ++ others) → Asks {T = A} (Err stop) (touches_of o more) mid new between now →
+      Asks {T = B} (Err stop) (touches_of o all) entry new old now
+  stops_within {A} {B} stop more others all some is asks =
+      let both = asks_then {A = ⊤} {B = A} tt (Err stop) (touches_of o done) (touches_of o more) entry mid new old between now asked asks in
+      let split : touches_of o all ≡ (touches_of o done ++ touches_of o more) ++ touches_of o others =
+      ap (touches_of o) is ∙ filter_map-append (redo_touch (opened o)) done (more ++ others) ∙ ap (λ (works : List CacheWork). touches_of o done ++ works) (filter_map-append (redo_touch (opened o)) more others)
+      ∙ sym (append_assoc (touches_of o done) (touches_of o more) (touches_of o others)) in
+      subst (λ (works : List CacheWork). Asks {T = B} (Err stop) works entry new old now) (sym split)
+      (asks_stopped {A = A} {B = B} stop (touches_of o done ++ touches_of o more) (touches_of o others) entry new old now some both)
+
+-- and with a read of the log behind it
+pub stops_reading : {A : Type 0} (stop : Stop) (pages : PageStore) (old new : State) → ((dev : Dev) → dev ≢ Log → reads_of dev new ≡ reads_of dev old) → stop ≢ Worn Flash → Asks {T = A} (Err stop) [] pages pages old new
+stops_reading {A} stop pages old new same never = asks_reading {A = A} (Err stop) pages old new same (λ is. never (let equal : stop ≡ Worn Flash = cc in equal))
+
+pub asks_with_read : (o : Opening) (entry pages : PageStore) (old mid new : State) (done : List Entry) → Asks {T = ⊤} (Ok tt) (touches_of o done) entry pages old mid → ((dev : Dev) → dev ≢ Log → reads_of dev new ≡ reads_of dev mid) →
+    Asks {T = ⊤} (Ok tt) (touches_of o done) entry pages old new
+asks_with_read o entry pages old mid new done asked same =
+    asks_more o entry pages pages old mid new done asked tt [] done (sym (append-nil done)) (asks_reading {A = ⊤} (Ok tt) pages mid new same (λ is. cc))
+
+-- all of some records
+pub asks_all : {A : Type 0} (x : A) (o : Opening) (old new : PageStore) (before now : State) (done all : List Entry) → done ≡ all → Asks {T = ⊤} (Ok tt) (touches_of o done) old new before now → Asks {T = A} (Ok x) (touches_of o all) old new before now
+asks_all {A} x o old new before now done all is asked =
+    subst (λ (l : List Entry). Asks {T = A} (Ok x) (touches_of o l) old new before now) is
+    (record { machine = asked.machine; worn = λ worn. cc; reads = asked.reads; rules_are = asked.rules_are })
+
+-- all records stand from the first block on
+all_from_first : (log : List Entry) → from_block 0 log ≡ log
+all_from_first [] = refl
+all_from_first (e ∷ log) = ap (λ (b : Bool). cond b (e ∷ from_block 0 log) (from_block 0 log)) (le-leb 0 e.lsn (omega arith)) ∙ ap (λ (l : List Entry). e ∷ l) (all_from_first log)
+
+pub redo_asks : {A : Type 0} (result : Result A Stop) (o : Opening) (old new : PageStore) (before now : State) → Asks result (touches_of o (log_from 0 o.blocks)) old new before now → Asks result (redo_works (opened o)) old new before now
+redo_asks result o old new before now asks = subst (λ (works : List CacheWork). Asks result works old new before now) (ap (touches_of o) (sym (all_from_first (log_from 0 o.blocks)))) asks
+
+-- One touch.
+
+-- a touch that stopped, as one with a change
+change_stops : {A : Type 0} (stop : Stop) (page : ℕ) (old new : PageStore) (before now : State) → 1 ≤ (rules old).groups → Asks {T = A} (Err stop) (one_touch page) old new before now → Asks {T = A} (Err stop) (one_change page) old new before now
+change_stops stop page old new before now some asks = record {
+  machine = tt;
+  worn = λ is. change_overflows (rules old) page (cache_of old) some (asks.worn is);
+  reads = change_reads (rules old) page (cache_of old) before now some asks.reads;
+  rules_are = asks.rules_are;
+}
+
+-- a touch, and then a change of the page in front
+change_asks : TouchThenChange → {A : Type 0} (x : A) (page : ℕ) (old mid new : PageStore) (before now : State) → 1 ≤ (rules old).groups → Asks {T = A} (Ok x) (one_touch page) old mid before now →
+    cache_of new ≡ with_change (cache_of mid) → rules new ≡ rules mid → Asks {T = A} (Ok x) (one_change page) old new before now
+change_asks law x page old mid new before now some asks changed same = record {
+  machine = changed ∙ ap with_change asks.machine ∙ sym (law (rules old) page (cache_of old));
+  worn = λ is. cc;
+  reads = change_reads (rules old) page (cache_of old) before now some asks.reads;
+  rules_are = same ∙ asks.rules_are;
+}
+
+-- What the next record asks for.
+
+no_touch : (o : Opening) (e : Entry) → number_of e.rec ≡ None → touches_of o (e ∷ []) ≡ []
+no_touch o e none =
+    ap (λ (n : Option ℕ). filter_map (λ (m : Option ℕ). option_map (λ number. touch (page_of number) (nat_lt (version_at (opened o).pages (page_of number)).lsn e.lsn)) m) (n ∷ [])) none
+
+touch_of : (o : Opening) (e : Entry) (page number : ℕ) (change : Bool) → number_of e.rec ≡ Some number → number / 32 ≡ page → nat_lt (version_at (opened o).pages page).lsn e.lsn ≡ change → touches_of o (e ∷ []) ≡ touch page change ∷ []
+touch_of o e page number change own at is =
+    ap (λ (n : Option ℕ). filter_map (λ (m : Option ℕ). option_map (λ number. touch (page_of number) (nat_lt (version_at (opened o).pages (page_of number)).lsn e.lsn)) m) (n ∷ [])) own
+    ∙ ap (λ (k : ℕ). touch k (nat_lt (version_at (opened o).pages k).lsn e.lsn) ∷ []) at
+    ∙ ap (λ (b : Bool). touch page b ∷ []) is
+
+pub asks_no_page : {A : Type 0} (x : A) (o : Opening) (e : Entry) (pages : PageStore) (site : State) → number_of e.rec ≡ None → Asks {T = A} (Ok x) (touches_of o (e ∷ [])) pages pages site site
+asks_no_page {A} x o e pages site none =
+    subst (λ (works : List CacheWork). Asks {T = A} (Ok x) works pages pages site site) (sym (no_touch o e none)) (asks_nothing {T = A} (Ok x) pages site site (λ dev. refl) (λ is. cc))
+
+pub stops_in_touch : {A : Type 0} (stop : Stop) (o : Opening) (e : Entry) (page number : ℕ) (old new : PageStore) (before now : State) → number_of e.rec ≡ Some number → number / 32 ≡ page → 1 ≤ (rules old).groups →
+    Asks {T = A} (Err stop) (one_touch page) old new before now → Asks {T = A} (Err stop) (touches_of o (e ∷ [])) old new before now
+stops_in_touch {A} stop o e page number old new before now own at some asks = by (nat_lt (version_at (opened o).pages page).lsn e.lsn) refl
+  where
+    by : (change : Bool) → nat_lt (version_at (opened o).pages page).lsn e.lsn ≡ change → Asks {T = A} (Err stop) (touches_of o (e ∷ [])) old new before now
+    by true is = subst (λ (works : List CacheWork). Asks {T = A} (Err stop) works old new before now) (sym (touch_of o e page number true own at is)) (change_stops stop page old new before now some asks)
+    by false is = subst (λ (works : List CacheWork). Asks {T = A} (Err stop) works old new before now) (sym (touch_of o e page number false own at is)) asks
+
+-- a page that knows of a record before it is redone had it in its version
+older_version : (o : Opening) (front : List Entry) (page lsn next : ℕ) → last_lsn front ≤ next - 1 → IsFrom (opened o) front page lsn → next ≤ lsn → next ≤ (version_at (opened o).pages page).lsn
+older_version o front page lsn next low (inl same) least = omega (arith, same, least)
+older_version o front page lsn next low (inr less) least = omega (arith, low, less, least)
+
+module _ (laws : PageLaws) (redo : RedoLaws) (o : Opening) (log : LogStore) (mid : PageStore) (between : State) (front : List Entry) (h : IsRedoing o log mid between front)
+    (e : Entry) (rest : List Entry) (split : log_from 0 o.blocks ≡ front ++ e ∷ rest) (page number : ℕ) (own : number_of e.rec ≡ Some number) (at : number / 32 ≡ page)
+    (old : PageStore) (before : State) {A : Type 0} (x : A) (asks : Asks {T = A} (Ok x) (one_touch page) old mid before between) where
+  exists : page < o.sizes.pages
+  exists = page_exists laws redo o log mid between front h e rest split page number own at
+
+  pub asks_known : e.lsn ≤ lsn_of (current mid between.image page) → Asks {T = A} (Ok x) (touches_of o (e ∷ [])) old mid before between
+  asks_known least =
+      let below = last_below laws redo o log mid between front h e rest split in
+      let known = older_version o front page (lsn_of (current mid between.image page)) e.lsn below (h.from page exists) least in
+      subst (λ (works : List CacheWork). Asks {T = A} (Ok x) works old mid before between) (sym (touch_of o e page number false own at (le-ltb (version_at (opened o).pages page).lsn e.lsn known))) asks
+
+  pub asks_redone : lsn_of (current mid between.image page) < e.lsn → (new : PageStore) → 1 ≤ (rules old).groups → cache_of new ≡ with_change (cache_of mid) → rules new ≡ rules mid →
+      Asks {T = A} (Ok x) (touches_of o (e ∷ [])) old new before between
+  asks_redone less new some changed same =
+      let later = (h.redone page exists).later in
+      let older : (version_at (opened o).pages page).lsn < e.lsn = omega (arith, later, less) in
+      subst (λ (works : List CacheWork). Asks {T = A} (Ok x) works old new before between) (sym (touch_of o e page number true own at (lt-ltb (version_at (opened o).pages page).lsn e.lsn older)))
+      (change_asks redo.change x page old mid new before between some asks changed same)

@@ -1,0 +1,66 @@
+-- What the cache has done for some CLRs of a transaction.
+use Rattle.std.proofs.Common.{◌≡◌, ℕ, ◌+◌, true, ◌≤◌, List, [], ◌∷◌, ◌++◌, drop, append_assoc, append-nil, refl, sym, ap, ◌∙◌}
+use Rattle.std.specs.Prelude.{Ok, IsErrOf, ⊤}
+use Rattle.site.specs.declared.outside.Dev.TheVariants.{Flash}
+use Rattle.site.specs.declared.outside.Stop.TheVariants.{Worn}
+use Rattle.site.specs.State.{State}
+use Rattle.record_model.specs.State.{Content}
+use Rattle.log_records.specs.Log.{Entry, txn_of}
+use Rattle.log_records.specs.Unfinished.{is_clr, left_open}
+use Rattle.log_laws.specs.RoomLaws.{LeftPush}
+use Rattle.log_laws.specs.Analysis.{Unfinished, IsUnfinished}
+use Rattle.log_store.specs.declared.store.LogStore.{LogStore}
+use Rattle.page_store.specs.declared.store.PageStore.{PageStore}
+use Rattle.redo_undo.specs.declared.undo.Undoing.{Undoing}
+use Rattle.redo_undo.specs.Holding.{Holds, blocks_to}
+use Rattle.redo_undo.specs.Undoing.{IsAt, Undone}
+use Rattle.redo_undo.specs.Rollback.{left_of, Compensates}
+use Rattle.redo_undo.specs.Laws.{PageLaws, UndoLaws}
+use Rattle.redo_undo.specs.Works.{Asks}
+use Rattle.redo_undo.specs.UndoWorks.{works_of}
+use Rattle.redo_undo.proofs.Rollbacks.{starts, goes_on}
+use Rattle.redo_undo.proofs.Asking.{asks_nothing}
+use Rattle.redo_undo.proofs.AskingUndo.{one_more_work}
+use Rattle.redo_undo.proofs.LeftUpdates.{AsksSoFar, left_after_clr}
+
+pub asks_none : (records : List Entry) (txn : ℕ) (pages : PageStore) (site : State) → AsksSoFar records [] txn pages pages site site
+asks_none records txn pages site = record {
+  done = [];
+  are = sym (ap (λ (l : List Entry). left_open l txn) (append-nil records));
+  asks = asks_nothing {T = ⊤} (Ok tt) pages site site (λ d. refl) (λ (is : IsErrOf {T = ⊤} (Ok tt) (Worn Flash)). cc);
+}
+
+-- one CLR more
+pub asks_one_more : LeftPush → {B : Type 0} (b : B) (records clrs : List Entry) (txn : ℕ) (old mid new : PageStore) (before between now : State) → AsksSoFar records clrs txn old mid before between →
+    (u : Entry) (rest : List Entry) (e : Entry) → is_clr e.rec ≡ true → txn_of e ≡ txn → left_open (records ++ clrs) txn ≡ u ∷ rest → Asks {T = B} (Ok b) (works_of (u ∷ [])) mid new between now →
+    AsksSoFar records (clrs ++ e ∷ []) txn old new before now
+asks_one_more push b records clrs txn old mid new before between now so_far u rest e clr own left asks =
+    let more : left_open (records ++ (clrs ++ e ∷ [])) txn ≡ rest =
+    sym (ap (λ (l : List Entry). left_open l txn) (append_assoc records clrs (e ∷ []))) ∙ left_after_clr push (records ++ clrs) e txn clr own ∙ ap (drop 1) left in
+    record {
+      done = so_far.done ++ u ∷ [];
+      are = so_far.are ∙ ap (λ (l : List Entry). so_far.done ++ l) (left ∙ sym (ap (λ (l : List Entry). u ∷ l) more)) ∙ sym (append_assoc so_far.done (u ∷ []) (left_open (records ++ (clrs ++ e ∷ [])) txn));
+      asks = one_more_work tt b so_far.done u old mid new before between now so_far.asks asks;
+    }
+
+-- With the CLRs themselves.
+
+abbrev pub AsksFor : LogStore → PageStore → State → List Entry → List Content → ℕ → ℕ → ℕ → Undoing → PageStore → State → Type 0
+AsksFor log pages site records table commits txn blocks now old before =
+    (made : Compensates log pages site records table commits txn blocks before.log_reads now) × AsksSoFar records made.clrs txn old pages before site
+
+pub starts_asking : (log : LogStore) (pages : PageStore) (site : State) (records : List Entry) (table : List Content) (commits : ℕ) (x : Unfinished) (first : Undoing) → Holds log pages site records table commits → IsUnfinished records x → IsAt first x →
+    AsksFor log pages site records table commits x.txn (blocks_to log) first pages site
+unfolding starts
+starts_asking log pages site records table commits x first holds unfinished at = (starts log pages site records table commits x first holds unfinished at, asks_none records x.txn pages site)
+
+pub goes_on_asking : PageLaws → (laws : UndoLaws) (log : LogStore) (pages : PageStore) (site : State) (records : List Entry) (table : List Content) (commits txn blocks : ℕ) (now : Undoing) (old : PageStore) (before : State) →
+    (c : AsksFor log pages site records table commits txn blocks now old before) (log' : LogStore) (pages' : PageStore) (new : State) (next : Undoing) (u : Entry) (rest : List Entry) →
+    left_open (records ++ c.0.clrs) now.txn ≡ u ∷ rest → Undone log' pages' new (records ++ c.0.clrs) table commits (left_of now c.0.remaining) next → blocks_to log' ≤ blocks_to log + 1 → new.log_reads ≤ site.log_reads + 1 →
+    Asks {T = Undoing} (Ok next) (works_of (u ∷ [])) pages pages' site new → AsksFor log' pages' new records table commits txn blocks next old before
+unfolding goes_on
+goes_on_asking page_laws laws log pages site records table commits txn blocks now old before c log' pages' new next u rest left done one one_read asks =
+    let made = c.0 in (
+      goes_on page_laws laws log pages site records table commits txn blocks before.log_reads now made log' pages' new next done one one_read,
+      asks_one_more laws.left_push next records made.clrs txn old pages pages' before site new c.1 u rest done.e done.clr (done.own ∙ made.same) (sym (ap (left_open (records ++ made.clrs)) made.same) ∙ left) asks,
+    )

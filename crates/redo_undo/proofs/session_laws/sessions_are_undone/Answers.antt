@@ -1,0 +1,5 @@
+use Rattle.redo_undo.proofs.UndoneWrites.{active_is_undone_by}
+use Rattle.redo_undo.proofs.session_laws.sessions_are_undone.Goals as goal
+
+pub returns : goal.returns
+returns c = active_is_undone_by
