@@ -10,7 +10,9 @@ pub mod Owing
 pub mod Recovers
 pub mod Replies
 pub mod Rollbacks
+pub mod Scans
 pub mod Settings
 pub mod Starts
 pub mod Stats
 pub mod Writes
+pub mod Asking

@@ -1,5 +1,5 @@
 -- What the model answers, test by test.
-use Rattle.std.proofs.Common.{◌≡◌, ℕ, ◌+◌, ◌*◌, ◌<◌, ◌≤◌, Bool, true, false, true≢false, List, [], ◌∷◌, length, sum_by, filter_map, Option, None, Some, refl, sym, ap, ◌∙◌, arith}
+use Rattle.std.proofs.Common.{◌≡◌, ℕ, ◌+◌, ◌*◌, ◌<◌, ◌≤◌, Bool, true, false, not, ◌&&◌, true≢false, List, [], ◌∷◌, length, sum_by, filter_map, Option, None, Some, refl, sym, ap, ◌∙◌, arith}
 use Rattle.std.specs.Prelude.{slice_index_or, nat_le, nat_lt, is_none, IsSome, if◌then◌else◌}
 use Rattle.std.specs.Option.{option_map_or}
 use Rattle.std.specs.List.{range_with_len}
@@ -14,6 +14,7 @@ use Rattle.record_model.specs.declared.words.Reply.{Reply}
 use Rattle.record_model.specs.declared.words.Reply.TheVariants as reply
 use Rattle.record_model.specs.State.{Session, State, session_at, active_sessions, used}
 use Rattle.record_model.specs.State as model
+use Rattle.record_model.specs.Touches.{CacheWork, record_touches}
 use Rattle.record_model.specs.Step.{Outcome, refusal, outcome, effect, answer, full, lacks_room, wants_active, wants_record, wants_short, refuse_if}
 use Rattle.log_records.specs.Log.{Entry}
 use Rattle.txn_table.specs.declared.active.Active.{Active}
@@ -21,22 +22,28 @@ use Rattle.txn_table.specs.Entries.{IsTable, entry_of}
 use Rattle.txn_table.specs.Entries as entries
 use Rattle.engine.specs.declared.engine.Engine.{Engine}
 use Rattle.engine.specs.Going.{sizes_of}
-use Rattle.engine.specs.Fits.{Fits, SessionIs, IsFull, run}
-use Rattle.engine.proofs.Actives.{some_active}
+use Rattle.engine.specs.Fits.{Fits, SessionIs, IsFull, IsRefusedWith, IsCarriedOut}
+use Rattle.engine.proofs.Actives.{some_active, none_active}
 use Rattle.engine.proofs.Meanings.{same_size}
 use Rattle.engine.proofs.Owing.{owed_at, owed_one, owed_is}
 
 abbrev way : State → Command → Bool → Outcome
 way s command b = if b then record { after = s; reply = full s } else record { after = effect s command; reply = answer s command [] }
 
-pub refused : (s : State) (command : Command) (r : Reply) → refusal s command ≡ Some r → run s command ≡ record { after = s; reply = r }
-refused s command r is = ap (outcome false s command []) is
+-- what a command asks of the cache, by its refusal and by the room that it lacks
+abbrev asked : State → Command → Option Reply → Bool → List CacheWork
+asked s command o lacks = if is_none o && not lacks then record_touches s command else []
 
-pub no_room : (s : State) (command : Command) → refusal s command ≡ None → lacks_room s command ≡ true → run s command ≡ record { after = s; reply = full s }
-no_room s command none lacks = ap (outcome false s command []) none ∙ ap (way s command) lacks
+pub refused : (s : State) (command : Command) (r : Reply) → refusal s command ≡ Some r → IsRefusedWith s command r
+refused s command r is = (ap (outcome false s command []) is, ap (λ (o : Option Reply). asked s command o (lacks_room s command)) is)
 
-pub carried_out : (s : State) (command : Command) → refusal s command ≡ None → lacks_room s command ≡ false → run s command ≡ record { after = effect s command; reply = answer s command [] }
-carried_out s command none has = ap (outcome false s command []) none ∙ ap (way s command) has
+pub no_room : (s : State) (command : Command) → refusal s command ≡ None → lacks_room s command ≡ true → IsRefusedWith s command (full s)
+no_room s command none lacks =
+    (ap (outcome false s command []) none ∙ ap (way s command) lacks, ap (λ (o : Option Reply). asked s command o (lacks_room s command)) none ∙ ap (asked s command None) lacks)
+
+pub carried_out : (s : State) (command : Command) → refusal s command ≡ None → lacks_room s command ≡ false → IsCarriedOut s command
+carried_out s command none has =
+    (ap (outcome false s command []) none ∙ ap (way s command) has, ap (λ (o : Option Reply). asked s command o (lacks_room s command)) none ∙ ap (asked s command None) has)
 
 -- What is owed.
 
@@ -127,3 +134,10 @@ is_active engine site s n fits some =
     let own = has (entry_of engine.active n) some in
     let session = some_active fits.records engine.active s fits.sessions n own.own own.is in
     wants_active_is s n session.session session.is
+
+-- a session that isn't active
+pub refused_session : (engine : Engine) (site : Site) (s : State) (command : Command) (n : ℕ) → Fits engine site s → entry_of engine.active n ≡ None → refusal s command ≡ wants_active s n →
+    IsRefusedWith s command (reply.Refused BadSession)
+refused_session engine site s command n fits none test =
+    let idle : session_at s n ≡ None = none_active fits.records engine.active s fits.sessions n none in
+    refused s command (reply.Refused BadSession) (test ∙ (λ i. refuse_if (is_none (idle i)) (reply.Refused BadSession)))

@@ -5,6 +5,7 @@ use Rattle.record_model.specs.State.{Content, Session, State, Write, session_at}
 use Rattle.record_model.specs.State as model
 use Rattle.record_model.specs.declared.words.Command.{Command}
 use Rattle.record_model.specs.Step.{Outcome, step, effect, answer, making, with_session, having_written, having_read}
+use Rattle.record_model.specs.Touches.{command_touches, record_touches}
 use Rattle.record_model.specs.declared.words.Reply.{Reply}
 use Rattle.record_model.specs.declared.words.Reply.TheVariants as reply
 use Rattle.log_records.specs.Log.{Entry, is_loser}
@@ -73,13 +74,24 @@ with_write s n write = making 1 (with_session s n (option_map (having_written wr
 abbrev pub with_read : State → ℕ → ℕ → State
 with_read s n number = with_session s n (option_map (having_read (number ∷ [])) (session_at s n))
 
--- a command is refused, in whatever state the database stands for, and changes nothing
-abbrev pub Refuses : Engine → Command → Reply → Type 0
-Refuses engine command reply = (s : State) (site : Site) → Fits engine site s → run s command ≡ record { after = s; reply = reply }
+-- a session has read records
+abbrev pub with_reads : State → ℕ → List ℕ → State
+with_reads s n numbers = with_session s n (option_map (having_read numbers) (session_at s n))
 
--- it is carried out
+-- a command is refused: it changes nothing, and asks nothing of the cache
+abbrev pub IsRefusedWith : State → Command → Reply → Type 0
+IsRefusedWith s command reply = (run s command ≡ record { after = s; reply = reply }) × (command_touches false s command ≡ [])
+
+-- it is carried out, and touches the pages of its records
+abbrev pub IsCarriedOut : State → Command → Type 0
+IsCarriedOut s command = (run s command ≡ record { after = effect s command; reply = answer s command [] }) × (command_touches false s command ≡ record_touches s command)
+
+-- so it is in whatever state the database stands for
+abbrev pub Refuses : Engine → Command → Reply → Type 0
+Refuses engine command reply = (s : State) (site : Site) → Fits engine site s → IsRefusedWith s command reply
+
 abbrev pub Accepts : Engine → Command → Type 0
-Accepts engine command = (s : State) (site : Site) → Fits engine site s → run s command ≡ record { after = effect s command; reply = answer s command [] }
+Accepts engine command = (s : State) (site : Site) → Fits engine site s → IsCarriedOut s command
 
 -- so many more log records can't be made
 pub record IsFull (engine : Engine) (more : ℕ) (answered : Reply) : Type 0 where

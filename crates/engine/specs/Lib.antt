@@ -3,6 +3,9 @@ pub mod Going
 pub mod Holding
 pub mod Image
 pub mod Leaves
+pub mod Listings
 pub mod OneWrite
+pub mod Paging
 pub mod Restarting
 pub mod Rollback
+pub mod Scans

@@ -1,17 +1,19 @@
 // The database.
-ghost use Rattle.std.specs.Prelude.{◌≡◌, ◌≢◌, ◌⊎◌, ◌+◌, ◌*◌, ◌/◌, ◌^◌, ◌<◌, ◌≤◌, ◌↔◌, ℕ, List, [], ◌∷◌, ◌++◌, length, true, false, Some, None, option_map, IsTrue, IsSome, IfSome, IfNone, IfOk, IfErr, OnOk, OnErr, IsErrOf};
+ghost use Rattle.std.specs.Prelude.{map, reverse, ◌≡◌, ◌≢◌, ◌⊎◌, ◌+◌, ◌*◌, ◌/◌, ◌^◌, ◌<◌, ◌≤◌, ◌↔◌, ℕ, List, [], ◌∷◌, ◌++◌, length, true, false, Some, None, option_map, IsTrue, IsSome, IfSome, IfNone, IfOk, IfErr, OnOk, OnErr, IsErrOf};
+ghost use Rattle.std.specs.List.{range_with_len};
 ghost use Rattle.site.specs.declared.outside.Dev.{Dev};
 ghost use Rattle.site.specs.declared.outside.Stop.{Stop};
 ghost use Rattle.site.specs.declared.geometry.Geometry.{Geometry};
+ghost use Rattle.site.specs.Geometry.{HasLimits};
 ghost use Rattle.site.specs.State.{State as Site, IsQuiet};
 ghost use Rattle.site.specs.Calls.{Goes, FaultRose};
 ghost use Rattle.site.specs.Moments.{LeavesOnly};
 ghost use Rattle.record_model.specs.declared.words.Command.{Command};
 ghost use Rattle.record_model.specs.declared.words.Why.{Why};
 ghost use Rattle.record_model.specs.declared.words.Reply.{Reply};
-ghost use Rattle.record_model.specs.State.{State, Content, table_with, seen, content_at};
+ghost use Rattle.record_model.specs.State.{State, Content, table_with, seen, content_at, writes_of, session_at};
 ghost use Rattle.byte_fields.specs.declared.TheConstants.{VALUE_MAX};
-ghost use Rattle.record_model.specs.Step.{found, effect, making, committed};
+ghost use Rattle.record_model.specs.Step.{found, step, effect, making, committed};
 ghost use Rattle.log_records.specs.Spelling.{IsShort};
 ghost use Rattle.log_records.specs.declared.log_record.LogRecord.{LogRecord};
 ghost use Rattle.log_records.specs.Log.{Entry};
@@ -25,20 +27,30 @@ ghost use Rattle.image_meaning.specs.Moments as moments;
 ghost use Rattle.redo_undo.specs.Holding.{blocks_to};
 ghost use Rattle.redo_undo.specs.Committing.{MayCommit};
 ghost use Rattle.engine.specs.Going.{MayWork, MayGoOn, sizes_of};
-ghost use Rattle.engine.specs.Image.{Stands, Opens};
+ghost use Rattle.engine.specs.Image.{IsSound, Stands, Opens};
 ghost use Rattle.engine.specs.Holding.{Holds, IsInFront, shown_in};
 ghost use Rattle.engine.specs.OneWrite.{HasOneWrite};
-ghost use Rattle.engine.specs.Fits.{Fits, run, with_write, with_read, Refuses, Accepts, IsFull};
+ghost use Rattle.engine.specs.Fits.{Fits, run, with_write, with_read, with_reads, Refuses, Accepts, IsFull};
 ghost use Rattle.engine.specs.Leaves.{LeavesTable, LeavesEither, HasNoSizes, IsRefused};
+ghost use Rattle.engine.specs.Paging.{AsksFrom, cache_on, restart_works};
+ghost use Rattle.record_model.specs.Touches.{command_touches, read_touch, write_touch};
+ghost use Rattle.redo_undo.specs.Works.{Asks, Overflows, one_touch, one_change};
+ghost use Rattle.page_store.specs.Caching.{cache_of, rules};
+ghost use Rattle.second_chance.specs.Machine.{rules_of};
+ghost use Rattle.image_meaning.specs.Meaning.{picture};
+ghost use Rattle.engine.specs.Listings.{listing_of};
+ghost use Rattle.engine.specs.Scans.{first_busy, items_seen};
 
 use crate::restart::restart;
+use crate::scan::{add_item, first_busy};
 use crate::sessions;
 use crate::store::{SLOTS, Store};
 use crate::values::{found, is_long, value_of};
 use lock_table::LockTable;
 use log_laws::owed_none;
-use record_model::{Octets, Reply, Stat, Why};
-use redo_undo::hold_together;
+use page_store::touch_then_change;
+use record_model::{Items, Octets, Reply, Stat, Why};
+use redo_undo::{changes_cost_a_touch, hold_together, works_add_up};
 use site::{Site, Stop};
 use std::alloc::Global;
 use txn_table::{Active, TxnTable};
@@ -49,6 +61,7 @@ const SESSIONS: u32 = 8;
 /// The database. Each call on it answers the model's reply and leaves the model's state.
 #[derive(Drop)]
 pub struct Engine {
+    alloc: Global,
     store: Store,
     // How many blocks of the log may be used.
     cap: u64,
@@ -82,6 +95,12 @@ impl Engine {
             → Stands g (S.state site.old).image table commits
             → IfErr result (λ stop. ((d : Dev) → stop ≢ Stop.Device d) → IsQuiet (S.state site.new)) }
 
+        ensures asks { IsTrue (S.state site.old).honest
+            → (g : Geometry) (blocks : List (List LogRecord)) → IsSound g (S.state site.old).image blocks
+            → AsksFrom result (λ engine. engine.store.pages) (rules_of pool g.groups)
+            (restart_works (picture g (S.state site.old).image blocks)) (cache_on g (S.state site.old).image)
+            (2 * g.groups) (S.state site.old) (S.state site.new) }
+
         // Of every site.
         ensures going { IfOk result (λ engine. MayGoOn engine (S.state site.new)) }
         ensures pool { IfOk result (λ engine. engine.store.pages.pool.size ≡ pool) }
@@ -110,6 +129,7 @@ impl Engine {
             Err(stop) => return Err(stop),
         };
         Ok(Engine {
+            alloc,
             cap: restarted.blocks as u64 - 1,
             store: restarted.store,
             locks,
@@ -222,6 +242,9 @@ impl Engine {
         ensures quiet { (s : State) → Fits self.old (S.state site.old) s
             → IsQuiet (S.state site.old)
             → IfErr result (λ stop. ((d : Dev) → stop ≢ Stop.Device d) → IsQuiet (S.state site.new)) }
+        ensures asks { (s : State) → Fits self.old (S.state site.old) s
+            → Asks result (command_touches false s (Command.Begin session)) self.old.store.pages self.new.store.pages
+            (S.state site.old) (S.state site.new) }
 
         // Of every site.
         ensures going { OnOk result (MayGoOn self.new (S.state site.new)) }
@@ -270,6 +293,8 @@ impl Engine {
             → IfErr result (λ stop. ((d : Dev) → stop ≢ Stop.Device d) → IsQuiet (S.state site.new)) }
 
         ensures going { OnOk result (MayGoOn self.new (S.state site.new)) }
+        ensures asks { Asks result ([]) self.old.store.pages self.new.store.pages
+            (S.state site.old) (S.state site.new) }
         ensures sizes { sizes_of self.new.store ≡ sizes_of self.old.store }
         ensures goes { Goes (S.state site.old) (S.state site.new) }
         ensures device { (d : Dev) → IsErrOf result (Stop.Device d)
@@ -337,6 +362,9 @@ impl Engine {
         ensures quiet { (s : State) → Fits self.old (S.state site.old) s
             → IsQuiet (S.state site.old)
             → IfErr result (λ stop. ((d : Dev) → stop ≢ Stop.Device d) → IsQuiet (S.state site.new)) }
+        ensures asks { (s : State) → Fits self.old (S.state site.old) s
+            → Asks result (command_touches false s (Command.Read session number)) self.old.store.pages self.new.store.pages
+            (S.state site.old) (S.state site.new) }
 
         // Of every site.
         ensures going { OnOk result (MayGoOn self.new (S.state site.new)) }
@@ -348,6 +376,8 @@ impl Engine {
         ensures device { (d : Dev) → IsErrOf result (Stop.Device d)
             → FaultRose d (S.state site.old) (S.state site.new) }
         ensures worn_log { IsErrOf result (Stop.Worn Dev.Log) → ⊥ }
+        ensures worn_flash { IsErrOf result (Stop.Worn Dev.Flash)
+            → Overflows (rules self.old.store.pages) (one_touch (number / 32)) (cache_of self.old.store.pages) }
         ensures worn { (s : State) → Fits self.old (S.state site.old) s → IsErrOf result (Stop.Worn Dev.Flash)
             → IsWorn (sizes_of self.old.store) (S.state site.new).image }
         ensures foreign { IsErrOf result Stop.Foreign → (s : State)
@@ -359,7 +389,7 @@ impl Engine {
             return Ok(refused);
         }
         match self.carry_out_read(site, session, number) {
-            Ok(reply) => Ok(reply),
+            Ok(content) => Ok(found(content)),
             Err(stop) => {
                 self.ended = true;
                 Err(stop)
@@ -367,21 +397,21 @@ impl Engine {
         }
     }
 
-    // A session that may reads a record.
+    // A session that may reads a record. Answers what it sees there.
     fn carry_out_read<S: Site>(
         &mut self,
         site: &mut S,
         session: u32,
         number: u32,
-    ) -> Result<Reply, Stop>
+    ) -> Result<Option<Octets>, Stop>
         requires going { MayGoOn self.old (S.state site.old) }
         requires session { session < 8 }
         requires active { IsSome (entry_of self.old.active session) }
         requires number { number < 32 * (sizes_of self.old.store).pages }
         requires free { busy_read self.old.locks (Some session) number ≡ None }
 
-        ensures reply { (s : State) → Fits self.old (S.state site.old) s
-            → IfOk result (λ reply. reply ≡ found (seen s session number)) }
+        ensures content { (s : State) → Fits self.old (S.state site.old) s
+            → IfOk result (λ content. content ≡ seen s session number) }
         ensures after { (s : State) → Fits self.old (S.state site.old) s
             → OnOk result (Fits self.new (S.state site.new) (with_read s session number)) }
         ensures any_moment { (s : State) → Fits self.old (S.state site.old) s
@@ -397,6 +427,10 @@ impl Engine {
             → IfErr result (λ stop. ((d : Dev) → stop ≢ Stop.Device d) → IsQuiet (S.state site.new)) }
 
         ensures going { OnOk result (MayGoOn self.new (S.state site.new)) }
+        ensures asks { Asks result (one_touch (number / 32)) self.old.store.pages self.new.store.pages
+            (S.state site.old) (S.state site.new) }
+        ensures locks { OnOk result (AddsLock self.old.locks self.new.locks session number false) }
+        ensures active { self.new.active ≡ self.old.active }
         ensures sizes { sizes_of self.new.store ≡ sizes_of self.old.store }
         ensures goes { Goes (S.state site.old) (S.state site.new) }
         ensures device { (d : Dev) → IsErrOf result (Stop.Device d)
@@ -413,9 +447,158 @@ impl Engine {
             Err(stop) => return Err(stop),
         }
         match self.locks.add(session, number, false) {
-            Ok(()) => Ok(found(self.store.shown(number))),
+            Ok(()) => Ok(self.store.shown(number)),
             Err(_) => Err(Stop::Memory),
         }
+    }
+
+    // Why a session can't read so many records from a number on, if it can't.
+    fn scan_refusal(&self, session: u32, number: u32, count: u32) -> Option<Reply>
+        requires limits { HasLimits (sizes_of self.now.store) }
+        requires sizes { self.now.store.log.geometry ≡ sizes_of self.now.store }
+        ensures refused { IfSome result (λ reply. Refuses self.now (Command.Scan session number count) reply) }
+        ensures accepted { IfNone result (Accepts self.now (Command.Scan session number count)) }
+        ensures session { IfNone result (session < 8) }
+        ensures active { IfNone result (IsSome (entry_of self.now.active session)) }
+        ensures small { IfNone result (number + count < 2 ^ 32) }
+        ensures there { IfNone result (number + count ≤ 32 * (sizes_of self.now.store).pages) }
+        ensures free { IfNone result (first_busy self.now.locks session (range_with_len number count) ≡ None) }
+    {
+        if self.active.find(session).is_none() {
+            return Some(Reply::Refused(Why::BadSession));
+        }
+        let Some(end) = number.checked_add(count) else {
+            return Some(Reply::Refused(Why::NoRecord));
+        };
+        if self.lacks(end.saturating_sub(1)) {
+            return Some(Reply::Refused(Why::NoRecord));
+        }
+        if let Some(busy) = first_busy(&self.locks, session, number, count) {
+            return Some(busy);
+        }
+        None
+    }
+
+    /// What a session sees at so many records from a number on: those of them that have a value.
+    pub fn scan<S: Site>(
+        &mut self,
+        site: &mut S,
+        session: u32,
+        number: u32,
+        count: u32,
+    ) -> Result<Reply, Stop>
+        requires going { MayGoOn self.old (S.state site.old) }
+
+        // Of an honest site that the database fits.
+        ensures reply { (s : State) → Fits self.old (S.state site.old) s
+            → IfOk result (λ reply. reply ≡ (run s (Command.Scan session number count)).reply) }
+        ensures after { (s : State) → Fits self.old (S.state site.old) s
+            → OnOk result (Fits self.new (S.state site.new) (run s (Command.Scan session number count)).after) }
+        ensures any_moment { (s : State) → Fits self.old (S.state site.old) s
+            → IsQuiet (S.state site.old)
+            → LeavesOnly (S.state site.old) (S.state site.new)
+            (LeavesTable (sizes_of self.old.store) s.table s.commits (S.state site.old).told) }
+        ensures left { IsTrue (S.state site.old).honest
+            → (S.state site.new).left ≡ (S.state site.old).left }
+        ensures stays_quiet { IsTrue (S.state site.old).honest → IsQuiet (S.state site.old)
+            → OnOk result (IsQuiet (S.state site.new)) }
+        ensures quiet { (s : State) → Fits self.old (S.state site.old) s
+            → IsQuiet (S.state site.old)
+            → IfErr result (λ stop. ((d : Dev) → stop ≢ Stop.Device d) → IsQuiet (S.state site.new)) }
+        ensures asks { (s : State) → Fits self.old (S.state site.old) s
+            → Asks result (command_touches false s (Command.Scan session number count)) self.old.store.pages self.new.store.pages
+            (S.state site.old) (S.state site.new) }
+
+        // Of every site.
+        ensures going { OnOk result (MayGoOn self.new (S.state site.new)) }
+        ensures ended { OnErr result (self.new.ended ≡ true) }
+        ensures sizes { sizes_of self.new.store ≡ sizes_of self.old.store }
+        ensures goes { Goes (S.state site.old) (S.state site.new) }
+
+        // When each answer comes.
+        ensures device { (d : Dev) → IsErrOf result (Stop.Device d)
+            → FaultRose d (S.state site.old) (S.state site.new) }
+        ensures worn_log { IsErrOf result (Stop.Worn Dev.Log) → ⊥ }
+        ensures worn_flash { IsErrOf result (Stop.Worn Dev.Flash)
+            → Overflows (rules self.old.store.pages) (map read_touch (range_with_len number count)) (cache_of self.old.store.pages) }
+        ensures worn { (s : State) → Fits self.old (S.state site.old) s → IsErrOf result (Stop.Worn Dev.Flash)
+            → IsWorn (sizes_of self.old.store) (S.state site.new).image }
+        ensures foreign { IsErrOf result Stop.Foreign → (s : State)
+            → Fits self.old (S.state site.old) s → ⊥ }
+        ensures stops { IfErr result (λ stop. MayStop stop) }
+    {
+        hold_together();
+        if let Some(refused) = self.scan_refusal(session, number, count) {
+            return Ok(refused);
+        }
+        match self.carry_out_scan(site, session, number, count) {
+            Ok(items) => Ok(Reply::Items(items)),
+            Err(stop) => {
+                self.ended = true;
+                Err(stop)
+            }
+        }
+    }
+
+    // A session that may reads so many records from a number on. Answers those that have a value.
+    fn carry_out_scan<S: Site>(
+        &mut self,
+        site: &mut S,
+        session: u32,
+        number: u32,
+        count: u32,
+    ) -> Result<Items, Stop>
+        requires going { MayGoOn self.old (S.state site.old) }
+        requires session { session < 8 }
+        requires active { IsSome (entry_of self.old.active session) }
+        requires small { number + count < 2 ^ 32 }
+        requires there { number + count ≤ 32 * (sizes_of self.old.store).pages }
+        requires free { first_busy self.old.locks session (range_with_len number count) ≡ None }
+
+        ensures items { (s : State) → Fits self.old (S.state site.old) s
+            → IfOk result (λ items. items ≡ items_seen s session (range_with_len number count)) }
+        ensures after { (s : State) → Fits self.old (S.state site.old) s
+            → OnOk result (Fits self.new (S.state site.new) (with_reads s session (range_with_len number count))) }
+        ensures any_moment { (s : State) → Fits self.old (S.state site.old) s
+            → IsQuiet (S.state site.old)
+            → LeavesOnly (S.state site.old) (S.state site.new)
+            (LeavesTable (sizes_of self.old.store) s.table s.commits (S.state site.old).told) }
+        ensures left { IsTrue (S.state site.old).honest
+            → (S.state site.new).left ≡ (S.state site.old).left }
+        ensures stays_quiet { IsTrue (S.state site.old).honest → IsQuiet (S.state site.old)
+            → OnOk result (IsQuiet (S.state site.new)) }
+        ensures quiet { (s : State) → Fits self.old (S.state site.old) s
+            → IsQuiet (S.state site.old)
+            → IfErr result (λ stop. ((d : Dev) → stop ≢ Stop.Device d) → IsQuiet (S.state site.new)) }
+
+        ensures going { OnOk result (MayGoOn self.new (S.state site.new)) }
+        ensures asks { Asks result (map read_touch (range_with_len number count)) self.old.store.pages self.new.store.pages
+            (S.state site.old) (S.state site.new) }
+        ensures sizes { sizes_of self.new.store ≡ sizes_of self.old.store }
+        ensures goes { Goes (S.state site.old) (S.state site.new) }
+        ensures device { (d : Dev) → IsErrOf result (Stop.Device d)
+            → FaultRose d (S.state site.old) (S.state site.new) }
+        ensures worn_log { IsErrOf result (Stop.Worn Dev.Log) → ⊥ }
+        ensures worn { (s : State) → Fits self.old (S.state site.old) s → IsErrOf result (Stop.Worn Dev.Flash)
+            → IsWorn (sizes_of self.old.store) (S.state site.new).image }
+        ensures foreign { IsErrOf result Stop.Foreign → (s : State)
+            → Fits self.old (S.state site.old) s → ⊥ }
+        ensures stops { IfErr result (λ stop. MayStop stop) }
+    {
+        hold_together();
+        works_add_up();
+        let mut items = Items::new(self.alloc);
+        for offset in 0..count {
+            let content = match self.carry_out_read(site, session, number + offset) {
+                Ok(content) => content,
+                Err(stop) => return Err(stop),
+            };
+            match add_item(&mut items, number + offset, content) {
+                Ok(()) => {}
+                Err(stop) => return Err(stop),
+            }
+        }
+        Ok(items)
     }
 
     // A session that may writes a record.
@@ -449,6 +632,8 @@ impl Engine {
             → IfErr result (λ stop. ((d : Dev) → stop ≢ Stop.Device d) → IsQuiet (S.state site.new)) }
 
         ensures going { OnOk result (MayGoOn self.new (S.state site.new)) }
+        ensures asks { Asks result (one_change (number / 32)) self.old.store.pages self.new.store.pages
+            (S.state site.old) (S.state site.new) }
         ensures sizes { sizes_of self.new.store ≡ sizes_of self.old.store }
         ensures goes { Goes (S.state site.old) (S.state site.new) }
         ensures device { (d : Dev) → IsErrOf result (Stop.Device d)
@@ -460,6 +645,8 @@ impl Engine {
             → Fits self.old (S.state site.old) s → ⊥ }
         ensures stops { IfErr result (λ stop. MayStop stop) }
     {
+        touch_then_change();
+        changes_cost_a_touch();
         match self.store.touch(site, number) {
             Ok(()) => {}
             Err(stop) => return Err(stop),
@@ -547,6 +734,9 @@ impl Engine {
         ensures quiet { (s : State) → Fits self.old (S.state site.old) s
             → IsQuiet (S.state site.old)
             → IfErr result (λ stop. ((d : Dev) → stop ≢ Stop.Device d) → IsQuiet (S.state site.new)) }
+        ensures asks { (s : State) → Fits self.old (S.state site.old) s
+            → Asks result (command_touches false s (Command.Write session number value.now)) self.old.store.pages self.new.store.pages
+            (S.state site.old) (S.state site.new) }
 
         // Of every site.
         ensures going { OnOk result (MayGoOn self.new (S.state site.new)) }
@@ -558,6 +748,8 @@ impl Engine {
         ensures device { (d : Dev) → IsErrOf result (Stop.Device d)
             → FaultRose d (S.state site.old) (S.state site.new) }
         ensures worn_log { IsErrOf result (Stop.Worn Dev.Log) → ⊥ }
+        ensures worn_flash { IsErrOf result (Stop.Worn Dev.Flash)
+            → Overflows (rules self.old.store.pages) (one_change (number / 32)) (cache_of self.old.store.pages) }
         ensures worn { (s : State) → Fits self.old (S.state site.old) s → IsErrOf result (Stop.Worn Dev.Flash)
             → IsWorn (sizes_of self.old.store) (S.state site.new).image }
         ensures foreign { IsErrOf result Stop.Foreign → (s : State)
@@ -625,6 +817,9 @@ impl Engine {
         ensures quiet { (s : State) → Fits self.old (S.state site.old) s
             → IsQuiet (S.state site.old)
             → IfErr result (λ stop. ((d : Dev) → stop ≢ Stop.Device d) → IsQuiet (S.state site.new)) }
+        ensures asks { (s : State) → Fits self.old (S.state site.old) s
+            → Asks result (command_touches false s (Command.Erase session number)) self.old.store.pages self.new.store.pages
+            (S.state site.old) (S.state site.new) }
 
         // Of every site.
         ensures going { OnOk result (MayGoOn self.new (S.state site.new)) }
@@ -636,6 +831,8 @@ impl Engine {
         ensures device { (d : Dev) → IsErrOf result (Stop.Device d)
             → FaultRose d (S.state site.old) (S.state site.new) }
         ensures worn_log { IsErrOf result (Stop.Worn Dev.Log) → ⊥ }
+        ensures worn_flash { IsErrOf result (Stop.Worn Dev.Flash)
+            → Overflows (rules self.old.store.pages) (one_change (number / 32)) (cache_of self.old.store.pages) }
         ensures worn { (s : State) → Fits self.old (S.state site.old) s → IsErrOf result (Stop.Worn Dev.Flash)
             → IsWorn (sizes_of self.old.store) (S.state site.new).image }
         ensures foreign { IsErrOf result Stop.Foreign → (s : State)
@@ -695,6 +892,9 @@ impl Engine {
         ensures quiet { (s : State) → Fits self.old (S.state site.old) s
             → IsQuiet (S.state site.old)
             → IfErr result (λ stop. ((d : Dev) → stop ≢ Stop.Device d) → IsQuiet (S.state site.new)) }
+        ensures asks { (s : State) → Fits self.old (S.state site.old) s
+            → Asks result (command_touches false s (Command.Get number)) self.old.store.pages self.new.store.pages
+            (S.state site.old) (S.state site.new) }
 
         // Of every site.
         ensures going { OnOk result (MayGoOn self.new (S.state site.new)) }
@@ -706,6 +906,8 @@ impl Engine {
         ensures device { (d : Dev) → IsErrOf result (Stop.Device d)
             → FaultRose d (S.state site.old) (S.state site.new) }
         ensures worn_log { IsErrOf result (Stop.Worn Dev.Log) → ⊥ }
+        ensures worn_flash { IsErrOf result (Stop.Worn Dev.Flash)
+            → Overflows (rules self.old.store.pages) (one_touch (number / 32)) (cache_of self.old.store.pages) }
         ensures worn { (s : State) → Fits self.old (S.state site.old) s → IsErrOf result (Stop.Worn Dev.Flash)
             → IsWorn (sizes_of self.old.store) (S.state site.new).image }
         ensures foreign { IsErrOf result Stop.Foreign → (s : State)
@@ -748,6 +950,8 @@ impl Engine {
             → IfErr result (λ stop. ((d : Dev) → stop ≢ Stop.Device d) → IsQuiet (S.state site.new)) }
 
         ensures going { OnOk result (MayGoOn self.new (S.state site.new)) }
+        ensures asks { Asks result (one_touch (number / 32)) self.old.store.pages self.new.store.pages
+            (S.state site.old) (S.state site.new) }
         ensures sizes { sizes_of self.new.store ≡ sizes_of self.old.store }
         ensures goes { Goes (S.state site.old) (S.state site.new) }
         ensures device { (d : Dev) → IsErrOf result (Stop.Device d)
@@ -802,6 +1006,8 @@ impl Engine {
         ensures made { OnOk result (self.new.store.made ≡ self.old.store.made + 1) }
         ensures blocks { OnOk result (blocks_to self.new.store.log ≤ blocks_to self.old.store.log + 1) }
         ensures rises { OnOk result (end_of self.old.store.log ≤ end_of self.new.store.log) }
+        ensures asks { Asks result ([]) self.old.store.pages self.new.store.pages
+            (S.state site.old) (S.state site.new) }
         ensures sizes { sizes_of self.new.store ≡ sizes_of self.old.store }
         ensures goes { Goes (S.state site.old) (S.state site.new) }
         ensures device { (d : Dev) → IsErrOf result (Stop.Device d)
@@ -853,6 +1059,8 @@ impl Engine {
         ensures made { OnOk result (self.new.store.made ≡ self.old.store.made + 2) }
         ensures blocks { OnOk result (blocks_to self.new.store.log ≤ blocks_to self.old.store.log + 2) }
         ensures rises { OnOk result (end_of self.old.store.log ≤ end_of self.new.store.log) }
+        ensures asks { Asks result (one_change (number / 32)) self.old.store.pages self.new.store.pages
+            (S.state site.old) (S.state site.new) }
         ensures sizes { sizes_of self.new.store ≡ sizes_of self.old.store }
         ensures goes { Goes (S.state site.old) (S.state site.new) }
         ensures device { (d : Dev) → IsErrOf result (Stop.Device d)
@@ -864,6 +1072,9 @@ impl Engine {
             → Fits self.old (S.state site.old) s → ⊥ }
         ensures stops { IfErr result (λ stop. MayStop stop) }
     {
+        touch_then_change();
+        changes_cost_a_touch();
+        works_add_up();
         let txn = match self.store.begin(site) {
             Ok(txn) => txn,
             Err(stop) => return Err(stop),
@@ -908,6 +1119,8 @@ impl Engine {
             → IfErr result (λ stop. ((d : Dev) → stop ≢ Stop.Device d) → IsQuiet (S.state site.new)) }
 
         ensures going { OnOk result (MayGoOn self.new (S.state site.new)) }
+        ensures asks { Asks result (one_change (number / 32)) self.old.store.pages self.new.store.pages
+            (S.state site.old) (S.state site.new) }
         ensures sizes { sizes_of self.new.store ≡ sizes_of self.old.store }
         ensures goes { Goes (S.state site.old) (S.state site.new) }
         ensures device { (d : Dev) → IsErrOf result (Stop.Device d)
@@ -919,6 +1132,7 @@ impl Engine {
             → Fits self.old (S.state site.old) s → ⊥ }
         ensures stops { IfErr result (λ stop. MayStop stop) }
     {
+        works_add_up();
         let txn = match self.log_set(site, number, after) {
             Ok(txn) => txn,
             Err(stop) => return Err(stop),
@@ -976,6 +1190,9 @@ impl Engine {
         ensures quiet { (s : State) → Fits self.old (S.state site.old) s
             → IsQuiet (S.state site.old)
             → IfErr result (λ stop. ((d : Dev) → stop ≢ Stop.Device d) → IsQuiet (S.state site.new)) }
+        ensures asks { (s : State) → Fits self.old (S.state site.old) s
+            → Asks result (command_touches false s (Command.Set number value.now)) self.old.store.pages self.new.store.pages
+            (S.state site.old) (S.state site.new) }
 
         // Of every site.
         ensures going { OnOk result (MayGoOn self.new (S.state site.new)) }
@@ -987,6 +1204,8 @@ impl Engine {
         ensures device { (d : Dev) → IsErrOf result (Stop.Device d)
             → FaultRose d (S.state site.old) (S.state site.new) }
         ensures worn_log { IsErrOf result (Stop.Worn Dev.Log) → ⊥ }
+        ensures worn_flash { IsErrOf result (Stop.Worn Dev.Flash)
+            → Overflows (rules self.old.store.pages) (one_change (number / 32)) (cache_of self.old.store.pages) }
         ensures worn { (s : State) → Fits self.old (S.state site.old) s → IsErrOf result (Stop.Worn Dev.Flash)
             → IsWorn (sizes_of self.old.store) (S.state site.new).image }
         ensures foreign { IsErrOf result Stop.Foreign → (s : State)
@@ -1029,6 +1248,8 @@ impl Engine {
             → IfErr result (λ stop. ((d : Dev) → stop ≢ Stop.Device d) → IsQuiet (S.state site.new)) }
 
         ensures going { OnOk result (MayGoOn self.new (S.state site.new)) }
+        ensures asks { Asks result ([]) self.old.store.pages self.new.store.pages
+            (S.state site.old) (S.state site.new) }
         ensures sizes { sizes_of self.new.store ≡ sizes_of self.old.store }
         ensures goes { Goes (S.state site.old) (S.state site.new) }
         ensures device { (d : Dev) → IsErrOf result (Stop.Device d)
@@ -1065,6 +1286,9 @@ impl Engine {
         ensures quiet { (s : State) → Fits self.old (S.state site.old) s
             → IsQuiet (S.state site.old)
             → IfErr result (λ stop. ((d : Dev) → stop ≢ Stop.Device d) → IsQuiet (S.state site.new)) }
+        ensures asks { (s : State) → Fits self.old (S.state site.old) s
+            → Asks result (command_touches false s (Command.Commit session)) self.old.store.pages self.new.store.pages
+            (S.state site.old) (S.state site.new) }
 
         // Of every site.
         ensures going { OnOk result (MayGoOn self.new (S.state site.new)) }
@@ -1111,6 +1335,9 @@ impl Engine {
             → IfErr result (λ stop. ((d : Dev) → stop ≢ Stop.Device d) → IsQuiet (S.state site.new)) }
 
         ensures going { OnOk result (MayGoOn self.new (S.state site.new)) }
+        ensures asks { (s : State) → Fits self.old (S.state site.old) s
+            → Asks result (map (λ write. write_touch write.0) (reverse (writes_of (session_at s entry.session))))
+            self.old.store.pages self.new.store.pages (S.state site.old) (S.state site.new) }
         ensures sizes { sizes_of self.new.store ≡ sizes_of self.old.store }
         ensures goes { Goes (S.state site.old) (S.state site.new) }
         ensures device { (d : Dev) → IsErrOf result (Stop.Device d)
@@ -1153,6 +1380,9 @@ impl Engine {
         ensures quiet { (s : State) → Fits self.old (S.state site.old) s
             → IsQuiet (S.state site.old)
             → IfErr result (λ stop. ((d : Dev) → stop ≢ Stop.Device d) → IsQuiet (S.state site.new)) }
+        ensures asks { (s : State) → Fits self.old (S.state site.old) s
+            → Asks result (command_touches false s (Command.Abort session)) self.old.store.pages self.new.store.pages
+            (S.state site.old) (S.state site.new) }
 
         // Of every site.
         ensures going { OnOk result (MayGoOn self.new (S.state site.new)) }
@@ -1180,6 +1410,19 @@ impl Engine {
                 self.ended = true;
                 Err(stop)
             }
+        }
+    }
+
+    /// The listing of the page cache: the frames of its queue, the oldest group first, and then the pages in memory. It changes nothing.
+    pub fn cache(&self) -> Result<Reply, Stop>
+        requires going { (site : Site) × MayGoOn self.now site }
+        ensures listing { IfOk result (λ reply. reply ≡ Reply.Listing (listing_of self.now)) }
+        ensures model { (s : State) → IfOk result (λ reply. step false s Command.Cache (listing_of self.now) ≡ record { after = s; reply = reply }) }
+        ensures stops { IfErr result (λ stop. stop ≡ Stop.Memory) }
+    {
+        match self.store.pages.listing() {
+            Ok(lines) => Ok(Reply::Listing(lines)),
+            Err(stop) => Err(stop),
         }
     }
 

@@ -4,6 +4,7 @@
 
 mod engine;
 mod restart;
+mod scan;
 mod sessions;
 mod store;
 #[cfg(test)]

@@ -1,5 +1,5 @@
 // Restart: the pages get what they lack of the log, and what it leaves unfinished is undone.
-ghost use Rattle.std.specs.Prelude.{◌≡◌, ◌≢◌, ◌⊎◌, ◌+◌, ◌^◌, ◌<◌, ◌≤◌, ℕ, List, [], take, IsTrue, IfOk, IfErr, OnOk, IsErrOf};
+ghost use Rattle.std.specs.Prelude.{◌*◌, ◌≡◌, ◌≢◌, ◌⊎◌, ◌+◌, ◌^◌, ◌<◌, ◌≤◌, ℕ, List, [], take, IsTrue, IfOk, IfErr, OnOk, IsErrOf};
 ghost use Rattle.site.specs.declared.outside.Dev.{Dev};
 ghost use Rattle.site.specs.declared.outside.Stop.{Stop};
 ghost use Rattle.site.specs.declared.geometry.Geometry.{Geometry};
@@ -23,13 +23,16 @@ ghost use Rattle.engine.specs.Going.{MayWork, sizes_of};
 ghost use Rattle.engine.specs.Image.{IsSound, Stands};
 ghost use Rattle.engine.specs.Leaves.{HasNoSizes, IsRefused, LeavesTable};
 ghost use Rattle.engine.specs.Restarting.{MayRecover, IsReady, RestartedAs};
+ghost use Rattle.engine.specs.Paging.{AsksFrom, cache_on, restart_works};
+ghost use Rattle.page_store.specs.Caching.{cache_of, rules};
+ghost use Rattle.second_chance.specs.Machine.{rules_of};
 
 use crate::store::Store;
 use analysis::{Analysis, table_of_records};
 use checkpoint::{Master, newest};
 use log_store::LogStore;
 use page_store::{PageStore, stays_beside};
-use redo_undo::{force, redo, undo_all};
+use redo_undo::{force, redo, undo_all, works_add_up};
 use site::{Dev, Geometry, Site, Stop};
 use std::alloc::Global;
 
@@ -89,9 +92,14 @@ fn open<S: Site>(
         → IsErrOf result Stop.Foreign → ⊥ }
     ensures same { IsTrue (S.state site.old).honest
         → IsUnchanged (S.state site.old) (S.state site.new) }
+    ensures cache { IsTrue (S.state site.old).honest
+        → (blocks : List (List LogRecord)) → IsSound geometry.now (S.state site.old).image blocks
+        → IfOk result (λ opened. cache_of opened.pages ≡ cache_on geometry.now (S.state site.old).image) }
 
     // Of every site.
     ensures going { IfOk result (λ opened. MayRecover opened (S.state site.new)) }
+    ensures flash_reads { (S.state site.new).flash_reads ≤ (S.state site.old).flash_reads + 2 * geometry.now.groups }
+    ensures disk_reads { (S.state site.new).disk_reads ≡ (S.state site.old).disk_reads }
     ensures sizes { IfOk result (λ opened. opened.pages.flash.geometry ≡ geometry.now) }
     ensures pool { IfOk result (λ opened. opened.pages.pool.size ≡ pool) }
     ensures empty { IfOk result (λ opened. opened.log.used ≡ 2) }
@@ -159,6 +167,11 @@ fn recover<S: Site>(alloc: Global, site: &mut S, opened: Opened) -> Result<Resta
         → (S.state site.new).left ≡ (S.state site.old).left }
     ensures stays_quiet { IsTrue (S.state site.old).honest → IsQuiet (S.state site.old)
         → OnOk result (IsQuiet (S.state site.new)) }
+    ensures asks { (blocks : List (List LogRecord)) (table : List Content) (commits : ℕ)
+        → IsReady opened (S.state site.old) blocks table commits
+        → AsksFrom result (λ restarted. restarted.store.pages) (rules opened.pages)
+        (restart_works (picture opened.pages.flash.geometry (S.state site.old).image blocks)) (cache_of opened.pages)
+        0 (S.state site.old) (S.state site.new) }
 
     // Of every site.
     ensures going { IfOk result (λ restarted. MayWork restarted.store (S.state site.new)) }
@@ -181,6 +194,7 @@ fn recover<S: Site>(alloc: Global, site: &mut S, opened: Opened) -> Result<Resta
     ensures stops { IfErr result (λ stop. MayStop stop) }
 {
     table_of_records();
+    works_add_up();
     let Opened {
         mut log,
         mut pages,
@@ -246,6 +260,12 @@ pub fn restart<S: Site>(alloc: Global, site: &mut S, pool: u32) -> Result<Restar
     ensures stays_quiet { IsTrue (S.state site.old).honest → IsQuiet (S.state site.old)
         → OnOk result (IsQuiet (S.state site.new)) }
 
+    ensures asks { IsTrue (S.state site.old).honest
+        → (g : Geometry) (blocks : List (List LogRecord)) → IsSound g (S.state site.old).image blocks
+        → AsksFrom result (λ restarted. restarted.store.pages) (rules_of pool g.groups)
+        (restart_works (picture g (S.state site.old).image blocks)) (cache_on g (S.state site.old).image)
+        (2 * g.groups) (S.state site.old) (S.state site.new) }
+
     // Of every site.
     ensures going { IfOk result (λ restarted. MayWork restarted.store (S.state site.new)) }
     ensures blocks { IfOk result (λ restarted. restarted.blocks
@@ -265,6 +285,7 @@ pub fn restart<S: Site>(alloc: Global, site: &mut S, pool: u32) -> Result<Restar
     ensures refuses { HasNoSizes (S.state site.old) → IsRefused result site.old site.new }
     ensures stops { IfErr result (λ stop. MayStop stop) }
 {
+    works_add_up();
     let geometry = match geometry_of(site) {
         Ok(geometry) => geometry,
         Err(stop) => return Err(stop),

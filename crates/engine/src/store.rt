@@ -1,5 +1,5 @@
 // Log and pages of a run: the records that it logs, and the pages that they change.
-ghost use Rattle.std.specs.Prelude.{◌≡◌, ◌≢◌, ◌⊎◌, ◌+◌, ◌*◌, ◌/◌, ◌^◌, ◌<◌, ◌≤◌, ◌++◌, ◌∷◌, [], ℕ, List, length, IsTrue, IfOk, OnOk, IfErr, IsErrOf};
+ghost use Rattle.std.specs.Prelude.{map, reverse, ◌≡◌, ◌≢◌, ◌⊎◌, ◌+◌, ◌*◌, ◌/◌, ◌^◌, ◌<◌, ◌≤◌, ◌++◌, ◌∷◌, [], ℕ, List, length, IsTrue, IfOk, OnOk, IfErr, IsErrOf};
 ghost use Rattle.site.specs.declared.outside.Dev.{Dev};
 ghost use Rattle.site.specs.declared.outside.Stop.{Stop};
 ghost use Rattle.site.specs.State.{State, IsQuiet};
@@ -23,12 +23,18 @@ ghost use Rattle.engine.specs.Going.{MayWork, sizes_of};
 ghost use Rattle.engine.specs.Holding.{Holds, MayGrow, IsInFront, shown_in, update_by};
 ghost use Rattle.engine.specs.Rollback.{RollsBack};
 ghost use Rattle.engine.specs.Leaves.{LeavesTable};
+ghost use Rattle.record_model.specs.Touches.{write_touch};
+ghost use Rattle.redo_undo.specs.Works.{Asks, one_touch};
+ghost use Rattle.page_store.specs.Caching.{cache_of, rules, with_change};
+ghost use Rattle.site.specs.Calls.{SameReads};
 
 use log_records::LogRecord;
 use log_store::LogStore;
 use page_store::PageStore;
 use record_model::Octets;
-use redo_undo::{commit, hold_together, log_change, log_record, touch, undo_one};
+use redo_undo::{
+    commit, hold_together, log_change, log_record, sessions_are_undone, touch, undo_one,
+};
 use site::{Site, Stop};
 use txn_table::Active;
 
@@ -97,6 +103,8 @@ impl Store {
         ensures made { OnOk result (self.new.made ≡ self.old.made + 1) }
         ensures blocks { OnOk result (blocks_to self.new.log ≤ blocks_to self.old.log + 1) }
         ensures rises { IfOk result (λ lsn. (end_of self.old.log ≤ lsn) × (lsn < end_of self.new.log)) }
+        ensures asks { Asks result ([]) self.old.pages self.new.pages
+            (S.state site.old) (S.state site.new) }
         ensures sizes { sizes_of self.new ≡ sizes_of self.old }
         ensures pages { self.new.pages ≡ self.old.pages }
         ensures goes { Goes (S.state site.old) (S.state site.new) }
@@ -147,6 +155,8 @@ impl Store {
         ensures made { self.new.made ≡ self.old.made }
         ensures blocks { OnOk result (blocks_to self.new.log ≡ blocks_to self.old.log) }
         ensures rises { OnOk result (end_of self.old.log ≤ end_of self.new.log) }
+        ensures asks { Asks result (one_touch (number / 32)) self.old.pages self.new.pages
+            (S.state site.old) (S.state site.new) }
         ensures sizes { sizes_of self.new ≡ sizes_of self.old }
         ensures goes { Goes (S.state site.old) (S.state site.new) }
 
@@ -225,6 +235,9 @@ impl Store {
         ensures made { OnOk result (self.new.made ≡ self.old.made + 1) }
         ensures blocks { OnOk result (blocks_to self.new.log ≤ blocks_to self.old.log + 1) }
         ensures rises { IfOk result (λ lsn. (end_of self.old.log ≤ lsn) × (lsn < end_of self.new.log)) }
+        ensures machine { OnOk result (cache_of self.new.pages ≡ with_change (cache_of self.old.pages)) }
+        ensures rules_stay { rules self.new.pages ≡ rules self.old.pages }
+        ensures reads { SameReads (S.state site.old) (S.state site.new) }
         ensures sizes { sizes_of self.new ≡ sizes_of self.old }
         ensures goes { Goes (S.state site.old) (S.state site.new) }
 
@@ -283,6 +296,8 @@ impl Store {
         ensures made { OnOk result (self.new.made ≡ self.old.made + 1) }
         ensures blocks { OnOk result (blocks_to self.new.log ≤ blocks_to self.old.log + 1) }
         ensures rises { IfOk result (λ lsn. (end_of self.old.log ≤ lsn) × (lsn < end_of self.new.log)) }
+        ensures asks { Asks result ([]) self.old.pages self.new.pages
+            (S.state site.old) (S.state site.new) }
         ensures sizes { sizes_of self.new ≡ sizes_of self.old }
         ensures goes { Goes (S.state site.old) (S.state site.new) }
 
@@ -325,6 +340,11 @@ impl Store {
             → (writes : List Write) → IsActive blank_master records entry.begin entry.last writes
             → length writes ≡ entry.writes → unfinished.owed records ≡ owed + (entry.writes + 1)
             → IsErrOf result Stop.Foreign → ⊥ }
+        ensures asks { (records : List Entry) (table : List Content) (commits : ℕ)
+            → Holds self.old (S.state site.old) records table commits
+            → (writes : List Write) → IsActive blank_master records entry.begin entry.last writes
+            → Asks result (map (λ write. write_touch write.0) (reverse writes)) self.old.pages self.new.pages
+            (S.state site.old) (S.state site.new) }
         ensures left { IsTrue (S.state site.old).honest
             → (S.state site.new).left ≡ (S.state site.old).left }
         ensures stays_quiet { IsTrue (S.state site.old).honest → IsQuiet (S.state site.old)
@@ -354,6 +374,7 @@ impl Store {
             → IsErrOf result (Stop.Worn Dev.Flash) → IsWorn (sizes_of self.old) (S.state site.new).image }
         ensures stops { IfErr result (λ stop. MayStop stop) }
     {
+        sessions_are_undone();
         match undo_one(
             site,
             &mut self.log,

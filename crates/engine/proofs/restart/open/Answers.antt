@@ -1,4 +1,7 @@
-use Rattle.std.proofs.Common.{◌∙◌, sym, subst, arith}
+use Rattle.site.specs.declared.outside.Dev.TheVariants.{Flash, Disk}
+use Rattle.site.specs.State.{Image}
+use Rattle.engine.specs.Paging.{cache_on}
+use Rattle.std.proofs.Common.{◌∙◌, sym, subst, arith, ap}
 use Rattle.site.specs.Laws.{stays_honest}
 use Rattle.site.specs.declared.outside.Stop.TheVariants.{Foreign}
 use Rattle.image_meaning.specs.Meaning.{AreOctetsSound}
@@ -52,3 +55,42 @@ returns-in-Err-newest-clause-readable g c honest blocks sound is =
     let honest_found = stays_honest mid found c.start-2.ensures.goes honest_mid in
     let there = subst (AreOctetsSound k) (sym (c.start-2.ensures.same honest_mid).image) (subst (AreOctetsSound k) (sym (c.start.ensures.same honest).image) sound.octets) in
     c.in-Err-newest.ensures.foreign (err_again c.in-Err-newest.stop Foreign is) honest_found there.masters.form blank (there_is_blank k found.image there.masters)
+
+pub returns-in-Ok-newest-clause-cache : goal.returns-in-Ok-newest-clause-cache
+returns-in-Ok-newest-clause-cache g c honest blocks sound =
+    let old = g.S.Site.state c.args.site.now in
+    let mid = g.S.Site.state c.start.new.site in
+    let k = c.args.geometry.now in
+    let same = (c.start.ensures.same honest).image in
+    let there = subst (AreOctetsSound k) (sym same) sound.octets in
+    c.in-Ok-start.ensures.machine (stays_honest old mid c.start.ensures.goes honest) (first_on k mid.image) (groups_on k mid.image) (has_groups k mid.image there.groups) ∙ ap (λ (image : Image). cache_on k image) same
+
+pub returns-in-Err-clause-flash_reads : goal.returns-in-Err-clause-flash_reads
+returns-in-Err-clause-flash_reads g c = let f = c.start.ensures.others Flash (λ e. cc) in omega (arith, f)
+
+pub returns-in-Err-clause-disk_reads : goal.returns-in-Err-clause-disk_reads
+returns-in-Err-clause-disk_reads g c = c.start.ensures.others Disk (λ e. cc)
+
+pub returns-then-kept-gt0-clause-flash_reads : goal.returns-then-kept-gt0-clause-flash_reads
+returns-then-kept-gt0-clause-flash_reads g c = let f = c.start.ensures.others Flash (λ e. cc) in omega (arith, f)
+
+pub returns-then-kept-gt0-clause-disk_reads : goal.returns-then-kept-gt0-clause-disk_reads
+returns-then-kept-gt0-clause-disk_reads g c = c.start.ensures.others Disk (λ e. cc)
+
+pub returns-in-Err-start-clause-flash_reads : goal.returns-in-Err-start-clause-flash_reads
+returns-in-Err-start-clause-flash_reads g c = let f = c.start.ensures.others Flash (λ e. cc) in let r = c.start-2.ensures.reads in omega (arith, f, r)
+
+pub returns-in-Err-start-clause-disk_reads : goal.returns-in-Err-start-clause-disk_reads
+returns-in-Err-start-clause-disk_reads g c = c.start-2.ensures.others Disk (λ e. cc) ∙ c.start.ensures.others Disk (λ e. cc)
+
+pub returns-in-Err-newest-clause-flash_reads : goal.returns-in-Err-newest-clause-flash_reads
+returns-in-Err-newest-clause-flash_reads g c = let f = c.start.ensures.others Flash (λ e. cc) in let r = c.start-2.ensures.reads in let n = c.newest.ensures.others Flash (λ e. cc) in omega (arith, f, r, n)
+
+pub returns-in-Err-newest-clause-disk_reads : goal.returns-in-Err-newest-clause-disk_reads
+returns-in-Err-newest-clause-disk_reads g c = c.newest.ensures.others Disk (λ e. cc) ∙ c.start-2.ensures.others Disk (λ e. cc) ∙ c.start.ensures.others Disk (λ e. cc)
+
+pub returns-in-Ok-newest-clause-flash_reads : goal.returns-in-Ok-newest-clause-flash_reads
+returns-in-Ok-newest-clause-flash_reads g c = let f = c.start.ensures.others Flash (λ e. cc) in let r = c.start-2.ensures.reads in let n = c.newest.ensures.others Flash (λ e. cc) in omega (arith, f, r, n)
+
+pub returns-in-Ok-newest-clause-disk_reads : goal.returns-in-Ok-newest-clause-disk_reads
+returns-in-Ok-newest-clause-disk_reads g c = c.newest.ensures.others Disk (λ e. cc) ∙ c.start-2.ensures.others Disk (λ e. cc) ∙ c.start.ensures.others Disk (λ e. cc)

@@ -1,4 +1,8 @@
-use Rattle.std.proofs.Common.{◌≡◌, ◌∙◌, ◌++◌, false, ap, subst, arith}
+use Rattle.redo_undo.specs.Works.{redo_works, undo_works}
+use Rattle.image_meaning.specs.Meaning.{picture}
+use Rattle.page_store.specs.Caching.{rules}
+use Rattle.engine.proofs.Asking.{asks_then, from_ok, from_err, from_stopped, from_fails, from_done, not_worn_by}
+use Rattle.std.proofs.Common.{◌≡◌, ◌∙◌, ◌++◌, false, ap, subst, arith, ◌≤◌, refl}
 use Rattle.site.specs.declared.geometry.Geometry.{Geometry}
 use Rattle.site.specs.declared.outside.Dev.TheVariants.{Flash}
 use Rattle.site.specs.declared.outside.Stop.TheVariants.{Worn, Foreign}
@@ -214,3 +218,97 @@ returns-in-Err-undo_all-clause-worn g c blocks table commits h is =
     let read = c.in-Ok.ensures.read blocks table commits h.master h.opened_is in
     let none : has_tail c.redo.new.log ≡ false = no_tail_still c.args.opened.log c.redo.new.log c.requires.empty c.in-Ok.ensures.blocks c.in-Ok.ensures.rises in
     subst (λ (x : Geometry). IsWorn x und.image) c.redo.ensures.geometry (c.in-Err-undo_all.ensures.worn_end records table commits none holds read (err_again c.in-Err-undo_all.stop (Worn Flash) is))
+
+pub returns-in-Err-clause-asks : goal.returns-in-Err-clause-asks
+returns-in-Err-clause-asks g c blocks table commits h =
+    let old = g.S.Site.state c.args.site.now in
+    let mid = g.S.Site.state c.redo.new.site in
+    let k = c.args.opened.pages.flash.geometry in
+    let p = picture k old.image blocks in
+    let some : 1 ≤ (rules c.args.opened.pages).groups = (let least = c.requires.may.going.pages_going.flash.limits.groups in omega (arith, least)) in
+    let more = c.works_add_up.ensures.more in
+    let over = c.works_add_up.ensures.overflow in
+    from_stopped more over c.in-Err.stop _ (redo_works p) (undo_works p.log) _ _ _ _ some (c.in-Err.ensures.asks blocks table commits h.master h.opened_is)
+
+pub returns-then-sealed_end-owed-clause-asks : goal.returns-then-sealed_end-owed-clause-asks
+returns-then-sealed_end-owed-clause-asks g c blocks table commits h =
+    let old = g.S.Site.state c.args.site.now in
+    let mid = g.S.Site.state c.redo.new.site in
+    let k = c.args.opened.pages.flash.geometry in
+    let p = picture k old.image blocks in
+    let some : 1 ≤ (rules c.args.opened.pages).groups = (let least = c.requires.may.going.pages_going.flash.limits.groups in omega (arith, least)) in
+    let more = c.works_add_up.ensures.more in
+    let over = c.works_add_up.ensures.overflow in
+    from_fails more over c.in-Ok.redone Foreign _ (redo_works p) (undo_works p.log) _ _ _ _ _ some (λ is. cc) (λ dev. refl) (c.in-Ok.ensures.asks blocks table commits h.master h.opened_is)
+
+pub returns-in-Err-undo_all-clause-asks : goal.returns-in-Err-undo_all-clause-asks
+returns-in-Err-undo_all-clause-asks g c blocks table commits h =
+    let old = g.S.Site.state c.args.site.now in
+    let mid = g.S.Site.state c.redo.new.site in
+    let und = g.S.Site.state c.undo_all.new.site in
+    let k = c.args.opened.pages.flash.geometry in
+    let p = picture k old.image blocks in
+    let some : 1 ≤ (rules c.args.opened.pages).groups = (let least = c.requires.may.going.pages_going.flash.limits.groups in omega (arith, least)) in
+    let more = c.works_add_up.ensures.more in
+    let over = c.works_add_up.ensures.overflow in
+    let records = log_from 0 blocks in
+    let holds = c.in-Ok.ensures.holds blocks table commits h.master h.opened_is in
+    let read = c.in-Ok.ensures.read blocks table commits h.master h.opened_is in
+    let none : has_tail c.redo.new.log ≡ false = no_tail_still c.args.opened.log c.redo.new.log c.requires.empty c.in-Ok.ensures.blocks c.in-Ok.ensures.rises in
+    let first = c.in-Ok.ensures.asks blocks table commits h.master h.opened_is in
+    from_err c.in-Err-undo_all.stop _ (redo_works p ++ undo_works p.log) _ _ _ _
+    (asks_then c.works_add_up.ensures.works c.works_add_up.ensures.reads c.in-Ok.redone _ (redo_works p) (undo_works p.log) _ _ _ old mid und first (c.in-Err-undo_all.ensures.asks records table commits none holds read))
+
+pub returns-in-Err-force-clause-asks : goal.returns-in-Err-force-clause-asks
+returns-in-Err-force-clause-asks g c blocks table commits h =
+    let old = g.S.Site.state c.args.site.now in
+    let mid = g.S.Site.state c.redo.new.site in
+    let und = g.S.Site.state c.undo_all.new.site in
+    let k = c.args.opened.pages.flash.geometry in
+    let p = picture k old.image blocks in
+    let some : 1 ≤ (rules c.args.opened.pages).groups = (let least = c.requires.may.going.pages_going.flash.limits.groups in omega (arith, least)) in
+    let more = c.works_add_up.ensures.more in
+    let over = c.works_add_up.ensures.overflow in
+    let records = log_from 0 blocks in
+    let holds = c.in-Ok.ensures.holds blocks table commits h.master h.opened_is in
+    let read = c.in-Ok.ensures.read blocks table commits h.master h.opened_is in
+    let none : has_tail c.redo.new.log ≡ false = no_tail_still c.args.opened.log c.redo.new.log c.requires.empty c.in-Ok.ensures.blocks c.in-Ok.ensures.rises in
+    let first = c.in-Ok.ensures.asks blocks table commits h.master h.opened_is in
+    let both = asks_then c.works_add_up.ensures.works c.works_add_up.ensures.reads c.in-Ok.redone _ (redo_works p) (undo_works p.log) _ _ _ old mid und first (c.in-Ok-undo_all.ensures.asks records table commits none holds read) in
+    from_done c.in-Ok-undo_all.field-0 c.in-Err-force.stop _ (redo_works p ++ undo_works p.log) _ _ _ _ _ (not_worn_by c.in-Err-force.stop c.in-Err-force.ensures.stops) c.force.ensures.reads both
+
+pub returns-then-commits-made-clause-asks : goal.returns-then-commits-made-clause-asks
+returns-then-commits-made-clause-asks g c blocks table commits h =
+    let old = g.S.Site.state c.args.site.now in
+    let mid = g.S.Site.state c.redo.new.site in
+    let und = g.S.Site.state c.undo_all.new.site in
+    let k = c.args.opened.pages.flash.geometry in
+    let p = picture k old.image blocks in
+    let some : 1 ≤ (rules c.args.opened.pages).groups = (let least = c.requires.may.going.pages_going.flash.limits.groups in omega (arith, least)) in
+    let more = c.works_add_up.ensures.more in
+    let over = c.works_add_up.ensures.overflow in
+    let records = log_from 0 blocks in
+    let holds = c.in-Ok.ensures.holds blocks table commits h.master h.opened_is in
+    let read = c.in-Ok.ensures.read blocks table commits h.master h.opened_is in
+    let none : has_tail c.redo.new.log ≡ false = no_tail_still c.args.opened.log c.redo.new.log c.requires.empty c.in-Ok.ensures.blocks c.in-Ok.ensures.rises in
+    let first = c.in-Ok.ensures.asks blocks table commits h.master h.opened_is in
+    let both = asks_then c.works_add_up.ensures.works c.works_add_up.ensures.reads c.in-Ok.redone _ (redo_works p) (undo_works p.log) _ _ _ old mid und first (c.in-Ok-undo_all.ensures.asks records table commits none holds read) in
+    from_done c.in-Ok-undo_all.field-0 Foreign _ (redo_works p ++ undo_works p.log) _ _ _ _ _ (λ is. cc) c.force.ensures.reads both
+
+pub returns-clause-asks : goal.returns-clause-asks
+returns-clause-asks g c blocks table commits h =
+    let old = g.S.Site.state c.args.site.now in
+    let mid = g.S.Site.state c.redo.new.site in
+    let und = g.S.Site.state c.undo_all.new.site in
+    let k = c.args.opened.pages.flash.geometry in
+    let p = picture k old.image blocks in
+    let some : 1 ≤ (rules c.args.opened.pages).groups = (let least = c.requires.may.going.pages_going.flash.limits.groups in omega (arith, least)) in
+    let more = c.works_add_up.ensures.more in
+    let over = c.works_add_up.ensures.overflow in
+    let records = log_from 0 blocks in
+    let holds = c.in-Ok.ensures.holds blocks table commits h.master h.opened_is in
+    let read = c.in-Ok.ensures.read blocks table commits h.master h.opened_is in
+    let none : has_tail c.redo.new.log ≡ false = no_tail_still c.args.opened.log c.redo.new.log c.requires.empty c.in-Ok.ensures.blocks c.in-Ok.ensures.rises in
+    let first = c.in-Ok.ensures.asks blocks table commits h.master h.opened_is in
+    let both = asks_then c.works_add_up.ensures.works c.works_add_up.ensures.reads c.in-Ok.redone _ (redo_works p) (undo_works p.log) _ _ _ old mid und first (c.in-Ok-undo_all.ensures.asks records table commits none holds read) in
+    from_ok c.in-Ok-undo_all.field-0 _ _ (redo_works p ++ undo_works p.log) _ _ _ _ _ refl c.force.ensures.reads both

@@ -1,13 +1,19 @@
-use Rattle.std.proofs.Common.{◌≡◌, ◌∙◌, sym, subst}
+use Rattle.engine.specs.Paging.{cache_on, restart_works}
+use Rattle.second_chance.specs.Machine.{rules_of}
+use Rattle.site.specs.declared.outside.Dev.TheVariants.{Flash}
+use Rattle.site.specs.declared.outside.Stop.TheVariants.{Worn}
+use Rattle.log_records.specs.Log.{table_of}
+use Rattle.engine.proofs.Asking.{from_found, not_found}
+use Rattle.std.proofs.Common.{◌≡◌, ◌∙◌, sym, subst, ◌*◌, ap, refl, arith}
 use Rattle.site.specs.State.{IsQuiet}
 use Rattle.site.specs.declared.geometry.Geometry.{Geometry}
-use Rattle.log_records.specs.Sound.{Means}
+use Rattle.log_records.specs.Sound.{Means, commit_count}
 use Rattle.flash_cache.specs.Held.{IsWorn}
 use Rattle.image_meaning.specs.Meaning.{picture}
 use Rattle.engine.specs.Going.{sizes_of}
 use Rattle.engine.specs.Image.{IsSound}
 use Rattle.engine.specs.Restarting.{IsReady, RestartedAs}
-use Rattle.engine.proofs.Moments.{and_then}
+use Rattle.engine.proofs.Moments.{err_again, and_then}
 use Rattle.engine.proofs.Openings.{if_ok_both, stands_still}
 use Rattle.engine.proofs.restart.restart.Goals as goal
 
@@ -68,3 +74,32 @@ returns-clause-worn g c honest k table commits stands is =
     let ready : IsReady c.in-Ok-open.opened mid stands.blocks table commits = c.in-Ok-open.ensures.ready honest stands.blocks table commits
     (subst (λ (x : Geometry). IsSound x old.image stands.blocks) (sym same) stands.sound) (subst (λ (x : Geometry). Means (picture x old.image stands.blocks) table commits) (sym same) stands.means) in
     subst (λ (x : Geometry). IsWorn x new.image) (c.in-Ok-open.ensures.sizes ∙ same) (c.recover.ensures.worn stands.blocks table commits ready is)
+
+pub returns-in-Err-clause-asks : goal.returns-in-Err-clause-asks
+returns-in-Err-clause-asks g c honest k blocks sound = absurd (c.in-Err.ensures.found k sound.octets.limits sound.octets.lengths).0
+
+pub returns-in-Err-open-clause-asks : goal.returns-in-Err-open-clause-asks
+returns-in-Err-open-clause-asks g c honest k blocks sound =
+    let same : c.in-Ok.geometry ≡ k = (c.in-Ok.ensures.found k sound.octets.limits sound.octets.lengths).1 in
+    let groups = ap (λ (x : Geometry). x.groups) same in
+    let least = sound.octets.limits.groups in
+    let flash = c.open.ensures.flash_reads in
+    not_found c.works_add_up.ensures.rise c.in-Err-open.stop _ (rules_of c.args.pool k.groups) _ _ (2 * k.groups) _ _ (omega (arith, least)) (λ is. c.in-Err-open.ensures.unworn Flash (err_again c.in-Err-open.stop (Worn Flash) is)) (omega (arith, flash, groups)) c.open.ensures.disk_reads
+
+pub returns-clause-asks : goal.returns-clause-asks
+returns-clause-asks g c honest k blocks sound =
+    let old = g.S.Site.state c.args.site.now in
+    let mid = g.S.Site.state c.open.new.site in
+    let new = g.S.Site.state c.recover.new.site in
+    let same : c.in-Ok.geometry ≡ k = (c.in-Ok.ensures.found k sound.octets.limits sound.octets.lengths).1 in
+    let groups = ap (λ (x : Geometry). x.groups) same in
+    let flash = c.open.ensures.flash_reads in
+    let there = subst (λ (x : Geometry). IsSound x old.image blocks) (sym same) sound in
+    let p = picture k old.image blocks in
+    let means : Means (picture k old.image blocks) (table_of p.log p.pages) (commit_count p) = record { table_is = refl; count_is = refl } in
+    let ready : IsReady c.in-Ok-open.opened mid blocks (table_of p.log p.pages) (commit_count p) = c.in-Ok-open.ensures.ready honest blocks (table_of p.log p.pages) (commit_count p) there (subst (λ (x : Geometry). Means (picture x old.image blocks) (table_of p.log p.pages) (commit_count p)) (sym same) means) in
+    let sizes = c.in-Ok-open.ensures.sizes ∙ same in
+    let unchanged = c.open.ensures.same honest in
+    from_found _ _ _ (rules_of c.args.pool k.groups) _ (restart_works p) _ (cache_on k old.image) (2 * k.groups) old mid new
+    (λ i. rules_of (c.in-Ok-open.ensures.pool i) (sizes i).groups) (λ i. restart_works (picture (sizes i) (unchanged.image i) blocks)) (c.in-Ok-open.ensures.cache honest blocks there ∙ ap (λ (x : Geometry). cache_on x old.image) same)
+    (omega (arith, flash, groups)) c.open.ensures.disk_reads (c.recover.ensures.asks blocks (table_of p.log p.pages) (commit_count p) ready)

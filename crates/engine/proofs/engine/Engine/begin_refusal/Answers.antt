@@ -24,7 +24,7 @@ returns-in-Some-clause-refused c s site fits =
     let n = c.args.session in
     let none = none_active fits.records engine.active s fits.sessions n (search rules) in
     let is = full_is engine site s 2 c.in-Some.full fits c.find.ensures.table c.in-Some.ensures.full in
-    no_room s (Begin n) (free_session s n (search rules) none) is.1 ∙ ap (left s) (sym is.0)
+    let r = no_room s (Begin n) (free_session s n (search rules) none) is.1 in (r.0 ∙ ap (left s) (sym is.0), r.1)
 
 pub returns-clause-accepted : goal.returns-clause-accepted
 returns-clause-accepted c s site fits =

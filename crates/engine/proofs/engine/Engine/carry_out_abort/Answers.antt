@@ -1,4 +1,7 @@
-use Rattle.std.proofs.Common.{refl, sym, arith}
+use Rattle.record_model.specs.State.{Session, writes_of}
+use Rattle.record_model.specs.Touches.{write_touch, CacheWork}
+use Rattle.engine.proofs.Asking.{asks_same, asks_ok, asks_err}
+use Rattle.std.proofs.Common.{refl, sym, arith, ap, Option, Some, List, map, reverse}
 use Rattle.site.specs.Laws.{stays_honest}
 use Rattle.engine.specs.declared.engine.Engine.{Engine}
 use Rattle.engine.proofs.Moments.{err_again}
@@ -71,3 +74,18 @@ pub returns-in-Err-clause-worn : goal.returns-in-Err-clause-worn
 returns-in-Err-clause-worn g c s fits is =
     let found = some_active fits.records c.args.self.now.active s fits.sessions c.args.entry.session c.args.entry c.requires.active in
     c.in-Err.ensures.worn fits.records s.table s.commits fits.holds found.session.writes found.under_way.is_active (err_again _ _ is)
+
+undone_by : Option Session → List CacheWork
+undone_by o = map (λ write. write_touch write.0) (reverse (writes_of o))
+
+pub returns-in-Err-clause-asks : goal.returns-in-Err-clause-asks
+unfolding undone_by
+returns-in-Err-clause-asks g c s fits =
+    let found = some_active fits.records c.args.self.now.active s fits.sessions c.args.entry.session c.args.entry c.requires.active in
+    asks_same _ _ (undone_by (Some found.session)) _ _ _ _ (ap undone_by found.is) (asks_err c.in-Err.stop (undone_by (Some found.session)) _ _ _ _ (c.in-Err.ensures.asks fits.records s.table s.commits fits.holds found.session.writes found.under_way.is_active))
+
+pub returns-in-Ok-clause-asks : goal.returns-in-Ok-clause-asks
+unfolding undone_by
+returns-in-Ok-clause-asks g c s fits =
+    let found = some_active fits.records c.args.self.now.active s fits.sessions c.args.entry.session c.args.entry c.requires.active in
+    asks_same _ _ (undone_by (Some found.session)) _ _ _ _ (ap undone_by found.is) (asks_ok c.in-Ok.field-0 _ (undone_by (Some found.session)) _ _ _ _ (c.in-Ok.ensures.asks fits.records s.table s.commits fits.holds found.session.writes found.under_way.is_active))

@@ -1,3 +1,4 @@
+use Rattle.engine.proofs.Asking.{asks_ok, asks_err}
 use Rattle.std.proofs.Common.{ℕ, ◌+◌, ◌++◌, ◌∷◌, [], None, refl, ap, ◌∙◌, arith}
 use Rattle.site.specs.Laws.{stays_honest}
 use Rattle.record_model.specs.State.{writes_of, reads_of}
@@ -37,3 +38,9 @@ returns-clause-after g c s fits =
       sessions = begun fits.records engine.active c.add.new.active s n lsn engine.store.made _ fits.sessions small c.requires.absent c.add.ensures.entry (omega (arith, more)) fresh refl refl fits.counts.made refl;
       locks_are = locks_stay engine.locks s _ (at_set writes_of s.sessions n _ None (omega (arith, small, count)) none refl) (at_set reads_of s.sessions n _ None (omega (arith, small, count)) none refl) fits.locks_are;
     }
+
+pub returns-in-Err-clause-asks : goal.returns-in-Err-clause-asks
+returns-in-Err-clause-asks g c = asks_err c.in-Err.stop [] _ _ _ _ c.in-Err.ensures.asks
+
+pub returns-clause-asks : goal.returns-clause-asks
+returns-clause-asks g c = asks_ok c.in-Ok.begin _ [] _ _ _ _ c.in-Ok.ensures.asks

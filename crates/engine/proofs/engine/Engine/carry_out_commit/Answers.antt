@@ -1,4 +1,5 @@
-use Rattle.std.proofs.Common.{refl, arith}
+use Rattle.engine.proofs.Asking.{asks_ok, asks_err}
+use Rattle.std.proofs.Common.{refl, arith, []}
 use Rattle.site.specs.Laws.{stays_honest}
 use Rattle.engine.proofs.Owing.{owes}
 use Rattle.engine.proofs.Commits.{may_commit, commits_either, committed_fits}
@@ -35,3 +36,9 @@ returns-in-Ok-clause-after g c s fits =
     let sealed = c.in-Ok.ensures.holds fits.records s.table s.commits fits.holds (may_commit engine old s c.args.entry fits c.requires.active) in
     committed_fits engine c.seal_commit.new.self _ old new s c.args.entry sealed.0 fits c.requires.going.table c.requires.active (stays_honest old new c.seal_commit.ensures.goes fits.honest) sealed.1
     c.seal_commit.ensures.rest c.in-Ok.ensures.commits c.in-Ok.ensures.made c.release.ensures c.remove.ensures.entry c.remove.ensures.owed refl refl refl
+
+pub returns-in-Err-clause-asks : goal.returns-in-Err-clause-asks
+returns-in-Err-clause-asks g c = asks_err c.in-Err.stop [] _ _ _ _ c.in-Err.ensures.asks
+
+pub returns-in-Ok-clause-asks : goal.returns-in-Ok-clause-asks
+returns-in-Ok-clause-asks g c = asks_ok c.in-Ok.reply _ [] _ _ _ _ c.in-Ok.ensures.asks

@@ -1,9 +1,11 @@
-use Rattle.std.proofs.Common.{◌≡◌, ◌*◌, ◌<◌, None, Some, sym, ap, ◌∙◌, arith}
+use Rattle.site.specs.declared.outside.Stop.TheVariants.{Memory}
+use Rattle.redo_undo.specs.Works.{one_touch}
+use Rattle.engine.proofs.Asking.{asks_ok, asks_err, asks_fails}
+use Rattle.std.proofs.Common.{◌≡◌, ◌*◌, ◌<◌, None, Some, sym, ap, ◌∙◌, arith, ◌/◌}
 use Rattle.site.specs.declared.geometry.Geometry.{Geometry}
 use Rattle.site.specs.Laws.{stays_honest}
 use Rattle.record_model.specs.State as model
 use Rattle.record_model.specs.State.{Content}
-use Rattle.record_model.specs.Step.{found}
 use Rattle.engine.specs.declared.engine.Engine.{Engine}
 use Rattle.engine.specs.Going.{sizes_of}
 use Rattle.engine.specs.Fits.{Fits}
@@ -25,8 +27,8 @@ returns-in-Err-add-clause-any_moment g c s fits = c.touch.ensures.any_moment fit
 pub returns-in-Err-add-clause-quiet : goal.returns-in-Err-add-clause-quiet
 returns-in-Err-add-clause-quiet g c s fits quiet = λ other. c.in-Ok.ensures.stays_quiet fits.honest quiet
 
-pub returns-in-Ok-add-clause-reply : goal.returns-in-Ok-add-clause-reply
-returns-in-Ok-add-clause-reply g c s fits =
+pub returns-in-Ok-add-clause-content : goal.returns-in-Ok-add-clause-content
+returns-in-Ok-add-clause-content g c s fits =
     let engine = c.args.self.now in
     let old = g.S.Site.state c.args.site.now in
     let new = g.S.Site.state c.touch.new.site in
@@ -40,7 +42,7 @@ returns-in-Ok-add-clause-reply g c s fits =
     let n = c.args.session in
     let own = has _ c.requires.active in
     let free : model.busy_read s (Some n) number ≡ None = sym (busy_read_is engine.locks s fits.locks_are (Some n) number) ∙ c.requires.free in
-    c.found.ensures ∙ ap found (c.shown.ensures.shown new fits.records s.table s.commits holds ∙ sym (seen_is mid new s fits_mid n number own.own c.requires.going.table less own.is free))
+    c.shown.ensures.shown new fits.records s.table s.commits holds ∙ sym (seen_is mid new s fits_mid n number own.own c.requires.going.table less own.is free)
 
 pub returns-in-Ok-add-clause-after : goal.returns-in-Ok-add-clause-after
 returns-in-Ok-add-clause-after g c s fits =
@@ -65,3 +67,12 @@ returns-in-Err-clause-foreign g c is s fits = c.in-Err.ensures.readable fits.rec
 
 pub returns-in-Err-clause-worn : goal.returns-in-Err-clause-worn
 returns-in-Err-clause-worn g c s fits is = c.in-Err.ensures.worn fits.records s.table s.commits fits.holds (err_again _ _ is)
+
+pub returns-in-Err-clause-asks : goal.returns-in-Err-clause-asks
+returns-in-Err-clause-asks g c = asks_err c.in-Err.stop (one_touch (c.args.number / 32)) _ _ _ _ c.in-Err.ensures.asks
+
+pub returns-in-Err-add-clause-asks : goal.returns-in-Err-add-clause-asks
+returns-in-Err-add-clause-asks g c = asks_fails c.in-Ok.field-0 Memory (one_touch (c.args.number / 32)) _ _ _ _ (λ is. cc) c.in-Ok.ensures.asks
+
+pub returns-in-Ok-add-clause-asks : goal.returns-in-Ok-add-clause-asks
+returns-in-Ok-add-clause-asks g c = asks_ok c.in-Ok.field-0 _ (one_touch (c.args.number / 32)) _ _ _ _ c.in-Ok.ensures.asks

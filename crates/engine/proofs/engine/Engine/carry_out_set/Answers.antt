@@ -1,4 +1,6 @@
-use Rattle.std.proofs.Common.{◌≡◌, ℕ, ◌+◌, sym, ap, subst, ◌∙◌, arith}
+use Rattle.redo_undo.specs.Works.{one_change}
+use Rattle.engine.proofs.Asking.{asks_err, asks_then}
+use Rattle.std.proofs.Common.{◌≡◌, ℕ, ◌+◌, sym, ap, subst, ◌∙◌, arith, ◌/◌, []}
 use Rattle.site.specs.declared.geometry.Geometry.{Geometry}
 use Rattle.site.specs.Laws.{stays_honest, fault_since, goes_in_sequence}
 use Rattle.log_laws.specs.Follow.{writes_in}
@@ -97,3 +99,12 @@ returns-in-Err-clause-foreign g c is s fits = c.in-Err.ensures.foreign (err_agai
 
 pub returns-in-Err-clause-worn : goal.returns-in-Err-clause-worn
 returns-in-Err-clause-worn g c s fits is = c.in-Err.ensures.worn s fits (err_again _ _ is)
+
+pub returns-in-Err-clause-asks : goal.returns-in-Err-clause-asks
+returns-in-Err-clause-asks g c = asks_err c.in-Err.stop (one_change (c.args.number / 32)) _ _ _ _ c.in-Err.ensures.asks
+
+pub returns-in-Err-seal_commit-clause-asks : goal.returns-in-Err-seal_commit-clause-asks
+returns-in-Err-seal_commit-clause-asks g c = asks_then c.works_add_up.ensures.works c.works_add_up.ensures.reads c.in-Ok.txn _ (one_change (c.args.number / 32)) [] _ _ _ _ _ _ c.in-Ok.ensures.asks c.in-Err-seal_commit.ensures.asks
+
+pub returns-in-Ok-seal_commit-clause-asks : goal.returns-in-Ok-seal_commit-clause-asks
+returns-in-Ok-seal_commit-clause-asks g c = asks_then c.works_add_up.ensures.works c.works_add_up.ensures.reads c.in-Ok.txn _ (one_change (c.args.number / 32)) [] _ _ _ _ _ _ c.in-Ok.ensures.asks c.in-Ok-seal_commit.ensures.asks

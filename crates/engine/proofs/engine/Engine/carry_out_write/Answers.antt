@@ -1,4 +1,6 @@
-use Rattle.std.proofs.Common.{◌≡◌, ◌*◌, ◌<◌, ⊎_elim, refl, sym, ap, subst, ◌∙◌, arith}
+use Rattle.site.specs.declared.outside.Stop.TheVariants.{Memory}
+use Rattle.engine.proofs.Asking.{touch_stops, change_asks, change_stops, has_group, not_worn}
+use Rattle.std.proofs.Common.{◌≡◌, ◌*◌, ◌<◌, ⊎_elim, refl, sym, ap, subst, ◌∙◌, arith, ◌/◌}
 use Rattle.std.proofs.lemmas.Option.{same_Some}
 use Rattle.std.proofs.lemmas.Bool.{cases_eq}
 use Rattle.log_store.specs.Held.{end_of}
@@ -125,3 +127,19 @@ returns-in-Ok-update-clause-going g c =
 
 pub returns-in-Err-clause-worn : goal.returns-in-Err-clause-worn
 returns-in-Err-clause-worn g c s fits is = c.in-Err.ensures.worn fits.records s.table s.commits fits.holds (err_again _ _ is)
+
+pub returns-in-Err-clause-asks : goal.returns-in-Err-clause-asks
+returns-in-Err-clause-asks g c = touch_stops c.changes_cost_a_touch.ensures.reads c.changes_cost_a_touch.ensures.overflow c.in-Err.stop (c.args.number / 32) _ _ _ _ (has_group c.requires.going) c.in-Err.ensures.asks
+
+pub returns-in-Err-add-clause-asks : goal.returns-in-Err-add-clause-asks
+returns-in-Err-add-clause-asks g c =
+    change_stops c.changes_cost_a_touch.ensures.reads c.in-Ok.field-0 Memory (c.args.number / 32) _ _ _ _ _ _ (has_group c.requires.going) (λ is. cc) (λ dev. refl) refl c.in-Ok.ensures.asks
+
+pub returns-in-Err-update-clause-asks : goal.returns-in-Err-update-clause-asks
+returns-in-Err-update-clause-asks g c =
+    change_stops c.changes_cost_a_touch.ensures.reads c.in-Ok.field-0 c.in-Err-update.stop (c.args.number / 32) _ _ _ _ _ _ (has_group c.requires.going) (not_worn c.in-Err-update.stop c.in-Err-update.ensures.stops) c.update.ensures.reads c.update.ensures.rules_stay
+    c.in-Ok.ensures.asks
+
+pub returns-in-Ok-update-clause-asks : goal.returns-in-Ok-update-clause-asks
+returns-in-Ok-update-clause-asks g c =
+    change_asks c.touch_then_change.ensures c.changes_cost_a_touch.ensures.reads c.in-Ok.field-0 _ (c.args.number / 32) _ _ _ _ _ _ (has_group c.requires.going) c.update.ensures.reads c.in-Ok-update.ensures.machine c.update.ensures.rules_stay c.in-Ok.ensures.asks

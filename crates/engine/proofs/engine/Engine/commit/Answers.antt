@@ -1,22 +1,23 @@
+use Rattle.engine.proofs.Asking.{asks_same, asks_nothing}
 use Rattle.std.proofs.Common.{◌≡◌, ℕ, [], Some, inl, refl, sym, ap, subst, ◌∙◌}
 use Rattle.site.specs.Moments.{LeavesOnly}
 use Rattle.site.specs.Laws.{leaves_weaker}
 use Rattle.site.specs.State.{State as Site}
 use Rattle.record_model.specs.State.{State}
-use Rattle.record_model.specs.Step.{Outcome, effect, answer}
+use Rattle.record_model.specs.Step.{Outcome, effect}
 use Rattle.record_model.specs.declared.words.Command.TheVariants.{Commit}
 use Rattle.txn_table.specs.declared.active.Active.{Active}
 use Rattle.txn_table.specs.Entries.{entry_of}
 use Rattle.engine.specs.declared.engine.Engine.{Engine}
 use Rattle.engine.specs.Going.{sizes_of}
-use Rattle.engine.specs.Fits.{Fits, run}
+use Rattle.engine.specs.Fits.{Fits, IsCarriedOut}
 use Rattle.engine.specs.Leaves.{LeavesTable, LeavesEither}
 use Rattle.engine.proofs.Actives.{some_active}
 use Rattle.engine.proofs.Owing.{entry_is}
-use Rattle.engine.proofs.Replies.{carried_out, wants_active_is}
+use Rattle.engine.proofs.Replies.{carried_out, wants_active_is, refused_session}
 use Rattle.engine.proofs.engine.Engine.commit.Goals as goal
 
-runs : (engine : Engine) (site : Site) (s : State) (n : ℕ) (entry : Active) → Fits engine site s → entry_of engine.active n ≡ Some entry → run s (Commit n) ≡ record { after = effect s (Commit n); reply = answer s (Commit n) [] }
+runs : (engine : Engine) (site : Site) (s : State) (n : ℕ) (entry : Active) → Fits engine site s → entry_of engine.active n ≡ Some entry → IsCarriedOut s (Commit n)
 runs engine site s n entry fits at =
     let found = some_active fits.records engine.active s fits.sessions n entry at in
     carried_out s (Commit n) (wants_active_is s n found.session found.is) refl
@@ -35,14 +36,14 @@ carry_out_commit-requires-clause-active g c =
 
 pub returns-in-Ok-clause-reply : goal.returns-in-Ok-clause-reply
 returns-in-Ok-clause-reply g c s fits =
-    c.in-Ok.ensures.done s fits ∙ sym (ap (λ (o : Outcome). o.reply) (runs c.args.self.now (g.S.Site.state c.args.site.now) s c.args.session c.in-Some.entry fits (sym c.find.ensures.entry ∙ c.in-Some.is)))
+    c.in-Ok.ensures.done s fits ∙ sym (ap (λ (o : Outcome). o.reply) (runs c.args.self.now (g.S.Site.state c.args.site.now) s c.args.session c.in-Some.entry fits (sym c.find.ensures.entry ∙ c.in-Some.is)).0)
 
 pub returns-in-Ok-clause-after : goal.returns-in-Ok-clause-after
 returns-in-Ok-clause-after g c s fits =
     let at = sym c.find.ensures.entry ∙ c.in-Some.is in
     let new = g.S.Site.state c.carry_out_commit.new.site in
     let same = (entry_is c.args.self.now.active c.args.session c.in-Some.entry c.requires.going.table at).session in
-    subst (λ (o : Outcome). Fits c.carry_out_commit.new.self new o.after) (sym (runs c.args.self.now (g.S.Site.state c.args.site.now) s c.args.session c.in-Some.entry fits at))
+    subst (λ (o : Outcome). Fits c.carry_out_commit.new.self new o.after) (sym (runs c.args.self.now (g.S.Site.state c.args.site.now) s c.args.session c.in-Some.entry fits at).0)
     (subst (λ (k : ℕ). Fits c.carry_out_commit.new.self new (effect s (Commit k))) same (c.in-Ok.ensures.after s fits))
 
 pub returns-in-Ok-clause-any_moment : goal.returns-in-Ok-clause-any_moment
@@ -52,7 +53,7 @@ returns-in-Ok-clause-any_moment g c s fits quiet =
     let new = g.S.Site.state c.carry_out_commit.new.site in
     let g0 = (sizes_of c.args.self.now.store) in
     let same = (entry_is c.args.self.now.active c.args.session c.in-Some.entry c.requires.going.table at).session in
-    subst (λ (o : Outcome). LeavesOnly old new (LeavesEither g0 s o.after old.told)) (sym (runs c.args.self.now old s c.args.session c.in-Some.entry fits at))
+    subst (λ (o : Outcome). LeavesOnly old new (LeavesEither g0 s o.after old.told)) (sym (runs c.args.self.now old s c.args.session c.in-Some.entry fits at).0)
     (subst (λ (k : ℕ). LeavesOnly old new (LeavesEither g0 s (effect s (Commit k)) old.told)) same (c.carry_out_commit.ensures.any_moment s fits quiet))
 
 pub returns-in-Err-clause-any_moment : goal.returns-in-Err-clause-any_moment
@@ -62,5 +63,20 @@ returns-in-Err-clause-any_moment g c s fits quiet =
     let new = g.S.Site.state c.carry_out_commit.new.site in
     let g0 = (sizes_of c.args.self.now.store) in
     let same = (entry_is c.args.self.now.active c.args.session c.in-Some.entry c.requires.going.table at).session in
-    subst (λ (o : Outcome). LeavesOnly old new (LeavesEither g0 s o.after old.told)) (sym (runs c.args.self.now old s c.args.session c.in-Some.entry fits at))
+    subst (λ (o : Outcome). LeavesOnly old new (LeavesEither g0 s o.after old.told)) (sym (runs c.args.self.now old s c.args.session c.in-Some.entry fits at).0)
     (subst (λ (k : ℕ). LeavesOnly old new (LeavesEither g0 s (effect s (Commit k)) old.told)) same (c.carry_out_commit.ensures.any_moment s fits quiet))
+
+pub returns-in_default-clause-asks : goal.returns-in_default-clause-asks
+returns-in_default-clause-asks g c s fits =
+    let none = sym c.find.ensures.entry ∙ c.in_default.is in
+    asks_same _ _ [] _ _ _ _ (refused_session c.args.self.now (g.S.Site.state c.args.site.now) s (Commit c.args.session) c.args.session fits none refl).1 (asks_nothing _ c.args.self.now.store.pages _ _ (λ dev. refl) (λ is. cc))
+
+pub returns-in-Ok-clause-asks : goal.returns-in-Ok-clause-asks
+returns-in-Ok-clause-asks g c s fits =
+    let at = sym c.find.ensures.entry ∙ c.in-Some.is in
+    asks_same _ _ [] _ _ _ _ (runs c.args.self.now (g.S.Site.state c.args.site.now) s c.args.session c.in-Some.entry fits at).1 c.in-Ok.ensures.asks
+
+pub returns-in-Err-clause-asks : goal.returns-in-Err-clause-asks
+returns-in-Err-clause-asks g c s fits =
+    let at = sym c.find.ensures.entry ∙ c.in-Some.is in
+    asks_same _ _ [] _ _ _ _ (runs c.args.self.now (g.S.Site.state c.args.site.now) s c.args.session c.in-Some.entry fits at).1 c.in-Err.ensures.asks

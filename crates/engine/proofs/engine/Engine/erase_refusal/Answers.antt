@@ -1,7 +1,9 @@
+use Rattle.engine.proofs.Actives.{none_active}
+use Rattle.record_model.specs.declared.words.Why.TheVariants.{BadSession}
 use Rattle.std.proofs.Common.{◌≡◌, ◌∙◌, [], ◌∷◌, None, Some, sym, ap, rules}
-use Rattle.std.specs.Prelude.{option_map}
+use Rattle.std.specs.Prelude.{option_map, is_none}
 use Rattle.record_model.specs.State.{State}
-use Rattle.record_model.specs.Step.{Outcome, first_refusal, may_write}
+use Rattle.record_model.specs.Step.{Outcome, first_refusal, may_write, refuse_if, wants_record}
 use Rattle.record_model.specs.declared.words.Command.TheVariants.{Erase}
 use Rattle.record_model.specs.declared.words.Reply.{Reply}
 use Rattle.record_model.specs.declared.words.Reply.TheVariants as reply
@@ -40,7 +42,7 @@ returns-in-Some-full-clause-refused c s site fits =
     let there = has_record engine site s number fits (search rules) in
     let free : may_write s (Some n) number ≡ None = ap (option_map reply.Busy) (sym (busy_write_is engine.locks s fits.locks_are (Some n) number)) ∙ sym c.write_busy.ensures ∙ c.in_default.is in
     let is = full_is engine site s 2 c.in-Some-full.full fits c.find.ensures.table c.in-Some-full.ensures.full in
-    no_room s (Erase n number) (λ i. first_refusal (active i ∷ there i ∷ free i ∷ [])) is.1 ∙ ap (left s) (sym is.0)
+    let r = no_room s (Erase n number) (λ i. first_refusal (active i ∷ there i ∷ free i ∷ [])) is.1 in (r.0 ∙ ap (left s) (sym is.0), r.1)
 
 pub returns-clause-accepted : goal.returns-clause-accepted
 returns-clause-accepted c s site fits =
@@ -51,3 +53,8 @@ returns-clause-accepted c s site fits =
     let there = has_record engine site s number fits (search rules) in
     let free : may_write s (Some n) number ≡ None = ap (option_map reply.Busy) (sym (busy_write_is engine.locks s fits.locks_are (Some n) number)) ∙ sym c.write_busy.ensures ∙ c.in_default.is in
     carried_out s (Erase n number) (λ i. first_refusal (active i ∷ there i ∷ free i ∷ [])) (has_room engine site s 2 fits c.find.ensures.table c.in_default-full.ensures.room)
+
+pub returns-then-is_none-clause-refused : goal.returns-then-is_none-clause-refused
+returns-then-is_none-clause-refused c s site fits =
+    let idle = none_active fits.records c.args.self.now.active s fits.sessions c.args.session (search rules) in
+    refused s (Erase c.args.session c.args.number) (reply.Refused BadSession) (λ i. first_refusal (refuse_if (is_none (idle i)) (reply.Refused BadSession) ∷ wants_record s c.args.number ∷ may_write s (Some c.args.session) c.args.number ∷ []))

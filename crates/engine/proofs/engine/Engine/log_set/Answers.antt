@@ -1,4 +1,6 @@
-use Rattle.std.proofs.Common.{◌++◌, ◌∷◌, [], subst, ◌∙◌, arith}
+use Rattle.redo_undo.specs.Works.{one_change}
+use Rattle.engine.proofs.Asking.{asks_then, touch_stops, change_asks, change_stops, asks_stopped, has_group, store_has_group, not_worn}
+use Rattle.std.proofs.Common.{◌++◌, ◌∷◌, [], subst, ◌∙◌, arith, ◌/◌}
 use Rattle.site.specs.declared.geometry.Geometry.{Geometry}
 use Rattle.site.specs.Laws.{stays_honest, fault_since, goes_in_sequence}
 use Rattle.record_model.specs.State.{Content}
@@ -172,3 +174,24 @@ returns-in-Err-touch-clause-worn g c s fits is =
     let may = may_begin engine old s fits c.in-Ok.txn behind (omega (arith, room)) going.store.blocks going.cap in
     let holds = c.in-Ok.ensures.holds fits.records s.table s.commits fits.holds may in
     subst (λ (k : Geometry). IsWorn k (g.S.Site.state c.touch.new.site).image) c.begin.ensures.sizes (c.in-Err-touch.ensures.worn log s.table s.commits holds (err_again _ _ is))
+
+pub returns-in-Err-clause-asks : goal.returns-in-Err-clause-asks
+returns-in-Err-clause-asks g c =
+    asks_stopped c.works_add_up.ensures.more c.works_add_up.ensures.overflow c.in-Err.stop [] (one_change (c.args.number / 32)) _ _ _ _ (has_group c.requires.going) c.in-Err.ensures.asks
+
+pub returns-in-Err-touch-clause-asks : goal.returns-in-Err-touch-clause-asks
+returns-in-Err-touch-clause-asks g c =
+    asks_then c.works_add_up.ensures.works c.works_add_up.ensures.reads c.in-Ok.txn _ [] (one_change (c.args.number / 32)) _ _ _ _ _ _ c.in-Ok.ensures.asks
+    (touch_stops c.changes_cost_a_touch.ensures.reads c.changes_cost_a_touch.ensures.overflow c.in-Err-touch.stop (c.args.number / 32) _ _ _ _ (store_has_group c.in-Ok.ensures.going) c.in-Err-touch.ensures.asks)
+
+pub returns-in-Err-update-clause-asks : goal.returns-in-Err-update-clause-asks
+returns-in-Err-update-clause-asks g c =
+    asks_then c.works_add_up.ensures.works c.works_add_up.ensures.reads c.in-Ok.txn _ [] (one_change (c.args.number / 32)) _ _ _ _ _ _ c.in-Ok.ensures.asks
+    (change_stops c.changes_cost_a_touch.ensures.reads c.in-Ok-touch.field-0 c.in-Err-update.stop (c.args.number / 32) _ _ _ _ _ _ (store_has_group c.in-Ok.ensures.going) (not_worn c.in-Err-update.stop c.in-Err-update.ensures.stops) c.update.ensures.reads c.update.ensures.rules_stay
+    c.in-Ok-touch.ensures.asks)
+
+pub returns-in-Ok-update-clause-asks : goal.returns-in-Ok-update-clause-asks
+returns-in-Ok-update-clause-asks g c =
+    asks_then c.works_add_up.ensures.works c.works_add_up.ensures.reads c.in-Ok.txn _ [] (one_change (c.args.number / 32)) _ _ _ _ _ _ c.in-Ok.ensures.asks
+    (change_asks c.touch_then_change.ensures c.changes_cost_a_touch.ensures.reads c.in-Ok-touch.field-0 _ (c.args.number / 32) _ _ _ _ _ _ (store_has_group c.in-Ok.ensures.going) c.update.ensures.reads c.in-Ok-update.ensures.machine c.update.ensures.rules_stay
+    c.in-Ok-touch.ensures.asks)

@@ -44,7 +44,7 @@ returns-in-Some-full-clause-refused c s site fits =
     let short = is_short c.args.value.now (search rules) in
     let free : may_write s None number ≡ None = ap (option_map reply.Busy) (sym (busy_write_is engine.locks s fits.locks_are None number)) ∙ sym c.write_busy.ensures ∙ c.in_default.is in
     let is = full_is engine site s 4 c.in-Some-full.full fits c.requires.table c.in-Some-full.ensures.full in
-    no_room s (Set number c.args.value.now) (λ i. first_refusal (there i ∷ short i ∷ free i ∷ [])) is.1 ∙ ap (left s) (sym is.0)
+    let r = no_room s (Set number c.args.value.now) (λ i. first_refusal (there i ∷ short i ∷ free i ∷ [])) is.1 in (r.0 ∙ ap (left s) (sym is.0), r.1)
 
 pub returns-clause-accepted : goal.returns-clause-accepted
 returns-clause-accepted c s site fits =

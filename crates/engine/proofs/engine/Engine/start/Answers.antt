@@ -1,3 +1,4 @@
+use Rattle.engine.proofs.Asking.{from_other, from_other_err, from_other_fails, memory_only}
 use Rattle.std.proofs.Common.{◌∙◌, Err, refl, ap, rules}
 use Rattle.site.specs.Laws.{stays_honest}
 use Rattle.site.specs.declared.geometry.Geometry.{Geometry}
@@ -22,3 +23,12 @@ returns-in-Err-clause-worn g c honest k table commits stands d is =
     let stop_is = same_stop c.in-Err.stop (Worn d) is in
     let flash = worn_flash c.in-Err.stop d c.in-Err.ensures.stops stop_is (λ log. c.in-Err.ensures.worn_log (ap Err log)) in
     (flash, c.in-Err.ensures.worn honest k table commits stands (ap Err (stop_is ∙ ap Worn flash)))
+
+pub returns-in-Err-clause-asks : goal.returns-in-Err-clause-asks
+returns-in-Err-clause-asks g c honest k blocks sound = from_other_err c.in-Err.stop _ _ _ _ _ _ _ _ (c.in-Err.ensures.asks honest k blocks sound)
+
+pub returns-in-Err-new-clause-asks : goal.returns-in-Err-new-clause-asks
+returns-in-Err-new-clause-asks g c honest k blocks sound = from_other_fails c.in-Ok.restarted c.in-Err-new.stop _ _ _ _ _ _ _ _ (memory_only c.in-Err-new.stop c.in-Err-new.ensures.memory) (c.in-Ok.ensures.asks honest k blocks sound)
+
+pub returns-clause-asks : goal.returns-clause-asks
+returns-clause-asks g c honest k blocks sound = from_other c.in-Ok.restarted _ _ _ _ _ _ _ _ _ refl (c.in-Ok.ensures.asks honest k blocks sound)

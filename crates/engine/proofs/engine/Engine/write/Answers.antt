@@ -1,4 +1,6 @@
-use Rattle.std.proofs.Common.{ℕ, Some, sym, ap, subst, ◌∙◌}
+use Rattle.engine.proofs.Moments.{err_again}
+use Rattle.engine.proofs.Asking.{asks_same, asks_nothing}
+use Rattle.std.proofs.Common.{ℕ, Some, sym, ap, subst, ◌∙◌, [], refl}
 use Rattle.record_model.specs.State.{Content}
 use Rattle.record_model.specs.Step.{Outcome}
 use Rattle.lock_table.specs.Locks.{busy_write}
@@ -8,7 +10,7 @@ use Rattle.engine.proofs.Owing.{entry_is}
 use Rattle.engine.proofs.engine.Engine.write.Goals as goal
 
 pub returns-in-Some-clause-reply : goal.returns-in-Some-clause-reply
-returns-in-Some-clause-reply g c s fits = sym (ap (λ (o : Outcome). o.reply) (c.in-Some.ensures.refused s (g.S.Site.state c.args.site.now) fits))
+returns-in-Some-clause-reply g c s fits = sym (ap (λ (o : Outcome). o.reply) (c.in-Some.ensures.refused s (g.S.Site.state c.args.site.now) fits).0)
 
 pub returns-in-Some-clause-any_moment : goal.returns-in-Some-clause-any_moment
 returns-in-Some-clause-any_moment g c s fits = c.hold_together.ensures.moment c.args.self.now.store.log c.args.self.now.store.pages (g.S.Site.state c.args.site.now) fits.records s.table s.commits c.requires.going.store.both.sizes fits.holds.both
@@ -24,7 +26,7 @@ carry_out_write-requires-clause-free g c =
     ap (λ (n : ℕ). busy_write engine.locks (Some n) c.args.number) (entry_is engine.active c.args.session c.entry-entry.result c.requires.going.table c.entry-entry.ensures).session ∙ c.in_default.ensures.free
 
 pub returns-in-Ok-clause-reply : goal.returns-in-Ok-clause-reply
-returns-in-Ok-clause-reply g c s fits = c.in-Ok.ensures.done ∙ sym (ap (λ (o : Outcome). o.reply) (c.in_default.ensures.accepted s (g.S.Site.state c.args.site.now) fits))
+returns-in-Ok-clause-reply g c s fits = c.in-Ok.ensures.done ∙ sym (ap (λ (o : Outcome). o.reply) (c.in_default.ensures.accepted s (g.S.Site.state c.args.site.now) fits).0)
 
 pub returns-in-Ok-clause-after : goal.returns-in-Ok-clause-after
 returns-in-Ok-clause-after g c s fits =
@@ -32,6 +34,19 @@ returns-in-Ok-clause-after g c s fits =
     let last = c.carry_out_write.new.self in
     let new = g.S.Site.state c.carry_out_write.new.site in
     let same = (entry_is engine.active c.args.session c.entry-entry.result c.requires.going.table c.entry-entry.ensures).session in
-    subst (λ (o : Outcome). Fits last new o.after) (sym (c.in_default.ensures.accepted s (g.S.Site.state c.args.site.now) fits))
+    subst (λ (o : Outcome). Fits last new o.after) (sym (c.in_default.ensures.accepted s (g.S.Site.state c.args.site.now) fits).0)
     (subst (λ (n : ℕ). Fits last new (with_write s n (c.args.number, (Some c.args.value.now)))) same
     (subst (λ (x : Content). Fits last new (with_write s c.entry-entry.result.session (c.args.number, x))) c.value_of-after.ensures (c.in-Ok.ensures.after s fits)))
+
+pub returns-in-Some-clause-asks : goal.returns-in-Some-clause-asks
+returns-in-Some-clause-asks g c s fits =
+    asks_same _ _ [] _ _ _ _ (c.in-Some.ensures.refused s (g.S.Site.state c.args.site.now) fits).1 (asks_nothing _ c.args.self.now.store.pages _ _ (λ dev. refl) (λ is. cc))
+
+pub returns-in-Ok-clause-asks : goal.returns-in-Ok-clause-asks
+returns-in-Ok-clause-asks g c s fits = asks_same _ _ _ _ _ _ _ (c.in_default.ensures.accepted s (g.S.Site.state c.args.site.now) fits).1 c.in-Ok.ensures.asks
+
+pub returns-in-Err-clause-asks : goal.returns-in-Err-clause-asks
+returns-in-Err-clause-asks g c s fits = asks_same _ _ _ _ _ _ _ (c.in_default.ensures.accepted s (g.S.Site.state c.args.site.now) fits).1 c.in-Err.ensures.asks
+
+pub returns-in-Err-clause-worn_flash : goal.returns-in-Err-clause-worn_flash
+returns-in-Err-clause-worn_flash g c is = c.in-Err.ensures.asks.worn (err_again _ _ is)

@@ -1,3 +1,4 @@
+use Rattle.engine.proofs.Asking.{asks_nothing, not_worn_flash}
 use Rattle.std.proofs.Common.{◌∷◌, [], refl, arith}
 use Rattle.std.proofs.lemmas.List.{length-append}
 use Rattle.log_records.specs.Log.{Entry}
@@ -18,3 +19,9 @@ returns-in-Ok-clause-any_moment g c records table commits h = c.log_record.ensur
 
 pub returns-in-Err-clause-any_moment : goal.returns-in-Err-clause-any_moment
 returns-in-Err-clause-any_moment g c records table commits h = c.log_record.ensures.any_moment c.args.self.now.pages records table commits c.requires.going.both h.both
+
+pub returns-in-Ok-clause-asks : goal.returns-in-Ok-clause-asks
+returns-in-Ok-clause-asks g c = asks_nothing _ c.args.self.now.pages _ _ c.log_record.ensures.reads (λ is. cc)
+
+pub returns-in-Err-clause-asks : goal.returns-in-Err-clause-asks
+returns-in-Err-clause-asks g c = asks_nothing _ c.args.self.now.pages _ _ c.log_record.ensures.reads (not_worn_flash c.in-Err.stop c.in-Err.ensures.stops)

@@ -1,3 +1,4 @@
+use Rattle.engine.proofs.Asking.{asks_nothing, not_worn_flash}
 use Rattle.std.proofs.Common.{◌∷◌, [], arith}
 use Rattle.std.proofs.lemmas.List.{length-append}
 use Rattle.log_records.specs.Log.{Entry}
@@ -21,3 +22,9 @@ returns-in-Err-clause-any_moment g c records table commits h may = c.commit.ensu
 
 pub returns-in-Err-clause-quiet : goal.returns-in-Err-clause-quiet
 returns-in-Err-clause-quiet g c records table commits h = c.in-Err.ensures.quiet c.args.self.now.pages records table commits c.requires.going.both.sizes h.both
+
+pub returns-in-Ok-clause-asks : goal.returns-in-Ok-clause-asks
+returns-in-Ok-clause-asks g c = asks_nothing _ c.args.self.now.pages _ _ c.commit.ensures.reads (λ is. cc)
+
+pub returns-in-Err-clause-asks : goal.returns-in-Err-clause-asks
+returns-in-Err-clause-asks g c = asks_nothing _ c.args.self.now.pages _ _ c.commit.ensures.reads (not_worn_flash c.in-Err.stop c.in-Err.ensures.stops)

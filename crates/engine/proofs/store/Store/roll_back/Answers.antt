@@ -1,5 +1,6 @@
+use Rattle.engine.proofs.Asking.{asks_same, asks_err, asks_ok, asks_fails}
 use Rattle.site.specs.declared.outside.Dev.TheVariants.{Log, Flash}
-use Rattle.std.proofs.Common.{◌≡◌, ◌+◌, Err, refl, ap, ◌∙◌, arith}
+use Rattle.std.proofs.Common.{◌≡◌, ◌+◌, Err, refl, ap, ◌∙◌, arith, sym}
 use Rattle.site.specs.declared.geometry.Geometry.{Geometry}
 use Rattle.site.specs.declared.outside.Stop.TheVariants.{Worn, Foreign}
 use Rattle.engine.specs.declared.store.Store.{Store}
@@ -97,3 +98,27 @@ returns-in-Err-clause-worn_log g c is =
     let kept = c.requires.going.kept in
     let few = c.requires.going.both.log_going.limits.blocks in
     omega (arith, room, kept, few)
+
+pub returns-in-Err-clause-asks : goal.returns-in-Err-clause-asks
+returns-in-Err-clause-asks g c records table commits h writes active =
+    let old = g.S.Site.state c.args.site.now in
+    asks_same _ _ _ _ _ _ _ (sym (c.sessions_are_undone.ensures records c.args.entry.begin c.args.entry.last writes active))
+    (asks_err c.in-Err.stop _ _ _ _ _ (c.in-Err.ensures.asks records table commits _ h.both (active_left c.args.self.now old records table commits c.args.entry.begin c.args.entry.last writes h active) refl refl))
+
+pub returns-then-blocks-self-clause-asks : goal.returns-then-blocks-self-clause-asks
+returns-then-blocks-self-clause-asks g c records table commits h writes active =
+    let old = g.S.Site.state c.args.site.now in
+    asks_same _ _ _ _ _ _ _ (sym (c.sessions_are_undone.ensures records c.args.entry.begin c.args.entry.last writes active))
+    (asks_fails c.in-Ok.field-0 Foreign _ _ _ _ _ (λ is. cc) (c.in-Ok.ensures.asks records table commits _ h.both (active_left c.args.self.now old records table commits c.args.entry.begin c.args.entry.last writes h active) refl refl))
+
+pub returns-then-blocks-owed-clause-asks : goal.returns-then-blocks-owed-clause-asks
+returns-then-blocks-owed-clause-asks g c records table commits h writes active =
+    let old = g.S.Site.state c.args.site.now in
+    asks_same _ _ _ _ _ _ _ (sym (c.sessions_are_undone.ensures records c.args.entry.begin c.args.entry.last writes active))
+    (asks_fails c.in-Ok.field-0 Foreign _ _ _ _ _ (λ is. cc) (c.in-Ok.ensures.asks records table commits _ h.both (active_left c.args.self.now old records table commits c.args.entry.begin c.args.entry.last writes h active) refl refl))
+
+pub returns-clause-asks : goal.returns-clause-asks
+returns-clause-asks g c records table commits h writes active =
+    let old = g.S.Site.state c.args.site.now in
+    asks_same _ _ _ _ _ _ _ (sym (c.sessions_are_undone.ensures records c.args.entry.begin c.args.entry.last writes active))
+    (asks_ok c.in-Ok.field-0 _ _ _ _ _ _ (c.in-Ok.ensures.asks records table commits _ h.both (active_left c.args.self.now old records table commits c.args.entry.begin c.args.entry.last writes h active) refl refl))

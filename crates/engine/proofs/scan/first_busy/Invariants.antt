@@ -1,0 +1,7 @@
+use Rattle.std.proofs.Common.{◌≡◌, None}
+use Rattle.std.specs.List.{range_with_len}
+use Rattle.engine.specs.Scans.{first_busy}
+use Rattle.engine.proofs.scan.first_busy.Given as goal
+
+abbrev pub invariant-loop-offset : goal.invariant-loop-offset
+invariant-loop-offset l = record { free : first_busy l.locks l.session (range_with_len l.number l.offset) ≡ None }

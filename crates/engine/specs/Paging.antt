@@ -1,0 +1,40 @@
+-- What a restart and the commands ask of the page cache.
+use Rattle.std.specs.Prelude.{◌≡◌, ℕ, ◌+◌, ◌-◌, ◌*◌, ◌≤◌, List, [], ◌++◌, length, map, Result, IfOk, IsErrOf}
+use Rattle.site.specs.declared.outside.Dev.TheVariants.{Flash}
+use Rattle.site.specs.declared.outside.Stop.{Stop}
+use Rattle.site.specs.declared.outside.Stop.TheVariants.{Worn}
+use Rattle.site.specs.declared.geometry.Geometry.{Geometry}
+use Rattle.site.specs.State.{State, Image}
+use Rattle.image_changes.specs.Rings.{group_shape, units_on}
+use Rattle.record_model.specs.Touches.{CacheWork}
+use Rattle.log_records.specs.Sound.{Picture}
+use Rattle.frame_group.specs.Groups.{frames_in}
+use Rattle.second_chance.specs.Queue.{Queue}
+use Rattle.flash_cache.specs.Held.{queue_of}
+use Rattle.sealed_ring.specs.Ring.{hi_of}
+use Rattle.second_chance.specs.Machine.{Rules, Cache, after_works}
+use Rattle.page_store.specs.declared.store.PageStore.{PageStore}
+use Rattle.page_store.specs.Caching.{cache_of, rules}
+use Rattle.redo_undo.specs.Works.{redo_works, undo_works, next_group, Overflows, finds_in, misses_in}
+
+-- the queue on flash: the live groups, none of their frames referenced
+abbrev pub queue_on : Geometry → Image → Queue
+queue_on g image =
+    let groups = map frames_in (units_on (group_shape g) image).live in
+    queue_of (hi_of (group_shape g) image.flash - length groups) groups
+
+-- a run begins with this queue and an empty pool
+abbrev pub cache_on : Geometry → Image → Cache
+cache_on g image = record { pool = []; queue = queue_on g image }
+
+-- a restart: redo, then undo
+abbrev pub restart_works : Picture → List CacheWork
+restart_works p = redo_works p ++ undo_works p.log
+
+-- A call that opens pages asks for this work, beginning with a cache. At Ok the machine has done it. It answers that flash is worn only
+-- where the work overflows. Beside so many reads of flash that find the queue it reads no more pages than the work needs.
+pub record AsksFrom {T : Type 0} (result : Result T Stop) (pages : T → PageStore) (r : Rules) (works : List CacheWork) (start : Cache) (scanned : ℕ) (before now : State) : Type 0 where
+  pub machine : IfOk result (λ x. (cache_of (pages x) ≡ after_works r works start) × (rules (pages x) ≡ r))
+  pub worn : IsErrOf result (Worn Flash) → Overflows r works start
+  pub flash : now.flash_reads + 8 * next_group start ≤ before.flash_reads + scanned + 8 * next_group (after_works r works start) + finds_in r works start
+  pub disk : now.disk_reads ≤ before.disk_reads + misses_in r works start
