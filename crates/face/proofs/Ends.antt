@@ -1,6 +1,6 @@
 -- How a run comes to its end.
 use Rattle.std.proofs.Common.{◌≡◌, ◌≢◌, ◌⊎◌, inl, inr, ⊎_elim, IsTrue, ℕ, ◌≤◌, List, [], ◌∷◌, ◌++◌, length, suc, refl, sym, subst, arith}
-use Rattle.std.specs.Prelude.{Ok, Err, true, false, Bool}
+use Rattle.std.specs.Prelude.{Ok, Err, IsErrOf, true, false, Bool}
 use Rattle.site.specs.State.{State as Site, faults_of}
 use Rattle.site.specs.declared.geometry.Geometry.{Geometry}
 use Rattle.site.specs.Calls.{Goes, Rose}
@@ -20,7 +20,8 @@ use Rattle.face.specs.declared.source.Heard.TheVariants as heard
 use Rattle.engine.specs.declared.engine.Engine.{Engine}
 use Rattle.face.specs.Causes.{HasCause, AnswerFailsBy}
 use Rattle.face.specs.Lines.{HasEnded, to_hear, total, IsSource, HearsLine, Hears, IsCutOff}
-use Rattle.face.specs.Run.{Run, HasHeard, StopsTaking, Stops, Works}
+use Rattle.site.specs.declared.outside.Dev.TheVariants.{Flash}
+use Rattle.face.specs.Run.{Run, HasHeard, StopsTaking, Stops, Works, Outgrows, HasGroupsFor}
 use Rattle.face.specs.Going.{Going}
 use Rattle.face.proofs.Cuts.{Cut, has_heard_all, input_failed, over_limit, taken_by, heard_line, quit_is_last}
 use Rattle.face.proofs.Works.{stopped, ended}
@@ -32,20 +33,27 @@ not_taking halt.Input run i octets old new ne = absurd (ne.0 refl)
 not_taking halt.Output run i octets old new ne = tt
 not_taking halt.Limit run i octets old new ne = absurd (ne.1 refl)
 
+-- the halt that is answered
+same_halt : {T : Type 0} (h is : Halt) → IsErrOf {T = T} (Err h) is → h ≡ is
+same_halt h is same = cc
+
 -- before the first line
-pub never_opened : {T : Type 0} (run : Run) (old new : Site) (h : Halt) → Stops run 0 old new h → (h ≢ halt.Input) × (h ≢ halt.Limit) → new.left ≡ old.left → Works {T = T} run old new (Err h)
-never_opened run old new h stops ne left = record {
+pub never_opened : {T : Type 0} (pool : ℕ) (run : Run) (old new : Site) (h : Halt) → Stops run 0 old new h → (h ≢ halt.Input) × (h ≢ halt.Limit) → new.left ≡ old.left → (h ≡ halt.Stop (Worn Flash) → Outgrows pool run old.image 0) →
+    Works {T = T} pool run old new (Err h)
+never_opened {T} pool run old new h stops ne left worn = record {
   heard = 0;
   octets = [];
   ended = false;
   has_heard = record { taken = sym left; end = λ no. cc; enough = omega arith; same = refl };
   stops = (stops, not_taking h run 0 [] old new ne);
   done = tt;
+  worn = λ is. worn (same_halt {T = T} h (halt.Stop (Worn Flash)) is);
+  room = tt;
 }
 
-module _ (run : Run) (old mid new : Site) (engine : Engine) (source : Source) (i : ℕ) (cut : Cut old.left source mid i) (is_source : IsSource source) (going : Going run old new engine i) where
+module _ (pool : ℕ) (run : Run) (old mid new : Site) (engine : Engine) (source : Source) (i : ℕ) (cut : Cut old.left source mid i) (is_source : IsSource source) (going : Going run old new engine i) where
   -- taking failed within a line
-  pub taking_failed : {T : Type 0} (h : Halt) → (h ≡ halt.Input) ⊎ (h ≡ halt.Limit) → IsCutOff h source.ended (total source mid) (to_hear source mid) new.left → Works {T = T} run old new (Err h)
+  pub taking_failed : {T : Type 0} (h : Halt) → (h ≡ halt.Input) ⊎ (h ≡ halt.Limit) → IsCutOff h source.ended (total source mid) (to_hear source mid) new.left → Works {T = T} pool run old new (Err h)
   taking_failed (halt.Stop stop) which off = ⊎_elim (λ e. absurd cc) (λ e. absurd cc) which
   taking_failed halt.Output which off = ⊎_elim (λ e. absurd cc) (λ e. absurd cc) which
   taking_failed halt.Input which off =
@@ -57,6 +65,8 @@ module _ (run : Run) (old mid new : Site) (engine : Engine) (source : Source) (i
         has_heard = f.0;
         stops = (stopped run old new engine i going halt.Input, record { count = f.1.0; no_quit = f.1.1; told = going.told });
         done = tt;
+        worn = λ is. cc;
+        room = tt;
       }
   taking_failed halt.Limit which off =
       let f = over_limit old.left source mid i cut is_source new.left off.octets off.rest off.none off.all_of_it off.going off.ends.0 off.ends.1 off.ends.2 old new refl refl in
@@ -67,11 +77,13 @@ module _ (run : Run) (old mid new : Site) (engine : Engine) (source : Source) (i
         has_heard = f.0;
         stops = (stopped run old new engine i going halt.Limit, (record { count = f.1.0; no_quit = f.1.1; told = going.told }, f.2));
         done = tt;
+        worn = λ is. cc;
+        room = tt;
       }
 
   -- there are no more lines
-  pub finished : {T : Type 0} (x : T) → to_hear source mid ≡ [] → new.left ≡ [] → Works run old new (Ok x)
-  finished x none left =
+  pub finished : {T : Type 0} (x : T) → to_hear source mid ≡ [] → new.left ≡ [] → HasGroupsFor pool run old.image i → Works pool run old new (Ok x)
+  finished x none left room =
       let f = has_heard_all old.left source mid i cut is_source old new refl none left in
       record {
         heard = i;
@@ -80,27 +92,31 @@ module _ (run : Run) (old mid new : Site) (engine : Engine) (source : Source) (i
         has_heard = f.0;
         stops = tt;
         done = (inl refl, f.1, going.moments, ended run old new engine i going);
+        worn = λ is. cc;
+        room = room;
       }
 
-module _ (run : Run) (old mid next new : Site) (source source' : Source) (i : ℕ) (cut : Cut old.left source mid i) (is_source : IsSource source) (line : Line) (h : HearsLine line source.ended source'.ended (to_hear source mid) (to_hear source' next))
+module _ (pool : ℕ) (run : Run) (old mid next new : Site) (source source' : Source) (i : ℕ) (cut : Cut old.left source mid i) (is_source : IsSource source) (line : Line) (h : HearsLine line source.ended source'.ended (to_hear source mid) (to_hear source' next))
     (last : HasEnded source' next) (is' : IsSource source') (left : new.left ≡ next.left) where
   has_heard_it : HasHeard (suc i) (taken_by old.left source mid i cut is_source source' next line h last is') source'.ended old new
   has_heard_it = heard_line old.left source mid i cut is_source source' next line h last is' old new refl left
 
   -- a line's answer failed
-  pub answer_failed : {T : Type 0} (fault : Halt) → Stops run (suc i) old new fault → (fault ≢ halt.Input) × (fault ≢ halt.Limit) → Works {T = T} run old new (Err fault)
-  answer_failed fault stops ne = record {
+  pub answer_failed : {T : Type 0} (fault : Halt) → Stops run (suc i) old new fault → (fault ≢ halt.Input) × (fault ≢ halt.Limit) → (fault ≡ halt.Stop (Worn Flash) → Outgrows pool run old.image (suc i)) → Works {T = T} pool run old new (Err fault)
+  answer_failed {T} fault stops ne worn = record {
     heard = suc i;
     octets = taken_by old.left source mid i cut is_source source' next line h last is';
     ended = source'.ended;
     has_heard = has_heard_it;
     stops = (stops, not_taking fault run (suc i) _ old new ne);
     done = tt;
+    worn = λ is. worn (same_halt {T = T} fault (halt.Stop (Worn Flash)) is);
+    room = tt;
   }
 
   -- a quit was answered
-  pub quitted : {T : Type 0} (x : T) (engine : Engine) → is_quit line ≡ true → Going run old new engine (suc i) → Works run old new (Ok x)
-  quitted x engine quits going =
+  pub quitted : {T : Type 0} (x : T) (engine : Engine) → is_quit line ≡ true → Going run old new engine (suc i) → HasGroupsFor pool run old.image (suc i) → Works pool run old new (Ok x)
+  quitted x engine quits going room =
       let all = quit_is_last old.left source mid i cut is_source source' next line h last is' quits in
       record {
         heard = suc i;
@@ -109,6 +125,8 @@ module _ (run : Run) (old mid next new : Site) (source source' : Source) (i : �
         has_heard = has_heard_it;
         stops = tt;
         done = (inr all.1, all.0, going.moments, ended run old new engine (suc i) going);
+        worn = λ is. cc;
+        room = room;
       }
 
 -- what was heard

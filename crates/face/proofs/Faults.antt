@@ -1,6 +1,6 @@
 -- A run that halts, and its fault line.
 use Rattle.std.proofs.Common.{◌≡◌, ◌≢◌, ◌⊎◌, inl, inr, ⊎_elim, ℕ, ◌+◌, ◌≤◌, Bool, true, false, List, [], ◌++◌, length, take, drop, refl, sym, ◌∙◌, ap, subst, arith, append_assoc, length-append, take-append-drop}
-use Rattle.std.specs.Prelude.{Err, Ok}
+use Rattle.std.specs.Prelude.{Err, Ok, IsErrOf}
 use Rattle.std.proofs.lemmas.List.{append-nil, take_all, take_at}
 use Rattle.site.specs.State.{State as Site, Snapshot}
 use Rattle.site.specs.Moments.{Leaves, LeavesOnly, EachMoment}
@@ -8,6 +8,7 @@ use Rattle.site.specs.Laws.{in_sequence, leaves_weaker, told_is, tell_leaves}
 use Rattle.site.specs.Telling.{TellsPart}
 use Rattle.site.specs.declared.geometry.Geometry.{Geometry}
 use Rattle.site.specs.declared.outside.Stop.TheVariants.{Device, Memory, Worn, Foreign}
+use Rattle.record_model.specs.declared.words.CacheLine.{CacheLine}
 use Rattle.record_model.specs.State.{State}
 use Rattle.record_model.specs.Run.{Line, is_quit}
 use Rattle.std.specs.List.{AllByRecursion, list_any}
@@ -15,11 +16,14 @@ use Rattle.face.specs.declared.halt.Halt.{Halt}
 use Rattle.face.specs.declared.halt.Halt.TheVariants as halt
 use Rattle.face.specs.Texts.{fault_line, status_of}
 use Rattle.engine.specs.Image.{Stands}
-use Rattle.flash_cache.specs.Held.{IsWorn}
+use Rattle.site.specs.declared.outside.Dev.{Dev}
+use Rattle.site.specs.declared.outside.Dev.TheVariants.{Flash}
+use Rattle.redo_undo.specs.Works.{OverflowsWithMore}
 use Rattle.face.specs.Causes.{HasCause, HasCauses, NoFaultRose, EndsInTime}
 use Rattle.face.specs.Lines.{commands_of, up_to_quit, answered_of, limit}
 use Rattle.face.specs.Run.{Run, told_after, StandsFor, StandsAt, StandsNear, IsAccounted, IsBetween, Begins, HasHeard, HasTakenAll, Stops, StopsTaking, Works}
-use Rattle.face.specs.Range.{run_of, run_text, StandsAfter, IsLeft}
+use Rattle.face.specs.Range.{run_of, run_text, StandsAfter, IsLeft, WearsOut, NeverWears}
+use Rattle.face.proofs.Pagings.{wears_out, never_wears, wears_out_all}
 use Rattle.face.specs.Headline.{IsGood, IsToldWhole, Headline}
 use Rattle.face.proofs.Built.{all_built}
 use Rattle.face.proofs.Fronts.{accounted, told_same, state_same, take_within, up_append, no_quits, first_commands}
@@ -79,12 +83,12 @@ module _ (run : Run) (heard : ℕ) (old mid new : Site) where
 all_of : (ls : List Line) → AllByRecursion (λ l. is_quit l ≡ false) ls → up_to_quit ls ≡ ls
 all_of ls none = ap up_to_quit (sym (append-nil ls)) ∙ up_append ls [] none ∙ append-nil ls
 
-module _ (g : Geometry) (opening : State) (old mid : Site) (heard : ℕ) (octets : List ℕ) (ended : Bool) (h : HasHeard heard octets ended old mid) where
+module _ (g : Geometry) (opening : State) (listings : List (List CacheLine)) (old mid : Site) (heard : ℕ) (octets : List ℕ) (ended : Bool) (h : HasHeard heard octets ended old mid) where
   abbrev all : Run
-  all = run_of g opening true old.left
+  all = run_of g opening true old.left listings
 
   abbrev taken : Run
-  taken = run_of g opening ended octets
+  taken = run_of g opening ended octets listings
 
   pub left_by : (new : Site) (fault : List ℕ) → IsFault fault → LeavesOnly old new (IsAccounted all heard old.told fault) → LeavesOnly old new (IsLeft taken old.told fault)
   left_by new fault is_fault moments =
@@ -101,10 +105,10 @@ module _ (g : Geometry) (opening : State) (old mid : Site) (heard : ℕ) (octets
       let all : answered_of ended octets ≡ answered_of false (take limit octets) ++ up_to_quit first.0 = ap up_to_quit is ∙ up_append (commands_of false (take limit octets)) first.0 quiet ∙ ap (λ (l : List Line). l ++ up_to_quit first.0) (sym own) in
       sym (ap (take heard) all ∙ take_at (answered_of false (take limit octets)) (up_to_quit first.0) heard count) ∙ h.same
 
-  pub told_whole_lines : (new : Site) (fault : List ℕ) → HasTakenAll all heard octets old mid → ((k : ℕ) × (new.told ≡ mid.told ++ take k fault)) → IsToldWhole (run_of g opening false (take limit octets)) fault old new
+  pub told_whole_lines : (new : Site) (fault : List ℕ) → HasTakenAll all heard octets old mid → ((k : ℕ) × (new.told ≡ mid.told ++ take k fault)) → IsToldWhole (run_of g opening false (take limit octets) listings) fault old new
   told_whole_lines new fault t more =
       let lines = commands_of false (take limit octets) in
-      let own = run_of g opening false (take limit octets) in
+      let own = run_of g opening false (take limit octets) listings in
       let same : take heard (up_to_quit lines) ≡ take heard (answered_of true old.left) = take_all heard (up_to_quit lines) (let count = t.count in omega (arith, count)) ∙ whole_lines t.count t.no_quit in
       let text : told_after all (heard + 1) ≡ run_text own =
       sym (told_same all lines heard same (heard + 1) (omega arith))
@@ -117,8 +121,8 @@ module _ (g : Geometry) (opening : State) (old mid : Site) (heard : ℕ) (octets
       }
 
 -- what a run begins with
-pub begins : (g : Geometry) (opening : State) (old : Site) → IsGood g opening old → Begins (run_of g opening true old.left) old
-begins g opening old good = record { honest = good.honest; quiet = good.quiet; opens = good.opens; lines = refl }
+pub begins : (g : Geometry) (opening : State) (listings : List (List CacheLine)) (old : Site) → IsGood g opening old → Begins (run_of g opening true old.left listings) old
+begins g opening listings old good = record { honest = good.honest; quiet = good.quiet; opens = good.opens; lines = refl }
 
 not_zero : (h : Halt) → status_of h ≢ 0
 not_zero (halt.Stop (Device dev)) e = omega (arith, e)
@@ -129,9 +133,19 @@ not_zero halt.Input e = omega (arith, e)
 not_zero halt.Output e = omega (arith, e)
 not_zero halt.Limit e = omega (arith, e)
 
-module _ (g : Geometry) (opening : State) (old : Site) where
+-- with 8 it is flash that is worn
+worn_by : {T : Type 0} (h : Halt) (old new : Site) → HasCause h old new → status_of h ≡ 8 → IsErrOf {T = T} (Err h) (halt.Stop (Worn Flash))
+worn_by (halt.Stop (Device dev)) old new cause e = absurd (omega (arith, e))
+worn_by (halt.Stop Memory) old new cause e = absurd (omega (arith, e))
+worn_by (halt.Stop (Worn dev)) old new cause e = ap (λ (d : Dev). Err (halt.Stop (Worn d))) cause.0
+worn_by (halt.Stop Foreign) old new cause e = absurd (omega (arith, e))
+worn_by halt.Input old new cause e = absurd (omega (arith, e))
+worn_by halt.Output old new cause e = absurd (omega (arith, e))
+worn_by halt.Limit old new cause e = absurd (omega (arith, e))
+
+module _ (more : OverflowsWithMore) (pool : ℕ) (g : Geometry) (opening : State) (listings : List (List CacheLine)) (old : Site) where
   abbrev run : Run
-  run = run_of g opening true old.left
+  run = run_of g opening true old.left listings
 
   -- where taking failed all whole lines are answered
   taken_by : (h : Halt) (heard : ℕ) (octets : List ℕ) (mid : Site) → StopsTaking h run heard octets old mid → (status_of h ≡ 5) ⊎ (status_of h ≡ 7) → HasTakenAll run heard octets old mid
@@ -152,43 +166,47 @@ module _ (g : Geometry) (opening : State) (old : Site) where
   over_by halt.Input heard octets mid s e = absurd (omega (arith, e))
   over_by halt.Limit heard octets mid s e = (s.1, s.0.no_quit)
 
-  pub halted : {T : Type 0} (mid new : Site) (h : Halt) → Works {T = T} run old mid (Err h) → EachMoment mid new (TellsPart (fault_line h) mid) → new.left ≡ mid.left → new.loose ≡ mid.loose → HasCause h old new → (status : ℕ) → status ≡ status_of h → Headline g opening old new status
+  pub halted : {T : Type 0} (mid new : Site) (h : Halt) → Works {T = T} pool run old mid (Err h) → EachMoment mid new (TellsPart (fault_line h) mid) → new.left ≡ mid.left → new.loose ≡ mid.loose → HasCause h old new → (status : ℕ) → status ≡ status_of h → Headline pool g opening old new status
   halted mid new h works tells left loose cause status is =
       let heard = works.has_heard in
       let now = tells.now.told 0 in
       record {
         octets = works.octets;
         ended = works.ended;
+        listings = listings;
         taken = heard.taken ∙ ap (λ (l : List ℕ). works.octets ++ l) (sym left);
         end = λ e. left ∙ heard.end e;
         fault = fault_line h;
         of_status = inr (h, is, refl, cause);
-        any_moment = left_by g opening old mid works.heard works.octets works.ended heard new (fault_line h) (inr (h, refl)) (with_fault run works.heard old mid new h works.stops.0 tells);
+        any_moment = left_by g opening listings old mid works.heard works.octets works.ended heard new (fault_line h) (inr (h, refl)) (with_fault run works.heard old mid new h works.stops.0 tells);
         quiet = λ ne. loose ∙ works.stops.0.quiet (λ e. ne (is ∙ e));
         heard = λ zero. absurd (not_zero h (sym is ∙ zero));
         done = λ zero. absurd (not_zero h (sym is ∙ zero));
-        taking = λ which. told_whole_lines g opening old mid works.heard works.octets works.ended heard new (fault_line h)
+        taking = λ which. told_whole_lines g opening listings old mid works.heard works.octets works.ended heard new (fault_line h)
             (taken_by h works.heard works.octets mid works.stops.1 (⊎_elim (λ e. inl (sym is ∙ e)) (λ e. inr (sym is ∙ e)) which))
             (now.0, sym (append-nil new.told) ∙ now.1);
         over = λ seven. over_by h works.heard works.octets mid works.stops.1 (sym is ∙ seven);
+        worn = λ eight. wears_out pool g opening listings old.image works.ended works.octets more run refl refl works.heard heard.same (works.worn (worn_by h old new cause (sym is ∙ eight)));
+        room = λ zero. absurd (not_zero h (sym is ∙ zero));
       }
 
-  pub finished : {T : Type 0} (new : Site) (x : T) → Works run old new (Ok x) → Headline g opening old new 0
+  pub finished : {T : Type 0} (new : Site) (x : T) → Works pool run old new (Ok x) → Headline pool g opening old new 0
   finished new x works =
       let heard = works.has_heard in
       let lines = commands_of works.ended works.octets in
       let count = works.done.1 in
       let same = heard.same in
-      let own = run_of g opening works.ended works.octets in
+      let own = run_of g opening works.ended works.octets listings in
       let built = all_built works.ended works.octets in
       record {
         octets = works.octets;
         ended = works.ended;
+        listings = listings;
         taken = heard.taken;
         end = heard.end;
         fault = [];
         of_status = inl (refl, refl);
-        any_moment = left_by g opening old new works.heard works.octets works.ended heard new [] (inl refl) works.done.2;
+        any_moment = left_by g opening listings old new works.heard works.octets works.ended heard new [] (inl refl) works.done.2;
         quiet = λ ne. works.done.3.quiet;
         heard = λ zero. works.done.0;
         done = λ zero. record {
@@ -199,6 +217,8 @@ module _ (g : Geometry) (opening : State) (old : Site) where
         };
         taking = λ which. ⊎_elim (λ e. absurd (omega (arith, e))) (λ e. absurd (omega (arith, e))) which;
         over = λ e. absurd (omega (arith, e));
+        worn = λ e. absurd (omega (arith, e));
+        room = λ zero. never_wears pool g opening listings old.image works.ended works.octets run refl refl works.heard count same works.room;
       }
 
 true_not_false : true ≡ false → ⊥
@@ -215,15 +235,24 @@ not_over n left octets rest is (inr quit) many none = true_not_false (sym quit �
     same : take n left ≡ take n octets
     same = ap (take n) is ∙ front
 
--- where nothing fails and the input ends in time
-pub complete : (g : Geometry) (opening : State) (old new : Site) (status : ℕ) → IsGood g opening old → NoFaultRose old new → (IsWorn g new.image → ⊥) → EndsInTime old → HasCauses status old new → Headline g opening old new status → (status ≡ 0) ⊎ (status ≡ 4)
-complete g opening old new status good none unworn ends causes h =
+-- where nothing fails, no ring that is appended to stands at its end, and the input ends in time
+pub complete : OverflowsWithMore → (pool : ℕ) (g : Geometry) (opening : State) (old new : Site) (status : ℕ) → IsGood g opening old → NoFaultRose old new → NeverWears pool (run_of g opening true old.left []) old.image → EndsInTime old → HasCauses status old new →
+    Headline pool g opening old new status → (status ≡ 0) ⊎ (status ≡ 4)
+complete more pool g opening old new status good none room ends causes h =
     ⊎_elim (λ e. inl e) (⊎_elim (λ e. let c = causes.device e in absurd (none.devices c.0 c.1)) (⊎_elim (λ e. inr e) (⊎_elim (λ e. absurd (none.input (causes.input e)))
     (⊎_elim (λ e. absurd (none.output (causes.output e))) (⊎_elim (λ e. absurd (in_time (h.over e)))
-    (⊎_elim (λ e. absurd (unworn (causes.worn e good.honest g opening.table opening.commits stands))) (λ e. absurd (causes.foreign e good.honest g opening.table opening.commits stands)))))))) causes.others
+    (⊎_elim (λ e. absurd (never (h.worn e))) (λ e. absurd (causes.foreign e good.honest g opening.table opening.commits stands)))))))) causes.others
   where
     stands : Stands g old.image opening.table opening.commits
     stands = stands_by g old.image opening good.opens
 
     in_time : (length h.octets ≡ limit + 1) × (list_any is_quit (commands_of false (take limit h.octets)) ≡ false) → ⊥
     in_time over = not_over limit old.left h.octets new.left h.taken ends over.0 over.1
+
+    never : WearsOut pool (run_of g opening h.ended h.octets h.listings) old.image → ⊥
+    never over =
+        let blocks = good.opens.blocks in
+        let sound = good.opens.sound in
+        let all = wears_out_all pool g opening h.listings old.image h.ended h.octets more old.left new.left h.taken h.end over blocks sound in
+        let few = room blocks sound in
+        omega (arith, all, few)

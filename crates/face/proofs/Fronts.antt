@@ -4,18 +4,19 @@ use Rattle.std.specs.Prelude.{flat_map, map, if◌then◌else◌, ◌||◌, ◌=
 use Rattle.std.specs.List.{AllByRecursion, list_any}
 use Rattle.std.proofs.lemmas.Bool.{or_right}
 use Rattle.site.specs.State.{Snapshot}
+use Rattle.record_model.specs.declared.words.CacheLine.{CacheLine}
 use Rattle.record_model.specs.State.{State}
-use Rattle.record_model.specs.Run.{Line, is_quit}
+use Rattle.record_model.specs.Run.{Line, is_quit, next_listing, later_listings}
 use Rattle.shell_text.specs.Runs.{lines_of, in_front}
 use Rattle.face.specs.Grammar.{command_of}
 use Rattle.face.specs.Lines.{commands_of, up_to_quit}
 use Rattle.shell_text.specs.Texts.{open_text, reply_text}
 use Rattle.face.specs.Run.{Run, answered, step, after_lines, reply_texts, line_texts, text_at, told_after, state_at, StandsFor, IsPart, IsAccounted}
 
-take_texts : (s : State) (xs : List Line) (n : ℕ) → take n (reply_texts s xs) ≡ reply_texts s (take n xs)
-take_texts s xs zero = refl
-take_texts s [] (suc n) = refl
-take_texts s (x ∷ xs) (suc n) = ap (λ (l : List (List ℕ)). reply_text (step s x).reply ∷ l) (take_texts (step s x).after xs n)
+take_texts : (s : State) (xs : List Line) (ls : List (List CacheLine)) (n : ℕ) → take n (reply_texts s xs ls) ≡ reply_texts s (take n xs) ls
+take_texts s xs ls zero = refl
+take_texts s [] ls (suc n) = refl
+take_texts s (x ∷ xs) ls (suc n) = ap (λ (l : List (List ℕ)). reply_text (step s x (next_listing ls)).reply ∷ l) (take_texts (step s x (next_listing ls)).after xs (later_listings x ls) n)
 
 pub take_within : {X : Type 0} (w n : ℕ) (xs : List X) → w ≤ n → take w (take n xs) ≡ take w xs
 take_within zero n xs le = refl
@@ -31,10 +32,10 @@ get_within (suc i) (suc n) (x ∷ xs) d less = get_within i n xs d (omega (arith
 
 module _ (run : Run) (lines : List Line) (n : ℕ) (same : take n (up_to_quit lines) ≡ take n (answered run)) where
   abbrev pub other : Run
-  other = record { geometry = run.geometry; opening = run.opening; lines = lines }
+  other = record { geometry = run.geometry; opening = run.opening; lines = lines; listings = run.listings }
 
   texts_same : take (suc n) (line_texts other) ≡ take (suc n) (line_texts run)
-  texts_same = ap (λ (l : List (List ℕ)). open_text run.opening.commits ∷ l) (take_texts run.opening (up_to_quit lines) n ∙ ap (reply_texts run.opening) same ∙ sym (take_texts run.opening (answered run) n))
+  texts_same = ap (λ (l : List (List ℕ)). open_text run.opening.commits ∷ l) (take_texts run.opening (up_to_quit lines) run.listings n ∙ ap (λ (l : List Line). reply_texts run.opening l run.listings) same ∙ sym (take_texts run.opening (answered run) run.listings n))
 
   pub told_same : (w : ℕ) → w ≤ n + 1 → told_after other w ≡ told_after run w
   told_same w le =
@@ -44,7 +45,7 @@ module _ (run : Run) (lines : List Line) (n : ℕ) (same : take n (up_to_quit li
   text_same w le = sym (get_within w (suc n) (line_texts other) [] (omega (arith, le))) ∙ ap (λ (l : List (List ℕ)). get_or l w []) texts_same ∙ get_within w (suc n) (line_texts run) [] (omega (arith, le))
 
   pub state_same : (w : ℕ) → w ≤ n → state_at other w ≡ state_at run w
-  state_same w le = ap (after_lines run.opening) (sym (take_within w n (up_to_quit lines) le) ∙ ap (take w) same ∙ take_within w n (answered run) le)
+  state_same w le = ap (λ (l : List Line). after_lines run.opening l run.listings) (sym (take_within w n (up_to_quit lines) le) ∙ ap (take w) same ∙ take_within w n (answered run) le)
 
   -- what is accounted for by the one is by the other
   pub accounted : (so_far fault : List ℕ) (s : Snapshot) → IsAccounted run n so_far fault s → IsAccounted other n so_far fault s

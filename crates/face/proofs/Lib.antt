@@ -8,6 +8,7 @@ mod Ends
 mod Faults
 mod Fronts
 mod Heard
+mod Listed
 mod Logs
 mod Meanings
 mod MemoryLaws
@@ -20,3 +21,4 @@ mod WordLaws
 mod WordLists
 mod Works
 mod Zeros
+mod Pagings

@@ -1,5 +1,5 @@
 -- Where memory is wanted before anything is done.
-use Rattle.std.proofs.Common.{◌≡◌, inl, inr, ℕ, refl, sym, subst, arith, true}
+use Rattle.std.proofs.Common.{◌≡◌, inl, inr, ℕ, [], refl, sym, subst, arith, true}
 use Rattle.std.specs.Prelude.{Err}
 use Rattle.site.specs.declared.outside.Stop.TheVariants.{Memory}
 use Rattle.site.specs.declared.geometry.Geometry.{Geometry}
@@ -10,6 +10,7 @@ use Rattle.record_model.specs.State.{State}
 use Rattle.face.specs.declared.halt.Halt.{Halt}
 use Rattle.face.specs.declared.halt.Halt.TheVariants as halt
 use Rattle.face.specs.Headline.{IsGood, Headline}
+use Rattle.redo_undo.specs.Works.{OverflowsWithMore}
 use Rattle.face.specs.Run.{Works}
 use Rattle.face.specs.Causes.{HasCauses}
 use Rattle.face.specs.New.{New, NewCauses}
@@ -36,12 +37,12 @@ still g opening old good =
       stands = subst (λ (x : Image). Stands g x opening.table opening.commits) (sym (image_is (now_of old) s good.quiet left)) (stands_by g old.image opening good.opens);
     })
 
-pub lacked_headline : (g : Geometry) (opening : State) (old new : Site) → IsGood g opening old → EachMoment old new (TellsPart memory_fault old) → SameDevices old new → Headline g opening old new 4
-lacked_headline g opening old new good tells same =
-    let run = run_of g opening true old.left in
+pub lacked_headline : OverflowsWithMore → (pool : ℕ) (g : Geometry) (opening : State) (old new : Site) → IsGood g opening old → EachMoment old new (TellsPart memory_fault old) → SameDevices old new → Headline pool g opening old new 4
+lacked_headline more pool g opening old new good tells same =
+    let run = run_of g opening true old.left [] in
     let stops = not_opened run old old (still g opening old good) lacks (λ ne. good.quiet) in
-    let works : Works {T = ℕ} run old old (Err lacks) = never_opened run old old lacks stops (λ e. cc, λ e. cc) refl in
-    halted g opening old old new lacks works tells same.left same.loose tt 4 refl
+    let works : Works {T = ℕ} pool run old old (Err lacks) = never_opened pool run old old lacks stops (λ e. cc, λ e. cc) refl (λ e. cc) in
+    halted more pool g opening [] old old new lacks works tells same.left same.loose tt 4 refl
 
 module _ (status : ℕ) (old new : Site) (l : LacksMemory status old new) where
   abbrev is : status ≡ 4

@@ -9,10 +9,11 @@ use Rattle.site.specs.State.{Snapshot, Image}
 use Rattle.site.specs.declared.outside.Stop.TheVariants.{Device, Memory, Worn, Foreign}
 use Rattle.record_model.specs.State.{Content, State}
 use Rattle.record_model.specs.Step.{Outcome}
-use Rattle.record_model.specs.Run.{Line, Turn, whole_texts, is_committed, commit_marks, commits_among, after_commits}
+use Rattle.record_model.specs.Run.{Line, Turn, next_listing, later_listings, whole_texts, is_committed, commit_marks, commits_among, after_commits}
 use Rattle.record_model.specs.Laws.{IsCountedIn, IsCountedAt}
 use Rattle.record_model.proofs.StepLaws.{commits_once}
 use Rattle.record_model.proofs.RunLaws.{commits_make_the_table}
+use Rattle.record_model.specs.declared.words.CacheLine.{CacheLine}
 use Rattle.record_model.specs.declared.words.Reply.{Reply}
 use Rattle.record_model.specs.declared.words.Reply.TheVariants as reply
 use Rattle.record_model.specs.declared.words.CacheLine.TheVariants.{Frame, Pool}
@@ -85,14 +86,14 @@ plain_opening : (n : ℕ) → Plain (open_text n)
 plain_opening n = record { first = 111; second = 112; more = _; is = refl; other = λ a b. omega (arith, a) }
 
 -- a text of the run
-plain_reply : (b : State) (lines : List Line) (i : ℕ) → i < length (reply_texts b lines) → Plain (get_or (reply_texts b lines) i [])
-plain_reply b [] i less = absurd (omega (arith, less))
-plain_reply b (line ∷ lines) zero less = plain_text (step b line).reply
-plain_reply b (line ∷ lines) (suc i) less = plain_reply (step b line).after lines i (omega (arith, less))
+plain_reply : (b : State) (lines : List Line) (ls : List (List CacheLine)) (i : ℕ) → i < length (reply_texts b lines ls) → Plain (get_or (reply_texts b lines ls) i [])
+plain_reply b [] ls i less = absurd (omega (arith, less))
+plain_reply b (line ∷ lines) ls zero less = plain_text (step b line (next_listing ls)).reply
+plain_reply b (line ∷ lines) ls (suc i) less = plain_reply (step b line (next_listing ls)).after lines (later_listings line ls) i (omega (arith, less))
 
 plain_at : (run : Run) (i : ℕ) → i < length (line_texts run) → Plain (text_at run i)
 plain_at run zero less = plain_opening run.opening.commits
-plain_at run (suc i) less = plain_reply run.opening (answered run) i (omega (arith, less))
+plain_at run (suc i) less = plain_reply run.opening (answered run) run.listings i (omega (arith, less))
 
 -- a fault line is none, or begins with fa
 fault_begins : (h : Halt) → (fault_line h ≡ []) ⊎ ((more : List ℕ) × (fault_line h ≡ 102 ∷ 97 ∷ more))
@@ -126,31 +127,31 @@ rises : (s : State) (o : Outcome) → IsCountedIn s o → (b : Bool) → is_comm
 rises s o h true is = let one = (h.committed is).1 in omega (arith, one)
 rises s o h false is = let same = (h.others is).1 in omega (arith, same)
 
-step_up : (s : State) (line : Line) → s.commits ≤ (step s line).after.commits
-step_up s line = rises s (step s line) (commits_once false s line []) _ refl
+step_up : (s : State) (line : Line) (listing : List CacheLine) → s.commits ≤ (step s line listing).after.commits
+step_up s line listing = rises s (step s line listing) (commits_once false s line listing) _ refl
 
-one_up : (s : State) (lines : List Line) (i : ℕ) → (after_lines s (take i lines)).commits ≤ (after_lines s (take (suc i) lines)).commits
-one_up s [] zero = omega arith
-one_up s [] (suc i) = omega arith
-one_up s (line ∷ lines) zero = step_up s line
-one_up s (line ∷ lines) (suc i) = one_up (step s line).after lines i
+one_up : (s : State) (lines : List Line) (ls : List (List CacheLine)) (i : ℕ) → (after_lines s (take i lines) ls).commits ≤ (after_lines s (take (suc i) lines) ls).commits
+one_up s [] ls zero = omega arith
+one_up s [] ls (suc i) = omega arith
+one_up s (line ∷ lines) ls zero = step_up s line (next_listing ls)
+one_up s (line ∷ lines) ls (suc i) = one_up (step s line (next_listing ls)).after lines (later_listings line ls) i
 
 module _ (run : Run) (are : AreBuilt run.lines) where
   -- the texts of the turns are those of the lines
   texts_same : texts run ≡ line_texts run
-  texts_same = ap (λ (l : List (List ℕ)). open_text run.opening.commits ∷ l) (texts_are run.opening run.lines are)
+  texts_same = ap (λ (l : List (List ℕ)). open_text run.opening.commits ∷ l) (texts_are run.opening run.lines run.listings are)
 
   abbrev marks : List Bool
   marks = commit_marks (turns_of run)
 
   counted : (i : ℕ) → IsCountedAt run.opening (turns_of run) i
-  counted i = commits_make_the_table false run.opening run.lines [] i
+  counted i = commits_make_the_table false run.opening run.lines run.listings i
 
   commits_are : (i : ℕ) → (state_at run i).commits ≡ run.opening.commits + commits_among i marks
-  commits_are i = ap (λ (s : State). s.commits) (sym (states_are run.opening run.lines i are)) ∙ (counted i).commits
+  commits_are i = ap (λ (s : State). s.commits) (sym (states_are run.opening run.lines run.listings i are)) ∙ (counted i).commits
 
   table_is : (i : ℕ) → (state_at run i).table ≡ after_commits run.opening.table (turns_of run) (commits_among i marks)
-  table_is i = ap (λ (s : State). s.table) (sym (states_are run.opening run.lines i are)) ∙ (counted i).table
+  table_is i = ap (λ (s : State). s.table) (sym (states_are run.opening run.lines run.listings i are)) ∙ (counted i).table
 
   -- the table after some lines is the one after some commits
   pub stands_after : (i : ℕ) (image : Image) → StandsAt run i image → StandsAfter run (commits_among i marks) image
@@ -159,14 +160,14 @@ module _ (run : Run) (are : AreBuilt run.lines) where
       (subst (λ (t : List Content). Stands run.geometry image t (state_at run i).commits) (table_is i) stands)
 
   among_up : (i : ℕ) → commits_among i marks ≤ commits_among (suc i) marks
-  among_up i = let up = one_up run.opening (answered run) i in let one = commits_are i in let two = commits_are (suc i) in omega (arith, up, one, two)
+  among_up i = let up = one_up run.opening (answered run) run.listings i in let one = commits_are i in let two = commits_are (suc i) in omega (arith, up, one, two)
 
   near_up : (whole : ℕ) → commits_among (whole - 1) marks ≤ commits_among whole marks
   near_up zero = omega arith
   near_up (suc i) = let before : suc i - 1 ≡ i = omega arith in let same = ap (λ (n : ℕ). commits_among n marks) before in let up = among_up i in omega (arith, same, up)
 
   length-marks : length marks ≡ length (answered run)
-  length-marks = length-map-marks (turns_of run) ∙ turns_count run.opening run.lines are
+  length-marks = length-map-marks (turns_of run) ∙ turns_count run.opening run.lines run.listings are
     where
       length-map-marks : (ts : List Turn) → length (commit_marks ts) ≡ length ts
       length-map-marks [] = refl
@@ -178,7 +179,7 @@ module _ (run : Run) (are : AreBuilt run.lines) where
 
   pub all_text : told_after run (length (answered run) + 1) ≡ run_text run
   all_text =
-      let long = length-reply_texts run.opening (answered run) in
+      let long = length-reply_texts run.opening (answered run) run.listings in
       ap (flat_map (λ (x : List ℕ). x)) (take_all (length (answered run) + 1) (line_texts run) (omega (arith, long)) ∙ sym texts_same)
 
   -- what is told of the texts, as a front of all of them
@@ -189,7 +190,7 @@ module _ (run : Run) (are : AreBuilt run.lines) where
 
   module _ (heard : ℕ) (so_far fault : List ℕ) (s : Snapshot) (few : heard ≤ length (answered run)) (is_fault : IsFault fault) (a : IsAccounted run heard so_far fault s) where
     long : length (line_texts run) ≡ suc (length (answered run))
-    long = ap suc (length-reply_texts run.opening (answered run))
+    long = ap suc (length-reply_texts run.opening (answered run) run.listings)
 
     abbrev told : List ℕ
     told = told_after run a.whole ++ a.rest

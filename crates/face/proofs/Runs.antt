@@ -6,27 +6,36 @@ use Rattle.std.proofs.lemmas.Bool.{cases_lt}
 use Rattle.site.specs.State.{State as Site, Image, Snapshot}
 use Rattle.site.specs.Moments.{Leaves, LeavesOnly}
 use Rattle.site.specs.Laws.{in_sequence, leaves_weaker}
+use Rattle.record_model.specs.declared.words.CacheLine.{CacheLine}
 use Rattle.record_model.specs.State.{State}
-use Rattle.record_model.specs.Run.{Line}
+use Rattle.record_model.specs.Run.{Line, next_listing, later_listings, listings_after}
 use Rattle.shell_text.specs.Texts.{reply_text}
-use Rattle.face.specs.Run.{Run, answered, step, after_lines, reply_texts, line_texts, text_at, told_after, state_at, StandsFor, StandsAt, StandsNear, IsAccounted, LeavesAnswer}
+use Rattle.face.specs.Run.{Run, answered, step, after_lines, reply_texts, line_texts, text_at, told_after, state_at, listings_left, listing_at, StandsFor, StandsAt, StandsNear, IsAccounted, LeavesAnswer}
 
 -- what stands behind the first lines
-after_more : (b : State) (lines : List Line) (i : ℕ) (line : Line) (rest : List Line) → drop i lines ≡ line ∷ rest → after_lines b (take (suc i) lines) ≡ (step (after_lines b (take i lines)) line).after
-after_more b [] zero line rest is = cc
-after_more b [] (suc i) line rest is = cc
-after_more b (x ∷ lines) zero line rest is = let same : x ≡ line = cc in ap (λ l. (step b l).after) same
-after_more b (x ∷ lines) (suc i) line rest is = after_more (step b x).after lines i line rest is
+after_more : (b : State) (lines : List Line) (ls : List (List CacheLine)) (i : ℕ) (line : Line) (rest : List Line) → drop i lines ≡ line ∷ rest →
+    after_lines b (take (suc i) lines) ls ≡ (step (after_lines b (take i lines) ls) line (next_listing (listings_after (take i lines) ls))).after
+after_more b [] ls zero line rest is = cc
+after_more b [] ls (suc i) line rest is = cc
+after_more b (x ∷ lines) ls zero line rest is = let same : x ≡ line = cc in ap (λ l. (step b l (next_listing ls)).after) same
+after_more b (x ∷ lines) ls (suc i) line rest is = after_more (step b x (next_listing ls)).after lines (later_listings x ls) i line rest is
 
-text_more : (b : State) (lines : List Line) (i : ℕ) (line : Line) (rest : List Line) → drop i lines ≡ line ∷ rest → get_or (reply_texts b lines) i [] ≡ reply_text (step (after_lines b (take i lines)) line).reply
-text_more b [] zero line rest is = cc
-text_more b [] (suc i) line rest is = cc
-text_more b (x ∷ lines) zero line rest is = let same : x ≡ line = cc in ap (λ l. reply_text (step b l).reply) same
-text_more b (x ∷ lines) (suc i) line rest is = text_more (step b x).after lines i line rest is
+text_more : (b : State) (lines : List Line) (ls : List (List CacheLine)) (i : ℕ) (line : Line) (rest : List Line) → drop i lines ≡ line ∷ rest →
+    get_or (reply_texts b lines ls) i [] ≡ reply_text (step (after_lines b (take i lines) ls) line (next_listing (listings_after (take i lines) ls))).reply
+text_more b [] ls zero line rest is = cc
+text_more b [] ls (suc i) line rest is = cc
+text_more b (x ∷ lines) ls zero line rest is = let same : x ≡ line = cc in ap (λ l. reply_text (step b l (next_listing ls)).reply) same
+text_more b (x ∷ lines) ls (suc i) line rest is = text_more (step b x (next_listing ls)).after lines (later_listings x ls) i line rest is
 
-pub length-reply_texts : (b : State) (lines : List Line) → length (reply_texts b lines) ≡ length lines
-length-reply_texts b [] = refl
-length-reply_texts b (x ∷ lines) = ap suc (length-reply_texts (step b x).after lines)
+left_more : (lines : List Line) (ls : List (List CacheLine)) (i : ℕ) (line : Line) (rest : List Line) → drop i lines ≡ line ∷ rest → listings_after (take (suc i) lines) ls ≡ later_listings line (listings_after (take i lines) ls)
+left_more [] ls zero line rest is = cc
+left_more [] ls (suc i) line rest is = cc
+left_more (x ∷ lines) ls zero line rest is = let same : x ≡ line = cc in ap (λ l. later_listings l ls) same
+left_more (x ∷ lines) ls (suc i) line rest is = left_more lines (later_listings x ls) i line rest is
+
+pub length-reply_texts : (b : State) (lines : List Line) (ls : List (List CacheLine)) → length (reply_texts b lines ls) ≡ length lines
+length-reply_texts b [] ls = refl
+length-reply_texts b (x ∷ lines) ls = ap suc (length-reply_texts (step b x (next_listing ls)).after lines (later_listings x ls))
 
 pub below : {X : Type 0} (xs : List X) (i : ℕ) (x : X) (rest : List X) → drop i xs ≡ x ∷ rest → i < length xs
 below [] zero x rest is = cc
@@ -47,15 +56,18 @@ joined_more (x ∷ xs) (suc i) less = ap (λ (l : List ℕ). x ++ l) (joined_mor
 
 module _ (run : Run) where
   pub told_more : (i : ℕ) → i < suc (length (answered run)) → told_after run (suc i) ≡ told_after run i ++ text_at run i
-  told_more i less = joined_more (line_texts run) i (let long = length-reply_texts run.opening (answered run) in omega (arith, less, long))
+  told_more i less = joined_more (line_texts run) i (let long = length-reply_texts run.opening (answered run) run.listings in omega (arith, less, long))
 
   -- a line of the run
   module _ (i : ℕ) (line : Line) (rest : List Line) (is : drop i (answered run) ≡ line ∷ rest) where
-    pub state_next : state_at run (suc i) ≡ (step (state_at run i) line).after
-    state_next = after_more run.opening (answered run) i line rest is
+    pub state_next : state_at run (suc i) ≡ (step (state_at run i) line (listing_at run i)).after
+    state_next = after_more run.opening (answered run) run.listings i line rest is
 
-    pub text_next : text_at run (suc i) ≡ reply_text (step (state_at run i) line).reply
-    text_next = text_more run.opening (answered run) i line rest is
+    pub text_next : text_at run (suc i) ≡ reply_text (step (state_at run i) line (listing_at run i)).reply
+    text_next = text_more run.opening (answered run) run.listings i line rest is
+
+    pub left_next : listings_left run (suc i) ≡ later_listings line (listings_left run i)
+    left_next = left_more (answered run) run.listings i line rest is
 
 -- the table after a line stands near the texts up to its own
 pub near_after : (run : Run) (heard i : ℕ) (image : Image) → StandsAt run i image → StandsNear run heard (suc i) image
@@ -99,11 +111,11 @@ more_heard run a b so_far fault s le h = record {
 -- the moments of an answer are those of the run
 pub answer_more : (run : Run) (so_far : List ℕ) (i : ℕ) (line : Line) (rest : List Line) (entry mid new : Site) → drop i (answered run) ≡ line ∷ rest → mid.told ≡ so_far ++ told_after run (suc i)
     → LeavesOnly entry mid (IsAccounted run i so_far [])
-    → LeavesOnly mid new (LeavesAnswer run.geometry (state_at run i) (step (state_at run i) line).after (reply_text (step (state_at run i) line).reply) mid.told)
+    → LeavesOnly mid new (LeavesAnswer run.geometry (state_at run i) (step (state_at run i) line (listing_at run i)).after (reply_text (step (state_at run i) line (listing_at run i)).reply) mid.told)
     → LeavesOnly entry new (IsAccounted run (suc i) so_far [])
 answer_more run so_far i line rest entry mid new is told before after =
     in_sequence entry mid new (Leaves (IsAccounted run (suc i) so_far [])) (leaves_weaker entry mid (IsAccounted run i so_far []) (IsAccounted run (suc i) so_far []) (λ s a. more_heard run i (suc i) so_far [] s (omega arith) a) before)
-    (leaves_weaker mid new (LeavesAnswer run.geometry (state_at run i) (step (state_at run i) line).after (reply_text (step (state_at run i) line).reply) mid.told) (IsAccounted run (suc i) so_far []) (λ s a. ⊎_elim
+    (leaves_weaker mid new (LeavesAnswer run.geometry (state_at run i) (step (state_at run i) line (listing_at run i)).after (reply_text (step (state_at run i) line (listing_at run i)).reply) mid.told) (IsAccounted run (suc i) so_far []) (λ s a. ⊎_elim
     (λ old. between run (suc i) so_far [] (suc i) s (omega arith) (old.1 ∙ told) (near_after run (suc i) i s.image old.0))
     (λ done. within run (suc i) so_far [] (suc i) a.front.0 s (omega arith) (let less = below (answered run) i line rest is in omega (arith, less))
     (a.front.1 ∙ (λ j. told j ++ take a.front.0 (sym (text_next run i line rest is) j)))

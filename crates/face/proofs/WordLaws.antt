@@ -1,9 +1,10 @@
 -- The words of `run` and those of `new` are told apart, and say one thing.
 use Rattle.std.proofs.Common.{◌≡◌, ℕ, List, sym, ◌∙◌, ap, arith, length}
+use Rattle.std.specs.Prelude.{decimal}
 use Rattle.std.proofs.lemmas.Fmt.{decimal_injective}
 use Rattle.site.specs.declared.geometry.Geometry.{Geometry}
 use Rattle.face.specs.Words.{IsRun, IsNew}
-use Rattle.face.proofs.WordLists.{four_words}
+use Rattle.face.proofs.WordLists.{second_word, four_words}
 
 pub not_both : (words : List (List ℕ)) (pool : ℕ) (g : Geometry) → IsRun words pool → IsNew words g → ⊥
 not_both words pool g run new =
@@ -24,3 +25,10 @@ one_geometry words g h first second =
     let groups = decimal_injective g.groups h.groups (omega (arith, r)) (omega (arith, s)) same.third in
     let blocks = decimal_injective g.blocks h.blocks (omega (arith, t)) (omega (arith, u)) same.fourth in
     λ i. record { pages = pages i; groups = groups i; blocks = blocks i }
+
+pub one_pool : (words : List (List ℕ)) (pool other : ℕ) → IsRun words pool → IsRun words other → pool ≡ other
+one_pool words pool other first second =
+    let same : decimal pool ≡ decimal other = second_word _ _ _ _ (sym first.words_are ∙ second.words_are) in
+    let p = first.to in
+    let q = second.to in
+    decimal_injective pool other (omega (arith, p)) (omega (arith, q)) same

@@ -18,7 +18,7 @@ use Rattle.face.specs.declared.halt.Halt.{Halt}
 use Rattle.face.specs.declared.halt.Halt.TheVariants.{Output}
 use Rattle.face.specs.Texts.{status_of}
 use Rattle.face.specs.Lines.{HearsOnly}
-use Rattle.face.specs.Run.{Run, answered, step, text_at, told_after, state_at, StandsFor, StandsAt, IsAccounted, LeavesAnswer, Stops, IsDone}
+use Rattle.face.specs.Run.{Run, answered, step, text_at, told_after, state_at, listing_at, StandsFor, StandsAt, IsAccounted, LeavesAnswer, Stops, IsDone}
 use Rattle.face.specs.Going.{Going}
 use Rattle.face.proofs.Logs.{still_fits, fits_stands}
 use Rattle.face.proofs.Runs.{below, told_more, state_next, text_next, near_after, between, within, answer_more}
@@ -110,9 +110,9 @@ module _ (run : Run) (entry mid : Site) (engine : Engine) (i : ℕ) (going : Goi
 
   -- a line is answered
   module _ (new : Site) (line : Line) (rest : List Line) (is : drop i (answered run) ≡ line ∷ rest)
-      (leaves : LeavesOnly mid new (LeavesAnswer (sizes_of engine.store) (state_at run i) (step (state_at run i) line).after (reply_text (step (state_at run i) line).reply) mid.told)) where
-    leaves' : LeavesOnly mid new (LeavesAnswer run.geometry (state_at run i) (step (state_at run i) line).after (reply_text (step (state_at run i) line).reply) mid.told)
-    leaves' = subst (λ (g : Geometry). LeavesOnly mid new (LeavesAnswer g (state_at run i) (step (state_at run i) line).after (reply_text (step (state_at run i) line).reply) mid.told)) going.geometry leaves
+      (leaves : LeavesOnly mid new (LeavesAnswer (sizes_of engine.store) (state_at run i) (step (state_at run i) line (listing_at run i)).after (reply_text (step (state_at run i) line (listing_at run i)).reply) mid.told)) where
+    leaves' : LeavesOnly mid new (LeavesAnswer run.geometry (state_at run i) (step (state_at run i) line (listing_at run i)).after (reply_text (step (state_at run i) line (listing_at run i)).reply) mid.told)
+    leaves' = subst (λ (g : Geometry). LeavesOnly mid new (LeavesAnswer g (state_at run i) (step (state_at run i) line (listing_at run i)).after (reply_text (step (state_at run i) line (listing_at run i)).reply) mid.told)) going.geometry leaves
 
     told_suc : mid.told ≡ entry.told ++ told_after run (suc i)
     told_suc = going.told ∙ ap (λ (n : ℕ). entry.told ++ told_after run n) (add-one i)
@@ -133,7 +133,7 @@ module _ (run : Run) (entry mid : Site) (engine : Engine) (i : ℕ) (going : Goi
       };
     }
 
-    pub goes_on : (engine' : Engine) → sizes_of engine'.store ≡ sizes_of engine.store → engine'.store.log.geometry ≡ sizes_of engine'.store → Fits engine' new (step (state_at run i) line).after → new.loose ≡ no_loose → new.told ≡ mid.told ++ reply_text (step (state_at run i) line).reply → Going run entry new engine' (suc i)
+    pub goes_on : (engine' : Engine) → sizes_of engine'.store ≡ sizes_of engine.store → engine'.store.log.geometry ≡ sizes_of engine'.store → Fits engine' new (step (state_at run i) line (listing_at run i)).after → new.loose ≡ no_loose → new.told ≡ mid.told ++ reply_text (step (state_at run i) line (listing_at run i)).reply → Going run entry new engine' (suc i)
     goes_on engine' geometry same fits quiet told = record {
       fits = subst (Fits engine' new) (sym (state_next run i line rest is)) fits;
       quiet = quiet;

@@ -1,11 +1,23 @@
 -- A run under way.
-use Rattle.std.specs.Prelude.{◌≡◌, ℕ, ◌+◌, ◌≤◌, [], ◌++◌, length}
-use Rattle.site.specs.State.{State as Site, no_loose}
+use Rattle.std.specs.Prelude.{◌≡◌, ℕ, ◌+◌, ◌≤◌, [], ◌++◌, List, length, Result, OnOk, IsErrOf}
+use Rattle.site.specs.State.{State as Site, Image, no_loose}
 use Rattle.site.specs.Moments.{LeavesOnly}
+use Rattle.record_model.specs.declared.words.CacheLine.{CacheLine}
 use Rattle.engine.specs.declared.engine.Engine.{Engine}
 use Rattle.engine.specs.Fits.{Fits}
 use Rattle.engine.specs.Going.{sizes_of}
-use Rattle.face.specs.Run.{Run, answered, told_after, state_at, IsAccounted}
+use Rattle.site.specs.declared.outside.Dev.TheVariants.{Flash}
+use Rattle.site.specs.declared.outside.Stop.TheVariants.{Worn}
+use Rattle.record_model.specs.Touches.{CacheWork}
+use Rattle.log_records.specs.declared.log_record.LogRecord.{LogRecord}
+use Rattle.second_chance.specs.Machine.{rules_of, after_works}
+use Rattle.page_store.specs.declared.store.PageStore.{PageStore}
+use Rattle.page_store.specs.Caching.{cache_of, rules}
+use Rattle.redo_undo.specs.Works.{Overflows}
+use Rattle.engine.specs.Paging.{cache_on}
+use Rattle.face.specs.declared.halt.Halt.{Halt}
+use Rattle.face.specs.declared.halt.Halt.TheVariants.{Stop}
+use Rattle.face.specs.Run.{asked_after, Run, Begins, answered, told_after, state_at, listings_left, IsAccounted}
 
 -- so many lines of the run were answered
 pub record Going (run : Run) (entry now : Site) (engine : Engine) (lines : ℕ) : Type 0 where
@@ -17,3 +29,21 @@ pub record Going (run : Run) (entry now : Site) (engine : Engine) (lines : ℕ) 
   pub told : now.told ≡ entry.told ++ told_after run (lines + 1)
   pub few : lines ≤ length (answered run)
   pub moments : LeavesOnly entry now (IsAccounted run lines entry.told [])
+
+-- So many lines were answered, and the cache has given these listings so far: this holds of each run whose listings begin with them,
+-- whatever comes behind.
+pub record IsUnderWay (entry now : Site) (engine : Engine) (lines : ℕ) : Type 0 where
+  pub listings : List (List CacheLine)
+  pub left : (run : Run) (later : List (List CacheLine)) → Begins run entry → run.listings ≡ listings ++ later → listings_left run lines ≡ later
+  pub going : (run : Run) (later : List (List CacheLine)) → Begins run entry → run.listings ≡ listings ++ later → Going run entry now engine lines
+
+-- The page cache has done what the run has asked.
+pub record IsPaged (pool : ℕ) (run : Run) (image : Image) (blocks : List (List LogRecord)) (engine : Engine) (lines : ℕ) : Type 0 where
+  pub machine : cache_of engine.store.pages ≡ after_works (rules_of pool run.geometry.groups) (asked_after run image blocks lines) (cache_on run.geometry image)
+  pub rules_are : rules engine.store.pages ≡ rules_of pool run.geometry.groups
+
+-- A line asks for this work.
+pub record Serves {T : Type 0} (result : Result T Halt) (works : List CacheWork) (old new : PageStore) : Type 0 where
+  pub machine : OnOk result (cache_of new ≡ after_works (rules old) works (cache_of old))
+  pub worn : IsErrOf result (Stop (Worn Flash)) → Overflows (rules old) works (cache_of old)
+  pub rules_are : rules new ≡ rules old

@@ -3,6 +3,7 @@ use Rattle.std.specs.Prelude.{◌≡◌, ◌≢◌, ◌⊎◌, ℕ, ◌+◌, Boo
 use Rattle.site.specs.State.{State as Site, no_loose}
 use Rattle.site.specs.Moments.{LeavesOnly}
 use Rattle.site.specs.declared.geometry.Geometry.{Geometry}
+use Rattle.record_model.specs.declared.words.CacheLine.{CacheLine}
 use Rattle.record_model.specs.State.{State}
 use Rattle.face.specs.declared.halt.Halt.{Halt}
 use Rattle.face.specs.Texts.{fault_line, status_of}
@@ -12,7 +13,7 @@ use Rattle.std.specs.List.{list_any}
 use Rattle.record_model.specs.Run.{is_quit}
 use Rattle.face.specs.Lines.{HeardAll, limit, commands_of}
 use Rattle.face.specs.Run.{Run, IsFront}
-use Rattle.face.specs.Range.{run_of, run_text, all_commits, StandsAfter, IsLeft}
+use Rattle.face.specs.Range.{run_of, run_text, all_commits, StandsAfter, IsLeft, WearsOut, NeverWears}
 
 -- an honest and quiet site, whose image is sound, and over which a run opens with this state
 pub record IsGood (g : Geometry) (opening : State) (site : Site) : Type 0 where
@@ -35,24 +36,29 @@ pub record IsToldWhole (run : Run) (fault : List ℕ) (old new : Site) : Type 0 
   pub told : new.told ≡ old.told ++ (run_text run ++ rest)
   pub front : IsFront rest fault
 
--- What a run leaves that opens with this state, and what a crash at any moment of it leaves.
-pub record Headline (g : Geometry) (opening : State) (old new : Site) (status : ℕ) : Type 0 where
+-- What a run with a pool of so many pages leaves that opens with this state, and what a crash at any moment of it leaves.
+pub record Headline (pool : ℕ) (g : Geometry) (opening : State) (old new : Site) (status : ℕ) : Type 0 where
   -- the octets that were taken, and whether a take has answered that the input ended
   pub octets : List ℕ
   pub ended : Bool
   pub taken : old.left ≡ octets ++ new.left
   pub end : ended ≡ true → new.left ≡ []
+  -- what the cache lists at each cache command that is answered
+  pub listings : List (List CacheLine)
   -- the fault line of the status
   pub fault : List ℕ
   pub of_status : IsFaultOf status fault old new
   -- each snapshot stands for the table after some number of commits in the range of what it has told
-  pub any_moment : LeavesOnly old new (IsLeft (run_of g opening ended octets) old.told fault)
+  pub any_moment : LeavesOnly old new (IsLeft (run_of g opening ended octets listings) old.told fault)
   -- with any status but 3 no range is loose
   pub quiet : status ≢ 3 → new.loose ≡ no_loose
   -- with status 0 the input was heard to its end or to a quit, and all is told and done
   pub heard : status ≡ 0 → HeardAll ended octets
-  pub done : status ≡ 0 → IsWhole (run_of g opening ended octets) old new
+  pub done : status ≡ 0 → IsWhole (run_of g opening ended octets listings) old new
   -- with 5 and 7 all lines were answered whose newline is among the first 2 ^ 40 octets
-  pub taking : (status ≡ 5) ⊎ (status ≡ 7) → IsToldWhole (run_of g opening false (take limit octets)) fault old new
+  pub taking : (status ≡ 5) ⊎ (status ≡ 7) → IsToldWhole (run_of g opening false (take limit octets) listings) fault old new
   -- and with 7 there was no quit among these, and one octet more was taken
   pub over : status ≡ 7 → (length octets ≡ limit + 1) × (list_any is_quit (commands_of false (take limit octets)) ≡ false)
+  -- with 8 what was heard appends to a ring of groups that stands at its end, and with 0 it doesn't
+  pub worn : status ≡ 8 → WearsOut pool (run_of g opening ended octets listings) old.image
+  pub room : status ≡ 0 → NeverWears pool (run_of g opening ended octets listings) old.image

@@ -1,25 +1,32 @@
 -- Which commits a told text allows.
-use Rattle.std.specs.Prelude.{◌≡◌, ◌⊎◌, ℕ, ◌+◌, ◌≤◌, Bool, false, List, [], ◌++◌, length, take, flat_map, count_by}
+use Rattle.std.specs.Prelude.{◌≡◌, ◌⊎◌, ℕ, ◌+◌, ◌≤◌, Bool, false, List, ◌++◌, ◌^◌, length, take, flat_map, count_by}
 use Rattle.site.specs.State.{Snapshot, Image}
 use Rattle.site.specs.declared.geometry.Geometry.{Geometry}
+use Rattle.record_model.specs.declared.words.CacheLine.{CacheLine}
 use Rattle.record_model.specs.State.{State}
 use Rattle.record_model.specs.Run.{Turn, turns, commit_marks, after_commits, IsInRange}
-use Rattle.engine.specs.Image.{Stands}
+use Rattle.record_model.specs.Touches.{CacheWork, run_touches}
+use Rattle.log_records.specs.declared.log_record.LogRecord.{LogRecord}
+use Rattle.image_meaning.specs.Meaning.{picture}
+use Rattle.second_chance.specs.Machine.{rules_of, after_works}
+use Rattle.redo_undo.specs.Works.{next_group, Overflows}
+use Rattle.engine.specs.Paging.{restart_works, cache_on}
+use Rattle.engine.specs.Image.{IsSound, Stands}
 use Rattle.shell_text.specs.Runs.{texts as run_texts}
 use Rattle.face.specs.Lines.{commands_of}
 use Rattle.face.specs.Run.{Run, IsFront}
 
--- the run that opens with this state, over the lines of these octets
-abbrev pub run_of : Geometry → State → Bool → List ℕ → Run
-run_of g opening ended octets = record { geometry = g; opening = opening; lines = commands_of ended octets }
+-- the run that opens with this state, over the lines of these octets, with these listings of the cache
+abbrev pub run_of : Geometry → State → Bool → List ℕ → List (List CacheLine) → Run
+run_of g opening ended octets listings = record { geometry = g; opening = opening; lines = commands_of ended octets; listings = listings }
 
 -- its turns, by the record model
 abbrev pub turns_of : Run → List Turn
-turns_of run = turns false run.opening run.lines []
+turns_of run = turns false run.opening run.lines run.listings
 
 -- the opening's text, and one for each turn
 abbrev pub texts : Run → List (List ℕ)
-texts run = run_texts false run.opening run.lines []
+texts run = run_texts false run.opening run.lines run.listings
 
 -- the first of the texts, one after the other
 abbrev pub first_texts : Run → ℕ → List ℕ
@@ -48,3 +55,17 @@ pub record IsLeft (run : Run) (so_far fault : List ℕ) (snapshot : Snapshot) : 
   pub k : ℕ
   pub in_range : IsInRange told (texts run) (commit_marks (turns_of run)) k
   pub stands : StandsAfter run k snapshot.image
+
+-- all that the run asks of the page cache over this image: the restart's work, then that of its lines
+abbrev pub all_works : Run → Image → List (List LogRecord) → List CacheWork
+all_works run image blocks = restart_works (picture run.geometry image blocks) ++ run_touches false (turns_of run)
+
+-- the run appends to a ring of groups that stands at its end, where the pool has so many pages
+abbrev pub WearsOut : ℕ → Run → Image → Type 0
+WearsOut pool run image =
+    (blocks : List (List LogRecord)) → IsSound run.geometry image blocks → Overflows (rules_of pool run.geometry.groups) (all_works run image blocks) (cache_on run.geometry image)
+
+-- no ring that it appends to stands there
+abbrev pub NeverWears : ℕ → Run → Image → Type 0
+NeverWears pool run image =
+    (blocks : List (List LogRecord)) → IsSound run.geometry image blocks → next_group (after_works (rules_of pool run.geometry.groups) (all_works run image blocks) (cache_on run.geometry image)) ≤ 2 ^ 40

@@ -1,36 +1,48 @@
 -- A run: its texts, and what a crash may leave of it.
-use Rattle.std.specs.Prelude.{◌≡◌, ◌⊎◌, ℕ, ◌+◌, ◌-◌, ◌<◌, List, [], ◌∷◌, ◌++◌, ◌≤◌, length, take, flat_map, slice_index_or, IsTrue, Result, IfErr, OnOk, ◌≢◌, Bool, true, false, ⊤}
+use Rattle.std.specs.Prelude.{◌≡◌, ◌⊎◌, ℕ, ◌+◌, ◌-◌, ◌<◌, List, [], ◌∷◌, ◌++◌, ◌≤◌, length, take, flat_map, slice_index_or, IsTrue, Result, IfErr, OnOk, IsErrOf, ◌≢◌, ◌^◌, Bool, true, false, ⊤}
 use Rattle.site.specs.State.{State as Site, Snapshot, Image, MayLeave, now_of, no_loose}
 use Rattle.site.specs.Moments.{LeavesOnly}
 use Rattle.site.specs.declared.geometry.Geometry.{Geometry}
 use Rattle.record_model.specs.State.{State}
 use Rattle.record_model.specs.Step.{Outcome}
 use Rattle.std.specs.List.{list_any}
-use Rattle.record_model.specs.Run.{Line, line_step, is_quit}
+use Rattle.record_model.specs.declared.words.CacheLine.{CacheLine}
+use Rattle.record_model.specs.Run.{Line, line_step, is_quit, is_cache, next_listing, later_listings, listings_after}
 use Rattle.face.specs.declared.halt.Halt.{Halt}
-use Rattle.face.specs.declared.halt.Halt.TheVariants.{Output, Input, Limit}
+use Rattle.face.specs.declared.halt.Halt.TheVariants.{Stop, Output, Input, Limit}
+use Rattle.site.specs.declared.outside.Dev.TheVariants.{Flash}
+use Rattle.site.specs.declared.outside.Stop.TheVariants.{Worn}
+use Rattle.record_model.specs.Touches.{CacheWork, line_touches}
+use Rattle.log_records.specs.declared.log_record.LogRecord.{LogRecord}
+use Rattle.image_meaning.specs.Meaning.{picture}
+use Rattle.second_chance.specs.Machine.{rules_of, after_works}
+use Rattle.redo_undo.specs.Works.{next_group, Overflows}
+use Rattle.engine.specs.Paging.{restart_works, cache_on}
 use Rattle.shell_text.specs.Texts.{open_text, reply_text}
 use Rattle.face.specs.Texts.{status_of}
-use Rattle.engine.specs.Image.{Stands, Opens}
+use Rattle.engine.specs.Image.{IsSound, Stands, Opens}
 use Rattle.face.specs.Lines.{commands_of, up_to_quit, answered_of, HeardAll, limit}
 
--- what a line is answered, and the state that it leaves; no checkpoint steps are built yet, and no listing
-abbrev pub step : State → Line → Outcome
-step s line = line_step false s line []
+-- what a line is answered, and the state that it leaves, where the cache has this listing; no checkpoint steps are built yet
+abbrev pub step : State → Line → List CacheLine → Outcome
+step s line listing = line_step false s line listing
 
--- a run opens with a state, and has these lines to answer
+-- a run opens with a state, has these lines to answer, and the cache has these listings, one after the other, at its cache commands
 pub record Run : Type 0 where
   pub geometry : Geometry
   pub opening : State
   pub lines : List Line
+  pub listings : List (List CacheLine)
 
-abbrev pub after_lines : State → List Line → State
-after_lines s [] = s
-after_lines s (line ∷ lines) = after_lines (step s line).after lines
+abbrev pub after_lines : State → List Line → List (List CacheLine) → State
+after_lines s [] listings = s
+after_lines s (line ∷ lines) listings = after_lines (step s line (next_listing listings)).after lines (later_listings line listings)
 
-abbrev pub reply_texts : State → List Line → List (List ℕ)
-reply_texts s [] = []
-reply_texts s (line ∷ lines) = reply_text (step s line).reply ∷ reply_texts (step s line).after lines
+abbrev pub reply_texts : State → List Line → List (List CacheLine) → List (List ℕ)
+reply_texts s [] listings = []
+reply_texts s (line ∷ lines) listings =
+    let o = step s line (next_listing listings) in
+    reply_text o.reply ∷ reply_texts o.after lines (later_listings line listings)
 
 -- the lines that are answered, up to a quit
 abbrev pub answered : Run → List Line
@@ -38,7 +50,7 @@ answered run = up_to_quit run.lines
 
 -- the opening's text, and one for each line
 abbrev pub line_texts : Run → List (List ℕ)
-line_texts run = open_text run.opening.commits ∷ reply_texts run.opening (answered run)
+line_texts run = open_text run.opening.commits ∷ reply_texts run.opening (answered run) run.listings
 
 abbrev pub text_at : Run → ℕ → List ℕ
 text_at run i = slice_index_or (line_texts run) i []
@@ -49,7 +61,37 @@ told_after run whole = flat_map (λ text. text) (take whole (line_texts run))
 
 -- the state after the first lines
 abbrev pub state_at : Run → ℕ → State
-state_at run lines = after_lines run.opening (take lines (answered run))
+state_at run lines = after_lines run.opening (take lines (answered run)) run.listings
+
+-- the listings that are left after the first lines, and the one that the next line may ask for
+abbrev pub listings_left : Run → ℕ → List (List CacheLine)
+listings_left run lines = listings_after (take lines (answered run)) run.listings
+
+abbrev pub listing_at : Run → ℕ → List CacheLine
+listing_at run lines = next_listing (listings_left run lines)
+
+-- where a line asks for the listing of the cache, it is this one
+abbrev pub IsAsked : Line → List CacheLine → List CacheLine → Type 0
+IsAsked line listing asked = is_cache line ≡ true → asked ≡ listing
+
+-- what lines ask of the page cache, whatever it lists
+abbrev pub works_of : State → List Line → List CacheWork
+works_of s [] = []
+works_of s (line ∷ lines) = line_touches false s line ++ works_of (step s line []).after lines
+
+-- what a run over this image has asked once it has answered so many lines: the restart's work, then theirs
+abbrev pub asked_after : Run → Image → List (List LogRecord) → ℕ → List CacheWork
+asked_after run image blocks lines = restart_works (picture run.geometry image blocks) ++ works_of run.opening (take lines (answered run))
+
+-- with so many lines the run appends to a ring of groups that stands at its end
+abbrev pub Outgrows : ℕ → Run → Image → ℕ → Type 0
+Outgrows pool run image lines =
+    (blocks : List (List LogRecord)) → IsSound run.geometry image blocks → Overflows (rules_of pool run.geometry.groups) (asked_after run image blocks lines) (cache_on run.geometry image)
+
+-- it doesn't
+abbrev pub HasGroupsFor : ℕ → Run → Image → ℕ → Type 0
+HasGroupsFor pool run image lines =
+    (blocks : List (List LogRecord)) → IsSound run.geometry image blocks → next_group (after_works (rules_of pool run.geometry.groups) (asked_after run image blocks lines) (cache_on run.geometry image)) ≤ 2 ^ 40
 
 -- the devices stand for the table and the count of a state
 abbrev pub StandsFor : Geometry → Image → State → Type 0
@@ -133,10 +175,13 @@ pub record Stops (run : Run) (heard : ℕ) (old new : Site) (halt : Halt) : Type
   pub quiet : status_of halt ≢ 3 → new.loose ≡ no_loose
 
 -- what comes of a run before its fault line
-pub record Works {T : Type 0} (run : Run) (old new : Site) (result : Result T Halt) : Type 0 where
+pub record Works {T : Type 0} (pool : ℕ) (run : Run) (old new : Site) (result : Result T Halt) : Type 0 where
   pub heard : ℕ
   pub octets : List ℕ
   pub ended : Bool
   pub has_heard : HasHeard heard octets ended old new
   pub stops : IfErr result (λ halt. Stops run heard old new halt × StopsTaking halt run heard octets old new)
   pub done : OnOk result (HeardAll ended octets × (length (answered_of ended octets) ≡ heard) × LeavesOnly old new (IsAccounted run heard old.told []) × IsDone run heard old new)
+  -- flash is worn only where the lines that were heard ask for more groups than the ring can have
+  pub worn : IsErrOf result (Stop (Worn Flash)) → Outgrows pool run old.image heard
+  pub room : OnOk result (HasGroupsFor pool run old.image heard)

@@ -1,17 +1,21 @@
 // A line is carried out, and its reply is told.
-ghost use Rattle.std.specs.Prelude.{◌≡◌, ◌≢◌, ◌++◌, IfErr, IsTrue, OnOk};
+ghost use Rattle.std.specs.Prelude.{◌≡◌, ◌≢◌, false, ◌++◌, List, IfErr, IsTrue, OnOk};
 ghost use Rattle.site.specs.State.{IsQuiet};
 ghost use Rattle.site.specs.Calls.{Goes};
 ghost use Rattle.site.specs.Moments.{LeavesOnly};
 ghost use Rattle.site.specs.declared.outside.Stop.{Stop};
 ghost use Rattle.site.specs.declared.outside.Dev.{Dev};
+ghost use Rattle.record_model.specs.declared.words.CacheLine.{CacheLine};
 ghost use Rattle.record_model.specs.State.{State};
 ghost use Rattle.engine.specs.Going.{MayGoOn, sizes_of};
 ghost use Rattle.engine.specs.Fits.{Fits};
+ghost use Rattle.engine.specs.Listings.{listing_of};
 ghost use Rattle.face.specs.Causes.{AnswerFailsBy};
 ghost use Rattle.face.specs.Grammar.{IsBuilt};
 ghost use Rattle.shell_text.specs.Texts.{reply_text};
-ghost use Rattle.face.specs.Run.{step, LeavesAnswer};
+ghost use Rattle.face.specs.Run.{step, IsAsked, LeavesAnswer};
+ghost use Rattle.record_model.specs.Touches.{line_touches};
+ghost use Rattle.face.specs.Going.{Serves};
 
 use crate::commands::carry_out;
 use crate::halt::Halt;
@@ -27,18 +31,23 @@ pub fn answer<S: Site>(engine: &mut Engine, site: &mut S, line: Option<Command>)
     requires built { IsBuilt line }
 
     // Of an honest site that the database fits.
-    ensures any_moment { (s : State) → Fits engine.old (S.state site.old) s
+    ensures any_moment { (s : State) (listing : List CacheLine) → IsAsked line (listing_of engine.old) listing
+        → Fits engine.old (S.state site.old) s
         → IsQuiet (S.state site.old)
         → LeavesOnly (S.state site.old) (S.state site.new)
-        (LeavesAnswer (sizes_of engine.old.store) s (step s line).after (reply_text (step s line).reply) (S.state site.old).told) }
-    ensures fits { (s : State) → Fits engine.old (S.state site.old) s
-        → OnOk result (Fits engine.new (S.state site.new) (step s line).after) }
-    ensures told { (s : State) → Fits engine.old (S.state site.old) s
+        (LeavesAnswer (sizes_of engine.old.store) s (step s line listing).after (reply_text (step s line listing).reply) (S.state site.old).told) }
+    ensures fits { (s : State) (listing : List CacheLine) → IsAsked line (listing_of engine.old) listing
+        → Fits engine.old (S.state site.old) s
+        → OnOk result (Fits engine.new (S.state site.new) (step s line listing).after) }
+    ensures told { (s : State) (listing : List CacheLine) → IsAsked line (listing_of engine.old) listing
+        → Fits engine.old (S.state site.old) s
         → IsQuiet (S.state site.old)
-        → OnOk result ((S.state site.new).told ≡ (S.state site.old).told ++ reply_text (step s line).reply) }
+        → OnOk result ((S.state site.new).told ≡ (S.state site.old).told ++ reply_text (step s line listing).reply) }
     ensures untold { (s : State) → Fits engine.old (S.state site.old) s
         → IsQuiet (S.state site.old)
         → IfErr result (λ halt. halt ≢ Halt.Output → (S.state site.new).told ≡ (S.state site.old).told) }
+    ensures asks { (s : State) → Fits engine.old (S.state site.old) s
+        → Serves result (line_touches false s line) engine.old.store.pages engine.new.store.pages }
     ensures left { IsTrue (S.state site.old).honest → (S.state site.new).left ≡ (S.state site.old).left }
     ensures stays_quiet { IsTrue (S.state site.old).honest → IsQuiet (S.state site.old)
         → OnOk result (IsQuiet (S.state site.new)) }

@@ -1,40 +1,48 @@
 // The commands that are built.
-ghost use Rattle.std.specs.Prelude.{◌≡◌, ◌≢◌, IsTrue, IfOk, IfErr, OnOk};
+ghost use Rattle.std.specs.Prelude.{◌≡◌, ◌≢◌, false, [], List, IsTrue, IfOk, IfErr, OnOk};
 ghost use Rattle.site.specs.declared.outside.Dev.{Dev};
 ghost use Rattle.site.specs.declared.outside.Stop.{Stop};
 ghost use Rattle.site.specs.State.{IsQuiet};
 ghost use Rattle.site.specs.Calls.{Goes};
 ghost use Rattle.site.specs.Moments.{LeavesOnly};
+ghost use Rattle.record_model.specs.declared.words.CacheLine.{CacheLine};
 ghost use Rattle.record_model.specs.State.{State};
+ghost use Rattle.record_model.specs.Run.{is_cache};
 ghost use Rattle.engine.specs.Going.{MayGoOn, sizes_of};
 ghost use Rattle.engine.specs.Fits.{Fits};
 ghost use Rattle.engine.specs.Leaves.{LeavesEither};
+ghost use Rattle.engine.specs.Listings.{listing_of};
 ghost use Rattle.face.specs.Causes.{FailsBy};
-ghost use Rattle.face.specs.Grammar.{IsBuilt};
-ghost use Rattle.face.specs.Run.{step};
+ghost use Rattle.face.specs.Grammar.{IsBuilt, IsPlain};
+ghost use Rattle.face.specs.Run.{step, IsAsked};
+ghost use Rattle.record_model.specs.Touches.{line_touches};
+ghost use Rattle.redo_undo.specs.Works.{Asks};
 
 use engine::Engine;
 use record_model::{Command, Reply, Why};
 use site::{Site, Stop};
 
-/// Carries out a line. A crash at any moment leaves the table before it or after it, and nothing is told.
-pub fn carry_out<S: Site>(
+// Carries out a line that doesn't ask for the listing of the cache.
+fn carry_out_plain<S: Site>(
     engine: &mut Engine,
     site: &mut S,
     line: Option<Command>,
 ) -> Result<Reply, Stop>
     requires going { MayGoOn engine.old (S.state site.old) }
-    requires built { IsBuilt line }
+    requires plain { IsPlain line }
 
     // Of an honest site that the database fits.
     ensures reply { (s : State) → Fits engine.old (S.state site.old) s
-        → IfOk result (λ reply. reply ≡ (step s line).reply) }
+        → IfOk result (λ reply. reply ≡ (step s line []).reply) }
     ensures after { (s : State) → Fits engine.old (S.state site.old) s
-        → OnOk result (Fits engine.new (S.state site.new) (step s line).after) }
+        → OnOk result (Fits engine.new (S.state site.new) (step s line []).after) }
     ensures any_moment { (s : State) → Fits engine.old (S.state site.old) s
         → IsQuiet (S.state site.old)
         → LeavesOnly (S.state site.old) (S.state site.new)
-        (LeavesEither (sizes_of engine.old.store) s (step s line).after (S.state site.old).told) }
+        (LeavesEither (sizes_of engine.old.store) s (step s line []).after (S.state site.old).told) }
+    ensures asks { (s : State) → Fits engine.old (S.state site.old) s
+        → Asks result (line_touches false s line) engine.old.store.pages engine.new.store.pages
+        (S.state site.old) (S.state site.new) }
     ensures left { IsTrue (S.state site.old).honest
         → (S.state site.new).left ≡ (S.state site.old).left }
     ensures stays_quiet { IsTrue (S.state site.old).honest → IsQuiet (S.state site.old)
@@ -62,6 +70,11 @@ pub fn carry_out<S: Site>(
             value,
         } => engine.write(site, session, number, &value),
         Command::Erase { session, number } => engine.erase(site, session, number),
+        Command::Scan {
+            session,
+            number,
+            count,
+        } => engine.scan(site, session, number, count),
         Command::Commit { session } => engine.commit(site, session),
         Command::Abort { session } => engine.abort(site, session),
         Command::Get { number } => engine.get(site, number),
@@ -70,4 +83,56 @@ pub fn carry_out<S: Site>(
         Command::Quit => Ok(Reply::Bye),
         _ => Ok(Reply::Refused(Why::BadLine)),
     }
+}
+
+// Whether a line asks for the listing of the cache.
+fn asks_for_listing(line: &Option<Command>) -> bool
+    ensures { result ≡ is_cache line.now }
+{
+    matches!(line, Some(Command::Cache))
+}
+
+/// Carries out a line. A crash at any moment leaves the table before it or after it, and nothing is told.
+pub fn carry_out<S: Site>(
+    engine: &mut Engine,
+    site: &mut S,
+    line: Option<Command>,
+) -> Result<Reply, Stop>
+    requires going { MayGoOn engine.old (S.state site.old) }
+    requires built { IsBuilt line }
+
+    // Of an honest site that the database fits.
+    ensures reply { (s : State) (listing : List CacheLine) → IsAsked line (listing_of engine.old) listing
+        → Fits engine.old (S.state site.old) s
+        → IfOk result (λ reply. reply ≡ (step s line listing).reply) }
+    ensures after { (s : State) (listing : List CacheLine) → IsAsked line (listing_of engine.old) listing
+        → Fits engine.old (S.state site.old) s
+        → OnOk result (Fits engine.new (S.state site.new) (step s line listing).after) }
+    ensures any_moment { (s : State) (listing : List CacheLine) → IsAsked line (listing_of engine.old) listing
+        → Fits engine.old (S.state site.old) s
+        → IsQuiet (S.state site.old)
+        → LeavesOnly (S.state site.old) (S.state site.new)
+        (LeavesEither (sizes_of engine.old.store) s (step s line listing).after (S.state site.old).told) }
+    ensures asks { (s : State) → Fits engine.old (S.state site.old) s
+        → Asks result (line_touches false s line) engine.old.store.pages engine.new.store.pages
+        (S.state site.old) (S.state site.new) }
+    ensures left { IsTrue (S.state site.old).honest
+        → (S.state site.new).left ≡ (S.state site.old).left }
+    ensures stays_quiet { IsTrue (S.state site.old).honest → IsQuiet (S.state site.old)
+        → OnOk result (IsQuiet (S.state site.new)) }
+    // Where no device failed, nothing is loose after an error either.
+    ensures quiet { (s : State) → Fits engine.old (S.state site.old) s
+        → IsQuiet (S.state site.old)
+        → IfErr result (λ stop. ((d : Dev) → stop ≢ Stop.Device d) → IsQuiet (S.state site.new)) }
+
+    // Of every site.
+    ensures going { OnOk result (MayGoOn engine.new (S.state site.new)) }
+    ensures cause { IfErr result (λ stop. FailsBy stop engine.old (S.state site.old) (S.state site.new)) }
+    ensures sizes { sizes_of engine.new.store ≡ sizes_of engine.old.store }
+    ensures goes { Goes (S.state site.old) (S.state site.new) }
+{
+    if asks_for_listing(&line) {
+        return engine.cache();
+    }
+    carry_out_plain(engine, site, line)
 }

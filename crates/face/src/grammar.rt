@@ -11,9 +11,7 @@ fn keep_built(line: Option<Command>) -> Option<Command>
     ensures built { IsBuilt result }
 {
     match line {
-        Some(Command::Scan { .. }) => None,
         Some(Command::Checkpoint) => None,
-        Some(Command::Cache) => None,
         line => line,
     }
 }

@@ -31,7 +31,7 @@ fn tells(alloc: Global, sizes: &Geometry, input: &[u8], told: &[u8]) -> Result<b
 
 #[test]
 fn sessions_are_kept_apart(rt: HostRuntime) -> Result<(), Fail> {
-    let rows: [(&[u8], &[u8]); 5] = [
+    let rows: [(&[u8], &[u8]); 7] = [
         (
             b"begin 0\nwrite 0 7 01\nbegin 1\nread 1 7\nabort 0\nread 1 7\n",
             b"open 0\nok\nok\nok\nbusy 0\naborted\nnone\n",
@@ -51,6 +51,14 @@ fn sessions_are_kept_apart(rt: HostRuntime) -> Result<(), Fail> {
         (
             b"set 1 aa\nbegin 3\nwrite 3 1 bb\nget 1\nset 1 cc\nbegin 2\nread 2 1\nread 3 1\nabort 3\nread 2 1\nset 1 dd\ncommit 2\nstat\n",
             b"open 0\ncommitted 1\nok\nok\nbusy 3\nbusy 3\nok\nbusy 3\nvalue bb\naborted\nvalue aa\nbusy 2\ncommitted 2\nstat commits 2 used 9 owed 0 cap 63 active 0\n",
+        ),
+        (
+            b"set 2 aa\nset 4 -\nbegin 0\nscan 0 0 6\nbegin 1\nwrite 1 9 01\nscan 0 5 8\nset 6 bb\nscan 0 500 64\n",
+            b"open 0\ncommitted 1\ncommitted 2\nok\nitem 2 aa\nitem 4 -\nend 2\nok\nok\nbusy 1\ncommitted 3\nrefused record\n",
+        ),
+        (
+            b"set 31 aa\nbegin 2\nwrite 2 32 bb\nscan 2 31 2\nbegin 4\nwrite 4 33 cc\nbegin 3\nwrite 3 34 dd\nscan 2 31 64\nset 31 ee\nscan 2 449 64\nscan 2 449 63\n",
+            b"open 0\ncommitted 1\nok\nok\nitem 31 aa\nitem 32 bb\nend 2\nok\nok\nok\nok\nbusy 4\nbusy 2\nrefused record\nend 0\n",
         ),
     ];
     for (input, told) in rows {

@@ -70,9 +70,9 @@ fn other_lines_are_refused(rt: HostRuntime) -> Result<(), Fail> {
         b"get\n",
         b"get -1\n",
         b"get 1234567890\n",
-        b"scan 0 0 1\n",
+        b"scan 0 0 65\n",
         b"checkpoint\n",
-        b"cache\n",
+        b"cache 0\n",
         b"get 5\r\n",
     ];
     for line in lines {
@@ -81,6 +81,51 @@ fn other_lines_are_refused(rt: HostRuntime) -> Result<(), Fail> {
         assert!(rt; site.told() == b"open 0\nrefused line\n".as_slice());
         assert_eq!(rt; site.changes(), 2);
     }
+    Ok(())
+}
+
+#[test]
+fn the_cache_is_listed(rt: HostRuntime) -> Result<(), Fail> {
+    let rows: [(&[u8], &[u8]); 3] = [
+        (b"cache\n", b"open 0\nend 0\n"),
+        (
+            b"set 0 01\nset 32 02\ncache\n",
+            b"open 0\ncommitted 1\ncommitted 2\nframe 0 0 page 0 vd-\npool 1*\nend 2\n",
+        ),
+        (
+            b"set 0 01\ncache\nget 32\ncache\nget 0\ncache\n",
+            b"open 0\ncommitted 1\npool 0*\nend 1\nnone\nframe 0 0 page 0 vd-\npool 1\nend 2\nvalue 01\nframe 0 0 page 0 vdr\nframe 1 0 page 1 v--\npool 0\nend 3\n",
+        ),
+    ];
+    for (input, told) in rows {
+        let mut site = MemSite::new(rt.alloc(), &STANDARD)?;
+        assert_eq!(rt; run(rt.alloc(), &mut site, input)?, 0);
+        assert!(rt; site.told() == told);
+    }
+    Ok(())
+}
+
+#[test]
+fn a_full_queue_is_listed(rt: HostRuntime) -> Result<(), Fail> {
+    let mut site = MemSite::new(rt.alloc(), &STANDARD)?;
+    let input =
+        b"set 0 01\nset 32 02\nget 0\nset 64 03\nset 96 04\nset 128 05\nset 160 06\nset 192 07\nset 224 08\nset 256 09\ncache\n";
+    assert_eq!(rt; run(rt.alloc(), &mut site, input)?, 0);
+    let told = site.told();
+    let replies =
+        b"open 0\ncommitted 1\ncommitted 2\nvalue 01\ncommitted 3\ncommitted 4\ncommitted 5\ncommitted 6\ncommitted 7\ncommitted 8\ncommitted 9\n";
+    assert!(rt; told.starts_with(replies));
+    let listing =
+        b"frame 1 0 page 1 vd-\nframe 2 0 page 2 vd-\nframe 3 0 page 3 vd-\nframe 4 0 page 4 vd-\nframe 5 0 page 5 vd-\nframe 6 0 page 6 vd-\nframe 7 0 page 7 vd-\npool 8*\nend 8\n";
+    assert!(rt;
+        told.get(replies.len()..)
+            .is_some_and(|lines| lines == listing.as_slice())
+    );
+    assert!(rt;
+        site.content(Dev::Disk)
+            .get(..4_096)
+            .is_some_and(|page| page.iter().any(|octet| *octet != 0))
+    );
     Ok(())
 }
 

@@ -1,18 +1,22 @@
 // The top call, and the work of `run`.
-ghost use Rattle.std.specs.Prelude.{◌≡◌, ◌≢◌, ◌⊎◌, ◌≤◌, ℕ, List, IsTrue, IfOk, IfErr};
+ghost use Rattle.std.specs.Prelude.{◌≡◌, ◌≢◌, ◌⊎◌, ◌≤◌, ℕ, List, IsTrue, IfOk, IfErr, [], true, IsErrOf};
 ghost use Rattle.site.specs.Calls.{Goes};
 ghost use Rattle.face.specs.declared.halt.Halt.{Halt};
 ghost use Rattle.site.specs.declared.geometry.Geometry.{Geometry};
+ghost use Rattle.record_model.specs.declared.words.CacheLine.{CacheLine};
 ghost use Rattle.record_model.specs.State.{State, Content};
-ghost use Rattle.engine.specs.Image.{Stands};
+ghost use Rattle.engine.specs.Image.{IsSound, Stands};
+ghost use Rattle.site.specs.declared.outside.Dev.{Dev};
+ghost use Rattle.site.specs.declared.outside.Stop.{Stop};
+ghost use Rattle.log_records.specs.declared.log_record.LogRecord.{LogRecord};
 ghost use Rattle.engine.specs.Fits.{Fits};
 ghost use Rattle.record_model.specs.Run.{is_quit};
 ghost use Rattle.engine.specs.Going.{MayGoOn, sizes_of};
 ghost use Rattle.engine.specs.Leaves.{HasNoSizes};
-ghost use Rattle.flash_cache.specs.Held.{IsWorn};
 ghost use Rattle.face.specs.Causes.{HasCause, HasCauses, NoFaultRose, EndsInTime, Halts};
-ghost use Rattle.face.specs.Run.{Run, Begins, Stops, Works};
-ghost use Rattle.face.specs.Going.{Going};
+ghost use Rattle.face.specs.Run.{Run, Begins, Stops, Works, Outgrows};
+ghost use Rattle.face.specs.Range.{run_of, NeverWears};
+ghost use Rattle.face.specs.Going.{Going, IsPaged};
 ghost use Rattle.face.specs.Headline.{IsGood, Headline};
 ghost use Rattle.face.specs.New.{New, NewCauses};
 ghost use Rattle.face.specs.Words.{IsRun, IsNew, IsRight, HasDash, RefusesWords, RefusesDevices, LacksMemory, words_of};
@@ -25,6 +29,7 @@ use crate::request::{Request, Unread, read_words};
 use crate::source::{Heard, Source};
 use engine::Engine;
 use record_model::Command;
+use redo_undo::works_add_up;
 use shell_text::open_line;
 use site::{Site, tell_all};
 use std::alloc::Global;
@@ -39,6 +44,9 @@ fn open<S: Site>(alloc: Global, pool: u32, site: &mut S) -> Result<Engine, Halt>
     // The same, whatever is loose at entry.
     ensures fits { IsTrue (S.state site.old).honest → (g : Geometry) (table : List Content) (commits : ℕ) → Stands g (S.state site.old).image table commits → IfOk result (λ engine. ((s : State) × Fits engine (S.state site.new) s) × (sizes_of engine.store ≡ g)) }
     ensures stops { (run : Run) → Begins run (S.state site.old) → IfErr result (λ halt. Stops run 0 (S.state site.old) (S.state site.new) halt) }
+    // The page cache has done the restart's work.
+    ensures paged { (run : Run) → Begins run (S.state site.old) → (blocks : List (List LogRecord)) → IsSound run.geometry (S.state site.old).image blocks → IfOk result (λ engine. IsPaged pool run (S.state site.old).image blocks engine 0) }
+    ensures worn { (run : Run) → Begins run (S.state site.old) → IsErrOf result (Halt.Stop (Stop.Worn Dev.Flash)) → Outgrows pool run (S.state site.old).image 0 }
     ensures left { IsTrue (S.state site.old).honest → (S.state site.new).left ≡ (S.state site.old).left }
     ensures goes_on { IfOk result (λ engine. MayGoOn engine (S.state site.new)) }
     ensures halts { IfErr result (λ halt. (halt ≢ Halt.Input) × (halt ≢ Halt.Limit)) }
@@ -66,11 +74,12 @@ fn quits(line: &Option<Command>) -> bool
 // All of a run but its fault line.
 fn work<S: Site>(alloc: Global, pool: u32, site: &mut S) -> Result<(), Halt>
     requires pool { (1 ≤ pool) × (pool ≤ 4096) }
-    ensures works { (run : Run) → Begins run (S.state site.old) → Works run (S.state site.old) (S.state site.new) result }
+    ensures works { (listings : List (List CacheLine)) × ((run : Run) → Begins run (S.state site.old) → run.listings ≡ listings → Works pool run (S.state site.old) (S.state site.new) result) }
     ensures cause { IfErr result (λ halt. HasCause halt (S.state site.old) (S.state site.new)) }
     ensures refuses { HasNoSizes (S.state site.old) → Halts result (S.state site.old) (S.state site.new) }
     ensures goes { Goes (S.state site.old) (S.state site.new) }
 {
+    works_add_up();
     let mut engine = match open(alloc, pool, site) {
         Ok(engine) => engine,
         Err(halt) => return Err(halt),
@@ -106,15 +115,17 @@ pub fn serve<S: Site>(alloc: Global, pool: u32, site: &mut S) -> u8
     requires to { pool ≤ 4096 }
 
     // What is told, and what a crash at any moment leaves.
-    ensures headline { (g : Geometry) (opening : State) → IsGood g opening (S.state site.old) → Headline g opening (S.state site.old) (S.state site.new) result }
-    // Where nothing fails, the ring of groups isn't at its end, and the input ends in time, the status is 0, or memory was wanted.
-    ensures complete { (g : Geometry) (opening : State) → IsGood g opening (S.state site.old) → NoFaultRose (S.state site.old) (S.state site.new) → (IsWorn g (S.state site.new).image → ⊥) → EndsInTime (S.state site.old) → (result ≡ 0) ⊎ (result ≡ 4) }
+    ensures headline { (g : Geometry) (opening : State) → IsGood g opening (S.state site.old) → Headline pool g opening (S.state site.old) (S.state site.new) result }
+    // Where nothing fails, no group is to be appended to a ring that stands at its end, and the input ends in time, the status is 0, or
+    // memory was wanted.
+    ensures complete { (g : Geometry) (opening : State) → IsGood g opening (S.state site.old) → NoFaultRose (S.state site.old) (S.state site.new) → NeverWears pool (run_of g opening true (S.state site.old).left []) (S.state site.old).image → EndsInTime (S.state site.old) → (result ≡ 0) ⊎ (result ≡ 4) }
     // Devices without sizes have status 9.
     ensures sizes { HasNoSizes (S.state site.old) → RefusesDevices result (S.state site.old) (S.state site.new) }
     // When each status comes.
     ensures causes { HasCauses result (S.state site.old) (S.state site.new) }
     ensures goes { Goes (S.state site.old) (S.state site.new) }
 {
+    works_add_up();
     match work(alloc, pool, site) {
         Ok(()) => 0,
         Err(halt) => {
@@ -126,10 +137,11 @@ pub fn serve<S: Site>(alloc: Global, pool: u32, site: &mut S) -> u8
 
 // Memory was wanted before anything was done: the line is told, and the status is 4.
 fn lack_memory<S: Site>(site: &mut S) -> u8
-    ensures headline { (g : Geometry) (opening : State) → IsGood g opening (S.state site.old) → Headline g opening (S.state site.old) (S.state site.new) result }
+    ensures headline { (pool : ℕ) (g : Geometry) (opening : State) → IsGood g opening (S.state site.old) → Headline pool g opening (S.state site.old) (S.state site.new) result }
     ensures lacks { LacksMemory result (S.state site.old) (S.state site.new) }
     ensures goes { Goes (S.state site.old) (S.state site.new) }
 {
+    works_add_up();
     let _ = tell_memory(site);
     4
 }
@@ -140,8 +152,8 @@ fn lack_memory<S: Site>(site: &mut S) -> u8
 /// may want memory, which has status 4; then nothing is read or changed.
 pub fn face<S: Site>(alloc: Global, words: &[String], site: &mut S) -> u8
     // `run POOL` is the work of `serve`.
-    ensures headline { (pool : ℕ) → IsRun (words_of words.now) pool → (g : Geometry) (opening : State) → IsGood g opening (S.state site.old) → Headline g opening (S.state site.old) (S.state site.new) result }
-    ensures complete { ((pool : ℕ) × IsRun (words_of words.now) pool) → (g : Geometry) (opening : State) → IsGood g opening (S.state site.old) → NoFaultRose (S.state site.old) (S.state site.new) → (IsWorn g (S.state site.new).image → ⊥) → EndsInTime (S.state site.old) → (result ≡ 0) ⊎ (result ≡ 4) }
+    ensures headline { (pool : ℕ) → IsRun (words_of words.now) pool → (g : Geometry) (opening : State) → IsGood g opening (S.state site.old) → Headline pool g opening (S.state site.old) (S.state site.new) result }
+    ensures complete { (pool : ℕ) → IsRun (words_of words.now) pool → (g : Geometry) (opening : State) → IsGood g opening (S.state site.old) → NoFaultRose (S.state site.old) (S.state site.new) → NeverWears pool (run_of g opening true (S.state site.old).left []) (S.state site.old).image → EndsInTime (S.state site.old) → (result ≡ 0) ⊎ (result ≡ 4) }
     ensures sizes { ((pool : ℕ) × IsRun (words_of words.now) pool) → HasNoSizes (S.state site.old) → RefusesDevices result (S.state site.old) (S.state site.new) ⊎ LacksMemory result (S.state site.old) (S.state site.new) }
     ensures causes { ((pool : ℕ) × IsRun (words_of words.now) pool) → HasCauses result (S.state site.old) (S.state site.new) }
     // What `new` of these sizes does, and when each of its statuses comes.

@@ -1,9 +1,11 @@
-use Rattle.std.proofs.Common.{rules, subst}
+use Rattle.face.specs.Range.{NeverWears, run_of}
+use Rattle.face.specs.Headline.{Headline}
+use Rattle.std.proofs.Common.{rules, subst, ℕ, true, []}
 use Rattle.site.specs.declared.geometry.Geometry.{Geometry}
 use Rattle.face.specs.New.{New, NewCauses}
-use Rattle.face.specs.Words.{IsNew, words_of}
+use Rattle.face.specs.Words.{IsNew, words_of, IsRun}
 use Rattle.face.proofs.MemoryLaws.{lacked_new}
-use Rattle.face.proofs.WordLaws.{one_geometry}
+use Rattle.face.proofs.WordLaws.{one_geometry, one_pool}
 use Rattle.face.proofs.top.face.Goals as goal
 
 pub returns-in-Ok-New-clause-new : goal.returns-in-Ok-New-clause-new
@@ -22,3 +24,14 @@ returns-in-Ok-New-clause-new_causes g c sizes is_new =
 
 pub returns-in-Err-Memory-clause-new : goal.returns-in-Err-Memory-clause-new
 returns-in-Err-Memory-clause-new g c sizes is_new = lacked_new c.lack_memory.result (g.S.Site.state c.args.site.now) (g.S.Site.state c.lack_memory.new.site) c.lack_memory.ensures.lacks sizes
+
+pub returns-in-Ok-Run-clause-headline : goal.returns-in-Ok-Run-clause-headline
+returns-in-Ok-Run-clause-headline g c pool is_run geometry opening good =
+    let found : IsRun (words_of c.args.words.now) c.in-Ok-Run.pool = search rules in
+    subst (λ (n : ℕ). Headline n geometry opening (g.S.Site.state c.args.site.now) (g.S.Site.state c.serve.new.site) c.serve.result) (one_pool (words_of c.args.words.now) _ pool found is_run) (c.serve.ensures.headline geometry opening good)
+
+pub returns-in-Ok-Run-clause-complete : goal.returns-in-Ok-Run-clause-complete
+returns-in-Ok-Run-clause-complete g c pool is_run geometry opening good none room ends =
+    let found : IsRun (words_of c.args.words.now) c.in-Ok-Run.pool = search rules in
+    c.serve.ensures.complete geometry opening good none
+    (subst (λ (n : ℕ). NeverWears n (run_of geometry opening true (g.S.Site.state c.args.site.now).left []) (g.S.Site.state c.args.site.now).image) (one_pool (words_of c.args.words.now) pool _ is_run found) room) ends

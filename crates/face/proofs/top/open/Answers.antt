@@ -1,4 +1,8 @@
-use Rattle.std.proofs.Common.{◌∙◌, ap}
+use Rattle.site.specs.declared.outside.Dev.TheVariants.{Flash}
+use Rattle.site.specs.declared.outside.Stop.TheVariants.{Worn}
+use Rattle.face.proofs.Pagings.{first_paged, never_paged}
+use Rattle.std.specs.Prelude.{Err}
+use Rattle.std.proofs.Common.{◌∙◌, ap, ◌≡◌}
 use Rattle.site.specs.Laws.{stays_honest}
 use Rattle.shell_text.specs.Texts.{open_text}
 use Rattle.face.specs.Texts.{status_of}
@@ -53,3 +57,15 @@ returns-in-Ok-tell_all-clause-fits g c honest geometry table commits stands =
     let same = c.tell_all.ensures.same (stays_honest entry mid c.start.ensures.goes honest) in
     let fits = c.in-Ok.ensures.opens honest geometry opens.0 opens.1 in
     ((opens.0, still_fits c.in-Ok.engine mid (g.S.Site.state c.tell_all.new.site) opens.0 fits.0 c.tell_all.ensures.goes same.image), fits.1)
+
+pub returns-in-Ok-tell_all-clause-paged : goal.returns-in-Ok-tell_all-clause-paged
+returns-in-Ok-tell_all-clause-paged g c run begins blocks sound =
+    first_paged c.args.pool run (g.S.Site.state c.args.site.now).image blocks c.in-Ok.engine _ _ _ (c.in-Ok.ensures.asks begins.honest run.geometry blocks sound)
+
+pub returns-in-Err-clause-worn : goal.returns-in-Err-clause-worn
+returns-in-Err-clause-worn g c run begins is blocks sound =
+    let same : c.in-Err.stop ≡ Worn Flash = cc in
+    never_paged c.args.pool run (g.S.Site.state c.args.site.now).image blocks ((c.in-Err.ensures.asks begins.honest run.geometry blocks sound).worn (ap Err same))
+
+pub returns-in-Err-tell_all-clause-worn : goal.returns-in-Err-tell_all-clause-worn
+returns-in-Err-tell_all-clause-worn g c run begins is blocks sound = absurd cc

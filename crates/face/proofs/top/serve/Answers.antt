@@ -1,3 +1,4 @@
+use Rattle.std.proofs.Common.{refl}
 use Rattle.site.specs.Laws.{stays_honest}
 use Rattle.face.proofs.CauseLaws.{cause_then, status_causes, no_causes}
 use Rattle.face.proofs.Faults.{begins, halted, finished, complete}
@@ -6,7 +7,8 @@ use Rattle.face.proofs.top.serve.Goals as goal
 pub returns-in-Ok-clause-headline : goal.returns-in-Ok-clause-headline
 returns-in-Ok-clause-headline g c geometry opening good =
     let old = g.S.Site.state c.args.site.now in
-    finished geometry opening old (g.S.Site.state c.work.new.site) _ (c.in-Ok.ensures.works _ (begins geometry opening old good))
+    let works = c.in-Ok.ensures.works in
+    finished c.works_add_up.ensures.overflow c.args.pool geometry opening works.0 old (g.S.Site.state c.work.new.site) _ (works.1 _ (begins geometry opening works.0 old good) refl)
 
 pub returns-in-Ok-clause-causes : goal.returns-in-Ok-clause-causes
 returns-in-Ok-clause-causes g c = no_causes _ _
@@ -18,7 +20,8 @@ returns-in-Err-clause-headline g c geometry opening good =
     let new = g.S.Site.state c.tell_halt.new.site in
     let honest = stays_honest old mid c.work.ensures.goes good.honest in
     let same = c.tell_halt.ensures.devices honest in
-    halted geometry opening old mid new c.in-Err.halt (c.in-Err.ensures.works _ (begins geometry opening old good))
+    let works = c.in-Err.ensures.works in
+    halted c.works_add_up.ensures.overflow c.args.pool geometry opening works.0 old mid new c.in-Err.halt (works.1 _ (begins geometry opening works.0 old good) refl)
     (c.tell_halt.ensures.any_moment honest) same.left same.loose
     (cause_then c.in-Err.halt old mid new c.in-Err.ensures.cause c.tell_halt.ensures.goes (λ h. same)) c.status.result c.status.ensures
 
@@ -31,5 +34,5 @@ returns-in-Err-clause-causes g c =
     (cause_then c.in-Err.halt old mid new c.in-Err.ensures.cause c.tell_halt.ensures.goes (λ h. c.tell_halt.ensures.devices (stays_honest old mid c.work.ensures.goes h)))
 
 pub returns-in-Err-clause-complete : goal.returns-in-Err-clause-complete
-returns-in-Err-clause-complete g c geometry opening good none unworn ends =
-    complete geometry opening _ _ _ good none unworn ends (returns-in-Err-clause-causes g c) (returns-in-Err-clause-headline g c geometry opening good)
+returns-in-Err-clause-complete g c geometry opening good none room ends =
+    complete c.works_add_up.ensures.overflow c.args.pool geometry opening _ _ _ good none room ends (returns-in-Err-clause-causes g c) (returns-in-Err-clause-headline g c geometry opening good)

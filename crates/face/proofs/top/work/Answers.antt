@@ -1,18 +1,23 @@
-use Rattle.std.proofs.Common.{suc, List, drop, sym, ◌∙◌, ap, subst, arith, add-one}
+use Rattle.std.proofs.Common.{suc, List, [], drop, refl, sym, ◌∙◌, ap, subst, arith, add-one}
+use Rattle.std.proofs.lemmas.List.{append-nil}
 use Rattle.std.specs.Prelude.{Err}
 use Rattle.site.specs.Laws.{stays_honest, goes_in_sequence}
 use Rattle.record_model.specs.Run.{Line}
-use Rattle.face.specs.Going.{Going}
+use Rattle.face.specs.Going.{Going, IsPaged}
+use Rattle.face.proofs.Pagings.{next_paged, next_worn, paged_room}
+use Rattle.engine.specs.Listings.{listing_of}
 use Rattle.face.specs.Lines.{up_to_quit}
+use Rattle.face.specs.Run.{Run, Begins, state_at, listings_left, listing_at}
 use Rattle.face.specs.Texts.{status_of}
 use Rattle.face.proofs.Cuts.{Cut, no_cut, cut_more, cut_stays, line_is, cut_few_octets}
 use Rattle.face.proofs.Ends.{never_opened, taking_failed, finished, answer_failed, heard_end, line_heard, quitted, taking_cause, answer_takes_nothing, answer_cause}
+use Rattle.face.proofs.Listed.{with_line, going_before, is_asked, left_after}
 use Rattle.face.proofs.Works.{moved, cut_short, goes_on}
 use Rattle.face.proofs.Logs.{still_fits, goes_on as engine_goes_on}
 use Rattle.face.proofs.top.work.Goals as goal
 
 pub returns-in-Err-clause-works : goal.returns-in-Err-clause-works
-returns-in-Err-clause-works g c run begins = never_opened run (g.S.Site.state c.args.site.now) (g.S.Site.state c.open.new.site) c.in-Err.halt (c.in-Err.ensures.stops run begins) c.in-Err.ensures.halts (c.open.ensures.left begins.honest)
+returns-in-Err-clause-works g c = ([], λ run begins same. never_opened c.args.pool run (g.S.Site.state c.args.site.now) (g.S.Site.state c.open.new.site) c.in-Err.halt (c.in-Err.ensures.stops run begins) c.in-Err.ensures.halts (c.open.ensures.left begins.honest) (λ is. c.in-Err.ensures.worn run begins (ap Err is)))
 
 pub answer-requires-clause-going : goal.answer-requires-clause-going
 answer-requires-clause-going g c = engine_goes_on c.loop-line.engine (g.S.Site.state c.loop-line.site) (g.S.Site.state c.next.new.site) c.loop-line.invariant.engine c.next.ensures.goes
@@ -24,18 +29,23 @@ loop-line-init g c = record {
   engine = c.in-Ok.ensures.goes_on;
   cut = λ honest. no_cut _ c.new-source.result _ c.new-source.ensures.empty c.new-source.ensures.taken c.new-source.ensures.going (c.open.ensures.left honest);
   fits = c.in-Ok.ensures.fits;
-  going = c.in-Ok.ensures.going;
+  under_way = record { listings = []; left = λ run later begins is. is; going = λ run later begins is. c.in-Ok.ensures.going run begins };
+  paged = c.in-Ok.ensures.paged;
 }
 
 pub returns-in-Err-next-clause-works : goal.returns-in-Err-next-clause-works
-returns-in-Err-next-clause-works g c run begins =
-    let entry = g.S.Site.state c.args.site.now in
-    let mid = g.S.Site.state c.loop-line.site in
-    let next = g.S.Site.state c.next.new.site in
-    let cut = c.loop-line.invariant.cut begins.honest in
-    let so_far = c.loop-line.invariant.going run begins in
-    let going = moved run entry mid next c.loop-line.engine c.loop-line._line so_far c.next.ensures.goes (c.next.ensures.same so_far.fits.honest) in
-    taking_failed run entry mid next c.loop-line.engine c.loop-line.source c.loop-line._line cut c.loop-line.invariant.source going c.in-Err-next.halt c.in-Err-next.ensures.halts (c.in-Err-next.ensures.cut_off so_far.fits.honest cut.ended)
+returns-in-Err-next-clause-works g c =
+    let under_way = c.loop-line.invariant.under_way in (
+      under_way.listings,
+      λ run begins same.
+          let entry = g.S.Site.state c.args.site.now in
+          let mid = g.S.Site.state c.loop-line.site in
+          let next = g.S.Site.state c.next.new.site in
+          let cut = c.loop-line.invariant.cut begins.honest in
+          let so_far = under_way.going run [] begins (same ∙ sym (append-nil under_way.listings)) in
+          let going = moved run entry mid next c.loop-line.engine c.loop-line._line so_far c.next.ensures.goes (c.next.ensures.same so_far.fits.honest) in
+          taking_failed c.args.pool run entry mid next c.loop-line.engine c.loop-line.source c.loop-line._line cut c.loop-line.invariant.source going c.in-Err-next.halt c.in-Err-next.ensures.halts (c.in-Err-next.ensures.cut_off so_far.fits.honest cut.ended),
+    )
 
 pub returns-in-Err-next-clause-cause : goal.returns-in-Err-next-clause-cause
 returns-in-Err-next-clause-cause g c =
@@ -46,34 +56,47 @@ returns-in-Err-next-clause-cause g c =
     (λ honest. let cut = c.loop-line.invariant.cut honest in (cut.taken, c.in-Err-next.ensures.cut_off (stays_honest entry mid c.loop-line.invariant.goes honest) cut.ended))
 
 pub returns-in-End-clause-works : goal.returns-in-End-clause-works
-returns-in-End-clause-works g c run begins =
-    let entry = g.S.Site.state c.args.site.now in
-    let mid = g.S.Site.state c.loop-line.site in
-    let next = g.S.Site.state c.next.new.site in
-    let cut = c.loop-line.invariant.cut begins.honest in
-    let so_far = c.loop-line.invariant.going run begins in
-    let honest = so_far.fits.honest in
-    let going = moved run entry mid next c.loop-line.engine c.loop-line._line so_far c.next.ensures.goes (c.next.ensures.same honest) in
-    let end = heard_end c.in-Ok-next.heard _ _ _ _ (c.in-Ok-next.ensures.heard honest cut.ended) c.in-End.is in
-    finished run entry mid next c.loop-line.engine c.loop-line.source c.loop-line._line cut c.loop-line.invariant.source going _ end.0 (c.in-Ok-next.ensures.ended honest cut.ended end.1)
+returns-in-End-clause-works g c =
+    let under_way = c.loop-line.invariant.under_way in (
+      under_way.listings,
+      λ run begins same.
+          let entry = g.S.Site.state c.args.site.now in
+          let mid = g.S.Site.state c.loop-line.site in
+          let next = g.S.Site.state c.next.new.site in
+          let cut = c.loop-line.invariant.cut begins.honest in
+          let so_far = under_way.going run [] begins (same ∙ sym (append-nil under_way.listings)) in
+          let honest = so_far.fits.honest in
+          let going = moved run entry mid next c.loop-line.engine c.loop-line._line so_far c.next.ensures.goes (c.next.ensures.same honest) in
+          let end = heard_end c.in-Ok-next.heard _ _ _ _ (c.in-Ok-next.ensures.heard honest cut.ended) c.in-End.is in
+          finished c.args.pool run entry mid next c.loop-line.engine c.loop-line.source c.loop-line._line cut c.loop-line.invariant.source going _ end.0 (c.in-Ok-next.ensures.ended honest cut.ended end.1)
+          (λ blocks sound. paged_room c.args.pool run entry.image blocks c.loop-line.engine mid c.loop-line._line (c.loop-line.invariant.paged run begins blocks sound) c.loop-line.invariant.engine),
+    )
 
 pub returns-in-Err-answer-clause-works : goal.returns-in-Err-answer-clause-works
-returns-in-Err-answer-clause-works g c run begins =
-    let entry = g.S.Site.state c.args.site.now in
-    let mid = g.S.Site.state c.loop-line.site in
-    let next = g.S.Site.state c.next.new.site in
-    let new = g.S.Site.state c.answer.new.site in
-    let i = c.loop-line._line in
-    let cut = c.loop-line.invariant.cut begins.honest in
-    let so_far = c.loop-line.invariant.going run begins in
-    let honest = so_far.fits.honest in
-    let going = moved run entry mid next c.loop-line.engine i so_far c.next.ensures.goes (c.next.ensures.same honest) in
-    let hears = line_heard c.in-Ok-next.heard c.in-Line.line _ _ _ _ (c.in-Ok-next.ensures.heard honest cut.ended) c.in-Line.is in
-    let ended = c.in-Ok-next.ensures.ended honest cut.ended in
-    let is = ap (λ (l : List Line). drop i (up_to_quit l)) begins.lines ∙ line_is entry.left c.loop-line.source mid i cut c.loop-line.invariant.source c.next.new.self next c.in-Line.line hears ended c.next.ensures.source in
-    let stops = cut_short run entry next c.loop-line.engine i going new c.in-Line.line _ is (c.answer.ensures.any_moment _ going.fits going.quiet) c.in-Err-answer.halt
-    (λ ne. c.in-Err-answer.ensures.quiet _ going.fits going.quiet (λ d e. ne (ap status_of e))) (c.in-Err-answer.ensures.untold _ going.fits going.quiet) in
-    answer_failed run entry mid next new c.loop-line.source c.next.new.self i cut c.loop-line.invariant.source c.in-Line.line hears ended c.next.ensures.source (c.answer.ensures.left going.fits.honest) c.in-Err-answer.halt stops (answer_takes_nothing c.in-Err-answer.halt c.loop-line.engine next new c.in-Err-answer.ensures.cause)
+returns-in-Err-answer-clause-works g c =
+    let under_way = c.loop-line.invariant.under_way in (
+      with_line _ _ c.loop-line.engine c.loop-line._line under_way c.in-Line.line,
+      λ run begins same.
+          let entry = g.S.Site.state c.args.site.now in
+          let mid = g.S.Site.state c.loop-line.site in
+          let next = g.S.Site.state c.next.new.site in
+          let new = g.S.Site.state c.answer.new.site in
+          let i = c.loop-line._line in
+          let cut = c.loop-line.invariant.cut begins.honest in
+          let with = with_line entry mid c.loop-line.engine i under_way c.in-Line.line in
+          let listed = same ∙ sym (append-nil with) in
+          let so_far = going_before entry mid c.loop-line.engine i under_way c.in-Line.line run [] begins listed in
+          let asked = is_asked entry mid c.loop-line.engine i under_way c.in-Line.line run [] begins listed in
+          let honest = so_far.fits.honest in
+          let going = moved run entry mid next c.loop-line.engine i so_far c.next.ensures.goes (c.next.ensures.same honest) in
+          let hears = line_heard c.in-Ok-next.heard c.in-Line.line _ _ _ _ (c.in-Ok-next.ensures.heard honest cut.ended) c.in-Line.is in
+          let ended = c.in-Ok-next.ensures.ended honest cut.ended in
+          let is = ap (λ (l : List Line). drop i (up_to_quit l)) begins.lines ∙ line_is entry.left c.loop-line.source mid i cut c.loop-line.invariant.source c.next.new.self next c.in-Line.line hears ended c.next.ensures.source in
+          let stops = cut_short run entry next c.loop-line.engine i going new c.in-Line.line _ is (c.answer.ensures.any_moment (state_at run i) (listing_at run i) asked going.fits going.quiet) c.in-Err-answer.halt
+          (λ ne. c.in-Err-answer.ensures.quiet _ going.fits going.quiet (λ d e. ne (ap status_of e))) (c.in-Err-answer.ensures.untold _ going.fits going.quiet) in
+          answer_failed c.args.pool run entry mid next new c.loop-line.source c.next.new.self i cut c.loop-line.invariant.source c.in-Line.line hears ended c.next.ensures.source (c.answer.ensures.left going.fits.honest) c.in-Err-answer.halt stops (answer_takes_nothing c.in-Err-answer.halt c.loop-line.engine next new c.in-Err-answer.ensures.cause)
+          (λ worn blocks sound. next_worn c.args.pool run entry.image blocks c.works_add_up.ensures.works i c.in-Line.line _ is c.loop-line.engine (c.loop-line.invariant.paged run begins blocks sound) ((c.in-Err-answer.ensures.asks (state_at run i) going.fits).worn (ap Err worn))),
+    )
 
 pub loop-line-preserved : goal.loop-line-preserved
 loop-line-preserved g c =
@@ -97,42 +120,81 @@ loop-line-preserved g c =
           let so_far = c.loop-line.invariant.fits honest-entry geometry table commits stands in
           let honest = so_far.0.1.honest in
           let still = still_fits c.loop-line.engine mid next so_far.0.0 so_far.0.1 c.next.ensures.goes (c.next.ensures.same honest).image in
-          ((_, c.in_default.ensures.fits so_far.0.0 still), c.answer.ensures.sizes ∙ so_far.1);
-      going = λ run begins.
+          ((_, c.in_default.ensures.fits so_far.0.0 (listing_of c.loop-line.engine) (λ asks. refl) still), c.answer.ensures.sizes ∙ so_far.1);
+      under_way =
+          let under_way = c.loop-line.invariant.under_way in
+          record {
+            listings = with_line entry mid c.loop-line.engine i under_way c.in-Line.line;
+            left = λ run later begins is.
+                let cut = c.loop-line.invariant.cut begins.honest in
+                let honest = (going_before entry mid c.loop-line.engine i under_way c.in-Line.line run later begins is).fits.honest in
+                let hears = line_heard c.in-Ok-next.heard c.in-Line.line _ _ _ _ (c.in-Ok-next.ensures.heard honest cut.ended) c.in-Line.is in
+                let ended = c.in-Ok-next.ensures.ended honest cut.ended in
+                let at = ap (λ (l : List Line). drop i (up_to_quit l)) begins.lines ∙ line_is entry.left c.loop-line.source mid i cut c.loop-line.invariant.source c.next.new.self next c.in-Line.line hears ended c.next.ensures.source in
+                ap (listings_left run) (add-one i) ∙ left_after entry mid c.loop-line.engine i under_way c.in-Line.line run later begins is _ at;
+            going = λ run later begins listed.
+                let cut = c.loop-line.invariant.cut begins.honest in
+                let so_far = going_before entry mid c.loop-line.engine i under_way c.in-Line.line run later begins listed in
+                let asked = is_asked entry mid c.loop-line.engine i under_way c.in-Line.line run later begins listed in
+                let honest = so_far.fits.honest in
+                let going = moved run entry mid next c.loop-line.engine i so_far c.next.ensures.goes (c.next.ensures.same honest) in
+                let hears = line_heard c.in-Ok-next.heard c.in-Line.line _ _ _ _ (c.in-Ok-next.ensures.heard honest cut.ended) c.in-Line.is in
+                let ended = c.in-Ok-next.ensures.ended honest cut.ended in
+                let is = ap (λ (l : List Line). drop i (up_to_quit l)) begins.lines ∙ line_is entry.left c.loop-line.source mid i cut c.loop-line.invariant.source c.next.new.self next c.in-Line.line hears ended c.next.ensures.source in
+                subst (Going run entry new c.answer.new.engine) (sym (add-one i))
+                (goes_on run entry next c.loop-line.engine i going new c.in-Line.line _ is (c.answer.ensures.any_moment (state_at run i) (listing_at run i) asked going.fits going.quiet)
+                c.answer.new.engine c.answer.ensures.sizes c.in_default.ensures.going.store.both.sizes (c.in_default.ensures.fits (state_at run i) (listing_at run i) asked going.fits) (c.in_default.ensures.stays_quiet going.fits.honest going.quiet) (c.in_default.ensures.told (state_at run i) (listing_at run i) asked going.fits going.quiet));
+          };
+      paged = λ run begins blocks sound.
+          let under_way = c.loop-line.invariant.under_way in
+          let with = with_line entry mid c.loop-line.engine i under_way c.in-Line.line in
+          let own : Run = record run { listings = with } in
+          let starts : Begins own entry = record { honest = begins.honest; quiet = begins.quiet; opens = begins.opens; lines = begins.lines } in
           let cut = c.loop-line.invariant.cut begins.honest in
-          let so_far = c.loop-line.invariant.going run begins in
+          let so_far = going_before entry mid c.loop-line.engine i under_way c.in-Line.line own [] starts (sym (append-nil with)) in
+          let honest = so_far.fits.honest in
+          let going = moved own entry mid next c.loop-line.engine i so_far c.next.ensures.goes (c.next.ensures.same honest) in
+          let hears = line_heard c.in-Ok-next.heard c.in-Line.line _ _ _ _ (c.in-Ok-next.ensures.heard honest cut.ended) c.in-Line.is in
+          let ended = c.in-Ok-next.ensures.ended honest cut.ended in
+          let is = ap (λ (l : List Line). drop i (up_to_quit l)) begins.lines ∙ line_is entry.left c.loop-line.source mid i cut c.loop-line.invariant.source c.next.new.self next c.in-Line.line hears ended c.next.ensures.source in
+          let paged = next_paged c.args.pool own entry.image blocks c.works_add_up.ensures.works i c.in-Line.line _ is c.loop-line.engine (c.loop-line.invariant.paged own starts blocks sound) c.in_default.field-0 c.answer.new.engine (c.in_default.ensures.asks (state_at own i) going.fits) in
+          subst (IsPaged c.args.pool run entry.image blocks c.answer.new.engine) (sym (add-one i)) (record { machine = paged.machine; rules_are = paged.rules_are });
+    }
+
+pub returns-then-last-clause-works : goal.returns-then-last-clause-works
+returns-then-last-clause-works g c =
+    let under_way = c.loop-line.invariant.under_way in (
+      with_line _ _ c.loop-line.engine c.loop-line._line under_way c.in-Line.line,
+      λ run begins same.
+          let entry = g.S.Site.state c.args.site.now in
+          let mid = g.S.Site.state c.loop-line.site in
+          let next = g.S.Site.state c.next.new.site in
+          let new = g.S.Site.state c.answer.new.site in
+          let i = c.loop-line._line in
+          let cut = c.loop-line.invariant.cut begins.honest in
+          let with = with_line entry mid c.loop-line.engine i under_way c.in-Line.line in
+          let listed = same ∙ sym (append-nil with) in
+          let so_far = going_before entry mid c.loop-line.engine i under_way c.in-Line.line run [] begins listed in
+          let asked = is_asked entry mid c.loop-line.engine i under_way c.in-Line.line run [] begins listed in
           let honest = so_far.fits.honest in
           let going = moved run entry mid next c.loop-line.engine i so_far c.next.ensures.goes (c.next.ensures.same honest) in
           let hears = line_heard c.in-Ok-next.heard c.in-Line.line _ _ _ _ (c.in-Ok-next.ensures.heard honest cut.ended) c.in-Line.is in
           let ended = c.in-Ok-next.ensures.ended honest cut.ended in
           let is = ap (λ (l : List Line). drop i (up_to_quit l)) begins.lines ∙ line_is entry.left c.loop-line.source mid i cut c.loop-line.invariant.source c.next.new.self next c.in-Line.line hears ended c.next.ensures.source in
-          subst (Going run entry new c.answer.new.engine) (sym (add-one i))
-          (goes_on run entry next c.loop-line.engine i going new c.in-Line.line _ is (c.answer.ensures.any_moment _ going.fits going.quiet)
-          c.answer.new.engine c.answer.ensures.sizes c.in_default.ensures.going.store.both.sizes (c.in_default.ensures.fits _ going.fits) (c.in_default.ensures.stays_quiet going.fits.honest going.quiet) (c.in_default.ensures.told _ going.fits going.quiet));
-    }
-
-pub returns-then-last-clause-works : goal.returns-then-last-clause-works
-returns-then-last-clause-works g c run begins =
-    let entry = g.S.Site.state c.args.site.now in
-    let mid = g.S.Site.state c.loop-line.site in
-    let next = g.S.Site.state c.next.new.site in
-    let new = g.S.Site.state c.answer.new.site in
-    let i = c.loop-line._line in
-    let cut = c.loop-line.invariant.cut begins.honest in
-    let so_far = c.loop-line.invariant.going run begins in
-    let honest = so_far.fits.honest in
-    let going = moved run entry mid next c.loop-line.engine i so_far c.next.ensures.goes (c.next.ensures.same honest) in
-    let hears = line_heard c.in-Ok-next.heard c.in-Line.line _ _ _ _ (c.in-Ok-next.ensures.heard honest cut.ended) c.in-Line.is in
-    let ended = c.in-Ok-next.ensures.ended honest cut.ended in
-    let is = ap (λ (l : List Line). drop i (up_to_quit l)) begins.lines ∙ line_is entry.left c.loop-line.source mid i cut c.loop-line.invariant.source c.next.new.self next c.in-Line.line hears ended c.next.ensures.source in
-    let gone = goes_on run entry next c.loop-line.engine i going new c.in-Line.line _ is (c.answer.ensures.any_moment _ going.fits going.quiet)
-    c.answer.new.engine c.answer.ensures.sizes c.in_default.ensures.going.store.both.sizes (c.in_default.ensures.fits _ going.fits) (c.in_default.ensures.stays_quiet going.fits.honest going.quiet) (c.in_default.ensures.told _ going.fits going.quiet) in
-    quitted run entry mid next new c.loop-line.source c.next.new.self i cut c.loop-line.invariant.source c.in-Line.line hears ended c.next.ensures.source (c.answer.ensures.left going.fits.honest) _ c.answer.new.engine (sym c.quits-last.ensures ∙ c.if-last.true) gone
+          let gone = goes_on run entry next c.loop-line.engine i going new c.in-Line.line _ is (c.answer.ensures.any_moment (state_at run i) (listing_at run i) asked going.fits going.quiet)
+          c.answer.new.engine c.answer.ensures.sizes c.in_default.ensures.going.store.both.sizes (c.in_default.ensures.fits (state_at run i) (listing_at run i) asked going.fits) (c.in_default.ensures.stays_quiet going.fits.honest going.quiet) (c.in_default.ensures.told (state_at run i) (listing_at run i) asked going.fits going.quiet) in
+          quitted c.args.pool run entry mid next new c.loop-line.source c.next.new.self i cut c.loop-line.invariant.source c.in-Line.line hears ended c.next.ensures.source (c.answer.ensures.left going.fits.honest) _ c.answer.new.engine (sym c.quits-last.ensures ∙ c.if-last.true) gone
+          (λ blocks sound. paged_room c.args.pool run entry.image blocks c.answer.new.engine new (suc i)
+          (next_paged c.args.pool run entry.image blocks c.works_add_up.ensures.works i c.in-Line.line _ is c.loop-line.engine (c.loop-line.invariant.paged run begins blocks sound) c.in_default.field-0 c.answer.new.engine (c.in_default.ensures.asks (state_at run i) going.fits)) c.in_default.ensures.going),
+    )
 
 pub returns-clause-works : goal.returns-clause-works
-returns-clause-works g c run begins =
-    let few = cut_few_octets _ c.loop-line.source (g.S.Site.state c.loop-line.site) c.loop-line._line (c.loop-line.invariant.cut begins.honest) c.loop-line.invariant.source in
-    absurd (omega (arith, few, c.loop-line-test.false))
+returns-clause-works g c = (
+  [],
+  λ run begins same.
+      let few = cut_few_octets _ c.loop-line.source (g.S.Site.state c.loop-line.site) c.loop-line._line (c.loop-line.invariant.cut begins.honest) c.loop-line.invariant.source in
+      absurd (omega (arith, few, c.loop-line-test.false)),
+)
 
 pub returns-clause-cause : goal.returns-clause-cause
 returns-clause-cause g c = λ honest.

@@ -1,13 +1,14 @@
 use Rattle.std.proofs.Common.{◌≡◌, IsTrue, List, ℕ}
 use Rattle.site.specs.declared.geometry.Geometry.{Geometry}
 use Rattle.record_model.specs.State.{State, Content}
-use Rattle.engine.specs.Image.{Stands}
+use Rattle.engine.specs.Image.{IsSound, Stands}
 use Rattle.engine.specs.Fits.{Fits}
 use Rattle.site.specs.Calls.{Goes}
-use Rattle.face.specs.Going.{Going}
+use Rattle.face.specs.Going.{IsUnderWay, IsPaged}
+use Rattle.face.specs.Run.{Run, Begins}
+use Rattle.log_records.specs.declared.log_record.LogRecord.{LogRecord}
 use Rattle.engine.specs.Going.{MayGoOn, sizes_of}
 use Rattle.face.specs.Lines.{IsSource}
-use Rattle.face.specs.Run.{Run, Begins}
 use Rattle.face.proofs.Cuts.{Cut}
 use Rattle.face.proofs.top.work.Given as goal
 
@@ -21,5 +22,6 @@ invariant-loop-line g l =
       engine : MayGoOn l.engine now;
       cut : IsTrue old.honest → Cut old.left l.source now l._line;
       fits : IsTrue old.honest → (g : Geometry) (table : List Content) (commits : ℕ) → Stands g old.image table commits → ((s : State) × Fits l.engine now s) × (sizes_of l.engine.store ≡ g);
-      going : (run : Run) → Begins run old → Going run old now l.engine l._line;
+      under_way : IsUnderWay old now l.engine l._line;
+      paged : (run : Run) → Begins run old → (blocks : List (List LogRecord)) → IsSound run.geometry old.image blocks → IsPaged l.pool run old.image blocks l.engine l._line;
     }

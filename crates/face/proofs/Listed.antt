@@ -1,0 +1,87 @@
+-- Lines that ask for the listing of the cache, and lines that don't.
+use Rattle.std.proofs.Common.{◌≡◌, ℕ, suc, Bool, true, false, true≢false, List, [], ◌∷◌, ◌++◌, drop, Option, None, Some, refl, sym, ap, subst, ◌∙◌, append_assoc}
+use Rattle.std.specs.Prelude.{Result, Ok, Err, IfErr, OnOk, if◌then◌else◌}
+use Rattle.site.specs.declared.outside.Stop.{Stop}
+use Rattle.site.specs.declared.outside.Stop.TheVariants.{Memory}
+use Rattle.site.specs.State.{State as Site}
+use Rattle.record_model.specs.declared.words.Command.{Command}
+use Rattle.record_model.specs.declared.words.Command.TheVariants.{Cache, Checkpoint}
+use Rattle.record_model.specs.declared.words.Reply.{Reply}
+use Rattle.record_model.specs.declared.words.CacheLine.{CacheLine}
+use Rattle.record_model.specs.State.{State}
+use Rattle.record_model.specs.Step.{refusal, outcome}
+use Rattle.record_model.specs.Run.{Line, is_cache, next_listing, later_listings}
+use Rattle.engine.specs.declared.engine.Engine.{Engine}
+use Rattle.engine.specs.Listings.{listing_of}
+use Rattle.face.specs.Causes.{FailsBy}
+use Rattle.face.specs.Grammar.{IsBuilt, IsPlain}
+use Rattle.face.specs.Run.{Run, Begins, IsAsked, step, answered, listings_left, listing_at}
+use Rattle.face.specs.Going.{Going, IsUnderWay}
+use Rattle.face.proofs.Runs.{left_next}
+
+-- Which lines ask for it.
+
+pub cache_line : (line : Line) → is_cache line ≡ true → line ≡ Some Cache
+cache_line None is = absurd (true≢false (sym is))
+cache_line (Some Cache) is = refl
+cache_line (Some other) is = absurd (true≢false (sym is))
+
+pub plain_line : (line : Line) → IsBuilt line → is_cache line ≡ false → IsPlain line
+plain_line None built not_cache = tt
+plain_line (Some Checkpoint) built not_cache = built
+plain_line (Some Cache) built not_cache = absurd (true≢false not_cache)
+plain_line (Some other) built not_cache = tt
+
+-- what the others are answered doesn't depend on it
+same_outcome : (s : State) (command : Command) (listing : List CacheLine) (o : Option Reply) → is_cache (Some command) ≡ false → outcome false s command listing o ≡ outcome false s command [] o
+same_outcome s command listing (Some refused) not_cache = refl
+same_outcome s Cache listing None not_cache = absurd (true≢false not_cache)
+same_outcome s other listing None not_cache = refl
+
+pub same_step : (s : State) (line : Line) (listing : List CacheLine) → is_cache line ≡ false → step s line listing ≡ step s line []
+same_step s None listing not_cache = refl
+same_step s (Some command) listing not_cache = same_outcome s command listing (refusal s command) not_cache
+
+-- where it can't be given memory is wanting
+pub memory_fails : {T : Type 0} (result : Result T Stop) (engine : Engine) (old new : Site) → IfErr result (λ stop. stop ≡ Memory) → IfErr result (λ stop. FailsBy stop engine old new)
+memory_fails (Ok done) engine old new stops = tt
+memory_fails (Err stop) engine old new stops = subst (λ (x : Stop). FailsBy x engine old new) (sym stops) tt
+
+pub on_ok : {T : Type 0} (result : Result T Stop) (P : Type 0) → P → OnOk result P
+on_ok (Ok done) P p = p
+on_ok (Err stop) P p = tt
+
+-- The listings of a run.
+
+-- the one that a line asks for, if it does
+abbrev pub asked : Line → List CacheLine → List (List CacheLine)
+asked line listing = if is_cache line then listing ∷ [] else []
+
+first_asked : (line : Line) (listing : List CacheLine) (later : List (List CacheLine)) → is_cache line ≡ true → next_listing (asked line listing ++ later) ≡ listing
+first_asked line listing later is = λ i. next_listing ((if is i then listing ∷ [] else []) ++ later)
+
+rest_asked : (line : Line) (listing : List CacheLine) (later : List (List CacheLine)) → later_listings line (asked line listing ++ later) ≡ later
+rest_asked line listing later = by (is_cache line)
+  where
+    by : (b : Bool) → (if b then drop 1 ((if b then listing ∷ [] else []) ++ later) else (if b then listing ∷ [] else []) ++ later) ≡ later
+    by true = refl
+    by false = refl
+
+module _ (entry mid : Site) (engine : Engine) (i : ℕ) (so_far : IsUnderWay entry mid engine i) (line : Line) where
+  -- the listings with the line's own
+  abbrev pub with_line : List (List CacheLine)
+  with_line = so_far.listings ++ asked line (listing_of engine)
+
+  module _ (run : Run) (later : List (List CacheLine)) (begins : Begins run entry) (is : run.listings ≡ with_line ++ later) where
+    before : run.listings ≡ so_far.listings ++ (asked line (listing_of engine) ++ later)
+    before = is ∙ append_assoc so_far.listings (asked line (listing_of engine)) later
+
+    pub going_before : Going run entry mid engine i
+    going_before = so_far.going run (asked line (listing_of engine) ++ later) begins before
+
+    pub is_asked : IsAsked line (listing_of engine) (listing_at run i)
+    is_asked = λ asks. ap next_listing (so_far.left run (asked line (listing_of engine) ++ later) begins before) ∙ first_asked line (listing_of engine) later asks
+
+    pub left_after : (rest : List Line) → drop i (answered run) ≡ line ∷ rest → listings_left run (suc i) ≡ later
+    left_after rest at =
+        left_next run i line rest at ∙ ap (later_listings line) (so_far.left run (asked line (listing_of engine) ++ later) begins before) ∙ rest_asked line (listing_of engine) later

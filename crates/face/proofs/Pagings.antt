@@ -1,0 +1,250 @@
+-- What a run asks of the page cache, line by line.
+use Rattle.std.proofs.Common.{◌≡◌, ℕ, zero, suc, ◌^◌, ◌<◌, ◌≤◌, Bool, true, false, List, [], ◌∷◌, ◌++◌, length, take, drop, arith, refl, sym, ap, subst, ◌∙◌, append_assoc, take-append-drop}
+use Rattle.std.specs.Prelude.{Result, Ok, Err, Option, Some, None, IfErr, IsErrOf, if◌then◌else◌}
+use Rattle.std.proofs.lemmas.List.{append-nil, take_all}
+use Rattle.site.specs.declared.outside.Dev.TheVariants.{Flash}
+use Rattle.site.specs.declared.outside.Stop.{Stop}
+use Rattle.site.specs.declared.outside.Stop.TheVariants.{Worn, Memory}
+use Rattle.site.specs.State.{State as Site, Image}
+use Rattle.record_model.specs.State.{State}
+use Rattle.record_model.specs.Run.{Line, is_quit, turns, next_listing, later_listings}
+use Rattle.record_model.specs.Step.{Outcome, refusal, outcome, ready, effect, answer, full, lacks_room}
+use Rattle.record_model.specs.declared.words.CacheLine.{CacheLine}
+use Rattle.record_model.specs.declared.words.Reply.{Reply}
+use Rattle.record_model.specs.declared.words.Command.{Command}
+use Rattle.record_model.specs.Touches.{CacheWork, line_touches, run_touches}
+use Rattle.log_records.specs.declared.log_record.LogRecord.{LogRecord}
+use Rattle.image_meaning.specs.Meaning.{picture}
+use Rattle.second_chance.specs.Machine.{Rules, Cache, rules_of, after_works}
+use Rattle.page_store.specs.declared.store.PageStore.{PageStore}
+use Rattle.page_store.specs.Caching.{cache_of, rules}
+use Rattle.redo_undo.specs.Works.{next_group, Overflows, Asks, WorksAddUp, OverflowsWithMore}
+use Rattle.engine.specs.declared.engine.Engine.{Engine}
+use Rattle.engine.specs.Going.{MayGoOn}
+use Rattle.engine.specs.Image.{IsSound}
+use Rattle.engine.specs.Paging.{AsksFrom, restart_works, cache_on}
+use Rattle.face.specs.declared.halt.Halt.TheVariants as halt
+use Rattle.face.specs.Lines.{commands_of, up_to_quit}
+use Rattle.face.proofs.Fronts.{first_commands}
+use Rattle.site.specs.declared.geometry.Geometry.{Geometry}
+use Rattle.face.specs.Going.{IsPaged, Serves}
+use Rattle.face.specs.Range.{run_of, all_works, WearsOut, NeverWears}
+use Rattle.face.specs.Run.{Run, answered, step, after_lines, state_at, works_of, asked_after, Outgrows, HasGroupsFor}
+
+-- Lines. What they ask doesn't depend on what the cache lists.
+
+plain_after : State → List Line → State
+plain_after s [] = s
+plain_after s (line ∷ lines) = plain_after (step s line []).after lines
+
+-- what a line leaves doesn't
+abbrev chosen : State → Command → List CacheLine → Bool → Outcome
+chosen s command listing lacks = if lacks then record { after = s; reply = full s } else record { after = effect s command; reply = answer s command listing }
+
+after_same : (s : State) (line : Line) (listing other : List CacheLine) → (step s line listing).after ≡ (step s line other).after
+after_same s None listing other = refl
+after_same s (Some command) listing other = by (refusal s command)
+  where
+    way : (b : Bool) → (chosen (ready false s command) command listing b).after ≡ (chosen (ready false s command) command other b).after
+    way true = refl
+    way false = refl
+
+    by : (o : Option Reply) → (outcome false s command listing o).after ≡ (outcome false s command other o).after
+    by (Some refused) = refl
+    by None = way (lacks_room (ready false s command) command)
+
+plain_is : (s : State) (lines : List Line) (listings : List (List CacheLine)) → plain_after s lines ≡ after_lines s lines listings
+unfolding plain_after
+plain_is s [] listings = refl
+plain_is s (line ∷ lines) listings =
+    plain_is (step s line []).after lines (later_listings line listings) ∙ ap (λ (x : State). after_lines x lines (later_listings line listings)) (after_same s line [] (next_listing listings))
+
+works_more : (s : State) (lines : List Line) (i : ℕ) (line : Line) (rest : List Line) → drop i lines ≡ line ∷ rest → works_of s (take (suc i) lines) ≡ works_of s (take i lines) ++ line_touches false (plain_after s (take i lines)) line
+unfolding plain_after
+works_more s [] zero line rest is = cc
+works_more s [] (suc i) line rest is = cc
+works_more s (x ∷ lines) zero line rest is = let same : x ≡ line = cc in append-nil (line_touches false s x) ∙ ap (line_touches false s) same
+works_more s (x ∷ lines) (suc i) line rest is =
+    ap (λ (w : List CacheWork). line_touches false s x ++ w) (works_more (step s x []).after lines i line rest is)
+    ∙ sym (append_assoc (line_touches false s x) (works_of (step s x []).after (take i lines)) (line_touches false (plain_after (step s x []).after (take i lines)) line))
+
+pub asked_next : (run : Run) (image : Image) (blocks : List (List LogRecord)) (i : ℕ) (line : Line) (rest : List Line) → drop i (answered run) ≡ line ∷ rest →
+    asked_after run image blocks (suc i) ≡ asked_after run image blocks i ++ line_touches false (state_at run i) line
+asked_next run image blocks i line rest is =
+    let restart = restart_works (picture run.geometry image blocks) in
+    ap (λ (w : List CacheWork). restart ++ w) (works_more run.opening (answered run) i line rest is ∙ ap (λ (s : State). works_of run.opening (take i (answered run)) ++ line_touches false s line) (plain_is run.opening (take i (answered run)) run.listings))
+    ∙ sym (append_assoc restart (works_of run.opening (take i (answered run))) (line_touches false (state_at run i) line))
+
+-- the work of more lines goes on from that of the first ones
+works_join : (s : State) (first later : List Line) → works_of s (first ++ later) ≡ works_of s first ++ works_of (plain_after s first) later
+unfolding plain_after
+works_join s [] later = refl
+works_join s (x ∷ first) later =
+    ap (λ (w : List CacheWork). line_touches false s x ++ w) (works_join (step s x []).after first later)
+    ∙ sym (append_assoc (line_touches false s x) (works_of (step s x []).after first) (works_of (plain_after (step s x []).after first) later))
+
+-- the turns of a run ask for what its lines do
+pub turns_ask : (s : State) (lines : List Line) (listings : List (List CacheLine)) → run_touches false (turns false s lines listings) ≡ works_of s (up_to_quit lines)
+turns_ask s [] listings = refl
+turns_ask s (line ∷ lines) listings =
+    by (is_quit line) (turns_ask (step s line (next_listing listings)).after lines (later_listings line listings) ∙ ap (λ (x : State). works_of x (up_to_quit lines)) (after_same s line (next_listing listings) []))
+  where
+    by : (b : Bool) → run_touches false (turns false (step s line (next_listing listings)).after lines (later_listings line listings)) ≡ works_of (step s line []).after (up_to_quit lines) →
+        line_touches false s line ++ run_touches false (if b then [] else turns false (step s line (next_listing listings)).after lines (later_listings line listings)) ≡ line_touches false s line ++ works_of (step s line []).after (if b then [] else up_to_quit lines)
+    by true later = refl
+    by false later = ap (λ (w : List CacheWork). line_touches false s line ++ w) later
+
+-- Calls.
+
+module _ (pool : ℕ) (run : Run) (image : Image) (blocks : List (List LogRecord)) where
+  abbrev r : Rules
+  r = rules_of pool run.geometry.groups
+
+  -- the restart
+  pub first_paged : (engine : Engine) (scanned : ℕ) (old new : Site) → AsksFrom {T = Engine} (Ok engine) (λ e. e.store.pages) r (restart_works (picture run.geometry image blocks)) (cache_on run.geometry image) scanned old new →
+      IsPaged pool run image blocks engine 0
+  first_paged engine scanned old new asks = record {
+    machine = asks.machine.0 ∙ ap (λ (w : List CacheWork). after_works r w (cache_on run.geometry image)) (sym (append-nil (restart_works (picture run.geometry image blocks))));
+    rules_are = asks.machine.1;
+  }
+
+  pub never_paged : Overflows r (restart_works (picture run.geometry image blocks)) (cache_on run.geometry image) → Overflows r (asked_after run image blocks 0) (cache_on run.geometry image)
+  never_paged over = subst (λ (w : List CacheWork). Overflows r w (cache_on run.geometry image)) (sym (append-nil (restart_works (picture run.geometry image blocks)))) over
+
+  module _ (add : WorksAddUp) (i : ℕ) (line : Line) (rest : List Line) (is : drop i (answered run) ≡ line ∷ rest) (engine : Engine) (paged : IsPaged pool run image blocks engine i) where
+    -- what the pages come to by the line's work
+    next_is : after_works (rules engine.store.pages) (line_touches false (state_at run i) line) (cache_of engine.store.pages) ≡ after_works r (asked_after run image blocks (suc i)) (cache_on run.geometry image)
+    next_is =
+        (λ j. after_works (paged.rules_are j) (line_touches false (state_at run i) line) (paged.machine j))
+        ∙ sym (add r (asked_after run image blocks i) (line_touches false (state_at run i) line) (cache_on run.geometry image))
+        ∙ ap (λ (w : List CacheWork). after_works r w (cache_on run.geometry image)) (sym (asked_next run image blocks i line rest is))
+
+    -- it is answered
+    pub next_paged : {T : Type 0} (x : T) (engine' : Engine) → Serves {T = T} (Ok x) (line_touches false (state_at run i) line) engine.store.pages engine'.store.pages → IsPaged pool run image blocks engine' (suc i)
+    next_paged x engine' serves = record { machine = serves.machine ∙ next_is; rules_are = serves.rules_are ∙ paged.rules_are }
+
+    -- it isn't, since flash is worn
+    pub next_worn : Overflows (rules engine.store.pages) (line_touches false (state_at run i) line) (cache_of engine.store.pages) → Overflows r (asked_after run image blocks (suc i)) (cache_on run.geometry image)
+    next_worn over = subst (λ (c : Cache). 2 ^ 40 < next_group c) next_is over
+
+  -- the ring has what was asked for
+  pub paged_room : (engine : Engine) (site : Site) (i : ℕ) → IsPaged pool run image blocks engine i → MayGoOn engine site → next_group (after_works r (asked_after run image blocks i) (cache_on run.geometry image)) ≤ 2 ^ 40
+  paged_room engine site i paged may =
+      let next = may.store.both.pages_going.flash.next in
+      let bounded = may.store.both.pages_going.flash.usable.bounded in
+      subst (λ (c : Cache). next_group c ≤ 2 ^ 40) paged.machine (omega (arith, next, bounded))
+
+-- a line that asks for nothing
+pub idle_asks : {T : Type 0} (x : T) (pages : PageStore) (now : Site) → Asks {T = T} (Ok x) [] pages pages now now
+idle_asks {T} x pages now = record { machine = refl; worn = λ is. absurd (no_error is); reads = record { flash = omega arith; disk = omega arith }; rules_are = refl }
+  where
+    no_error : IsErrOf {T = T} {E = Stop} (Ok x) (Worn Flash) → ⊥
+    no_error is = cc
+
+pub idle_line : {T : Type 0} (x : T) (works : List CacheWork) (pages : PageStore) (now : Site) → works ≡ [] → Asks {T = T} (Ok x) works pages pages now now
+idle_line {T} x works pages now none = subst (λ (w : List CacheWork). Asks {T = T} (Ok x) w pages pages now now) (sym none) (idle_asks x pages now)
+
+pub idle_stops : {T : Type 0} (stop : Stop) (pages : PageStore) (now : Site) → stop ≡ Memory → Asks {T = T} (Err stop) [] pages pages now now
+idle_stops {T} stop pages now memory = record { machine = tt; worn = λ is. absurd (other (same is)); reads = record { flash = omega arith; disk = omega arith }; rules_are = refl }
+  where
+    same : IsErrOf {T = T} (Err stop) (Worn Flash) → stop ≡ Worn Flash
+    same is = cc
+
+    other : stop ≡ Worn Flash → ⊥
+    other is = cc
+
+pub listing_asks : {T : Type 0} (result : Result T Stop) (pages : PageStore) (now : Site) → IfErr result (λ stop. stop ≡ Memory) → Asks result [] pages pages now now
+listing_asks (Ok x) pages now stops = idle_asks x pages now
+listing_asks (Err stop) pages now stops = idle_stops stop pages now stops
+
+-- a call of the engine, as a line is served
+pub serves_ok : {A B : Type 0} (a : A) (b : B) (works : List CacheWork) (old new : PageStore) (before now : Site) → Asks {T = A} (Ok a) works old new before now → Serves {T = B} (Ok b) works old new
+serves_ok {A} {B} a b works old new before now asks = record { machine = asks.machine; worn = λ is. absurd (no_error is); rules_are = asks.rules_are }
+  where
+    no_error : IsErrOf {T = B} (Ok b) (halt.Stop (Worn Flash)) → ⊥
+    no_error is = cc
+
+pub serves_err : {A B : Type 0} (stop : Stop) (works : List CacheWork) (old new : PageStore) (before now : Site) → Asks {T = A} (Err stop) works old new before now → Serves {T = B} (Err (halt.Stop stop)) works old new
+serves_err {A} {B} stop works old new before now asks = record { machine = tt; worn = λ is. asks.worn (ap Err (same is)); rules_are = asks.rules_are }
+  where
+    same : IsErrOf {T = B} (Err (halt.Stop stop)) (halt.Stop (Worn Flash)) → stop ≡ Worn Flash
+    same is = cc
+
+pub serves_lost : {A B : Type 0} (a : A) (works : List CacheWork) (old new : PageStore) (before now : Site) → Asks {T = A} (Ok a) works old new before now → Serves {T = B} (Err halt.Output) works old new
+serves_lost {A} {B} a works old new before now asks = record { machine = tt; worn = λ is. absurd (no_error is); rules_are = asks.rules_are }
+  where
+    no_error : IsErrOf {T = B} (Err halt.Output) (halt.Stop (Worn Flash)) → ⊥
+    no_error is = cc
+
+-- Whole runs.
+
+-- lines that are answered in front of others are answered first
+up_front : (xs ys : List Line) → (rest : List Line) × (up_to_quit (xs ++ ys) ≡ up_to_quit xs ++ rest)
+up_front [] ys = (up_to_quit ys, refl)
+up_front (x ∷ xs) ys = by (is_quit x) (up_front xs ys)
+  where
+    by : (b : Bool) → (rest : List Line) × (up_to_quit (xs ++ ys) ≡ up_to_quit xs ++ rest) →
+        (rest : List Line) × (x ∷ (if b then [] else up_to_quit (xs ++ ys)) ≡ (x ∷ (if b then [] else up_to_quit xs)) ++ rest)
+    by true later = ([], refl)
+    by false later = (later.0, ap (λ (l : List Line). x ∷ l) later.1)
+
+-- The lines of the octets that were taken are the first of all lines.
+pub taken_first : (ended : Bool) (left octets rest : List ℕ) → left ≡ octets ++ rest → (ended ≡ true → rest ≡ []) → (more : List Line) × (up_to_quit (commands_of true left) ≡ up_to_quit (commands_of ended octets) ++ more)
+taken_first true left octets rest is none =
+    let same : left ≡ octets = is ∙ ap (λ (l : List ℕ). octets ++ l) (none refl) ∙ append-nil octets in
+    ([], ap (λ (l : List ℕ). up_to_quit (commands_of true l)) same ∙ sym (append-nil (up_to_quit (commands_of true octets))))
+taken_first false left octets rest is none =
+    let first = first_commands true octets rest in
+    let front = up_front (commands_of false octets) first.0 in
+    (front.0, ap (λ (l : List ℕ). up_to_quit (commands_of true l)) is ∙ ap up_to_quit first.1 ∙ front.1)
+
+module _ (pool : ℕ) (g : Geometry) (opening : State) (listings : List (List CacheLine)) (image : Image) (ended : Bool) (octets : List ℕ) where
+  abbrev taken : Run
+  taken = run_of g opening ended octets listings
+
+  abbrev restart : List (List LogRecord) → List CacheWork
+  restart blocks = restart_works (picture g image blocks)
+
+  -- what a front of its lines asks for is the front of what it asks for
+  all_asked : (blocks : List (List LogRecord)) (front later : List Line) → answered taken ≡ front ++ later →
+      all_works taken image blocks ≡ (restart blocks ++ works_of opening front) ++ works_of (plain_after opening front) later
+  all_asked blocks front later is =
+      ap (λ (w : List CacheWork). restart blocks ++ w) (turns_ask opening (commands_of ended octets) listings ∙ ap (works_of opening) is ∙ works_join opening front later)
+      ∙ sym (append_assoc (restart blocks) (works_of opening front) (works_of (plain_after opening front) later))
+
+  has_one : (blocks : List (List LogRecord)) → IsSound g image blocks → 1 ≤ (rules_of pool g.groups).groups
+  has_one blocks sound = let least = sound.octets.limits.groups in omega (arith, least)
+
+  -- with so many of the first lines of all it wears out, so it does with those that were taken
+  pub wears_out : OverflowsWithMore → (all : Run) → all.geometry ≡ g → all.opening ≡ opening → (heard : ℕ) → take heard (answered taken) ≡ take heard (answered all) → Outgrows pool all image heard → WearsOut pool taken image
+  wears_out more all same_sizes same_opening heard same over blocks sound =
+      let front = take heard (answered taken) in
+      let later = drop heard (answered taken) in
+      let asked : asked_after all image blocks heard ≡ restart blocks ++ works_of opening front =
+      λ i. restart_works (picture (same_sizes i) image blocks) ++ works_of (same_opening i) (sym same i) in
+      let there : Overflows (rules_of pool g.groups) (restart blocks ++ works_of opening front) (cache_on g image) =
+      subst (λ (w : List CacheWork). Overflows (rules_of pool g.groups) w (cache_on g image)) asked
+      (subst (λ (x : Geometry). Overflows (rules_of pool x.groups) (asked_after all image blocks heard) (cache_on x image)) same_sizes (over blocks (subst (λ (x : Geometry). IsSound x image blocks) (sym same_sizes) sound))) in
+      subst (λ (w : List CacheWork). Overflows (rules_of pool g.groups) w (cache_on g image)) (sym (all_asked blocks front later (sym (take-append-drop heard (answered taken)))))
+      (more (rules_of pool g.groups) (restart blocks ++ works_of opening front) (works_of (plain_after opening front) later) (cache_on g image) (has_one blocks sound) there)
+
+  -- where all that was taken was heard there was room for it
+  pub never_wears : (all : Run) → all.geometry ≡ g → all.opening ≡ opening → (heard : ℕ) → length (answered taken) ≡ heard → take heard (answered taken) ≡ take heard (answered all) → HasGroupsFor pool all image heard → NeverWears pool taken image
+  never_wears all same_sizes same_opening heard count same room blocks sound =
+      let whole : take heard (answered taken) ≡ answered taken = take_all heard (answered taken) (omega (arith, count)) in
+      let asked : asked_after all image blocks heard ≡ restart blocks ++ works_of opening (answered taken) =
+      (λ i. restart_works (picture (same_sizes i) image blocks) ++ works_of (same_opening i) (sym same i)) ∙ ap (λ (l : List Line). restart blocks ++ works_of opening l) whole in
+      let own : all_works taken image blocks ≡ restart blocks ++ works_of opening (answered taken) = ap (λ (w : List CacheWork). restart blocks ++ w) (turns_ask opening (commands_of ended octets) listings) in
+      subst (λ (w : List CacheWork). next_group (after_works (rules_of pool g.groups) w (cache_on g image)) ≤ 2 ^ 40) (asked ∙ sym own)
+      (subst (λ (x : Geometry). next_group (after_works (rules_of pool x.groups) (asked_after all image blocks heard) (cache_on x image)) ≤ 2 ^ 40) same_sizes (room blocks (subst (λ (x : Geometry). IsSound x image blocks) (sym same_sizes) sound)))
+
+  -- where what was taken wears out, so does all that is left
+  pub wears_out_all : OverflowsWithMore → (left rest : List ℕ) → left ≡ octets ++ rest → (ended ≡ true → rest ≡ []) → WearsOut pool taken image → WearsOut pool (run_of g opening true left []) image
+  wears_out_all more left rest is none over blocks sound =
+      let first = taken_first ended left octets rest is none in
+      let all : all_works (run_of g opening true left []) image blocks ≡ all_works taken image blocks ++ works_of (plain_after opening (answered taken)) first.0 =
+      ap (λ (w : List CacheWork). restart blocks ++ w) (turns_ask opening (commands_of true left) [] ∙ ap (works_of opening) first.1 ∙ works_join opening (answered taken) first.0)
+      ∙ sym (append_assoc (restart blocks) (works_of opening (answered taken)) (works_of (plain_after opening (answered taken)) first.0))
+      ∙ ap (λ (w : List CacheWork). (restart blocks ++ w) ++ works_of (plain_after opening (answered taken)) first.0) (sym (turns_ask opening (commands_of ended octets) listings)) in
+      subst (λ (w : List CacheWork). Overflows (rules_of pool g.groups) w (cache_on g image)) (sym all)
+      (more (rules_of pool g.groups) (all_works taken image blocks) (works_of (plain_after opening (answered taken)) first.0) (cache_on g image) (has_one blocks sound) (over blocks sound))

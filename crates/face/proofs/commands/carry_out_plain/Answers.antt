@@ -1,0 +1,184 @@
+use Rattle.face.proofs.Pagings.{idle_line}
+use Rattle.redo_undo.specs.Works.{Asks}
+use Rattle.record_model.specs.Touches.{line_touches}
+use Rattle.std.proofs.Common.{◌≡◌, IfOk, OnOk, sym, ap, subst, ◌∙◌, false}
+use Rattle.std.specs.Prelude.{Some, []}
+use Rattle.site.specs.Moments.{LeavesOnly}
+use Rattle.record_model.specs.Run.{Line}
+use Rattle.engine.specs.Fits.{Fits}
+use Rattle.engine.specs.Going.{sizes_of}
+use Rattle.engine.specs.Leaves.{LeavesEither}
+use Rattle.face.specs.Run.{step}
+use Rattle.face.proofs.Logs.{fits_stands}
+use Rattle.face.proofs.Quiet.{no_change, table_stays}
+use Rattle.face.proofs.CommandLaws.{fails_by, log_fails}
+use Rattle.face.proofs.commands.carry_out_plain.Goals as goal
+
+pub returns-in-Begin-clause-reply : goal.returns-in-Begin-clause-reply
+returns-in-Begin-clause-reply g c s fits = subst (λ (l : Line). IfOk c.begin.result (λ reply. reply ≡ (step s l []).reply)) (sym (c.in-Some.is ∙ ap Some c.in-Begin.is)) (c.begin.ensures.reply s fits)
+
+pub returns-in-Read-clause-reply : goal.returns-in-Read-clause-reply
+returns-in-Read-clause-reply g c s fits = subst (λ (l : Line). IfOk c.read.result (λ reply. reply ≡ (step s l []).reply)) (sym (c.in-Some.is ∙ ap Some c.in-Read.is)) (c.read.ensures.reply s fits)
+
+pub returns-in-Write-clause-reply : goal.returns-in-Write-clause-reply
+returns-in-Write-clause-reply g c s fits = subst (λ (l : Line). IfOk c.write.result (λ reply. reply ≡ (step s l []).reply)) (sym (c.in-Some.is ∙ ap Some c.in-Write.is)) (c.write.ensures.reply s fits)
+
+pub returns-in-Erase-clause-reply : goal.returns-in-Erase-clause-reply
+returns-in-Erase-clause-reply g c s fits = subst (λ (l : Line). IfOk c.erase.result (λ reply. reply ≡ (step s l []).reply)) (sym (c.in-Some.is ∙ ap Some c.in-Erase.is)) (c.erase.ensures.reply s fits)
+
+pub returns-in-Scan-clause-reply : goal.returns-in-Scan-clause-reply
+returns-in-Scan-clause-reply g c s fits = subst (λ (l : Line). IfOk c.scan.result (λ reply. reply ≡ (step s l []).reply)) (sym (c.in-Some.is ∙ ap Some c.in-Scan.is)) (c.scan.ensures.reply s fits)
+
+pub returns-in-Set-clause-reply : goal.returns-in-Set-clause-reply
+returns-in-Set-clause-reply g c s fits = subst (λ (l : Line). IfOk c.set.result (λ reply. reply ≡ (step s l []).reply)) (sym (c.in-Some.is ∙ ap Some c.in-Set.is)) (c.set.ensures.reply s fits)
+
+pub returns-in-Get-clause-reply : goal.returns-in-Get-clause-reply
+returns-in-Get-clause-reply g c s fits = subst (λ (l : Line). IfOk c.get.result (λ reply. reply ≡ (step s l []).reply)) (sym (c.in-Some.is ∙ ap Some c.in-Get.is)) (c.get.ensures.reply s fits)
+
+pub returns-in-Begin-clause-after : goal.returns-in-Begin-clause-after
+returns-in-Begin-clause-after g c s fits = subst (λ (l : Line). OnOk c.begin.result (Fits c.begin.new.self (g.S.Site.state c.begin.new.site) (step s l []).after)) (sym (c.in-Some.is ∙ ap Some c.in-Begin.is)) (c.begin.ensures.after s fits)
+
+pub returns-in-Read-clause-after : goal.returns-in-Read-clause-after
+returns-in-Read-clause-after g c s fits = subst (λ (l : Line). OnOk c.read.result (Fits c.read.new.self (g.S.Site.state c.read.new.site) (step s l []).after)) (sym (c.in-Some.is ∙ ap Some c.in-Read.is)) (c.read.ensures.after s fits)
+
+pub returns-in-Write-clause-after : goal.returns-in-Write-clause-after
+returns-in-Write-clause-after g c s fits = subst (λ (l : Line). OnOk c.write.result (Fits c.write.new.self (g.S.Site.state c.write.new.site) (step s l []).after)) (sym (c.in-Some.is ∙ ap Some c.in-Write.is)) (c.write.ensures.after s fits)
+
+pub returns-in-Erase-clause-after : goal.returns-in-Erase-clause-after
+returns-in-Erase-clause-after g c s fits = subst (λ (l : Line). OnOk c.erase.result (Fits c.erase.new.self (g.S.Site.state c.erase.new.site) (step s l []).after)) (sym (c.in-Some.is ∙ ap Some c.in-Erase.is)) (c.erase.ensures.after s fits)
+
+pub returns-in-Scan-clause-after : goal.returns-in-Scan-clause-after
+returns-in-Scan-clause-after g c s fits = subst (λ (l : Line). OnOk c.scan.result (Fits c.scan.new.self (g.S.Site.state c.scan.new.site) (step s l []).after)) (sym (c.in-Some.is ∙ ap Some c.in-Scan.is)) (c.scan.ensures.after s fits)
+
+pub returns-in-Commit-clause-reply : goal.returns-in-Commit-clause-reply
+returns-in-Commit-clause-reply g c s fits = subst (λ (l : Line). IfOk c.commit.result (λ reply. reply ≡ (step s l []).reply)) (sym (c.in-Some.is ∙ ap Some c.in-Commit.is)) (c.commit.ensures.reply s fits)
+
+pub returns-in-Commit-clause-after : goal.returns-in-Commit-clause-after
+returns-in-Commit-clause-after g c s fits = subst (λ (l : Line). OnOk c.commit.result (Fits c.commit.new.self (g.S.Site.state c.commit.new.site) (step s l []).after)) (sym (c.in-Some.is ∙ ap Some c.in-Commit.is)) (c.commit.ensures.after s fits)
+
+pub returns-in-Abort-clause-reply : goal.returns-in-Abort-clause-reply
+returns-in-Abort-clause-reply g c s fits = subst (λ (l : Line). IfOk c.abort.result (λ reply. reply ≡ (step s l []).reply)) (sym (c.in-Some.is ∙ ap Some c.in-Abort.is)) (c.abort.ensures.reply s fits)
+
+pub returns-in-Abort-clause-after : goal.returns-in-Abort-clause-after
+returns-in-Abort-clause-after g c s fits = subst (λ (l : Line). OnOk c.abort.result (Fits c.abort.new.self (g.S.Site.state c.abort.new.site) (step s l []).after)) (sym (c.in-Some.is ∙ ap Some c.in-Abort.is)) (c.abort.ensures.after s fits)
+
+pub returns-in-Get-clause-after : goal.returns-in-Get-clause-after
+returns-in-Get-clause-after g c s fits = subst (λ (l : Line). OnOk c.get.result (Fits c.get.new.self (g.S.Site.state c.get.new.site) (step s l []).after)) (sym (c.in-Some.is ∙ ap Some c.in-Get.is)) (c.get.ensures.after s fits)
+
+pub returns-in-Set-clause-after : goal.returns-in-Set-clause-after
+returns-in-Set-clause-after g c s fits = subst (λ (l : Line). OnOk c.set.result (Fits c.set.new.self (g.S.Site.state c.set.new.site) (step s l []).after)) (sym (c.in-Some.is ∙ ap Some c.in-Set.is)) (c.set.ensures.after s fits)
+
+pub returns-in-Begin-clause-any_moment : goal.returns-in-Begin-clause-any_moment
+returns-in-Begin-clause-any_moment g c s fits quiet = table_stays (sizes_of c.args.engine.now.store) (g.S.Site.state c.args.site.now) (g.S.Site.state c.begin.new.site) s _ (c.begin.ensures.any_moment s fits quiet)
+
+pub returns-in-Read-clause-any_moment : goal.returns-in-Read-clause-any_moment
+returns-in-Read-clause-any_moment g c s fits quiet = table_stays (sizes_of c.args.engine.now.store) (g.S.Site.state c.args.site.now) (g.S.Site.state c.read.new.site) s _ (c.read.ensures.any_moment s fits quiet)
+
+pub returns-in-Write-clause-any_moment : goal.returns-in-Write-clause-any_moment
+returns-in-Write-clause-any_moment g c s fits quiet = table_stays (sizes_of c.args.engine.now.store) (g.S.Site.state c.args.site.now) (g.S.Site.state c.write.new.site) s _ (c.write.ensures.any_moment s fits quiet)
+
+pub returns-in-Erase-clause-any_moment : goal.returns-in-Erase-clause-any_moment
+returns-in-Erase-clause-any_moment g c s fits quiet = table_stays (sizes_of c.args.engine.now.store) (g.S.Site.state c.args.site.now) (g.S.Site.state c.erase.new.site) s _ (c.erase.ensures.any_moment s fits quiet)
+
+pub returns-in-Scan-clause-any_moment : goal.returns-in-Scan-clause-any_moment
+returns-in-Scan-clause-any_moment g c s fits quiet = table_stays (sizes_of c.args.engine.now.store) (g.S.Site.state c.args.site.now) (g.S.Site.state c.scan.new.site) s _ (c.scan.ensures.any_moment s fits quiet)
+
+pub returns-in-Abort-clause-any_moment : goal.returns-in-Abort-clause-any_moment
+returns-in-Abort-clause-any_moment g c s fits quiet = table_stays (sizes_of c.args.engine.now.store) (g.S.Site.state c.args.site.now) (g.S.Site.state c.abort.new.site) s _ (c.abort.ensures.any_moment s fits quiet)
+
+pub returns-in-Commit-clause-any_moment : goal.returns-in-Commit-clause-any_moment
+returns-in-Commit-clause-any_moment g c s fits quiet =
+    let old = g.S.Site.state c.args.site.now in
+    subst (λ (l : Line). LeavesOnly old (g.S.Site.state c.commit.new.site) (LeavesEither (sizes_of c.args.engine.now.store) s (step s l []).after old.told)) (sym (c.in-Some.is ∙ ap Some c.in-Commit.is)) (c.commit.ensures.any_moment s fits quiet)
+
+pub returns-in-Set-clause-any_moment : goal.returns-in-Set-clause-any_moment
+returns-in-Set-clause-any_moment g c s fits quiet =
+    let old = g.S.Site.state c.args.site.now in
+    subst (λ (l : Line). LeavesOnly old (g.S.Site.state c.set.new.site) (LeavesEither (sizes_of c.args.engine.now.store) s (step s l []).after old.told)) (sym (c.in-Some.is ∙ ap Some c.in-Set.is)) (c.set.ensures.any_moment s fits quiet)
+
+pub returns-in-Get-clause-any_moment : goal.returns-in-Get-clause-any_moment
+returns-in-Get-clause-any_moment g c s fits quiet = table_stays (sizes_of c.args.engine.now.store) (g.S.Site.state c.args.site.now) (g.S.Site.state c.get.new.site) s _ (c.get.ensures.any_moment s fits quiet)
+
+pub returns-in-Begin-clause-cause : goal.returns-in-Begin-clause-cause
+returns-in-Begin-clause-cause g c = log_fails c.begin.result c.args.engine.now (g.S.Site.state c.args.site.now) (g.S.Site.state c.begin.new.site) c.begin.ensures.stops c.begin.ensures.device
+
+pub returns-in-Commit-clause-cause : goal.returns-in-Commit-clause-cause
+returns-in-Commit-clause-cause g c = log_fails c.commit.result c.args.engine.now (g.S.Site.state c.args.site.now) (g.S.Site.state c.commit.new.site) c.commit.ensures.stops c.commit.ensures.device
+
+pub returns-in-Read-clause-cause : goal.returns-in-Read-clause-cause
+returns-in-Read-clause-cause g c = fails_by c.read.result c.args.engine.now (g.S.Site.state c.args.site.now) (g.S.Site.state c.read.new.site) c.read.ensures.stops c.read.ensures.device c.read.ensures.worn_log c.read.ensures.worn c.read.ensures.foreign
+
+pub returns-in-Write-clause-cause : goal.returns-in-Write-clause-cause
+returns-in-Write-clause-cause g c = fails_by c.write.result c.args.engine.now (g.S.Site.state c.args.site.now) (g.S.Site.state c.write.new.site) c.write.ensures.stops c.write.ensures.device c.write.ensures.worn_log c.write.ensures.worn c.write.ensures.foreign
+
+pub returns-in-Erase-clause-cause : goal.returns-in-Erase-clause-cause
+returns-in-Erase-clause-cause g c = fails_by c.erase.result c.args.engine.now (g.S.Site.state c.args.site.now) (g.S.Site.state c.erase.new.site) c.erase.ensures.stops c.erase.ensures.device c.erase.ensures.worn_log c.erase.ensures.worn c.erase.ensures.foreign
+
+pub returns-in-Scan-clause-cause : goal.returns-in-Scan-clause-cause
+returns-in-Scan-clause-cause g c = fails_by c.scan.result c.args.engine.now (g.S.Site.state c.args.site.now) (g.S.Site.state c.scan.new.site) c.scan.ensures.stops c.scan.ensures.device c.scan.ensures.worn_log c.scan.ensures.worn c.scan.ensures.foreign
+
+pub returns-in-Abort-clause-cause : goal.returns-in-Abort-clause-cause
+returns-in-Abort-clause-cause g c = fails_by c.abort.result c.args.engine.now (g.S.Site.state c.args.site.now) (g.S.Site.state c.abort.new.site) c.abort.ensures.stops c.abort.ensures.device c.abort.ensures.worn_log c.abort.ensures.worn c.abort.ensures.foreign
+
+pub returns-in-Get-clause-cause : goal.returns-in-Get-clause-cause
+returns-in-Get-clause-cause g c = fails_by c.get.result c.args.engine.now (g.S.Site.state c.args.site.now) (g.S.Site.state c.get.new.site) c.get.ensures.stops c.get.ensures.device c.get.ensures.worn_log c.get.ensures.worn c.get.ensures.foreign
+
+pub returns-in-Set-clause-cause : goal.returns-in-Set-clause-cause
+returns-in-Set-clause-cause g c = fails_by c.set.result c.args.engine.now (g.S.Site.state c.args.site.now) (g.S.Site.state c.set.new.site) c.set.ensures.stops c.set.ensures.device c.set.ensures.worn_log c.set.ensures.worn c.set.ensures.foreign
+
+pub returns-in-Stat-clause-reply : goal.returns-in-Stat-clause-reply
+returns-in-Stat-clause-reply g c s fits = c.stat.ensures s (g.S.Site.state c.args.site.now) fits ∙ (λ i. (step s (sym (c.in-Some.is ∙ ap Some c.in-Stat.is) i) []).reply)
+
+pub returns-in-Stat-clause-any_moment : goal.returns-in-Stat-clause-any_moment
+returns-in-Stat-clause-any_moment g c s fits quiet = no_change (sizes_of c.args.engine.now.store) (g.S.Site.state c.args.site.now) s _ quiet (fits_stands c.args.engine.now (g.S.Site.state c.args.site.now) s c.requires.going.store.both.sizes fits)
+
+pub returns-in-Quit-clause-any_moment : goal.returns-in-Quit-clause-any_moment
+returns-in-Quit-clause-any_moment g c s fits quiet = no_change (sizes_of c.args.engine.now.store) (g.S.Site.state c.args.site.now) s _ quiet (fits_stands c.args.engine.now (g.S.Site.state c.args.site.now) s c.requires.going.store.both.sizes fits)
+
+pub returns-in_default-clause-any_moment : goal.returns-in_default-clause-any_moment
+returns-in_default-clause-any_moment g c s fits quiet = no_change (sizes_of c.args.engine.now.store) (g.S.Site.state c.args.site.now) s _ quiet (fits_stands c.args.engine.now (g.S.Site.state c.args.site.now) s c.requires.going.store.both.sizes fits)
+
+pub returns-in-Begin-clause-asks : goal.returns-in-Begin-clause-asks
+returns-in-Begin-clause-asks g c s fits =
+    subst (λ (l : Line). Asks c.begin.result (line_touches false s l) c.args.engine.now.store.pages c.begin.new.self.store.pages (g.S.Site.state c.args.site.now) (g.S.Site.state c.begin.new.site)) (sym (c.in-Some.is ∙ ap Some c.in-Begin.is)) (c.begin.ensures.asks s fits)
+
+pub returns-in-Read-clause-asks : goal.returns-in-Read-clause-asks
+returns-in-Read-clause-asks g c s fits =
+    subst (λ (l : Line). Asks c.read.result (line_touches false s l) c.args.engine.now.store.pages c.read.new.self.store.pages (g.S.Site.state c.args.site.now) (g.S.Site.state c.read.new.site)) (sym (c.in-Some.is ∙ ap Some c.in-Read.is)) (c.read.ensures.asks s fits)
+
+pub returns-in-Write-clause-asks : goal.returns-in-Write-clause-asks
+returns-in-Write-clause-asks g c s fits =
+    subst (λ (l : Line). Asks c.write.result (line_touches false s l) c.args.engine.now.store.pages c.write.new.self.store.pages (g.S.Site.state c.args.site.now) (g.S.Site.state c.write.new.site)) (sym (c.in-Some.is ∙ ap Some c.in-Write.is)) (c.write.ensures.asks s fits)
+
+pub returns-in-Erase-clause-asks : goal.returns-in-Erase-clause-asks
+returns-in-Erase-clause-asks g c s fits =
+    subst (λ (l : Line). Asks c.erase.result (line_touches false s l) c.args.engine.now.store.pages c.erase.new.self.store.pages (g.S.Site.state c.args.site.now) (g.S.Site.state c.erase.new.site)) (sym (c.in-Some.is ∙ ap Some c.in-Erase.is)) (c.erase.ensures.asks s fits)
+
+pub returns-in-Scan-clause-asks : goal.returns-in-Scan-clause-asks
+returns-in-Scan-clause-asks g c s fits =
+    subst (λ (l : Line). Asks c.scan.result (line_touches false s l) c.args.engine.now.store.pages c.scan.new.self.store.pages (g.S.Site.state c.args.site.now) (g.S.Site.state c.scan.new.site)) (sym (c.in-Some.is ∙ ap Some c.in-Scan.is)) (c.scan.ensures.asks s fits)
+
+pub returns-in-Commit-clause-asks : goal.returns-in-Commit-clause-asks
+returns-in-Commit-clause-asks g c s fits =
+    subst (λ (l : Line). Asks c.commit.result (line_touches false s l) c.args.engine.now.store.pages c.commit.new.self.store.pages (g.S.Site.state c.args.site.now) (g.S.Site.state c.commit.new.site)) (sym (c.in-Some.is ∙ ap Some c.in-Commit.is)) (c.commit.ensures.asks s fits)
+
+pub returns-in-Abort-clause-asks : goal.returns-in-Abort-clause-asks
+returns-in-Abort-clause-asks g c s fits =
+    subst (λ (l : Line). Asks c.abort.result (line_touches false s l) c.args.engine.now.store.pages c.abort.new.self.store.pages (g.S.Site.state c.args.site.now) (g.S.Site.state c.abort.new.site)) (sym (c.in-Some.is ∙ ap Some c.in-Abort.is)) (c.abort.ensures.asks s fits)
+
+pub returns-in-Get-clause-asks : goal.returns-in-Get-clause-asks
+returns-in-Get-clause-asks g c s fits =
+    subst (λ (l : Line). Asks c.get.result (line_touches false s l) c.args.engine.now.store.pages c.get.new.self.store.pages (g.S.Site.state c.args.site.now) (g.S.Site.state c.get.new.site)) (sym (c.in-Some.is ∙ ap Some c.in-Get.is)) (c.get.ensures.asks s fits)
+
+pub returns-in-Set-clause-asks : goal.returns-in-Set-clause-asks
+returns-in-Set-clause-asks g c s fits =
+    subst (λ (l : Line). Asks c.set.result (line_touches false s l) c.args.engine.now.store.pages c.set.new.self.store.pages (g.S.Site.state c.args.site.now) (g.S.Site.state c.set.new.site)) (sym (c.in-Some.is ∙ ap Some c.in-Set.is)) (c.set.ensures.asks s fits)
+
+pub returns-in-Stat-clause-asks : goal.returns-in-Stat-clause-asks
+returns-in-Stat-clause-asks g c s fits = idle_line _ _ c.args.engine.now.store.pages _ (ap (line_touches false s) (c.in-Some.is ∙ ap Some c.in-Stat.is))
+
+pub returns-in-Quit-clause-asks : goal.returns-in-Quit-clause-asks
+returns-in-Quit-clause-asks g c s fits = idle_line _ _ c.args.engine.now.store.pages _ (ap (line_touches false s) (c.in-Some.is ∙ ap Some c.in-Quit.is))
+
+pub returns-in_default-clause-asks : goal.returns-in_default-clause-asks
+returns-in_default-clause-asks g c s fits = idle_line _ _ c.args.engine.now.store.pages _ (ap (line_touches false s) c.in_default.is)
