@@ -84,6 +84,12 @@ told 'new 1024 64 400' 0 'ready 1024 64 400' '' new 1024 64 400
 [ "$(stat -c %s face.log face.flash face.disk | tr '\n' ' ')" = '206336 2149376 4194304 ' ]
 verdict 'its files have their lengths' $?
 
+# --- several records at once, and what the page cache holds
+fresh
+told 'scan' 0 'open 0/committed 1/committed 2/ok/item 2 aa/item 4 -/end 2/ok/ok/busy 1/committed 3/refused record' 'set 2 aa/set 4 -/begin 0/scan 0 0 6/begin 1/write 1 9 01/scan 0 5 8/set 6 bb/scan 0 500 64/' run 1
+fresh
+told 'cache' 0 'open 0/committed 1/committed 2/frame 0 0 page 0 vd-/pool 1*/end 2' 'set 0 01/set 32 02/cache/' run 1
+
 # --- more pages than memory and the queue on flash hold
 mkdir "$folder/pages"
 cd "$folder/pages" || exit 1
