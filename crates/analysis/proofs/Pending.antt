@@ -1,5 +1,5 @@
 -- The Updates that remain, among the records.
-use Rattle.std.proofs.Common.{◌≡◌, ℕ, ◌+◌, ◌<◌, ◌≤◌, ◌==◌, ◌&&◌, ◌||◌, not, Bool, true, false, cond, List, [], ◌∷◌, ◌++◌, length, map, Option, Some, None, option_map, refl, sym, ap, subst, ◌∙◌, arith, append_assoc}
+use Rattle.std.proofs.Common.{◌≡◌, ℕ, ◌+◌, ◌<◌, ◌≤◌, ◌==◌, ◌&&◌, ◌||◌, not, Bool, true, false, cond, true≢false, List, [], ◌∷◌, ◌++◌, length, map, Option, Some, None, option_map, refl, sym, ap, subst, ◌∙◌, arith, append_assoc}
 use Rattle.std.specs.Prelude.{filter}
 use Rattle.std.specs.Option.{option_or}
 use Rattle.std.specs.List.{AllByRecursion, list_any}
@@ -155,18 +155,22 @@ same_pair a b m n first second = λ i. some_pair (first i) (second i)
 not_nil : (x : Entry) (xs : List Entry) → x ∷ xs ≡ [] → ⊥
 not_nil x xs is = omega (arith, ap length is)
 
--- of each record the transaction is known
-known_of : (named : List Active) (records xs : List Entry) → ((t : ℕ) → is_known named records t ≡ false → filter (is_of t) xs ≡ []) → AllByRecursion (λ e. is_known named records (txn_of e) ≡ true) xs
+-- of each record the transaction is known, or closed
+known_of : (named : List Active) (records xs : List Entry) → ((t : ℕ) → (is_known named records t || is_closed records t) ≡ false → filter (is_of t) xs ≡ []) → AllByRecursion (λ e. (is_known named records (txn_of e) || is_closed records (txn_of e)) ≡ true) xs
 known_of named records [] h = tt
-known_of named records (x ∷ xs) h = (here (is_known named records (txn_of x)) refl, known_of named records xs (λ t unknown. rest t (h t unknown) (is_of t x) refl))
+known_of named records (x ∷ xs) h = (here (is_known named records (txn_of x) || is_closed records (txn_of x)) refl, known_of named records xs (λ t unknown. rest t (h t unknown) (is_of t x) refl))
   where
-    here : (b : Bool) → is_known named records (txn_of x) ≡ b → is_known named records (txn_of x) ≡ true
+    here : (b : Bool) → (is_known named records (txn_of x) || is_closed records (txn_of x)) ≡ b → (is_known named records (txn_of x) || is_closed records (txn_of x)) ≡ true
     here true is = is
     here false is = absurd (not_nil x (filter (is_of (txn_of x)) xs) (sym (cond-true (is_of (txn_of x) x) (x ∷ filter (is_of (txn_of x)) xs) (filter (is_of (txn_of x)) xs) (eq-eqb (txn_of x) (txn_of x) refl)) ∙ h (txn_of x) is))
 
     rest : (t : ℕ) → filter (is_of t) (x ∷ xs) ≡ [] → (b : Bool) → is_of t x ≡ b → filter (is_of t) xs ≡ []
     rest t none true is = absurd (not_nil x (filter (is_of t) xs) (sym (cond-true (is_of t x) (x ∷ filter (is_of t) xs) (filter (is_of t) xs) is) ∙ none))
     rest t none false is = sym (cond-false (is_of t x) (x ∷ filter (is_of t) xs) (filter (is_of t) xs) is) ∙ none
+
+known_open : (k c : Bool) → (k || c) ≡ true → c ≡ false → k ≡ true
+known_open true c either open_still = refl
+known_open false c either open_still = absurd (true≢false (sym either ∙ open_still))
 
 all_found : (P : Open → Type 0) (table : List Open) (t : ℕ) (x : Open) → AllByRecursion P table → found_in table t ≡ Some x → P x
 all_found P [] t x h is = absurd (none-some x is)
@@ -176,7 +180,7 @@ all_found P (y ∷ table) t x h is = by (y.txn == t) is (all_found P table t x h
     by true e rest = subst P (same_Some y x e) h.0
     by false e rest = rest e
 
-module _ (named : List Active) (records : List Entry) (table : List Open) (is : IsTable named records table) (known : (t : ℕ) → is_known named records t ≡ false → entries_of t records ≡ []) where
+module _ (named : List Active) (records : List Entry) (table : List Open) (is : IsTable named records table) (known : (t : ℕ) → (is_known named records t || is_closed records t) ≡ false → entries_of t records ≡ []) where
   abbrev remains : Entry → Bool
   remains e = is_update e.rec && not (is_closed records (txn_of e)) && list_any (λ u. u.lsn == e.lsn) (left_open records (txn_of e))
 
@@ -185,7 +189,7 @@ module _ (named : List Active) (records : List Entry) (table : List Open) (is : 
   said s knows open_still = is.says s ∙ cond-true (is_active named records s) (Some (open_at named records s)) None (ap (λ b. b && not (is_closed records s)) knows ∙ ap not open_still)
 
   -- nothing of a record remains where its transaction is closed, or no Update of it stands there
-  not_remains : (P : Open → Type 0) → AllByRecursion P table → (e : Entry) → is_known named records (txn_of e) ≡ true →
+  not_remains : (P : Open → Type 0) → AllByRecursion P table → (e : Entry) → (is_known named records (txn_of e) || is_closed records (txn_of e)) ≡ true →
       (P (open_at named records (txn_of e)) → list_any (λ m. m == e.lsn) (map (λ (u : Entry). u.lsn) (left_open records (txn_of e))) ≡ false) → remains e ≡ false
   not_remains P all e knows none = by (is_closed records (txn_of e)) refl
     where
@@ -197,15 +201,15 @@ module _ (named : List Active) (records : List Entry) (table : List Open) (is : 
       by true closed = ap (λ b. is_update e.rec && not b && list_any (λ u. u.lsn == e.lsn) (left_open records (txn_of e))) closed ∙ ap (λ b. b && list_any (λ u. u.lsn == e.lsn) (left_open records (txn_of e))) (and_false (is_update e.rec))
       by false open_still =
           ap (λ b. is_update e.rec && not (is_closed records (txn_of e)) && b)
-          (any_lsn e.lsn (left_open records (txn_of e)) ∙ none (all_found P table (txn_of e) (open_at named records (txn_of e)) all (said (txn_of e) knows open_still)))
+          (any_lsn e.lsn (left_open records (txn_of e)) ∙ none (all_found P table (txn_of e) (open_at named records (txn_of e)) all (said (txn_of e) (known_open (is_known named records (txn_of e)) (is_closed records (txn_of e)) knows open_still) open_still)))
           ∙ and_false (is_update e.rec && not (is_closed records (txn_of e)))
 
-  all_known : AllByRecursion (λ e. is_known named records (txn_of e) ≡ true) records
+  all_known : AllByRecursion (λ e. (is_known named records (txn_of e) || is_closed records (txn_of e)) ≡ true) records
   all_known = known_of named records records known
 
   pub none_pending : AllByRecursion (λ x. x.updates ≡ []) table → last_where (λ u. true) (pending records) ≡ None
   none_pending none =
-      ap (last_where (λ u. true)) (filter_none remains records (all_both (λ e. is_known named records (txn_of e) ≡ true) (λ e. is_known named records (txn_of e) ≡ true) (λ e. remains e ≡ false)
+      ap (last_where (λ u. true)) (filter_none remains records (all_both (λ e. (is_known named records (txn_of e) || is_closed records (txn_of e)) ≡ true) (λ e. (is_known named records (txn_of e) || is_closed records (txn_of e)) ≡ true) (λ e. remains e ≡ false)
       (λ e knows again. not_remains (λ x. x.updates ≡ []) none e knows (λ empty. ap (list_any (λ m. m == e.lsn)) empty)) records all_known all_known))
 
   module _ (from to : ℕ) (order : IsInOrder from records to) where
@@ -243,8 +247,8 @@ module _ (named : List Active) (records : List Entry) (table : List Open) (is : 
         ∙ ap (λ b. b && list_any (λ v. v.lsn == u.lsn) (left_open records (txn_of u))) (ap (λ s. not (is_closed records s)) left.own ∙ parts.1)
         ∙ ap (λ s. list_any (λ v. v.lsn == u.lsn) (left_open records s)) left.own ∙ ap (list_any (λ v. v.lsn == u.lsn)) left.left ∙ ap (λ b. b || list_any (λ v. v.lsn == u.lsn) left.rest) (eq-eqb u.lsn u.lsn refl) in
         let later = order_back from to left.stands.front u left.stands.back (subst (λ (l : List Entry). IsInOrder from l to) left.stands.is order) in
-        let knows = (all_right (λ e. is_known named records (txn_of e) ≡ true) left.stands.front (u ∷ left.stands.back) (subst (AllByRecursion (λ e. is_known named records (txn_of e) ≡ true)) left.stands.is all_known)).1 in
-        let none = all_both (λ e. u.lsn < e.lsn) (λ e. is_known named records (txn_of e) ≡ true) (λ e. remains e ≡ false)
+        let knows = (all_right (λ e. (is_known named records (txn_of e) || is_closed records (txn_of e)) ≡ true) left.stands.front (u ∷ left.stands.back) (subst (AllByRecursion (λ e. (is_known named records (txn_of e) || is_closed records (txn_of e)) ≡ true)) left.stands.is all_known)).1 in
+        let none = all_both (λ e. u.lsn < e.lsn) (λ e. (is_known named records (txn_of e) || is_closed records (txn_of e)) ≡ true) (λ e. remains e ≡ false)
         (λ e less knows. not_remains (λ x. IsAtMost lsn x.updates) most e knows (λ first.
         none_above lsn e.lsn (let at = left.at in omega (arith, less, at)) (map (λ (v : Entry). v.lsn) (left_open records (txn_of e))) (all_at_most lsn to (left_open records (txn_of e)) (descends (txn_of e)) first)))
         left.stands.back later knows in

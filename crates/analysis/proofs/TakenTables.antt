@@ -11,7 +11,7 @@ use Rattle.log_records.specs.Sound.{Picture, IsSound, is_known, last_number, fro
 use Rattle.analysis.specs.Open.{Open}
 use Rattle.analysis.specs.Read.{is_active, last_named, open_at, open_in}
 use Rattle.analysis.specs.Laws.{has_begun}
-use Rattle.analysis.specs.Taken.{is_named, is_taken, taken, HaveBegunBefore, TakenTable, TakenPending, AllAreTaken}
+use Rattle.analysis.specs.Taken.{is_named, is_taken, taken, TakenTable, TakenPending, AllAreTaken}
 use Rattle.analysis.proofs.Unfinished.{begins_as, table_of_unfinished}
 use Rattle.analysis.proofs.Pending.{IsIn, all_in, filter_front}
 use Rattle.analysis.proofs.Taking.{no_true, and_both, or_left, or_right, or_case, any_chosen, any_left, one_of, named_parts, in_front, open_there, active_new, begin_of}
@@ -39,17 +39,17 @@ same_open p sound t loser =
     by_entries d es = record { txn = t; last = last_number d (map (λ e. e.lsn) es); updates = map (λ u. u.lsn) (open_updates [] es) }
 
 pub taken_table : TakenTable
-taken_table p sound before =
+taken_table p sound =
     let whole = table_of_unfinished [] p.log (512 * p.master.kept) (512 * p.hi) tt sound.in_order in
     record { ascend = whole.ascend; says = λ t. whole.says t ∙ says t (is_loser p.log t) refl }
   where
     says : (t : ℕ) (b : Bool) → is_loser p.log t ≡ b → open_in [] p.log t ≡ open_in p.master.active (taken p) t
     says t true loser =
         cond-true (is_active [] p.log t) (Some (open_at [] p.log t)) None (active_by_log p sound t ∙ loser) ∙ ap Some (same_open p sound t loser)
-        ∙ sym (cond-true (is_active p.master.active (taken p) t) (Some (open_at p.master.active (taken p) t)) None (taken_is_loser p t sound before ∙ loser))
+        ∙ sym (cond-true (is_active p.master.active (taken p) t) (Some (open_at p.master.active (taken p) t)) None (taken_is_loser p t sound ∙ loser))
     says t false loser =
         cond-false (is_active [] p.log t) (Some (open_at [] p.log t)) None (active_by_log p sound t ∙ loser)
-        ∙ sym (cond-false (is_active p.master.active (taken p) t) (Some (open_at p.master.active (taken p) t)) None (taken_is_loser p t sound before ∙ loser))
+        ∙ sym (cond-false (is_active p.master.active (taken p) t) (Some (open_at p.master.active (taken p) t)) None (taken_is_loser p t sound ∙ loser))
 
 -- Where redo begins with the first block.
 
@@ -58,26 +58,8 @@ filter_all_pass test [] h = refl
 filter_all_pass test (x ∷ xs) h = cond-true (test x) (x ∷ filter test xs) (filter test xs) (h x) ∙ ap (λ (l : List Entry). x ∷ l) (filter_all_pass test xs h)
 
 pub all_are_taken : AllAreTaken
-all_are_taken p sound first = (
-  filter_all_pass (is_taken p.master) p.log (λ x. or_left (nat_le (512 * p.master.redo) x.lsn) (is_named p.master.active (txn_of x)) (le-leb (512 * p.master.redo) x.lsn (omega (arith, first)))),
-  all_map (IsIn p.log) (λ x. txn_of x ≤ x.lsn) (λ x at. low x at (is_begin x.rec) refl) p.log (all_in p.log [] p.log refl),
-)
-  where
-    low_named : (t : ℕ) → is_named p.master.active t ≡ true → ⊥
-    low_named t named = let below = (named_parts p sound t named).low in omega (arith, below, first)
-
-    low : (x : Entry) → IsIn p.log x → (b : Bool) → is_begin x.rec ≡ b → txn_of x ≤ x.lsn
-    low x at true begins = let own = begin_of x.rec x.lsn begins in omega (arith, own)
-    low x at false other =
-        let lives = open_there p sound at.front x at.back at.is (omega (arith, first)) other in
-        elim (or_case (is_named p.master.active (txn_of x)) (has_begun (from_block p.master.redo at.front) (txn_of x)) lives.known) [
-          | inl named ↦ absurd (low_named (txn_of x) named)
-          | inr begins ↦
-              let one = one_of (λ y. y.lsn < x.lsn) (begins_as (txn_of x)) at.front (in_front p sound at.front x at.back at.is)
-              (any_chosen (begins_as (txn_of x)) (λ y. nat_le (512 * p.master.redo) y.lsn) at.front begins) in
-              let same = eqb-true one.x.lsn (txn_of x) (and_parts (is_begin one.x.rec) (one.x.lsn == txn_of x) one.passes).1 in
-              let less = one.holds in omega (arith, same, less)
-        ]
+all_are_taken p sound first =
+    filter_all_pass (is_taken p.master) p.log (λ x. or_left (nat_le (512 * p.master.redo) x.lsn) (is_named p.master.active (txn_of x)) (le-leb (512 * p.master.redo) x.lsn (omega (arith, first))))
 
 -- What remains to be undone.
 
@@ -123,7 +105,7 @@ none_of_closed records x closed =
     ap (λ b. is_update x.rec && not b && list_any (λ u. u.lsn == x.lsn) (left_open records (txn_of x))) closed
     ∙ ap (λ b. b && list_any (λ u. u.lsn == x.lsn) (left_open records (txn_of x))) (and_false (is_update x.rec))
 
-module _ (p : Picture) (sound : IsSound p) (before : HaveBegunBefore p.log) (x : Entry) (at : IsIn p.log x) where
+module _ (p : Picture) (sound : IsSound p) (x : Entry) (at : IsIn p.log x) where
   -- of a loser
   module _ (loser : is_loser p.log (txn_of x) ≡ true) where
     is_there : is_taken p.master x ≡ true
@@ -167,7 +149,7 @@ module _ (p : Picture) (sound : IsSound p) (before : HaveBegunBefore p.log) (x :
       where
         by : (b : Bool) → is_update x.rec ≡ b → remains_in (taken p) x ≡ false
         by true update =
-            none_of_closed (taken p) x (second_fails (is_known p.master.active (taken p) (txn_of x)) (is_closed (taken p) (txn_of x)) (known_taken here update) (taken_is_loser p (txn_of x) sound before ∙ none))
+            none_of_closed (taken p) x (second_fails (is_known p.master.active (taken p) (txn_of x)) (is_closed (taken p) (txn_of x)) (known_taken here update) (taken_is_loser p (txn_of x) sound ∙ none))
         by false update = ap (λ b. b && not (is_closed (taken p) (txn_of x)) && list_any (λ u. u.lsn == x.lsn) (left_open (taken p) (txn_of x))) update
 
   each_remains : (b : Bool) → is_loser p.log (txn_of x) ≡ b → (is_taken p.master x ≡ true → remains_in (taken p) x ≡ remains_in p.log x) × (is_taken p.master x ≡ false → remains_in p.log x ≡ false)
@@ -175,7 +157,7 @@ module _ (p : Picture) (sound : IsSound p) (before : HaveBegunBefore p.log) (x :
   each_remains false none = ((λ here. none_taken none here ∙ sym (none_of_closed p.log x (closed_in_log none))), (λ gone. none_of_closed p.log x (closed_in_log none)))
 
 pub taken_pending : TakenPending
-taken_pending p sound before =
+taken_pending p sound =
     filter_same (is_taken p.master) (remains_in (taken p)) (remains_in p.log) p.log
     (all_map (IsIn p.log) (λ x. (is_taken p.master x ≡ true → remains_in (taken p) x ≡ remains_in p.log x) × (is_taken p.master x ≡ false → remains_in p.log x ≡ false))
-    (λ x at. each_remains p sound before x at (is_loser p.log (txn_of x)) refl) p.log (all_in p.log [] p.log refl))
+    (λ x at. each_remains p sound x at (is_loser p.log (txn_of x)) refl) p.log (all_in p.log [] p.log refl))

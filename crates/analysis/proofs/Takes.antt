@@ -11,7 +11,7 @@ use Rattle.log_records.specs.Unfinished.{is_begin}
 use Rattle.log_records.specs.Sound.{Master, Picture, IsSound, IsInOrder, IsLoserChain, is_known, before_block, commit_number, commit_number_by, commit_numbers}
 use Rattle.analysis.specs.Read.{is_active}
 use Rattle.analysis.specs.Laws.{has_begun}
-use Rattle.analysis.specs.Taken.{is_named, is_taken, taken, HaveBegunBefore, TakenEntries, TakenIsLoser, TakenCommits}
+use Rattle.analysis.specs.Taken.{is_named, is_taken, taken, TakenEntries, TakenIsLoser, TakenCommits}
 use Rattle.analysis.proofs.Unfinished.{begins_as}
 use Rattle.analysis.proofs.Pending.{order_filter, order_above}
 use Rattle.analysis.proofs.Taking.{no_true, and_both, or_left, or_right, or_case, any_chosen, HasOne, one_of, filter_holds, begin_of, named_is, named_parts}
@@ -166,7 +166,7 @@ module _ (p : Picture) (sound : IsSound p) where
         let none : is_closed (taken p) t ≡ false = no_true (is_closed (taken p) t) (λ h. true≢false (sym (any_chosen (λ x. is_of t x && is_closing x.rec) (is_taken m) p.log h) ∙ open_still)) in
         and_both (is_known m.active (taken p) t) (not (is_closed (taken p) t)) (or_right (is_named m.active t) (has_begun (taken p) t) known) (ap not none)
 
-  module _ (t : ℕ) (before : HaveBegunBefore p.log) (active : is_active m.active (taken p) t ≡ true) where
+  module _ (t : ℕ) (active : is_active m.active (taken p) t ≡ true) where
     known_parts : (is_known m.active (taken p) t ≡ true) × (not (is_closed (taken p) t) ≡ true)
     known_parts = and_parts (is_known m.active (taken p) t) (not (is_closed (taken p) t)) active
 
@@ -207,7 +207,7 @@ module _ (p : Picture) (sound : IsSound p) where
     -- what closes it is taken
     open_in_log : is_closed p.log t ≡ false
     open_in_log = no_true (is_closed p.log t) (λ h.
-        let lost = any_lost (λ x. txn_of x ≤ x.lsn) (λ x. is_of t x && is_closing x.rec) (is_taken m) p.log before h not_closed in
+        let lost = any_lost (λ x. txn_of x ≤ x.lsn) (λ x. is_of t x && is_closing x.rec) (is_taken m) p.log sound.begun h not_closed in
         let own = eqb-true (txn_of lost.x) t (and_parts (is_of t lost.x) (is_closing lost.x.rec) lost.passes).0 in
         let above = lost.holds.0 in
         let late : nat_le redo_at lost.x.lsn ≡ false = no_true (nat_le redo_at lost.x.lsn) (λ yes. true≢false (sym (or_left (nat_le redo_at lost.x.lsn) (is_named m.active (txn_of lost.x)) yes) ∙ lost.holds.1)) in
@@ -222,11 +222,11 @@ pub taken_entries : TakenEntries
 taken_entries p t sound loser = entries_taken p sound t loser
 
 pub taken_is_loser : TakenIsLoser
-taken_is_loser p t sound before = by (is_active p.master.active (taken p) t) (is_loser p.log t) refl refl
+taken_is_loser p t sound = by (is_active p.master.active (taken p) t) (is_loser p.log t) refl refl
   where
     by : (a b : Bool) → is_active p.master.active (taken p) t ≡ a → is_loser p.log t ≡ b → is_active p.master.active (taken p) t ≡ is_loser p.log t
     by true true is loser = is ∙ sym loser
-    by true false is loser = absurd (true≢false (sym (active_loser p sound t before is) ∙ loser))
+    by true false is loser = absurd (true≢false (sym (active_loser p sound t is) ∙ loser))
     by false true is loser = absurd (true≢false (sym (loser_active p sound t loser) ∙ is))
     by false false is loser = is ∙ sym loser
 

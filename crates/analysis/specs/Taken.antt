@@ -36,13 +36,9 @@ TakenBegin = (p : Picture) → IsSound p → HaveBegun p.master.active (taken p)
 abbrev pub TakenEntries : Type 0
 TakenEntries = (p : Picture) (t : ℕ) → IsSound p → is_loser p.log t ≡ true → entries_of t (taken p) ≡ entries_of t p.log
 
--- Where no record stands before the Begin that its transaction is named by, the active transactions are the unfinished ones
--- of the log.
-abbrev pub HaveBegunBefore : List Entry → Type 0
-HaveBegunBefore log = AllByRecursion (λ e. txn_of e ≤ e.lsn) log
-
+-- the active transactions are the unfinished ones of the log
 abbrev pub TakenIsLoser : Type 0
-TakenIsLoser = (p : Picture) (t : ℕ) → IsSound p → HaveBegunBefore p.log → is_active p.master.active (taken p) t ≡ is_loser p.log t
+TakenIsLoser = (p : Picture) (t : ℕ) → IsSound p → is_active p.master.active (taken p) t ≡ is_loser p.log t
 
 -- the master's commits and those that are taken are the commits that the log stands for
 abbrev pub TakenCommits : Type 0
@@ -50,12 +46,12 @@ TakenCommits = (p : Picture) → IsSound p → p.master.commits + length (commit
 
 -- then the table is that of the log's unfinished transactions, by the log alone
 abbrev pub TakenTable : Type 0
-TakenTable = (p : Picture) → IsSound p → HaveBegunBefore p.log → IsTable p.master.active (taken p) (map (open_at [] p.log) (losers p.log))
+TakenTable = (p : Picture) → IsSound p → IsTable p.master.active (taken p) (map (open_at [] p.log) (losers p.log))
 
 -- and what remains to be undone of all of them is the same
 abbrev pub TakenPending : Type 0
-TakenPending = (p : Picture) → IsSound p → HaveBegunBefore p.log → pending (taken p) ≡ pending p.log
+TakenPending = (p : Picture) → IsSound p → pending (taken p) ≡ pending p.log
 
--- Where redo begins with the first block all records are taken, and none stands before its transaction's Begin.
+-- where redo begins with the first block all records are taken
 abbrev pub AllAreTaken : Type 0
-AllAreTaken = (p : Picture) → IsSound p → p.master.redo ≡ 0 → (taken p ≡ p.log) × HaveBegunBefore p.log
+AllAreTaken = (p : Picture) → IsSound p → p.master.redo ≡ 0 → taken p ≡ p.log

@@ -1,18 +1,18 @@
 // Analysis, record by record.
-ghost use Rattle.std.specs.Prelude.{◌≡◌, ◌⊎◌, ◌↔◌, ◌+◌, ◌-◌, ◌^◌, ◌<◌, ◌≤◌, min, ℕ, List, [], ◌∷◌, ◌++◌, length, map, drop, true, false, slice_get, IfOk, OnOk, OnErr, IfErr, IsErrOf, IsSome, IfSome, IfNone, option_map, Some, None};
+ghost use Rattle.std.specs.Prelude.{◌≡◌, ◌⊎◌, ◌↔◌, ◌+◌, ◌-◌, ◌^◌, ◌<◌, ◌≤◌, min, ℕ, List, [], ◌∷◌, ◌++◌, length, map, drop, true, false, slice_get, IfOk, OnOk, OnErr, IfErr, IsErrOf, IsSome, IfSome, IfNone, option_map, Some, None, ◌||◌};
 ghost use Rattle.std.specs.List.{AllByRecursion};
 ghost use Rattle.site.specs.declared.outside.Stop.{Stop};
 ghost use Rattle.record_model.specs.State.{Content};
 ghost use Rattle.log_records.specs.declared.log_record.LogRecord.TheVariants.{Clr, End};
-ghost use Rattle.log_records.specs.Log.{Entry, txn_by, txn_of, last_where};
+ghost use Rattle.log_records.specs.Log.{Entry, txn_by, txn_of, last_where, is_closed, entries_of};
 ghost use Rattle.log_records.specs.Unfinished.{is_begin, pending};
 ghost use Rattle.log_records.specs.Sound as sound;
-ghost use Rattle.log_records.specs.Sound.{IsInOrder, commit_numbers};
+ghost use Rattle.log_records.specs.Sound.{Active, IsInOrder, commit_numbers, is_known};
 ghost use Rattle.checkpoint.specs.Actives.{Ascend};
 ghost use Rattle.checkpoint.specs.Newest.{seen};
 ghost use Rattle.analysis.specs.Open.{Open, found_in, Replaces, TakesOut, Remains, HasLeft, owed_for};
 ghost use Rattle.analysis.specs.Table.{listed};
-ghost use Rattle.analysis.specs.Read.{is_active, loser_of, MayGoOn, IsAnalysis, IsLoser, MayCome};
+ghost use Rattle.analysis.specs.Read.{is_active, loser_of, IsTable, MayGoOn, IsAnalysis, IsLoser, MayCome};
 
 use crate::table::Table;
 use checkpoint::Master;
@@ -167,6 +167,10 @@ impl Analysis {
         ensures of_records { (m : sound.Master) (records : List Entry) (from to : ℕ) → IsAnalysis m records self.now
             → IsInOrder from records to
             → result ≡ option_map (λ u. record { 0 = txn_of u; 1 = u.lsn }) (last_where (λ u. true) (pending records)) }
+        ensures of_table { (named : List Active) (records : List Entry) (from to : ℕ) → IsTable named records (listed self.now.table)
+            → ((t : ℕ) → (is_known named records t || is_closed records t) ≡ false → entries_of t records ≡ [])
+            → IsInOrder from records to
+            → result ≡ option_map (λ u. record { 0 = txn_of u; 1 = u.lsn }) (last_where (λ u. true) (pending records)) }
     {
         let mut next: Option<(u64, u64)> = None;
         for transaction in self.table.transactions.as_slice() {
@@ -196,6 +200,9 @@ impl Analysis {
         ensures read { (m : sound.Master) (records : List Entry) (prev page slot : ℕ) (after : Content)
             → IsAnalysis m records self.old
             → IsAnalysis m (records ++ record { lsn = last; rec = Clr txn prev _undo_next page slot after } ∷ []) self.new }
+        ensures table { (named : List Active) (records : List Entry) (prev page slot : ℕ) (after : Content)
+            → IsTable named records (listed self.old.table)
+            → IsTable named (records ++ record { lsn = last; rec = Clr txn prev _undo_next page slot after } ∷ []) (listed self.new.table) }
         ensures rest { self.new ≡ record self.old { table = self.new.table } }
     {
         let Ok(place) = self.table.place_of(txn) else {
@@ -214,6 +221,9 @@ impl Analysis {
         ensures read { (m : sound.Master) (records : List Entry) (lsn : ℕ)
             → IsAnalysis m records self.old
             → IsAnalysis m (records ++ record { lsn = lsn; rec = End txn } ∷ []) self.new }
+        ensures table { (named : List Active) (records : List Entry) (lsn : ℕ)
+            → IsTable named records (listed self.old.table)
+            → IsTable named (records ++ record { lsn = lsn; rec = End txn } ∷ []) (listed self.new.table) }
         ensures rest { self.new ≡ record self.old { table = self.new.table } }
     {
         let Ok(place) = self.table.place_of(txn) else {

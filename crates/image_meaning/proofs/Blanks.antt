@@ -107,6 +107,7 @@ module _ (ring_of_zeros : BlankIsRing) (g : Geometry) (limits : HasLimits g) whe
     in_order = omega arith;
     in_table = tt;
     open_transactions = tt;
+    begun = tt;
     losers_can_be_undone = λ t h. cc;
     losers_hold_others_off = tt;
     versions_fit = λ number within. fits number (omega (arith, within, length-versions g (blank_image g)));

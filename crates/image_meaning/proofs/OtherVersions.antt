@@ -28,6 +28,7 @@ module _ (p : Picture) (versions : List Version) (sound : IsSound p) (r : Replac
     in_order = sound.in_order;
     in_table = all_weaker (IsInTable p.pages) (IsInTable versions) (λ e h number n. let b = h number n in let count = r.count in omega (arith, b, count)) p.log sound.in_table;
     open_transactions = sound.open_transactions;
+    begun = sound.begun;
     losers_can_be_undone = sound.losers_can_be_undone;
     losers_hold_others_off = sound.losers_hold_others_off;
     versions_fit = λ page h. let count = r.count in fits_still page (version_at versions page) (r.each page (omega (arith, h, count))).fits;

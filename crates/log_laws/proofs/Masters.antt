@@ -242,6 +242,7 @@ module _ (p : Picture) (kept : ℕ) (sound : IsSound p) (may : MayCheckpoint p k
     in_order = in_order_raise (512 * p.master.kept) (512 * kept) (from_block kept p.log) (512 * p.hi) (let a = may.kept_in_log in omega (arith, a)) is_kept (in_order_filter (λ e. nat_le (512 * kept) e.lsn) (512 * p.master.kept) p.log (512 * p.hi) sound.in_order);
     in_table = right (IsInTable p.pages) sound.in_table;
     open_transactions = opens_kept [] (from_block kept p.log) below;
+    begun = right (λ e. txn_of e ≤ e.lsn) sound.begun;
     losers_can_be_undone = λ t h. subst (IsLoserChain t) (entries_kept t (loser_still t h)) (sound.losers_can_be_undone t (loser_still t h));
     losers_hold_others_off = held_kept;
     versions_fit = λ page h. fits_kept page (sound.versions_fit page h);

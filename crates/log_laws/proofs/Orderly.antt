@@ -5,9 +5,9 @@ use Rattle.std.specs.List.{AllByRecursion, list_any}
 use Rattle.std.proofs.lemmas.Bool.{and_parts, or_cases, cases_Bool, eqb-true, ne_eqb, le-ltb, le-leb}
 use Rattle.log_records.specs.Log.{Entry, txn_of, is_of, is_closed, entries_of}
 use Rattle.log_records.specs.Unfinished.{is_begin, losers}
-use Rattle.log_records.specs.Sound.{Active, Master, IsOpen, IsSound, Picture, InTurn, IsInOrder, IsOfOpenTransaction, IsOrderly, AreOrderly, before_block, from_block, is_known, last_lsn, active_in}
+use Rattle.log_records.specs.Sound.{Active, Master, IsOpen, IsSound, Picture, InTurn, IsInOrder, IsOfOpenTransaction, IsOrderly, AreOrderly, HaveBegunBefore, before_block, from_block, is_known, last_lsn, active_in}
 use Rattle.log_laws.specs.Follow.{Follows, IsFresh}
-use Rattle.log_laws.proofs.Lists.{all_weaker, all_push, all_find, any_find, find_passes}
+use Rattle.log_laws.proofs.Lists.{all_append, all_weaker, all_push, all_find, any_find, find_passes}
 use Rattle.log_laws.proofs.Orders.{filter_none, filter_all, InTurn-all, InTurn-weaker, InTurn-append_all}
 use Rattle.log_laws.proofs.Parts.{all_filter, all_map, begin_is, all_both, all_below}
 use Rattle.log_laws.proofs.Appends.{fresh_open}
@@ -95,6 +95,35 @@ named_below p sound =
     (all_map (λ t. t < 512 * p.hi) (λ (e : Entry). e.lsn) (filter (λ e. is_begin e.rec && not (is_closed old e.lsn)) old)
     (all_filter (λ e. e.lsn < 512 * p.hi) (λ e. is_begin e.rec && not (is_closed old e.lsn)) old
     (all_filter (λ e. e.lsn < 512 * p.hi) (λ e. nat_lt e.lsn (512 * p.master.redo)) p.log (all_below (512 * p.master.kept) p.log (512 * p.hi) sound.in_order)))))
+
+-- records that are of open transactions have begun before
+begun_from : (m : Master) (from : ℕ) (earlier log : List Entry) (to : ℕ) → AllByRecursion (λ a. a.begin < from) m.active → IsInOrder from log to →
+    AllByRecursion (λ e. e.lsn < from) earlier →
+    InTurn (λ earlier e. is_begin e.rec ≡ false → IsOpen m earlier (txn_of e)) earlier log → HaveBegunBefore log
+begun_from m from earlier [] to named order below h = tt
+begun_from m from earlier (e ∷ log) to named order below h = (
+  ⊎_elim by_begin by_other (cases_Bool (is_begin e.rec)),
+  begun_from m (e.lsn + 1) (earlier ++ e ∷ []) log to
+      (all_weaker (λ a. a.begin < from) (λ a. a.begin < e.lsn + 1) (λ a b. let f = order.0 in omega (arith, f, b)) m.active named) order.1
+      (all_push (λ x. x.lsn < e.lsn + 1) earlier e (all_weaker (λ x. x.lsn < from) (λ x. x.lsn < e.lsn + 1) (λ x b. let f = order.0 in omega (arith, f, b)) earlier below) (omega arith))
+      h.1,
+)
+  where
+    by_begin : is_begin e.rec ≡ true → txn_of e ≤ e.lsn
+    by_begin b = let own = begin_is e b in omega (arith, own)
+
+    by_other : is_begin e.rec ≡ false → txn_of e ≤ e.lsn
+    by_other b =
+        let less = known_before m earlier (txn_of e) e.lsn (all_weaker (λ a. a.begin < from) (λ a. a.begin < e.lsn) (λ a c. let f = order.0 in omega (arith, f, c)) m.active named)
+        (all_weaker (λ x. x.lsn < from) (λ x. x.lsn < e.lsn) (λ x c. let f = order.0 in omega (arith, f, c)) earlier below) (h.0 b).known in
+        omega (arith, less)
+
+-- records that follow have begun before, as those in front of them
+pub begun_behind : (p : Picture) (entries : List Entry) (to : ℕ) → IsSound p → IsInOrder (512 * p.hi) entries to → InTurn (Follows p.master p.pages) p.log entries → HaveBegunBefore (p.log ++ entries)
+begun_behind p entries to sound order follow =
+    all_append (λ e. txn_of e ≤ e.lsn) p.log entries sound.begun
+    (begun_from p.master (512 * p.hi) p.log entries to (named_below p sound) order (all_below (512 * p.master.kept) p.log (512 * p.hi) sound.in_order)
+    (InTurn-weaker (Follows p.master p.pages) (λ earlier e. is_begin e.rec ≡ false → IsOpen p.master earlier (txn_of e)) (λ earlier e f. f.of_open) p.log entries follow))
 
 -- records that follow keep a log orderly
 pub orderly_behind : (p : Picture) (entries : List Entry) (to : ℕ) → IsSound p → AreOrderly p.log → IsInOrder (512 * p.hi) entries to → InTurn (Follows p.master p.pages) p.log entries → AreOrderly (p.log ++ entries)

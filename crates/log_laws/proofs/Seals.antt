@@ -15,6 +15,7 @@ use Rattle.log_records.specs.Sound.{Master, AreNumbered, Picture, InTurn, IsInOr
 use Rattle.log_laws.specs.Follow.{Follows, IsUndoable, GoesOn, sealed, next_entries, table_after_all}
 use Rattle.log_laws.proofs.Lists.{all_append, all_weaker, last_where-append}
 use Rattle.log_laws.proofs.Values.{with}
+use Rattle.log_laws.proofs.Orderly.{begun_behind}
 use Rattle.log_laws.proofs.Follow.{table_behind, undoable_behind}
 use Rattle.log_laws.proofs.Parts.{commits_parts, range_push}
 use Rattle.log_laws.proofs.Orders.{InTurn-all, entries_in_order, in_order_from, in_order_to, in_order-append, all_from, none_passes, filter_none, filter_all, InTurn-append_all, InTurn-weaker}
@@ -96,6 +97,8 @@ module _ (p : Picture) (records : List LogRecord) (sound : IsSound p) (block : A
         (in_order_from (512 * p.hi + 2) (512 * p.hi) (next_entries p records) (512 * (p.hi + 1)) (omega arith) new_in_order);
     open_transactions = InTurn-append_all (IsOfOpenTransaction p.master) [] p.log (next_entries p records) sound.open_transactions
         (InTurn-weaker (Follows p.master p.pages) (IsOfOpenTransaction p.master) (λ earlier e f late other. f.of_open other) p.log (next_entries p records) goes.follow);
+    begun = begun_behind p (next_entries p records) (512 * (p.hi + 1)) sound
+        (in_order_from (512 * p.hi + 2) (512 * p.hi) (next_entries p records) (512 * (p.hi + 1)) (omega arith) new_in_order) goes.follow;
     in_table = all_append (IsInTable p.pages) p.log (next_entries p records) sound.in_table
         (InTurn-all (Follows p.master p.pages) (IsInTable p.pages) (λ earlier e f. f.in_table) p.log (next_entries p records) goes.follow);
     losers_can_be_undone = (undoable_sealed goes).undone;

@@ -126,6 +126,7 @@ blank_is_sound pages room = record {
   kept_is_live = omega arith;
   in_order = omega arith;
   open_transactions = tt;
+  begun = tt;
   in_table = tt;
   losers_can_be_undone = λ t h. cc;
   losers_hold_others_off = tt;

@@ -45,6 +45,7 @@ module _ (p : Picture) (page : ℕ) (v : Version) (sound : IsSound p) (r : Repla
     in_order = sound.in_order;
     in_table = all_weaker (IsInTable p.pages) (IsInTable (slice_set p.pages page v)) (λ e h number n. let b = h number n in omega (arith, b, same_length)) p.log sound.in_table;
     open_transactions = sound.open_transactions;
+    begun = sound.begun;
     losers_can_be_undone = sound.losers_can_be_undone;
     losers_hold_others_off = sound.losers_hold_others_off;
     versions_fit = λ q h. fits_still q (version_at (slice_set p.pages page v) q) (fits_each q (omega (arith, h, same_length)));

@@ -71,6 +71,10 @@ pub record IsOpen (m : Master) (earlier : List Entry) (t : ℕ) : Type 0 where
 abbrev pub IsOfOpenTransaction : Master → List Entry → Entry → Type 0
 IsOfOpenTransaction m earlier e = 512 * m.redo ≤ e.lsn → is_begin e.rec ≡ false → IsOpen m earlier (txn_of e)
 
+-- no record stands before the Begin that its transaction is named by
+abbrev pub HaveBegunBefore : List Entry → Type 0
+HaveBegunBefore log = AllByRecursion (λ e. txn_of e ≤ e.lsn) log
+
 -- Unfinished transactions.
 
 -- a CLR writes back what stood before the Update, and leads on to what stands before it in its transaction
@@ -171,6 +175,7 @@ pub record IsSound (p : Picture) : Type 0 where
   pub in_order : IsInOrder (512 * p.master.kept) p.log (512 * p.hi)
   pub in_table : AllByRecursion (IsInTable p.pages) p.log
   pub open_transactions : InTurn (IsOfOpenTransaction p.master) [] p.log
+  pub begun : HaveBegunBefore p.log
   -- an unfinished transaction can be undone by the records of the log
   pub losers_can_be_undone : (t : ℕ) → IsTrue (is_loser p.log t) → IsLoserChain t (entries_of t p.log)
   -- what an unfinished transaction has written no other one writes

@@ -5,6 +5,7 @@ use Rattle.log_records.specs.Log.{Entry}
 use Rattle.analysis.specs.Open.{Open}
 use Rattle.analysis.specs.Table.{listed}
 use Rattle.analysis.proofs.Tables.{owed_replaced, length-drop_one}
+use Rattle.analysis.proofs.Steps.{next_table, goes_on}
 use Rattle.analysis.proofs.Reading.{no_commit, goes_read}
 use Rattle.analysis.proofs.analysis.Analysis.compensated.Goals as goal
 
@@ -26,3 +27,9 @@ returns-clause-owed c =
     let same = same_Some more.replaces.was c.requires.left.x (sym more.there ∙ c.requires.left.there) in
     let some : 0 < length more.replaces.was.updates = subst (λ (x : Open). 0 < length x.updates) (sym same) c.requires.left.some in
     omega (arith, some, owed_replaced (listed c.args.self.now.table) (listed c.compensate.new.self) c.args.txn (λ (x : Open). record x { last = c.args.last; updates = drop 1 x.updates }) more.replaces, length-drop_one more.replaces.was.updates)
+
+pub returns-clause-table : goal.returns-clause-table
+returns-clause-table c named records prev page slot after is =
+    let e : Entry = record { lsn = c.args.last; rec = Clr c.args.txn prev c.args._undo_next page slot after } in
+    let more = c.compensate.ensures c.args.txn c.in-Ok.ensures.there c.requires.going in
+    next_table named records e (listed c.args.self.now.table) (listed c.compensate.new.self) _ is more.changes (goes_on named records e more.replaces.was (sym (is.says c.args.txn) ∙ more.there) refl)

@@ -1,8 +1,9 @@
-use Rattle.std.proofs.Common.{refl, arith}
+use Rattle.std.proofs.Common.{refl, arith, None}
 use Rattle.log_records.specs.declared.log_record.LogRecord.TheVariants.{End}
 use Rattle.log_records.specs.Log.{Entry}
 use Rattle.analysis.specs.Table.{listed}
 use Rattle.analysis.proofs.Tables.{owed_taken}
+use Rattle.analysis.proofs.Steps.{next_table, is_gone}
 use Rattle.analysis.proofs.Reading.{no_commit, closes_read}
 use Rattle.analysis.proofs.analysis.Analysis.finished.Goals as goal
 
@@ -19,3 +20,8 @@ returns-clause-read c m records lsn is =
 pub returns-clause-owed : goal.returns-clause-owed
 returns-clause-owed c =
     omega (arith, owed_taken (listed c.args.self.now.table) (listed c.close.new.self) c.args.txn (c.close.ensures.takes c.args.txn c.in-Ok.ensures.there))
+
+pub returns-clause-table : goal.returns-clause-table
+returns-clause-table c named records lsn is =
+    let e : Entry = record { lsn = lsn; rec = End c.args.txn } in
+    next_table named records e (listed c.args.self.now.table) (listed c.close.new.self) None is (c.close.ensures.changes c.args.txn c.in-Ok.ensures.there c.requires.going) (is_gone named records e refl)
