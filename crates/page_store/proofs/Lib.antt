@@ -12,6 +12,7 @@ pub mod Clearing
 pub mod Saving
 pub mod Flushes
 pub mod Rounds
+pub mod Numbers
 pub mod Beside
 pub mod Unsealed
 pub mod Rings

@@ -1,5 +1,5 @@
 -- The rings stay sound at each moment.
-use Rattle.std.proofs.Common.{ℕ, ◌<◌, Bool, true, false, List, [], ◌∷◌, ◌++◌, sym, subst}
+use Rattle.std.proofs.Common.{ℕ, ◌<◌, Bool, true, false, List, [], ◌∷◌, ◌++◌, sym, subst, Option}
 use Rattle.std.specs.List.{AllByRecursion}
 use Rattle.site.specs.declared.geometry.Geometry.{Geometry}
 use Rattle.site.specs.State.{State, IsQuiet}
@@ -10,9 +10,10 @@ use Rattle.frame_group.specs.Groups.{group, IsGroup}
 use Rattle.image_changes.specs.Changes.{Change}
 use Rattle.image_changes.specs.Reached.{IsReached, IsFrontOf, LeavesFront}
 use Rattle.log_store.specs.LogList.{LogList, changes_if}
+use Rattle.checkpoint.specs.declared.master.Master.{Master}
 use Rattle.flash_cache.specs.Pushed.{frames_given, changes_of_push}
 use Rattle.image_meaning.specs.Meaning.{IsFrameOf}
-use Rattle.image_meaning.specs.Beside.{AreRingsSound, KeepsRings, RingsKept}
+use Rattle.image_meaning.specs.Beside.{AreRingsSoundUnder, KeepsRings, RingsKeptUnder}
 use Rattle.page_store.specs.Leaves.{LeavesRings}
 
 all_front : {X : Type 0} (P : X → Type 0) (front left : List X) → AllByRecursion P (front ++ left) → AllByRecursion P front
@@ -35,11 +36,11 @@ pub pushing_keeps : (g : Geometry) (staged pages : List ℕ) (changed : List Boo
 pushing_keeps g [] pages changed contents sound exist is = ((frames_given pages changed contents, is, sound_frames g pages changed contents sound exist), tt)
 pushing_keeps g (page ∷ staged) pages changed contents sound exist is = (tt, ((frames_given pages changed contents, is, sound_frames g pages changed contents sound exist), tt))
 
-pub rings_front : RingsKept → (g : Geometry) (changes : List Change) (old new : State) → AreRingsSound g old.image → AllByRecursion (KeepsRings g) changes → LeavesFront g changes old new → LeavesOnly old new (LeavesRings g)
-rings_front kept g changes old new sound all leaves =
-    leaves_weaker old new (IsReached g (IsFrontOf changes) old) (LeavesRings g)
+pub rings_front : (newest : Option Master) → RingsKeptUnder newest → (g : Geometry) (changes : List Change) (old new : State) → AreRingsSoundUnder newest g old.image → AllByRecursion (KeepsRings g) changes → LeavesFront g changes old new → LeavesOnly old new (LeavesRings newest g)
+rings_front newest kept g changes old new sound all leaves =
+    leaves_weaker old new (IsReached g (IsFrontOf changes) old) (LeavesRings newest g)
     (λ s is. kept g is.changes old.image s.image sound (all_front (KeepsRings g) is.changes is.made.0 (subst (AllByRecursion (KeepsRings g)) is.made.1 all)) is.reaches) leaves
 
 -- a site that stays as it is
-pub stays_rings : (g : Geometry) (site : State) → IsQuiet site → AreRingsSound g site.image → LeavesOnly site site (LeavesRings g)
-stays_rings g site quiet sound = no_call site (Leaves (LeavesRings g)) (λ snapshot left. subst (LeavesRings g) (sym (quiet_leaves site snapshot quiet left)) sound)
+pub stays_rings : (newest : Option Master) (g : Geometry) (site : State) → IsQuiet site → AreRingsSoundUnder newest g site.image → LeavesOnly site site (LeavesRings newest g)
+stays_rings newest g site quiet sound = no_call site (Leaves (LeavesRings newest g)) (λ snapshot left. subst (LeavesRings newest g) (sym (quiet_leaves site snapshot quiet left)) sound)

@@ -57,30 +57,26 @@ pub not_forced : (a b : Bool) → a ≡ false → (a && b) ≡ false
 not_forced a b is = ap (λ t. t && b) is
 
 -- One push more.
-pub one_more_push : (g : Geometry) (given given' : ℕ → List ℕ) (wanted b forced : Bool) (list : LogList) (old mid new : State) → (b ≡ true → wanted ≡ true) → (forced ≡ true → wanted ≡ true) → (b ≡ true → forced ≡ false)
-    → ((page : ℕ) → page < g.pages → given' page ≡ given page) → LeavesOnly old mid (LeavesPages g given wanted list old) → LeavesOnly mid new (LeavesPages g given' forced (sealed_if b list) mid)
-    → LeavesOnly old new (LeavesPages g given wanted list old)
-one_more_push g given given' wanted b forced list old mid new had also once same first second =
-    in_sequence old mid new (Leaves (LeavesPages g given wanted list old)) first
-    (leaves_weaker mid new (LeavesPages g given' forced (sealed_if b list) mid) (LeavesPages g given wanted list old) (λ s p. record {
-      log = blocks s b refl p.log;
-      rings = λ ring is_log is_flash. units_then (shape_of g ring) old.image mid.image s.image (there.rings ring is_log is_flash) (p.rings ring is_log is_flash);
-      queue = p.queue;
-      clean = p.clean;
-      versions = λ page exists. elim (p.versions page exists) [
-        | inl kept ↦ elim (there.versions page exists) [
-          | inl before ↦ inl (kept ∙ before)
-          | inr own ↦ inr (kept ∙ own)
-        ]
-        | inr own ↦ inr (own ∙ same page exists)
-      ];
-    }) second)
-  where
-    there : LeavesPages g given wanted list old (snapshot_of mid)
-    there = holds_now old mid (LeavesPages g given wanted list old) first
 
-    blocks : (s : Snapshot) (c : Bool) → b ≡ c → LeavesLog g forced (sealed_if b list) mid.told s → LeavesLog g wanted list old.told s
-    blocks s c is log = record { told = log.told ∙ there.log.told; blocks = at c is (subst (λ (d : Bool). LeavesLog g forced (sealed_if d list) mid.told s) is log) }
+-- What is left behind it, or at a moment of it.
+pub one_more_pages : (g : Geometry) (given given' : ℕ → List ℕ) (wanted b forced : Bool) (list : LogList) (old mid : State) (s : Snapshot) → (b ≡ true → wanted ≡ true) → (forced ≡ true → wanted ≡ true) → (b ≡ true → forced ≡ false)
+    → ((page : ℕ) → page < g.pages → given' page ≡ given page) → LeavesPages g given wanted list old (snapshot_of mid) → LeavesPages g given' forced (sealed_if b list) mid s → LeavesPages g given wanted list old s
+one_more_pages g given given' wanted b forced list old mid s had also once same there p = record {
+  log = blocks b refl p.log;
+  rings = λ ring is_log is_flash. units_then (shape_of g ring) old.image mid.image s.image (there.rings ring is_log is_flash) (p.rings ring is_log is_flash);
+  queue = p.queue;
+  clean = p.clean;
+  versions = λ page exists. elim (p.versions page exists) [
+    | inl kept ↦ elim (there.versions page exists) [
+      | inl before ↦ inl (kept ∙ before)
+      | inr own ↦ inr (kept ∙ own)
+    ]
+    | inr own ↦ inr (own ∙ same page exists)
+  ];
+}
+  where
+    blocks : (c : Bool) → b ≡ c → LeavesLog g forced (sealed_if b list) mid.told s → LeavesLog g wanted list old.told s
+    blocks c is log = record { told = log.told ∙ there.log.told; blocks = at c is (subst (λ (d : Bool). LeavesLog g forced (sealed_if d list) mid.told s) is log) }
       where
         at : (d : Bool) → b ≡ d → LeavesLog g forced (sealed_if d list) mid.told s → HasBlocks g list.first list.blocks s.image ⊎ ((wanted ≡ true) × HasBlocks g list.first (list.blocks ++ list.tail ∷ []) s.image)
         at true is left = elim left.blocks [
@@ -91,6 +87,14 @@ one_more_push g given given' wanted b forced list old mid new had also once same
           | inl has ↦ inl has
           | inr both ↦ inr (also both.0, both.1)
         ]
+
+pub one_more_push : (g : Geometry) (given given' : ℕ → List ℕ) (wanted b forced : Bool) (list : LogList) (old mid new : State) → (b ≡ true → wanted ≡ true) → (forced ≡ true → wanted ≡ true) → (b ≡ true → forced ≡ false)
+    → ((page : ℕ) → page < g.pages → given' page ≡ given page) → LeavesOnly old mid (LeavesPages g given wanted list old) → LeavesOnly mid new (LeavesPages g given' forced (sealed_if b list) mid)
+    → LeavesOnly old new (LeavesPages g given wanted list old)
+one_more_push g given given' wanted b forced list old mid new had also once same first second =
+    in_sequence old mid new (Leaves (LeavesPages g given wanted list old)) first
+    (leaves_weaker mid new (LeavesPages g given' forced (sealed_if b list) mid) (LeavesPages g given wanted list old)
+    (λ s p. one_more_pages g given given' wanted b forced list old mid s had also once same (holds_now old mid (LeavesPages g given wanted list old) first) p) second)
 
 -- where there is a tail, there is no block more
 pub kept_block : (h0 h1 : ℕ) (t0 t1 : Bool) → 512 * (h1 + cond t1 1 0) ≡ 512 * (h0 + cond t0 1 0) → h0 ≤ h1 → t1 ≡ true → h0 ≡ h1

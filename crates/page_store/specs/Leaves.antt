@@ -1,5 +1,5 @@
 -- What a call on pages leaves.
-use Rattle.std.specs.Prelude.{◌≡◌, ◌≢◌, ◌⊎◌, ℕ, ◌<◌, Bool, true, false, List, length, [], ◌∷◌, Some, slice_index, slice_index_or, Contains}
+use Rattle.std.specs.Prelude.{◌≡◌, ◌≢◌, ◌⊎◌, ℕ, ◌<◌, Bool, true, false, List, length, [], ◌∷◌, Some, slice_index, slice_index_or, Contains, Option}
 use Rattle.site.specs.declared.geometry.Geometry.{Geometry}
 use Rattle.site.specs.State.{State, Image, Snapshot}
 use Rattle.image_changes.specs.Rings.{RingName, Blocks, Groups, shape_of, KeepsUnits}
@@ -11,7 +11,8 @@ use Rattle.log_store.specs.declared.store.LogStore.{LogStore}
 use Rattle.log_store.specs.LogList.{LogList}
 use Rattle.log_store.specs.Held as log_held
 use Rattle.log_store.specs.Held.{LeavesLog}
-use Rattle.image_meaning.specs.Beside.{AreRingsSound}
+use Rattle.checkpoint.specs.declared.master.Master.{Master}
+use Rattle.image_meaning.specs.Beside.{AreRingsSoundUnder}
 use Rattle.page_store.specs.declared.store.PageStore.{PageStore}
 use Rattle.page_store.specs.Held.{Fits, current}
 
@@ -37,9 +38,9 @@ pub record LeavesPages (g : Geometry) (contents : ℕ → List ℕ) (sealing : B
   pub clean : IsCleanOn g snapshot.image
   pub versions : (page : ℕ) → page < g.pages → (version_on g snapshot.image page ≡ version_on g old.image page) ⊎ (version_on g snapshot.image page ≡ contents page)
 
--- the rings are sound
-abbrev pub LeavesRings : Geometry → Snapshot → Type 0
-LeavesRings g snapshot = AreRingsSound g snapshot.image
+-- the rings are sound under a newest master
+abbrev pub LeavesRings : Option Master → Geometry → Snapshot → Type 0
+LeavesRings newest g snapshot = AreRingsSoundUnder newest g snapshot.image
 
 -- the pages given have these contents
 pub record AreGiven (given : ℕ → List ℕ) (pages : List ℕ) (contents : List (List ℕ)) : Type 0 where

@@ -1,9 +1,9 @@
 // Changed pages are pushed, until none is changed.
-ghost use Rattle.std.specs.Prelude.{nat_lt, ◌≡◌, ◌≢◌, ◌+◌, ◌*◌, ◌^◌, ◌<◌, ◌≤◌, ◌++◌, ◌∷◌, ℕ, List, [], length, map, Bool, true, false, if◌then◌else◌, IsTrue, IfOk, OnOk, OnErr, IfErr, IsErrOf, IsSome, Some, slice_index_or};
+ghost use Rattle.std.specs.Prelude.{nat_lt, ◌≡◌, ◌≢◌, ◌+◌, ◌*◌, ◌^◌, ◌<◌, ◌≤◌, ◌++◌, ◌∷◌, ℕ, List, [], length, map, Bool, true, false, if◌then◌else◌, IsTrue, IfOk, OnOk, OnErr, IfErr, IsErrOf, IsSome, Some, slice_index_or, Option};
 ghost use Rattle.std.specs.List.{All};
 ghost use Rattle.site.specs.declared.outside.Dev.{Dev};
 ghost use Rattle.site.specs.declared.outside.Stop.{Stop};
-ghost use Rattle.site.specs.State.{State, reads_of, IsQuiet};
+ghost use Rattle.site.specs.State.{State, reads_of, IsQuiet, snapshot_of};
 ghost use Rattle.site.specs.Calls.{Goes, FaultRose};
 ghost use Rattle.site.specs.Moments.{LeavesOnly};
 ghost use Rattle.image_changes.specs.Changes.{Reaches};
@@ -18,15 +18,16 @@ ghost use Rattle.buffer_pool.specs.Frames.{IsPool, frame_of};
 ghost use Rattle.log_store.specs.declared.store.LogStore.{LogStore};
 ghost use Rattle.log_store.specs.LogList.{LogList, sealed_if};
 ghost use Rattle.log_store.specs.Held as log_held;
-ghost use Rattle.log_store.specs.Held.{has_tail, HasRoom};
-ghost use Rattle.image_meaning.specs.Beside.{AreRingsSound};
+ghost use Rattle.log_store.specs.Held.{has_tail, end_of, HasRoom};
+ghost use Rattle.checkpoint.specs.declared.master.Master.{Master};
+ghost use Rattle.image_meaning.specs.Beside.{AreRingsSoundUnder};
 ghost use Rattle.page_store.specs.Held.{IsStore, MayGoOn, current};
-ghost use Rattle.page_store.specs.Caching.{cache_of, rules};
-ghost use Rattle.page_store.specs.Ahead.{IsAhead, AreLogged, LeavesSealed, end_forced, forces};
+ghost use Rattle.page_store.specs.Caching.{next_group, cache_of, rules};
+ghost use Rattle.page_store.specs.Ahead.{IsAhead, AreLogged, AreSealed, LeavesSealed, end_forced, forces};
 ghost use Rattle.page_store.specs.Leaves.{AreReady, LeavesPages, LeavesRings, KeepsCurrent};
 ghost use Rattle.page_store.specs.Flushing.{chosen, mark_for, content_in, cleared_all, flushed_first, flushed_contents};
 ghost use Rattle.page_store.specs.Changing.{standing, push_changes, flush_changes};
-ghost use Rattle.page_store.specs.Stopping.{MayStop};
+ghost use Rattle.page_store.specs.Stopping.{MayStop, IsLogAtEnd};
 
 use crate::pushing::{NO_MARK, leaving};
 use crate::store::PageStore;
@@ -187,9 +188,9 @@ impl PageStore {
         ensures ahead_moment { (list : LogList) → AreReady self.old log.old list (S.state site.old) → IsQuiet (S.state site.old)
             → IsAhead log.old self.old (S.state site.old).image
             → LeavesOnly (S.state site.old) (S.state site.new) (LeavesSealed self.old.flash.geometry) }
-        ensures rings_moment { (list : LogList) → AreReady self.old log.old list (S.state site.old) → IsQuiet (S.state site.old)
-            → AreRingsSound self.old.flash.geometry (S.state site.old).image
-            → LeavesOnly (S.state site.old) (S.state site.new) (LeavesRings self.old.flash.geometry) }
+        ensures rings_moment { (newest : Option Master) (list : LogList) → AreReady self.old log.old list (S.state site.old) → IsQuiet (S.state site.old)
+            → AreRingsSoundUnder newest self.old.flash.geometry (S.state site.old).image
+            → LeavesOnly (S.state site.old) (S.state site.new) (LeavesRings newest self.old.flash.geometry) }
         ensures front_moment { (list : LogList) → AreReady self.old log.old list (S.state site.old) → IsQuiet (S.state site.old)
             → LeavesFront self.old.flash.geometry (push_changes (standing log.old list self.old) (chosen self.old.pool.frames))
             (S.state site.old) (S.state site.new) }
@@ -198,6 +199,15 @@ impl PageStore {
             (S.state site.old).image (S.state site.new).image) }
         ensures ready { (list : LogList) → AreReady self.old log.old list (S.state site.old)
             → OnOk result (AreReady self.new log.new (sealed_if (forces log.old (flushed_first self.old)) list) (S.state site.new)) }
+        ensures leaves { (list : LogList) → AreReady self.old log.old list (S.state site.old)
+            → OnOk result (LeavesPages self.old.flash.geometry (current self.old (S.state site.old).image)
+            (forces log.old (flushed_first self.old)) list (S.state site.old) (snapshot_of (S.state site.new))) }
+        ensures sealed { (list : LogList) → AreReady self.old log.old list (S.state site.old)
+            → IsAhead log.old self.old (S.state site.old).image
+            → OnOk result (AreSealed self.old.flash.geometry (S.state site.new).image) }
+        ensures rings { (newest : Option Master) (list : LogList) → AreReady self.old log.old list (S.state site.old)
+            → AreRingsSoundUnder newest self.old.flash.geometry (S.state site.old).image
+            → OnOk result (AreRingsSoundUnder newest self.old.flash.geometry (S.state site.new).image) }
         ensures stays_quiet { IsTrue (S.state site.old).honest → IsQuiet (S.state site.old)
             → OnOk result (IsQuiet (S.state site.new)) }
         ensures current { (list : LogList) → AreReady self.old log.old list (S.state site.old)
@@ -223,6 +233,7 @@ impl PageStore {
         ensures log_geometry { log.new.geometry ≡ log.old.geometry }
         ensures kept { log.new.kept ≡ log.old.kept }
         ensures room { OnOk result (has_tail log.new ≡ true → HasRoom log.new) }
+        ensures grows { OnOk result (end_of log.old ≤ end_of log.new) }
         ensures end { OnOk result (end_forced log.new ≡ end_forced log.old) }
         ensures next { OnOk result (log.new.ring.hi
             ≡ (if forces log.old (flushed_first self.old) then log.old.ring.hi + 1 else log.old.ring.hi)) }
@@ -240,6 +251,8 @@ impl PageStore {
         ensures worn_at { IsErrOf result (Stop.Worn Dev.Flash) → self.new.flash.ring.hi ≡ 2 ^ 40 }
         ensures worn_end { (list : LogList) → AreReady self.old log.old list (S.state site.old)
             → IsErrOf result (Stop.Worn Dev.Flash) → IsWorn self.old.flash.geometry (S.state site.new).image }
+        ensures worn_log_end { (list : LogList) → AreReady self.old log.old list (S.state site.old)
+            → IsErrOf result (Stop.Worn Dev.Log) → IsLogAtEnd self.old.flash.geometry (S.state site.new).image }
         ensures never_past { self.old.flash.ring.hi ≡ 2 ^ 40 → OnOk result ⊥ }
         ensures device { (d : Dev) → IsErrOf result (Stop.Device d)
             → FaultRose d (S.state site.old) (S.state site.new) }
@@ -272,9 +285,9 @@ impl PageStore {
         ensures ahead_moment { (list : LogList) → AreReady self.old log.old list (S.state site.old) → IsQuiet (S.state site.old)
             → IsAhead log.old self.old (S.state site.old).image
             → LeavesOnly (S.state site.old) (S.state site.new) (LeavesSealed self.old.flash.geometry) }
-        ensures rings_moment { (list : LogList) → AreReady self.old log.old list (S.state site.old) → IsQuiet (S.state site.old)
-            → AreRingsSound self.old.flash.geometry (S.state site.old).image
-            → LeavesOnly (S.state site.old) (S.state site.new) (LeavesRings self.old.flash.geometry) }
+        ensures rings_moment { (newest : Option Master) (list : LogList) → AreReady self.old log.old list (S.state site.old) → IsQuiet (S.state site.old)
+            → AreRingsSoundUnder newest self.old.flash.geometry (S.state site.old).image
+            → LeavesOnly (S.state site.old) (S.state site.new) (LeavesRings newest self.old.flash.geometry) }
         ensures front_moment { (list : LogList) → AreReady self.old log.old list (S.state site.old) → IsQuiet (S.state site.old)
             → LeavesFront self.old.flash.geometry (push_changes (standing log.old list self.old) (chosen self.old.pool.frames))
             (S.state site.old) (S.state site.new) }
@@ -283,6 +296,15 @@ impl PageStore {
             (S.state site.old).image (S.state site.new).image) }
         ensures ready { (list : LogList) → AreReady self.old log.old list (S.state site.old)
             → OnOk result (AreReady self.new log.new (sealed_if (forces log.old (flushed_first self.old)) list) (S.state site.new)) }
+        ensures leaves { (list : LogList) → AreReady self.old log.old list (S.state site.old)
+            → OnOk result (LeavesPages self.old.flash.geometry (current self.old (S.state site.old).image)
+            (forces log.old (flushed_first self.old)) list (S.state site.old) (snapshot_of (S.state site.new))) }
+        ensures sealed { (list : LogList) → AreReady self.old log.old list (S.state site.old)
+            → IsAhead log.old self.old (S.state site.old).image
+            → OnOk result (AreSealed self.old.flash.geometry (S.state site.new).image) }
+        ensures rings { (newest : Option Master) (list : LogList) → AreReady self.old log.old list (S.state site.old)
+            → AreRingsSoundUnder newest self.old.flash.geometry (S.state site.old).image
+            → OnOk result (AreRingsSoundUnder newest self.old.flash.geometry (S.state site.new).image) }
         ensures stays_quiet { IsTrue (S.state site.old).honest → IsQuiet (S.state site.old)
             → OnOk result (IsQuiet (S.state site.new)) }
         ensures current { (list : LogList) → AreReady self.old log.old list (S.state site.old)
@@ -308,6 +330,7 @@ impl PageStore {
         ensures log_geometry { log.new.geometry ≡ log.old.geometry }
         ensures kept { log.new.kept ≡ log.old.kept }
         ensures room { OnOk result (has_tail log.new ≡ true → HasRoom log.new) }
+        ensures grows { OnOk result (end_of log.old ≤ end_of log.new) }
         ensures end { OnOk result (end_forced log.new ≡ end_forced log.old) }
         ensures next { OnOk result (log.new.ring.hi
             ≡ (if forces log.old (flushed_first self.old) then log.old.ring.hi + 1 else log.old.ring.hi)) }
@@ -325,6 +348,8 @@ impl PageStore {
         ensures worn_at { IsErrOf result (Stop.Worn Dev.Flash) → self.new.flash.ring.hi ≡ 2 ^ 40 }
         ensures worn_end { (list : LogList) → AreReady self.old log.old list (S.state site.old)
             → IsErrOf result (Stop.Worn Dev.Flash) → IsWorn self.old.flash.geometry (S.state site.new).image }
+        ensures worn_log_end { (list : LogList) → AreReady self.old log.old list (S.state site.old)
+            → IsErrOf result (Stop.Worn Dev.Log) → IsLogAtEnd self.old.flash.geometry (S.state site.new).image }
         ensures never_past { self.old.flash.ring.hi ≡ 2 ^ 40 → OnOk result ⊥ }
         ensures device { (d : Dev) → IsErrOf result (Stop.Device d)
             → FaultRose d (S.state site.old) (S.state site.new) }
@@ -355,9 +380,9 @@ impl PageStore {
         ensures ahead_moment { (list : LogList) → AreReady self.old log.old list (S.state site.old) → IsQuiet (S.state site.old)
             → IsAhead log.old self.old (S.state site.old).image
             → LeavesOnly (S.state site.old) (S.state site.new) (LeavesSealed self.old.flash.geometry) }
-        ensures rings_moment { (list : LogList) → AreReady self.old log.old list (S.state site.old) → IsQuiet (S.state site.old)
-            → AreRingsSound self.old.flash.geometry (S.state site.old).image
-            → LeavesOnly (S.state site.old) (S.state site.new) (LeavesRings self.old.flash.geometry) }
+        ensures rings_moment { (newest : Option Master) (list : LogList) → AreReady self.old log.old list (S.state site.old) → IsQuiet (S.state site.old)
+            → AreRingsSoundUnder newest self.old.flash.geometry (S.state site.old).image
+            → LeavesOnly (S.state site.old) (S.state site.new) (LeavesRings newest self.old.flash.geometry) }
         ensures front_moment { (list : LogList) → AreReady self.old log.old list (S.state site.old) → IsQuiet (S.state site.old)
             → LeavesFront self.old.flash.geometry (flush_changes log.old list self.old)
             (S.state site.old) (S.state site.new) }
@@ -366,6 +391,15 @@ impl PageStore {
             (S.state site.old).image (S.state site.new).image) }
         ensures ready { (list : LogList) → AreReady self.old log.old list (S.state site.old)
             → OnOk result (AreReady self.new log.new (sealed_if (nat_lt log.old.ring.hi log.new.ring.hi) list) (S.state site.new)) }
+        ensures leaves { (list : LogList) → AreReady self.old log.old list (S.state site.old)
+            → OnOk result (LeavesPages self.old.flash.geometry (current self.old (S.state site.old).image)
+            (forces log.old (flushed_contents self.old)) list (S.state site.old) (snapshot_of (S.state site.new))) }
+        ensures sealed { (list : LogList) → AreReady self.old log.old list (S.state site.old)
+            → IsAhead log.old self.old (S.state site.old).image
+            → OnOk result (AreSealed self.old.flash.geometry (S.state site.new).image) }
+        ensures rings { (newest : Option Master) (list : LogList) → AreReady self.old log.old list (S.state site.old)
+            → AreRingsSoundUnder newest self.old.flash.geometry (S.state site.old).image
+            → OnOk result (AreRingsSoundUnder newest self.old.flash.geometry (S.state site.new).image) }
         ensures stays_quiet { IsTrue (S.state site.old).honest → IsQuiet (S.state site.old)
             → OnOk result (IsQuiet (S.state site.new)) }
         ensures current { (list : LogList) → AreReady self.old log.old list (S.state site.old)
@@ -387,12 +421,17 @@ impl PageStore {
         ensures log_geometry { log.new.geometry ≡ log.old.geometry }
         ensures kept { log.new.kept ≡ log.old.kept }
         ensures room { OnOk result (has_tail log.new ≡ true → HasRoom log.new) }
+        ensures grows { OnOk result (end_of log.old ≤ end_of log.new) }
         ensures end { OnOk result (end_forced log.new ≡ end_forced log.old) }
         ensures next { OnOk result (log.new.ring.hi ≡ (if forces log.old (flushed_contents self.old)
             then log.old.ring.hi + 1 else log.old.ring.hi)) }
         ensures goes { Goes (S.state site.old) (S.state site.new) }
         ensures reads { (S.state site.new).flash_reads ≤ (S.state site.old).flash_reads
             + 8 * changed_count (cache_of self.old).pool }
+        ensures asked { (S.state site.new).flash_reads + 8 * next_group (cache_of self.old)
+            ≤ (S.state site.old).flash_reads + 8 * next_group (flushed (rules self.old) (cache_of self.old)) }
+        ensures overflows { IsErrOf result (Stop.Worn Dev.Flash)
+            → 2 ^ 40 < next_group (flushed (rules self.old) (cache_of self.old)) }
         ensures others { (d : Dev) → d ≢ Dev.Flash
             → reads_of d (S.state site.new) ≡ reads_of d (S.state site.old) }
 
@@ -402,6 +441,8 @@ impl PageStore {
         ensures worn_flash { IsErrOf result (Stop.Worn Dev.Flash) → self.new.flash.ring.hi ≡ 2 ^ 40 }
         ensures worn_end { (list : LogList) → AreReady self.old log.old list (S.state site.old)
             → IsErrOf result (Stop.Worn Dev.Flash) → IsWorn self.old.flash.geometry (S.state site.new).image }
+        ensures worn_log_end { (list : LogList) → AreReady self.old log.old list (S.state site.old)
+            → IsErrOf result (Stop.Worn Dev.Log) → IsLogAtEnd self.old.flash.geometry (S.state site.new).image }
         ensures never_past { wants_flush (cache_of self.old) ≡ true → self.old.flash.ring.hi ≡ 2 ^ 40
             → OnOk result ⊥ }
         ensures device { (d : Dev) → IsErrOf result (Stop.Device d)

@@ -11,6 +11,7 @@ ghost use Rattle.image_changes.specs.Reached.{LeavesFront};
 ghost use Rattle.log_store.specs.LogList.{LogList, sealed_if, changes_if};
 ghost use Rattle.log_store.specs.Held.{MayGoOn, HasRoom, has_tail, end_of, Fits, Finds, Holds, LeavesLog};
 ghost use Rattle.page_store.specs.Ahead.{IsLogged, end_now, end_forced, is_unsealed, forces};
+ghost use Rattle.page_store.specs.Stopping.{IsLogAtEnd};
 
 use log_store::LogStore;
 use site::{Site, Stop};
@@ -92,6 +93,8 @@ pub fn force_for<S: Site>(site: &mut S, log: &mut LogStore, contents: &[Page]) -
     // When each answer comes.
     ensures worn { IsErrOf result (Stop.Worn Dev.Log)
         ↔ ((forces log.old contents.now ≡ true) × (log.old.ring.hi ≡ 2 ^ 40)) }
+    ensures worn_end { Finds log.old (S.state site.old) → IsErrOf result (Stop.Worn Dev.Log)
+        → IsLogAtEnd log.old.geometry (S.state site.new).image }
     ensures unchanged { forces log.old contents.now ≡ false
         → (site.new ≡ site.old) × (log.new ≡ log.old) }
     ensures device { IsErrOf result (Stop.Device Dev.Log)

@@ -1,5 +1,5 @@
 // Pages leave the pool for the queue on flash.
-ghost use Rattle.std.specs.Prelude.{◌≡◌, ◌≢◌, ◌↔◌, ◌+◌, ◌*◌, ◌^◌, ◌<◌, ◌≤◌, ◌++◌, ◌∷◌, ◌&&◌, ℕ, List, [], length, map, take, reverse, Bool, true, false, if◌then◌else◌, IsTrue, OnOk, OnErr, IfErr, IsErrOf, Some, None, AllPairs};
+ghost use Rattle.std.specs.Prelude.{◌≡◌, ◌≢◌, ◌↔◌, ◌+◌, ◌*◌, ◌^◌, ◌<◌, ◌≤◌, ◌++◌, ◌∷◌, ◌&&◌, ℕ, List, [], length, map, take, reverse, Bool, true, false, if◌then◌else◌, IsTrue, OnOk, OnErr, IfErr, IsErrOf, Some, None, AllPairs, Option};
 ghost use Rattle.std.specs.List.{All, AllByRecursion};
 ghost use Rattle.site.specs.declared.outside.Dev.{Dev};
 ghost use Rattle.site.specs.declared.outside.Stop.{Stop};
@@ -18,13 +18,14 @@ ghost use Rattle.log_store.specs.declared.store.LogStore.{LogStore};
 ghost use Rattle.log_store.specs.LogList.{LogList, sealed_if};
 ghost use Rattle.log_store.specs.Held as log_held;
 ghost use Rattle.log_store.specs.Held.{has_tail, end_of, HasRoom};
-ghost use Rattle.image_meaning.specs.Beside.{AreRingsSound};
+ghost use Rattle.checkpoint.specs.declared.master.Master.{Master};
+ghost use Rattle.image_meaning.specs.Beside.{AreRingsSoundUnder};
 ghost use Rattle.page_store.specs.Held.{MayGoOn, current};
 ghost use Rattle.page_store.specs.Caching.{cache_of, rules, is_full, is_pushed};
 ghost use Rattle.page_store.specs.Ahead.{IsAhead, IsLogged, AreLogged, AreSealed, LeavesSealed, end_forced, forces, evicted, pushed_for_room};
 ghost use Rattle.page_store.specs.Leaves.{AreReady, LeavesPages, LeavesRings, AreGiven, Gives, AreChanged, KeepsCurrent};
 ghost use Rattle.page_store.specs.Changing.{given_changes, eviction_changes, room_changes};
-ghost use Rattle.page_store.specs.Stopping.{MayStop};
+ghost use Rattle.page_store.specs.Stopping.{MayStop, IsLogAtEnd};
 
 use crate::forcing::force_for;
 use crate::store::PageStore;
@@ -32,7 +33,7 @@ use buffer_pool::frames_of_pages;
 use byte_fields::Mark;
 use flash_cache::{FlashCache, unframed_is_disk};
 use image_changes::{changes_add_up, fronts_add_up, ring_kept};
-use image_meaning::rings_kept;
+use image_meaning::rings_kept_under;
 use log_store::{LogStore, stays_beside};
 use second_chance::{Plan, plan_evict};
 use site::{Site, Stop};
@@ -112,10 +113,10 @@ impl PageStore {
             → AreSealed self.old.flash.geometry (S.state site.old).image
             → AllByRecursion (IsLogged (end_forced log.old)) contents.now
             → LeavesOnly (S.state site.old) (S.state site.new) (LeavesSealed self.old.flash.geometry) }
-        ensures rings_moment { (list : LogList) → AreReady self.old log.old list (S.state site.old) → IsQuiet (S.state site.old)
-            → AreRingsSound self.old.flash.geometry (S.state site.old).image
+        ensures rings_moment { (newest : Option Master) (list : LogList) → AreReady self.old log.old list (S.state site.old) → IsQuiet (S.state site.old)
+            → AreRingsSoundUnder newest self.old.flash.geometry (S.state site.old).image
             → AllByRecursion IsSound contents.now
-            → LeavesOnly (S.state site.old) (S.state site.new) (LeavesRings self.old.flash.geometry) }
+            → LeavesOnly (S.state site.old) (S.state site.new) (LeavesRings newest self.old.flash.geometry) }
         ensures front_moment { (list : LogList) → AreReady self.old log.old list (S.state site.old) → IsQuiet (S.state site.old)
             → LeavesFront self.old.flash.geometry (given_changes log.old list self.old pages.now changed.now contents.now)
             (S.state site.old) (S.state site.new) }
@@ -141,10 +142,10 @@ impl PageStore {
             → AreSealed self.old.flash.geometry (S.state site.old).image
             → AllByRecursion (IsLogged (end_forced log.old)) contents.now
             → OnOk result (AreSealed self.old.flash.geometry (S.state site.new).image) }
-        ensures rings { (list : LogList) → AreReady self.old log.old list (S.state site.old)
-            → AreRingsSound self.old.flash.geometry (S.state site.old).image
+        ensures rings { (newest : Option Master) (list : LogList) → AreReady self.old log.old list (S.state site.old)
+            → AreRingsSoundUnder newest self.old.flash.geometry (S.state site.old).image
             → AllByRecursion IsSound contents.now
-            → OnOk result (AreRingsSound self.old.flash.geometry (S.state site.new).image) }
+            → OnOk result (AreRingsSoundUnder newest self.old.flash.geometry (S.state site.new).image) }
         ensures stays_quiet { IsTrue (S.state site.old).honest → IsQuiet (S.state site.old)
             → OnOk result (IsQuiet (S.state site.new)) }
 
@@ -176,6 +177,8 @@ impl PageStore {
         ensures worn_at { IsErrOf result (Stop.Worn Dev.Flash) → self.new.flash.ring.hi ≡ 2 ^ 40 }
         ensures worn_end { (list : LogList) → AreReady self.old log.old list (S.state site.old)
             → IsErrOf result (Stop.Worn Dev.Flash) → IsWorn self.old.flash.geometry (S.state site.new).image }
+        ensures worn_log_end { (list : LogList) → AreReady self.old log.old list (S.state site.old)
+            → IsErrOf result (Stop.Worn Dev.Log) → IsLogAtEnd self.old.flash.geometry (S.state site.new).image }
         ensures never_past { self.old.flash.ring.hi ≡ 2 ^ 40 → OnOk result ⊥ }
         ensures device { (d : Dev) → IsErrOf result (Stop.Device d)
             → FaultRose d (S.state site.old) (S.state site.new) }
@@ -186,7 +189,7 @@ impl PageStore {
         ring_kept();
         changes_add_up();
         fronts_add_up();
-        rings_kept();
+        rings_kept_under();
         match force_for(site, log, contents) {
             Ok(()) => self.flash.push_group(site, plan, pages, changed, contents),
             Err(stop) => Err(stop),
@@ -207,9 +210,9 @@ impl PageStore {
         ensures ahead_moment { (list : LogList) → AreReady self.old log.old list (S.state site.old) → IsQuiet (S.state site.old)
             → IsAhead log.old self.old (S.state site.old).image
             → LeavesOnly (S.state site.old) (S.state site.new) (LeavesSealed self.old.flash.geometry) }
-        ensures rings_moment { (list : LogList) → AreReady self.old log.old list (S.state site.old) → IsQuiet (S.state site.old)
-            → AreRingsSound self.old.flash.geometry (S.state site.old).image
-            → LeavesOnly (S.state site.old) (S.state site.new) (LeavesRings self.old.flash.geometry) }
+        ensures rings_moment { (newest : Option Master) (list : LogList) → AreReady self.old log.old list (S.state site.old) → IsQuiet (S.state site.old)
+            → AreRingsSoundUnder newest self.old.flash.geometry (S.state site.old).image
+            → LeavesOnly (S.state site.old) (S.state site.new) (LeavesRings newest self.old.flash.geometry) }
         ensures front_moment { (list : LogList) → AreReady self.old log.old list (S.state site.old) → IsQuiet (S.state site.old)
             → LeavesFront self.old.flash.geometry (eviction_changes log.old list self.old)
             (S.state site.old) (S.state site.new) }
@@ -224,9 +227,9 @@ impl PageStore {
         ensures sealed { (list : LogList) → AreReady self.old log.old list (S.state site.old)
             → IsAhead log.old self.old (S.state site.old).image
             → OnOk result (AreSealed self.old.flash.geometry (S.state site.new).image) }
-        ensures rings { (list : LogList) → AreReady self.old log.old list (S.state site.old)
-            → AreRingsSound self.old.flash.geometry (S.state site.old).image
-            → OnOk result (AreRingsSound self.old.flash.geometry (S.state site.new).image) }
+        ensures rings { (newest : Option Master) (list : LogList) → AreReady self.old log.old list (S.state site.old)
+            → AreRingsSoundUnder newest self.old.flash.geometry (S.state site.old).image
+            → OnOk result (AreRingsSoundUnder newest self.old.flash.geometry (S.state site.new).image) }
         ensures stays_quiet { IsTrue (S.state site.old).honest → IsQuiet (S.state site.old)
             → OnOk result (IsQuiet (S.state site.new)) }
         ensures current { (list : LogList) → AreReady self.old log.old list (S.state site.old)
@@ -268,6 +271,8 @@ impl PageStore {
             → (is_pushed (cache_of self.old) ≡ true) × (self.old.flash.ring.hi ≡ 2 ^ 40) }
         ensures worn_end { (list : LogList) → AreReady self.old log.old list (S.state site.old)
             → IsErrOf result (Stop.Worn Dev.Flash) → IsWorn self.old.flash.geometry (S.state site.new).image }
+        ensures worn_log_end { (list : LogList) → AreReady self.old log.old list (S.state site.old)
+            → IsErrOf result (Stop.Worn Dev.Log) → IsLogAtEnd self.old.flash.geometry (S.state site.new).image }
         ensures never_past { is_pushed (cache_of self.old) ≡ true → self.old.flash.ring.hi ≡ 2 ^ 40
             → OnOk result ⊥ }
         ensures device { (d : Dev) → IsErrOf result (Stop.Device d)
@@ -305,9 +310,9 @@ impl PageStore {
         ensures ahead_moment { (list : LogList) → AreReady self.old log.old list (S.state site.old) → IsQuiet (S.state site.old)
             → IsAhead log.old self.old (S.state site.old).image
             → LeavesOnly (S.state site.old) (S.state site.new) (LeavesSealed self.old.flash.geometry) }
-        ensures rings_moment { (list : LogList) → AreReady self.old log.old list (S.state site.old) → IsQuiet (S.state site.old)
-            → AreRingsSound self.old.flash.geometry (S.state site.old).image
-            → LeavesOnly (S.state site.old) (S.state site.new) (LeavesRings self.old.flash.geometry) }
+        ensures rings_moment { (newest : Option Master) (list : LogList) → AreReady self.old log.old list (S.state site.old) → IsQuiet (S.state site.old)
+            → AreRingsSoundUnder newest self.old.flash.geometry (S.state site.old).image
+            → LeavesOnly (S.state site.old) (S.state site.new) (LeavesRings newest self.old.flash.geometry) }
         ensures front_moment { (list : LogList) → AreReady self.old log.old list (S.state site.old) → IsQuiet (S.state site.old)
             → LeavesFront self.old.flash.geometry (room_changes log.old list self.old)
             (S.state site.old) (S.state site.new) }
@@ -322,9 +327,9 @@ impl PageStore {
         ensures sealed { (list : LogList) → AreReady self.old log.old list (S.state site.old)
             → IsAhead log.old self.old (S.state site.old).image
             → OnOk result (AreSealed self.old.flash.geometry (S.state site.new).image) }
-        ensures rings { (list : LogList) → AreReady self.old log.old list (S.state site.old)
-            → AreRingsSound self.old.flash.geometry (S.state site.old).image
-            → OnOk result (AreRingsSound self.old.flash.geometry (S.state site.new).image) }
+        ensures rings { (newest : Option Master) (list : LogList) → AreReady self.old log.old list (S.state site.old)
+            → AreRingsSoundUnder newest self.old.flash.geometry (S.state site.old).image
+            → OnOk result (AreRingsSoundUnder newest self.old.flash.geometry (S.state site.new).image) }
         ensures stays_quiet { IsTrue (S.state site.old).honest → IsQuiet (S.state site.old)
             → OnOk result (IsQuiet (S.state site.new)) }
         ensures current { (list : LogList) → AreReady self.old log.old list (S.state site.old)
@@ -365,6 +370,8 @@ impl PageStore {
             → ((is_full self.old && is_pushed (cache_of self.old)) ≡ true) × (self.old.flash.ring.hi ≡ 2 ^ 40) }
         ensures worn_end { (list : LogList) → AreReady self.old log.old list (S.state site.old)
             → IsErrOf result (Stop.Worn Dev.Flash) → IsWorn self.old.flash.geometry (S.state site.new).image }
+        ensures worn_log_end { (list : LogList) → AreReady self.old log.old list (S.state site.old)
+            → IsErrOf result (Stop.Worn Dev.Log) → IsLogAtEnd self.old.flash.geometry (S.state site.new).image }
         ensures never_past { (is_full self.old && is_pushed (cache_of self.old)) ≡ true → self.old.flash.ring.hi ≡ 2 ^ 40
             → OnOk result ⊥ }
         ensures device { (d : Dev) → IsErrOf result (Stop.Device d)

@@ -1,5 +1,5 @@
 // Pages come into the pool.
-ghost use Rattle.std.specs.Prelude.{None, length, ◌↔◌, ◌^◌, ◌&&◌, ◌≡◌, ◌≢◌, ◌⊎◌, ◌+◌, ◌≤◌, ◌<◌, Bool, true, false, if◌then◌else◌, IsTrue, IfOk, OnOk, OnErr, IfErr, IsErrOf};
+ghost use Rattle.std.specs.Prelude.{None, length, ◌↔◌, ◌^◌, ◌&&◌, ◌≡◌, ◌≢◌, ◌⊎◌, ◌+◌, ◌≤◌, ◌<◌, Bool, true, false, if◌then◌else◌, IsTrue, IfOk, OnOk, OnErr, IfErr, IsErrOf, Option};
 ghost use Rattle.site.specs.declared.outside.Dev.{Dev};
 ghost use Rattle.site.specs.declared.outside.Stop.{Stop};
 ghost use Rattle.site.specs.State.{State, IsQuiet, snapshot_of};
@@ -16,13 +16,14 @@ ghost use Rattle.buffer_pool.specs.Frames.{frame_of, front_of};
 ghost use Rattle.log_store.specs.LogList.{LogList, sealed_if};
 ghost use Rattle.log_store.specs.Held as log_held;
 ghost use Rattle.log_store.specs.Held.{has_tail, end_of, HasRoom};
-ghost use Rattle.image_meaning.specs.Beside.{AreRingsSound};
+ghost use Rattle.checkpoint.specs.declared.master.Master.{Master};
+ghost use Rattle.image_meaning.specs.Beside.{AreRingsSoundUnder};
 ghost use Rattle.page_store.specs.Held.{MayGoOn, Fits, current};
 ghost use Rattle.page_store.specs.Caching.{cache_of, is_full, is_pushed, with_way};
 ghost use Rattle.page_store.specs.Ahead.{AreSealed, IsAhead, LeavesSealed, end_forced, forces, pushed_for_room};
 ghost use Rattle.page_store.specs.Leaves.{AreReady, LeavesPages, LeavesRings, KeepsCurrent, PutsIn};
 ghost use Rattle.page_store.specs.Changing.{room_changes};
-ghost use Rattle.page_store.specs.Stopping.{MayStop};
+ghost use Rattle.page_store.specs.Stopping.{MayStop, IsLogAtEnd};
 
 use crate::store::PageStore;
 use disk_pages::{PAGE_LEN, read_page};
@@ -178,9 +179,9 @@ impl PageStore {
         ensures ahead_moment { (list : LogList) → AreReady self.old log.old list (S.state site.old) → IsQuiet (S.state site.old)
             → IsAhead log.old self.old (S.state site.old).image
             → LeavesOnly (S.state site.old) (S.state site.new) (LeavesSealed self.old.flash.geometry) }
-        ensures rings_moment { (list : LogList) → AreReady self.old log.old list (S.state site.old) → IsQuiet (S.state site.old)
-            → AreRingsSound self.old.flash.geometry (S.state site.old).image
-            → LeavesOnly (S.state site.old) (S.state site.new) (LeavesRings self.old.flash.geometry) }
+        ensures rings_moment { (newest : Option Master) (list : LogList) → AreReady self.old log.old list (S.state site.old) → IsQuiet (S.state site.old)
+            → AreRingsSoundUnder newest self.old.flash.geometry (S.state site.old).image
+            → LeavesOnly (S.state site.old) (S.state site.new) (LeavesRings newest self.old.flash.geometry) }
         ensures front_moment { (list : LogList) → AreReady self.old log.old list (S.state site.old) → IsQuiet (S.state site.old)
             → LeavesFront self.old.flash.geometry (room_changes log.old list self.old)
             (S.state site.old) (S.state site.new) }
@@ -195,9 +196,9 @@ impl PageStore {
         ensures sealed { (list : LogList) → AreReady self.old log.old list (S.state site.old)
             → IsAhead log.old self.old (S.state site.old).image
             → OnOk result (AreSealed self.old.flash.geometry (S.state site.new).image) }
-        ensures rings { (list : LogList) → AreReady self.old log.old list (S.state site.old)
-            → AreRingsSound self.old.flash.geometry (S.state site.old).image
-            → OnOk result (AreRingsSound self.old.flash.geometry (S.state site.new).image) }
+        ensures rings { (newest : Option Master) (list : LogList) → AreReady self.old log.old list (S.state site.old)
+            → AreRingsSoundUnder newest self.old.flash.geometry (S.state site.old).image
+            → OnOk result (AreRingsSoundUnder newest self.old.flash.geometry (S.state site.new).image) }
         ensures stays_quiet { IsTrue (S.state site.old).honest → IsQuiet (S.state site.old)
             → OnOk result (IsQuiet (S.state site.new)) }
         ensures current { (list : LogList) → AreReady self.old log.old list (S.state site.old)
@@ -240,6 +241,8 @@ impl PageStore {
             → ((is_full self.old && is_pushed (cache_of self.old)) ≡ true) × (self.old.flash.ring.hi ≡ 2 ^ 40) }
         ensures worn_end { (list : LogList) → AreReady self.old log.old list (S.state site.old)
             → IsErrOf result (Stop.Worn Dev.Flash) → IsWorn self.old.flash.geometry (S.state site.new).image }
+        ensures worn_log_end { (list : LogList) → AreReady self.old log.old list (S.state site.old)
+            → IsErrOf result (Stop.Worn Dev.Log) → IsLogAtEnd self.old.flash.geometry (S.state site.new).image }
         ensures never_past { (is_full self.old && is_pushed (cache_of self.old)) ≡ true
             → self.old.flash.ring.hi ≡ 2 ^ 40 → OnOk result ⊥ }
         ensures device { (d : Dev) → IsErrOf result (Stop.Device d)

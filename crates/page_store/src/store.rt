@@ -1,5 +1,5 @@
 // The pool, the queue on flash and the disk, joined under the write-ahead rule.
-ghost use Rattle.std.specs.Prelude.{nat_lt, ◌≡◌, ◌≢◌, ◌⊎◌, ◌↔◌, ◌+◌, ◌*◌, ◌^◌, ◌<◌, ◌≤◌, ℕ, List, [], length, Bool, true, false, if◌then◌else◌, IsTrue, IfOk, OnOk, OnErr, IfErr, IsErrOf, Some, None, option_copied, slice_index_or};
+ghost use Rattle.std.specs.Prelude.{nat_lt, ◌≡◌, ◌≢◌, ◌⊎◌, ◌↔◌, ◌+◌, ◌*◌, ◌^◌, ◌<◌, ◌≤◌, ℕ, List, [], length, Bool, true, false, if◌then◌else◌, IsTrue, IfOk, OnOk, OnErr, IfErr, IsErrOf, Some, None, option_copied, slice_index_or, Option};
 ghost use Rattle.std.specs.List.{All, AllPairs, AllByRecursion};
 ghost use Rattle.site.specs.declared.outside.Dev.{Dev};
 ghost use Rattle.site.specs.declared.outside.Stop.{Stop};
@@ -19,14 +19,15 @@ ghost use Rattle.log_store.specs.LogList.{LogList, sealed_if};
 ghost use Rattle.log_store.specs.Held.{has_tail, end_of, HasRoom};
 ghost use Rattle.log_store.specs.declared.store.LogStore.{LogStore};
 ghost use Rattle.log_store.specs.Held as log_held;
-ghost use Rattle.image_meaning.specs.Beside.{AreRingsSound};
+ghost use Rattle.checkpoint.specs.declared.master.Master.{Master};
+ghost use Rattle.image_meaning.specs.Beside.{AreRingsSoundUnder};
 ghost use Rattle.page_store.specs.Held.{IsStore, MayGoOn, Fits, current};
-ghost use Rattle.page_store.specs.Caching.{cache_of, rules, with_change, pushes};
+ghost use Rattle.page_store.specs.Caching.{next_group, cache_of, rules, with_change, pushes};
 ghost use Rattle.page_store.specs.Ahead.{AreSealed, IsAhead, LeavesSealed, end_forced, forces, pushed_by_touch};
 ghost use Rattle.page_store.specs.Leaves.{AreReady, LeavesPages, LeavesRings, KeepsCurrent};
 ghost use Rattle.page_store.specs.Flushing.{flushed_contents};
 ghost use Rattle.page_store.specs.Changing.{touch_changes, flush_changes};
-ghost use Rattle.page_store.specs.Stopping.{MayStop};
+ghost use Rattle.page_store.specs.Stopping.{MayStop, IsLogAtEnd};
 
 use buffer_pool::{Pool, frames_of_pages};
 use byte_fields::VALUE_MAX;
@@ -193,9 +194,9 @@ impl PageStore {
         ensures ahead_moment { (list : LogList) → AreReady self.old log.old list (S.state site.old) → IsQuiet (S.state site.old)
             → IsAhead log.old self.old (S.state site.old).image
             → LeavesOnly (S.state site.old) (S.state site.new) (LeavesSealed self.old.flash.geometry) }
-        ensures rings_moment { (list : LogList) → AreReady self.old log.old list (S.state site.old) → IsQuiet (S.state site.old)
-            → AreRingsSound self.old.flash.geometry (S.state site.old).image
-            → LeavesOnly (S.state site.old) (S.state site.new) (LeavesRings self.old.flash.geometry) }
+        ensures rings_moment { (newest : Option Master) (list : LogList) → AreReady self.old log.old list (S.state site.old) → IsQuiet (S.state site.old)
+            → AreRingsSoundUnder newest self.old.flash.geometry (S.state site.old).image
+            → LeavesOnly (S.state site.old) (S.state site.new) (LeavesRings newest self.old.flash.geometry) }
         ensures front_moment { (list : LogList) → AreReady self.old log.old list (S.state site.old) → IsQuiet (S.state site.old)
             → LeavesFront self.old.flash.geometry (touch_changes log.old list self.old page)
             (S.state site.old) (S.state site.new) }
@@ -210,9 +211,9 @@ impl PageStore {
         ensures sealed { (list : LogList) → AreReady self.old log.old list (S.state site.old)
             → IsAhead log.old self.old (S.state site.old).image
             → OnOk result (AreSealed self.old.flash.geometry (S.state site.new).image) }
-        ensures rings { (list : LogList) → AreReady self.old log.old list (S.state site.old)
-            → AreRingsSound self.old.flash.geometry (S.state site.old).image
-            → OnOk result (AreRingsSound self.old.flash.geometry (S.state site.new).image) }
+        ensures rings { (newest : Option Master) (list : LogList) → AreReady self.old log.old list (S.state site.old)
+            → AreRingsSoundUnder newest self.old.flash.geometry (S.state site.old).image
+            → OnOk result (AreRingsSoundUnder newest self.old.flash.geometry (S.state site.new).image) }
         ensures stays_quiet { IsTrue (S.state site.old).honest → IsQuiet (S.state site.old)
             → OnOk result (IsQuiet (S.state site.new)) }
         ensures current { (list : LogList) → AreReady self.old log.old list (S.state site.old)
@@ -258,6 +259,8 @@ impl PageStore {
             → (pushes (rules self.old) page (cache_of self.old) ≡ true) × (self.old.flash.ring.hi ≡ 2 ^ 40) }
         ensures worn_end { (list : LogList) → AreReady self.old log.old list (S.state site.old)
             → IsErrOf result (Stop.Worn Dev.Flash) → IsWorn self.old.flash.geometry (S.state site.new).image }
+        ensures worn_log_end { (list : LogList) → AreReady self.old log.old list (S.state site.old)
+            → IsErrOf result (Stop.Worn Dev.Log) → IsLogAtEnd self.old.flash.geometry (S.state site.new).image }
         ensures never_past { pushes (rules self.old) page (cache_of self.old) ≡ true
             → self.old.flash.ring.hi ≡ 2 ^ 40 → OnOk result ⊥ }
         ensures device { (d : Dev) → IsErrOf result (Stop.Device d)
@@ -293,9 +296,9 @@ impl PageStore {
         ensures ahead_moment { (list : LogList) → AreReady self.old log.old list (S.state site.old) → IsQuiet (S.state site.old)
             → IsAhead log.old self.old (S.state site.old).image
             → LeavesOnly (S.state site.old) (S.state site.new) (LeavesSealed self.old.flash.geometry) }
-        ensures rings_moment { (list : LogList) → AreReady self.old log.old list (S.state site.old) → IsQuiet (S.state site.old)
-            → AreRingsSound self.old.flash.geometry (S.state site.old).image
-            → LeavesOnly (S.state site.old) (S.state site.new) (LeavesRings self.old.flash.geometry) }
+        ensures rings_moment { (newest : Option Master) (list : LogList) → AreReady self.old log.old list (S.state site.old) → IsQuiet (S.state site.old)
+            → AreRingsSoundUnder newest self.old.flash.geometry (S.state site.old).image
+            → LeavesOnly (S.state site.old) (S.state site.new) (LeavesRings newest self.old.flash.geometry) }
         ensures front_moment { (list : LogList) → AreReady self.old log.old list (S.state site.old) → IsQuiet (S.state site.old)
             → LeavesFront self.old.flash.geometry (flush_changes log.old list self.old)
             (S.state site.old) (S.state site.new) }
@@ -304,11 +307,20 @@ impl PageStore {
             (S.state site.old).image (S.state site.new).image) }
         ensures ready { (list : LogList) → AreReady self.old log.old list (S.state site.old)
             → OnOk result (AreReady self.new log.new (sealed_if (forces log.old (flushed_contents self.old)) list) (S.state site.new)) }
+        ensures leaves { (list : LogList) → AreReady self.old log.old list (S.state site.old)
+            → OnOk result (LeavesPages self.old.flash.geometry (current self.old (S.state site.old).image)
+            (forces log.old (flushed_contents self.old)) list (S.state site.old) (snapshot_of (S.state site.new))) }
+        ensures sealed { (list : LogList) → AreReady self.old log.old list (S.state site.old)
+            → IsAhead log.old self.old (S.state site.old).image
+            → OnOk result (AreSealed self.old.flash.geometry (S.state site.new).image) }
+        ensures rings { (newest : Option Master) (list : LogList) → AreReady self.old log.old list (S.state site.old)
+            → AreRingsSoundUnder newest self.old.flash.geometry (S.state site.old).image
+            → OnOk result (AreRingsSoundUnder newest self.old.flash.geometry (S.state site.new).image) }
         ensures stays_quiet { IsTrue (S.state site.old).honest → IsQuiet (S.state site.old)
             → OnOk result (IsQuiet (S.state site.new)) }
         ensures current { (list : LogList) → AreReady self.old log.old list (S.state site.old)
             → OnOk result (KeepsCurrent self.old (S.state site.old).image self.new (S.state site.new).image) }
-        ensures ahead { (list : LogList) → AreReady self.old log.old list (S.state site.old) → IsQuiet (S.state site.old)
+        ensures ahead { (list : LogList) → AreReady self.old log.old list (S.state site.old)
             → IsAhead log.old self.old (S.state site.old).image
             → OnOk result (IsAhead log.new self.new (S.state site.new).image) }
         ensures left { IsTrue (S.state site.old).honest → (S.state site.new).left ≡ (S.state site.old).left }
@@ -328,12 +340,17 @@ impl PageStore {
         ensures log_geometry { log.new.geometry ≡ log.old.geometry }
         ensures kept { log.new.kept ≡ log.old.kept }
         ensures room { OnOk result (has_tail log.new ≡ true → HasRoom log.new) }
+        ensures grows { OnOk result (end_of log.old ≤ end_of log.new) }
         ensures end { OnOk result (end_forced log.new ≡ end_forced log.old) }
         ensures next { OnOk result (log.new.ring.hi ≡ (if forces log.old (flushed_contents self.old)
             then log.old.ring.hi + 1 else log.old.ring.hi)) }
         ensures goes { Goes (S.state site.old) (S.state site.new) }
         ensures reads { (S.state site.new).flash_reads ≤ (S.state site.old).flash_reads
             + 8 * changed_count (cache_of self.old).pool }
+        ensures asked { (S.state site.new).flash_reads + 8 * next_group (cache_of self.old)
+            ≤ (S.state site.old).flash_reads + 8 * next_group (flushed (rules self.old) (cache_of self.old)) }
+        ensures overflows { IsErrOf result (Stop.Worn Dev.Flash)
+            → 2 ^ 40 < next_group (flushed (rules self.old) (cache_of self.old)) }
         ensures others { (d : Dev) → d ≢ Dev.Flash
             → reads_of d (S.state site.new) ≡ reads_of d (S.state site.old) }
 
@@ -345,6 +362,8 @@ impl PageStore {
         ensures worn_flash { IsErrOf result (Stop.Worn Dev.Flash) → self.new.flash.ring.hi ≡ 2 ^ 40 }
         ensures worn_end { (list : LogList) → AreReady self.old log.old list (S.state site.old)
             → IsErrOf result (Stop.Worn Dev.Flash) → IsWorn self.old.flash.geometry (S.state site.new).image }
+        ensures worn_log_end { (list : LogList) → AreReady self.old log.old list (S.state site.old)
+            → IsErrOf result (Stop.Worn Dev.Log) → IsLogAtEnd self.old.flash.geometry (S.state site.new).image }
         ensures never_past { wants_flush (cache_of self.old) ≡ true → self.old.flash.ring.hi ≡ 2 ^ 40
             → OnOk result ⊥ }
         ensures device { (d : Dev) → IsErrOf result (Stop.Device d)

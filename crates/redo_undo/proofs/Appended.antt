@@ -1,9 +1,8 @@
 -- A record is appended beside the pages.
-use Rattle.std.proofs.Common.{◌≡◌, ℕ, ◌+◌, ◌*◌, ◌≤◌, ◌<◌, Bool, true, false, List, [], ◌∷◌, ◌++◌, length, map, refl, sym, ap, subst, ◌∙◌, arith}
-use Rattle.std.specs.Prelude.{if◌then◌else◌, Result, Ok, Err, OnOk, IfOk}
+use Rattle.std.proofs.Common.{◌≡◌, ℕ, ◌+◌, ◌*◌, ◌≤◌, ◌<◌, Bool, true, false, List, [], ◌∷◌, ◌++◌, map, refl, sym, ap, subst, ◌∙◌, arith}
+use Rattle.std.specs.Prelude.{if◌then◌else◌, Result, Ok, Err, OnOk, IfOk, Option}
 use Rattle.std.specs.List.{AllByRecursion, range_with_len}
 use Rattle.std.proofs.lemmas.Bool.{lt-ltb}
-use Rattle.std.proofs.lemmas.List.{length-append}
 use Rattle.site.specs.declared.outside.Dev.TheVariants.{Log}
 use Rattle.site.specs.declared.geometry.Geometry.{Geometry}
 use Rattle.site.specs.State.{State, IsQuiet}
@@ -26,9 +25,10 @@ use Rattle.page_store.specs.Held.{IsStore, current, content_by}
 use Rattle.buffer_pool.specs.Frames.{frame_of}
 use Rattle.page_store.specs.Ahead.{IsLogged, AreSealed, LeavesSealed, IsAhead, sealed_end, end_forced}
 use Rattle.page_store.specs.Leaves.{HasQueue, LeavesRings}
-use Rattle.image_meaning.specs.Meaning.{picture, blank_master, versions_on, version_in}
-use Rattle.image_meaning.specs.Moments.{LeavesTable}
-use Rattle.image_meaning.specs.Beside.{AreRingsSound, KeepsRings}
+use Rattle.checkpoint.specs.declared.master.Master.{Master}
+use Rattle.image_meaning.specs.Meaning.{next_block_under, picture_under, master_of, versions_on, version_in, kept_by}
+use Rattle.image_meaning.specs.Moments.{LeavesTableUnder}
+use Rattle.image_meaning.specs.Beside.{AreRingsSoundUnder, KeepsRings}
 use Rattle.redo_undo.specs.Running.{RunsOn}
 use Rattle.slotted_page.specs.Layout.{lsn_of}
 use Rattle.log_records.specs.Unfinished.{owed}
@@ -36,7 +36,7 @@ use Rattle.redo_undo.specs.Holding.{HoldsLog, Holds, MayGrow, KeepsPages, blocks
 use Rattle.redo_undo.specs.Committing.{EndsWith}
 use Rattle.redo_undo.specs.Laws.{LogLaws, PageLaws, BesideLaws}
 use Rattle.redo_undo.proofs.Runs.{one_more}
-use Rattle.redo_undo.proofs.Standing.{last_of_all}
+use Rattle.redo_undo.proofs.Standing.{last_of_all, next_more}
 use Rattle.redo_undo.proofs.Changed.{shows_same}
 use Rattle.redo_undo.proofs.Touched.{tail_blocks, hi_is, runs_sealed, leaves_table}
 
@@ -51,6 +51,7 @@ pub record IsNumbered (log log' : LogStore) (lsn : ℕ) (sealing : Bool) : Type 
 -- and what it has done on an honest one
 pub record IsAppended (g : Geometry) (log log' : LogStore) (list : LogList) (site new : State) (rec : LogRecord) (lsn : ℕ) (sealing : Bool) : Type 0 where
   pub numbers : IsNumbered log log' lsn sealing
+  pub kept : log'.kept ≡ log.kept
   pub holds : log_held.Holds log' new.image (with_record rec (sealed_if sealing list))
   pub finds : log_held.Finds log' new
   pub changes : ChangesOnly Log site new
@@ -123,12 +124,12 @@ module _ (beside : BesideLaws) (pages : PageStore) (site new : State) (changes :
         };
       }
 
-module _ (logs : LogLaws) (laws : PageLaws) (beside : BesideLaws) (log : LogStore) (pages : PageStore) (site : State) (records : List Entry) (table : List Content) (commits : ℕ) (h : Holds log pages site records table commits) (sizes : log.geometry ≡ pages.flash.geometry) where
+module _ (logs : LogLaws) (laws : PageLaws) (beside : BesideLaws) (log : LogStore) (pages : PageStore) (site : State) (newest : Option Master) (records : List Entry) (table : List Content) (commits : ℕ) (h : Holds log pages site newest records table commits) (sizes : log.geometry ≡ pages.flash.geometry) where
   abbrev g : Geometry
   g = pages.flash.geometry
 
   abbrev list : LogList
-  list = record { first = 0; blocks = h.log_holds.blocks; tail = h.log_holds.tail }
+  list = record { first = kept_by newest; blocks = h.log_holds.blocks; tail = h.log_holds.tail }
 
   -- At each moment.
   module _ (new : State) (sealing : Bool) (quiet : IsQuiet site) (changes : ChangesOnly Log site new) (leaves : LeavesOnly site new (LeavesLog log.geometry sealing list site.told)) (front : LeavesFront log.geometry (changes_if sealing list) site new) where
@@ -141,26 +142,26 @@ module _ (logs : LogLaws) (laws : PageLaws) (beside : BesideLaws) (log : LogStor
     queue_is : HasQueue g site.image
     queue_is = record { first = pages.flash.directory.first; groups = h.log_holds.ready.pages.groups; has = h.log_holds.ready.pages.holds.has }
 
-    pub rings_stay : LeavesOnly site new (LeavesRings g)
+    pub rings_stay : LeavesOnly site new (LeavesRings newest g)
     rings_stay =
-        leaves_weaker site new (IsReached g (IsFrontOf (changes_if sealing list)) site) (LeavesRings g)
-        (λ s is. beside.rings g is.changes site.image s.image h.log_holds.rings (all_front (KeepsRings g) is.changes is.made.0 (subst (AllByRecursion (KeepsRings g)) is.made.1 (sealing_keeps g sealing list))) is.reaches)
+        leaves_weaker site new (IsReached g (IsFrontOf (changes_if sealing list)) site) (LeavesRings newest g)
+        (λ s is. beside.rings newest g is.changes site.image s.image h.log_holds.rings (all_front (KeepsRings g) is.changes is.made.0 (subst (AllByRecursion (KeepsRings g)) is.made.1 (sealing_keeps g sealing list))) is.reaches)
         at_front
 
     pub sealed_stay : LeavesOnly site new (LeavesSealed g)
     sealed_stay =
-        beside.are_sealed g sealing list site new quiet (subst (λ (k : Geometry). HasBlocks k 0 h.log_holds.blocks site.image) sizes h.log_holds.ready.records.blocks) h.log_holds.ahead.versions changes at_log
+        beside.are_sealed g sealing list site new quiet (subst (λ (k : Geometry). HasBlocks k (kept_by newest) h.log_holds.blocks site.image) sizes h.log_holds.ready.records.blocks) h.log_holds.ahead.versions changes at_log
 
-    pub append_leaves : IsStore pages → (sealing ≡ true → has_tail log ≡ true) → LeavesOnly site new (LeavesTable g table commits site.told)
+    pub append_leaves : IsStore pages → (sealing ≡ true → has_tail log ≡ true) → LeavesOnly site new (LeavesTableUnder newest g table commits site.told)
     append_leaves own some =
-        leaves_table logs laws log pages site records table commits h own sealing some new
+        leaves_table logs laws log pages site newest records table commits h own sealing some new
         (beside.leaves g sealing list (current pages site.image) site new quiet queue_is h.log_holds.ready.pages.clean changes at_log at_front) sealed_stay rings_stay
 
   -- At its end.
   module _ (new : State) (sealing : Bool) where
-    pub rings_now : Reaches log.geometry (changes_if sealing list) site.image new.image → AreRingsSound g new.image
+    pub rings_now : Reaches log.geometry (changes_if sealing list) site.image new.image → AreRingsSoundUnder newest g new.image
     rings_now reaches =
-        beside.rings g (changes_if sealing list) site.image new.image h.log_holds.rings (sealing_keeps g sealing list)
+        beside.rings newest g (changes_if sealing list) site.image new.image h.log_holds.rings (sealing_keeps g sealing list)
         (subst (λ (k : Geometry). Reaches k (changes_if sealing list) site.image new.image) sizes reaches)
 
     pub sealed_now : (log' : LogStore) → ChangesOnly Log site new → log'.geometry ≡ log.geometry → log_held.Finds log' new → log.ring.hi ≤ log'.ring.hi → AreSealed g new.image
@@ -168,11 +169,11 @@ module _ (logs : LogLaws) (laws : PageLaws) (beside : BesideLaws) (log : LogStor
 
   -- Behind it.
   module _ (new : State) (changes : ChangesOnly Log site new) where
-    pub moved : (blocks : List (List LogRecord)) (tail : List LogRecord) (records' : List Entry) → RunsOn (picture g site.image blocks) tail records' table commits → RunsOn (picture g new.image blocks) tail records' table commits
+    pub moved : (blocks : List (List LogRecord)) (tail : List LogRecord) (records' : List Entry) → RunsOn (picture_under newest g site.image blocks) tail records' table commits → RunsOn (picture_under newest g new.image blocks) tail records' table commits
     moved blocks tail records' runs =
-        subst (λ (versions : List Version). RunsOn (record { master = blank_master; log = log_from 0 blocks; hi = length blocks; blocks = g.blocks; pages = versions }) tail records' table commits) (sym (versions_same beside pages site new changes)) runs
+        subst (λ (versions : List Version). RunsOn (record { master = (master_of newest); log = log_from (kept_by newest) blocks; hi = next_block_under newest blocks; blocks = g.blocks; pages = versions }) tail records' table commits) (sym (versions_same beside pages site new changes)) runs
 
-  module _ (log' : LogStore) (new : State) (rec : LogRecord) (lsn : ℕ) (rings : AreRingsSound g new.image) (are_sealed : AreSealed g new.image) where
+  module _ (log' : LogStore) (new : State) (rec : LogRecord) (lsn : ℕ) (rings : AreRingsSoundUnder newest g new.image) (are_sealed : AreSealed g new.image) where
     ahead_still : (sealing : Bool) → IsAppended g log log' list site new rec lsn sealing → IsAhead log' pages new.image
     ahead_still sealing is =
         let more = least_blocks log log' lsn sealing is.numbers in
@@ -189,19 +190,20 @@ module _ (logs : LogLaws) (laws : PageLaws) (beside : BesideLaws) (log : LogStor
           let next = is.numbers.below in
           subst (λ (c : List ℕ). lsn_of c < end_of log') (sym (keeps.current number)) (omega (arith, before, behind, next))
 
-      room_left : (sealing : Bool) → (sealing ≡ true → has_tail log ≡ true) → IsAppended g log log' list site new rec lsn sealing → blocks_to log' + owed records ≤ g.blocks
+      room_left : (sealing : Bool) → (sealing ≡ true → has_tail log ≡ true) → IsAppended g log log' list site new rec lsn sealing → blocks_to log' + owed records ≤ log'.kept + g.blocks
       room_left sealing full is =
           let most = most_blocks log log' lsn sealing full is.numbers in
           let room = h.log_holds.room in
           let blocks = h.log_holds.rings.limits.blocks in
-          omega (arith, most, room, blocks)
+          let kept = is.kept in omega (arith, most, room, blocks, kept)
 
-      pub ends_with : (sealing : Bool) → (sealing ≡ true → has_tail log ≡ true) → IsAppended g log log' list site new rec lsn sealing → EndsWith g log' pages new records table commits (record { lsn = lsn; rec = rec })
+      pub ends_with : (sealing : Bool) → (sealing ≡ true → has_tail log ≡ true) → IsAppended g log log' list site new rec lsn sealing → EndsWith g log' pages new newest records table commits (record { lsn = lsn; rec = rec })
       ends_with false full is =
-          let hi = hi_is logs laws log pages site records table commits h in
+          let hi = hi_is logs laws log pages site newest records table commits h in
           let used = h.log_holds.ready.records.tail.end in
           let number = is.numbers.lsn_is in
           record {
+            kept = is.kept ∙ h.log_holds.kept;
             blocks = h.log_holds.blocks;
             front = h.log_holds.tail;
             ready = record { pages = beside.fits pages site new is.changes is.goes h.log_holds.ready.pages; blocks = is.finds; records = is.holds };
@@ -209,62 +211,65 @@ module _ (logs : LogLaws) (laws : PageLaws) (beside : BesideLaws) (log : LogStor
             runs_on = moved new is.changes h.log_holds.blocks h.log_holds.tail records h.log_holds.runs_on;
             next = omega (arith, hi, used, number);
             ahead = ahead_still false is;
-            shows = record { each = shows_same logs g log log' pages site new records table commits h keeps };
+            shows = record { each = shows_same logs g log log' pages site new newest records table commits h keeps };
             below = below_end false is;
             room = room_left false full is;
           }
       ends_with true full is =
-          let hi = hi_is logs laws log pages site records table commits h in
+          let hi = hi_is logs laws log pages site newest records table commits h in
           let number = is.numbers.lsn_is in
           let more : List (List LogRecord) = h.log_holds.blocks ++ h.log_holds.tail ∷ [] in
-          let runs = runs_sealed logs laws log pages site records table commits h (full refl) (last_of_all AreBlock h.log_holds.blocks h.log_holds.tail is.holds.blocks.are_blocks) in
+          let runs = runs_sealed logs laws log pages site newest records table commits h (full refl) (last_of_all AreBlock h.log_holds.blocks h.log_holds.tail is.holds.blocks.are_blocks) in
           record {
+            kept = is.kept ∙ h.log_holds.kept;
             blocks = more;
             front = [];
             ready = record { pages = beside.fits pages site new is.changes is.goes h.log_holds.ready.pages; blocks = is.finds; records = is.holds };
             rings = rings;
             runs_on = moved new is.changes more [] records runs;
-            next = omega (arith, hi, number, length-append h.log_holds.blocks (h.log_holds.tail ∷ []));
+            next = omega (arith, hi, number, next_more logs laws newest h.log_holds.blocks h.log_holds.tail);
             ahead = ahead_still true is;
-            shows = record { each = shows_same logs g log log' pages site new records table commits h keeps };
+            shows = record { each = shows_same logs g log log' pages site new newest records table commits h keeps };
             below = below_end true is;
             room = room_left true full is;
           }
 
     -- where it may follow, log and pages hold together with it
-    pub appended : MayGrow log pages site.image records (record { lsn = lsn; rec = rec }) → (sealing : Bool) → (sealing ≡ true → has_tail log ≡ true) → IsAppended g log log' list site new rec lsn sealing → HoldsLog g log' pages new (records ++ record { lsn = lsn; rec = rec } ∷ []) table commits
+    pub appended : MayGrow log pages site.image newest records (record { lsn = lsn; rec = rec }) → (sealing : Bool) → (sealing ≡ true → has_tail log ≡ true) → IsAppended g log log' list site new rec lsn sealing → HoldsLog g log' pages new newest (records ++ record { lsn = lsn; rec = rec } ∷ []) table commits
     appended may false full is =
         let most = most_blocks log log' lsn false full is.numbers in
         let room = may.room in
-        let hi = hi_is logs laws log pages site records table commits h in
+        let hi = hi_is logs laws log pages site newest records table commits h in
         let used = h.log_holds.ready.records.tail.end in
         let number = is.numbers.lsn_is in
         record {
+          kept = is.kept ∙ h.log_holds.kept;
           blocks = h.log_holds.blocks;
           tail = h.log_holds.tail ++ rec ∷ [];
           ready = record { pages = beside.fits pages site new is.changes is.goes h.log_holds.ready.pages; blocks = is.finds; records = is.holds };
           rings = rings;
           runs_on = moved new is.changes h.log_holds.blocks (h.log_holds.tail ++ rec ∷ []) (records ++ record { lsn = lsn; rec = rec } ∷ [])
-              (one_more logs (picture g site.image h.log_holds.blocks) h.log_holds.tail rec lsn records table commits h.log_holds.runs_on (omega (arith, hi, used, number)) may.follows may.no_commit);
+              (one_more logs (picture_under newest g site.image h.log_holds.blocks) h.log_holds.tail rec lsn records table commits h.log_holds.runs_on (omega (arith, hi, used, number)) may.follows may.no_commit);
           ahead = ahead_still false is;
-          room = omega (arith, most, room);
+          room = (let kept = is.kept in omega (arith, most, room, kept));
         }
     appended may true full is =
         let most = most_blocks log log' lsn true full is.numbers in
         let room = may.room in
-        let hi = hi_is logs laws log pages site records table commits h in
+        let hi = hi_is logs laws log pages site newest records table commits h in
         let number = is.numbers.lsn_is in
         let more : List (List LogRecord) = h.log_holds.blocks ++ h.log_holds.tail ∷ [] in
-        let runs = runs_sealed logs laws log pages site records table commits h (full refl) (last_of_all AreBlock h.log_holds.blocks h.log_holds.tail is.holds.blocks.are_blocks) in
+        let runs = runs_sealed logs laws log pages site newest records table commits h (full refl) (last_of_all AreBlock h.log_holds.blocks h.log_holds.tail is.holds.blocks.are_blocks) in
         record {
+          kept = is.kept ∙ h.log_holds.kept;
           blocks = more;
           tail = rec ∷ [];
           ready = record { pages = beside.fits pages site new is.changes is.goes h.log_holds.ready.pages; blocks = is.finds; records = is.holds };
           rings = rings;
           runs_on = moved new is.changes more (rec ∷ []) (records ++ record { lsn = lsn; rec = rec } ∷ [])
-              (one_more logs (picture g site.image more) [] rec lsn records table commits runs (omega (arith, hi, number, length-append h.log_holds.blocks (h.log_holds.tail ∷ []))) may.follows may.no_commit);
+              (one_more logs (picture_under newest g site.image more) [] rec lsn records table commits runs (omega (arith, hi, number, next_more logs laws newest h.log_holds.blocks h.log_holds.tail)) may.follows may.no_commit);
           ahead = ahead_still true is;
-          room = omega (arith, most, room);
+          room = (let kept = is.kept in omega (arith, most, room, kept));
         }
 
 pub if_ok_six : {A E : Type 0} (r : Result A E) (P Q R N : Type 0) (L S Z : A → Type 0) → ((x : A) → P → Q → R → N → L x → S x → Z x) → OnOk r P → OnOk r Q → OnOk r R → OnOk r N → IfOk r L → IfOk r S → IfOk r Z

@@ -16,6 +16,7 @@ use Rattle.page_store.specs.Ahead.{IsAhead}
 use Rattle.flash_cache.specs.Held.{version_on}
 use Rattle.buffer_pool.specs.declared.frame.Frame.{Frame}
 use Rattle.buffer_pool.specs.Frames.{frame_of, front_of}
+use Rattle.checkpoint.specs.declared.master.Master.{Master}
 use Rattle.image_meaning.specs.Meaning.{versions_on, version_in}
 use Rattle.redo_undo.specs.Holding.{HoldsLog, HoldsIn, KeepsPages}
 use Rattle.log_records.specs.Log.{Entry, Version, number_of, after_of, is_on, is_number}
@@ -68,7 +69,7 @@ module _ (laws : LogLaws) (records : List Entry) (e : Entry) (versions : List Ve
           ∙ sym (ap (λ b. cond b (after_of e.rec) (shown records versions (32 * page + slot))) (ne_eqb number (32 * page + slot) other))
 
 -- The same pages, over images in which each page has the version and the content that it had.
-module _ (logs : LogLaws) (g : Geometry) (log log' : LogStore) (pages : PageStore) (site new : State) (records : List Entry) (table : List Content) (commits : ℕ) (h : HoldsIn g log pages site records table commits) (keeps : KeepsPages g pages site.image new.image) where
+module _ (logs : LogLaws) (g : Geometry) (log log' : LogStore) (pages : PageStore) (site new : State) (newest : Option Master) (records : List Entry) (table : List Content) (commits : ℕ) (h : HoldsIn g log pages site newest records table commits) (keeps : KeepsPages g pages site.image new.image) where
   pub shows_same : (number : ℕ) → number < g.pages → ShowsAll records (versions_on g new.image) number (version_in (current pages new.image number))
   shows_same number exists =
       subst (λ (versions : List Version). ShowsAll records versions number (version_in (current pages new.image number))) (sym keeps.versions)
@@ -76,7 +77,7 @@ module _ (logs : LogLaws) (g : Geometry) (log log' : LogStore) (pages : PageStor
 
   -- a record on none of them
   pub holds_off : (rec : LogRecord) (lsn : ℕ) → number_of rec ≡ None → end_of log ≤ lsn → lsn < end_of log' →
-      HoldsLog g log' pages new (records ++ record { lsn = lsn; rec = rec } ∷ []) table commits → HoldsIn g log' pages new (records ++ record { lsn = lsn; rec = rec } ∷ []) table commits
+      HoldsLog g log' pages new newest (records ++ record { lsn = lsn; rec = rec } ∷ []) table commits → HoldsIn g log' pages new newest (records ++ record { lsn = lsn; rec = rec } ∷ []) table commits
   holds_off rec lsn none behind below holds = record {
     log_holds = holds;
     shows = record {
@@ -92,7 +93,7 @@ module _ (logs : LogLaws) (g : Geometry) (log log' : LogStore) (pages : PageStor
   pub holds_on : (pages' : PageStore) (rec : LogRecord) (lsn number front : ℕ) → number_of rec ≡ Some number → number / 32 ≡ front → lsn_of (current pages new.image front) < lsn →
       Redoes front (record { lsn = lsn; rec = rec }) number (version_in (current pages new.image front)) (version_in (current pages' new.image front)) →
       ((page : ℕ) → page ≢ front → current pages' new.image page ≡ current pages new.image page) → end_of log ≤ lsn → lsn < end_of log' →
-      HoldsLog g log' pages' new (records ++ record { lsn = lsn; rec = rec } ∷ []) table commits → HoldsIn g log' pages' new (records ++ record { lsn = lsn; rec = rec } ∷ []) table commits
+      HoldsLog g log' pages' new newest (records ++ record { lsn = lsn; rec = rec } ∷ []) table commits → HoldsIn g log' pages' new newest (records ++ record { lsn = lsn; rec = rec } ∷ []) table commits
   holds_on pages' rec lsn number front is at later redoes others behind below holds = record {
     log_holds = holds;
     shows = record { each = λ page exists. shows_by page exists (cases_eq page front) };
@@ -121,9 +122,10 @@ module _ (logs : LogLaws) (g : Geometry) (log log' : LogStore) (pages : PageStor
           subst (λ (c : List ℕ). lsn_of c < end_of log') (sym (others page other ∙ keeps.current page)) (omega (arith, before, behind, below))
 
 -- other pages beside the same log
-pub other_pages : (g : Geometry) (log : LogStore) (pages pages' : PageStore) (site : State) (records : List Entry) (table : List Content) (commits : ℕ) → Fits pages' site → IsAhead log pages' site.image →
-    HoldsLog g log pages site records table commits → HoldsLog g log pages' site records table commits
-other_pages g log pages pages' site records table commits fits are_ahead h = record {
+pub other_pages : (g : Geometry) (log : LogStore) (pages pages' : PageStore) (site : State) (newest : Option Master) (records : List Entry) (table : List Content) (commits : ℕ) → Fits pages' site → IsAhead log pages' site.image →
+    HoldsLog g log pages site newest records table commits → HoldsLog g log pages' site newest records table commits
+other_pages g log pages pages' site newest records table commits fits are_ahead h = record {
+  kept = h.kept;
   blocks = h.blocks;
   tail = h.tail;
   ready = record { pages = fits; blocks = h.ready.blocks; records = h.ready.records };

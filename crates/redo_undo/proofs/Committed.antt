@@ -1,5 +1,5 @@
 -- A Commit is appended and sealed.
-use Rattle.std.proofs.Common.{◌≡◌, ℕ, ◌+◌, ◌≤◌, ◌<◌, true, false, List, [], ◌∷◌, ◌++◌, length, inl, inr, refl, sym, ap, subst, ◌∙◌, arith}
+use Rattle.std.proofs.Common.{◌≡◌, ℕ, ◌+◌, ◌≤◌, ◌<◌, true, false, List, [], ◌∷◌, ◌++◌, length, inl, inr, refl, sym, ap, subst, ◌∙◌, arith, Option}
 use Rattle.std.specs.List.{AllByRecursion}
 use Rattle.std.proofs.lemmas.Option.{none-some}
 use Rattle.site.specs.declared.outside.Dev.TheVariants.{Log}
@@ -29,10 +29,11 @@ use Rattle.page_store.specs.declared.store.PageStore.{PageStore}
 use Rattle.page_store.specs.Held.{IsStore, current}
 use Rattle.page_store.specs.Ahead.{AreSealed, LeavesSealed, end_forced}
 use Rattle.page_store.specs.Leaves.{HasQueue, LeavesPages, LeavesRings}
-use Rattle.image_meaning.specs.Meaning.{picture, blank_master, versions_on, version_in}
+use Rattle.checkpoint.specs.declared.master.Master.{Master}
+use Rattle.image_meaning.specs.Meaning.{next_block_under, picture_under, master_of, versions_on, version_in, kept_by}
 use Rattle.image_meaning.specs.Redone.{ShowsAll}
-use Rattle.image_meaning.specs.Moments.{LeavesTable, LeavesEither}
-use Rattle.image_meaning.specs.Beside.{AreRingsSound, KeepsRings}
+use Rattle.image_meaning.specs.Moments.{LeavesTableUnder, LeavesEitherUnder}
+use Rattle.image_meaning.specs.Beside.{AreRingsSoundUnder, KeepsRings}
 use Rattle.redo_undo.specs.Running.{RunsOn}
 use Rattle.redo_undo.specs.Holding.{Holds, KeepsPages}
 use Rattle.redo_undo.specs.Committing.{MayCommit, EndsWith, CommitLaws}
@@ -82,8 +83,8 @@ module _ (logs : LogLaws) (own : CommitLaws) (p : Picture) (front : List LogReco
       }
 
 -- Log and pages, with a Commit that may stand there last in the tail.
-module _ (logs : LogLaws) (laws : PageLaws) (beside : BesideLaws) (own : CommitLaws) (log : LogStore) (pages : PageStore) (site : State) (records : List Entry) (table : List Content) (commits txn number lsn : ℕ)
-    (m : EndsWith pages.flash.geometry log pages site records table commits (record { lsn = lsn; rec = Commit txn number })) (sizes : log.geometry ≡ pages.flash.geometry) (some : has_tail log ≡ true) (may : MayCommit records txn number commits) where
+module _ (logs : LogLaws) (laws : PageLaws) (beside : BesideLaws) (own : CommitLaws) (log : LogStore) (pages : PageStore) (site : State) (newest : Option Master) (records : List Entry) (table : List Content) (commits txn number lsn : ℕ)
+    (m : EndsWith pages.flash.geometry log pages site newest records table commits (record { lsn = lsn; rec = Commit txn number })) (sizes : log.geometry ≡ pages.flash.geometry) (some : has_tail log ≡ true) (may : MayCommit newest records txn number commits) where
   abbrev g : Geometry
   g = pages.flash.geometry
 
@@ -91,7 +92,7 @@ module _ (logs : LogLaws) (laws : PageLaws) (beside : BesideLaws) (own : CommitL
   tail = m.front ++ Commit txn number ∷ []
 
   abbrev list : LogList
-  list = record { first = 0; blocks = m.blocks; tail = m.front ++ Commit txn number ∷ [] }
+  list = record { first = kept_by newest; blocks = m.blocks; tail = m.front ++ Commit txn number ∷ [] }
 
   abbrev more : List (List LogRecord)
   more = m.blocks ++ (m.front ++ Commit txn number ∷ []) ∷ []
@@ -105,24 +106,26 @@ module _ (logs : LogLaws) (laws : PageLaws) (beside : BesideLaws) (own : CommitL
   owed_less : owed records ≡ owed (records ++ record { lsn = lsn; rec = Commit txn number } ∷ []) + owed_by records txn
   owed_less = own.owed records e refl may.begun.not_closed may.chain
 
-  follows : Follows blank_master (versions_on g site.image) records (record { lsn = lsn; rec = Commit txn number })
-  follows = own.follows blank_master (versions_on g site.image) records lsn txn number may.begun
+  follows : Follows (master_of newest) (versions_on g site.image) records (record { lsn = lsn; rec = Commit txn number })
+  follows = own.follows (master_of newest) (versions_on g site.image) records lsn txn number may.begun
 
-  hi_here : log.ring.hi ≡ length m.blocks
-  hi_here = let hi = m.ready.blocks.hi in let next = m.ready.records.blocks.next in omega (arith, hi, next)
+  hi_here : log.ring.hi ≡ next_block_under newest m.blocks
+  hi_here = let hi = m.ready.blocks.hi in let next = m.ready.records.blocks.next in let at = laws.next newest m.blocks in omega (arith, hi, next, at)
 
-  room_here : HasRoom (sealed (picture g site.image m.blocks) (m.front ++ Commit txn number ∷ []))
+  room_here : HasRoom (sealed (picture_under newest g site.image m.blocks) (m.front ++ Commit txn number ∷ []))
   room_here =
       let room = m.room in
       let one = ap tail_blocks some in
-      let all : owed (whole (picture g site.image m.blocks) (m.front ++ Commit txn number ∷ [])) ≡ owed (records ++ record { lsn = lsn; rec = Commit txn number } ∷ []) =
-      ap owed (whole_commit logs own (picture g site.image m.blocks) m.front txn number lsn records table commits m.runs_on m.next follows may.number_is) in
-      omega (arith, room, one, hi_here, all, owed_less)
+      let all : owed (whole (picture_under newest g site.image m.blocks) (m.front ++ Commit txn number ∷ [])) ≡ owed (records ++ record { lsn = lsn; rec = Commit txn number } ∷ []) =
+      ap owed (whole_commit logs own (picture_under newest g site.image m.blocks) m.front txn number lsn records table commits m.runs_on m.next follows may.number_is) in
+      let kept = m.kept in
+      let at = laws.next newest m.blocks in
+      omega (arith, room, one, hi_here, all, owed_less, kept, at)
 
-  runs_after : AreBlock (m.front ++ Commit txn number ∷ []) → RunsOn (picture g site.image (m.blocks ++ (m.front ++ Commit txn number ∷ []) ∷ [])) [] (records ++ record { lsn = lsn; rec = Commit txn number } ∷ []) (table_with table (writes_in txn records)) (commits + 1)
+  runs_after : AreBlock (m.front ++ Commit txn number ∷ []) → RunsOn (picture_under newest g site.image (m.blocks ++ (m.front ++ Commit txn number ∷ []) ∷ [])) [] (records ++ record { lsn = lsn; rec = Commit txn number } ∷ []) (table_with table (writes_in txn records)) (commits + 1)
   runs_after block =
-      subst (λ (q : Picture). RunsOn q [] (records ++ e ∷ []) table' (commits + 1)) (more_blocks logs laws g site.image m.blocks tail)
-      (commit_runs logs own (picture g site.image m.blocks) m.front txn number lsn records table commits m.runs_on m.next follows may.number_is block room_here)
+      subst (λ (q : Picture). RunsOn q [] (records ++ e ∷ []) table' (commits + 1)) (more_blocks logs laws newest g site.image m.blocks tail)
+      (commit_runs logs own (picture_under newest g site.image m.blocks) m.front txn number lsn records table commits m.runs_on m.next follows may.number_is block room_here)
 
   shows_after : (number' : ℕ) → number' < g.pages → ShowsAll (records ++ record { lsn = lsn; rec = Commit txn number } ∷ []) (versions_on g site.image) number' (version_in (current pages site.image number'))
   shows_after number' exists =
@@ -139,50 +142,50 @@ module _ (logs : LogLaws) (laws : PageLaws) (beside : BesideLaws) (own : CommitL
     queue_is : HasQueue g site.image
     queue_is = record { first = pages.flash.directory.first; groups = m.ready.pages.groups; has = m.ready.pages.holds.has }
 
-    pub rings_forced : LeavesOnly site new (LeavesRings g)
+    pub rings_forced : LeavesOnly site new (LeavesRings newest g)
     rings_forced =
-        leaves_weaker site new (IsReached g (IsFrontOf (changes_if (has_tail log) list)) site) (LeavesRings g)
-        (λ s is. beside.rings g is.changes site.image s.image m.rings (all_front (KeepsRings g) is.changes is.made.0 (subst (AllByRecursion (KeepsRings g)) is.made.1 (sealing_keeps g (has_tail log) list))) is.reaches)
+        leaves_weaker site new (IsReached g (IsFrontOf (changes_if (has_tail log) list)) site) (LeavesRings newest g)
+        (λ s is. beside.rings newest g is.changes site.image s.image m.rings (all_front (KeepsRings g) is.changes is.made.0 (subst (AllByRecursion (KeepsRings g)) is.made.1 (sealing_keeps g (has_tail log) list))) is.reaches)
         at_front
 
     pub sealed_forced : LeavesOnly site new (LeavesSealed g)
     sealed_forced =
-        beside.are_sealed g (has_tail log) list site new quiet (subst (λ (k : Geometry). HasBlocks k 0 m.blocks site.image) sizes m.ready.records.blocks) m.ahead.versions changes at_log
+        beside.are_sealed g (has_tail log) list site new quiet (subst (λ (k : Geometry). HasBlocks k (kept_by newest) m.blocks site.image) sizes m.ready.records.blocks) m.ahead.versions changes at_log
 
     sound_given : IsStore pages → (number' : ℕ) → number' < g.pages → page.IsSound (current pages site.image number')
     sound_given store number' exists = current_sound pages site.image number' store (m.ready.pages.sound number' exists)
 
-    at_snapshot : IsStore pages → (s : Snapshot) → LeavesPages g (current pages site.image) (has_tail log) list site s → AreSealed g s.image → AreRingsSound g s.image →
-        LeavesEither g table (table_with table (writes_in txn records)) commits site.told s
+    at_snapshot : IsStore pages → (s : Snapshot) → LeavesPages g (current pages site.image) (has_tail log) list site s → AreSealed g s.image → AreRingsSoundUnder newest g s.image →
+        LeavesEitherUnder newest g table (table_with table (writes_in txn records)) commits site.told s
     at_snapshot store s leaves are_sealed rings = record {
       told = leaves.log.told;
       stands = elim leaves.log.blocks [
-        | inl has ↦ inl (stands_now logs laws g site.image s.image (current pages site.image) m.blocks m.front records table commits m.runs_on m.shows.each has are_sealed leaves.versions
+        | inl has ↦ inl (stands_now logs laws g site.image s.image (current pages site.image) m.blocks m.front newest records table commits m.runs_on m.shows.each has are_sealed leaves.versions
             rings leaves.clean m.ready.pages.sound (sound_given store))
-        | inr has ↦ inr (stands_now logs laws g site.image s.image (current pages site.image) more [] (records ++ e ∷ []) table' (commits + 1) (runs_after (last_of_all AreBlock m.blocks tail has.1.are_blocks)) shows_after has.1
+        | inr has ↦ inr (stands_now logs laws g site.image s.image (current pages site.image) more [] newest (records ++ e ∷ []) table' (commits + 1) (runs_after (last_of_all AreBlock m.blocks tail has.1.are_blocks)) shows_after has.1
             are_sealed leaves.versions rings leaves.clean m.ready.pages.sound (sound_given store))
       ];
     }
 
-    pub leaves_either : IsStore pages → LeavesOnly site new (LeavesEither g table (table_with table (writes_in txn records)) commits site.told)
+    pub leaves_either : IsStore pages → LeavesOnly site new (LeavesEitherUnder newest g table (table_with table (writes_in txn records)) commits site.told)
     leaves_either store =
-        each_weaker site new (λ q. Leaves (LeavesPages g (current pages site.image) (has_tail log) list site) q × (Leaves (LeavesSealed g) q × Leaves (LeavesRings g) q)) (Leaves (LeavesEither g table table' commits site.told))
+        each_weaker site new (λ q. Leaves (LeavesPages g (current pages site.image) (has_tail log) list site) q × (Leaves (LeavesSealed g) q × Leaves (LeavesRings newest g) q)) (Leaves (LeavesEitherUnder newest g table table' commits site.told))
         (λ q all s left. at_snapshot store s (all.0 s left) (all.1.0 s left) (all.1.1 s left))
         (each_both site new _ _ (beside.leaves g (has_tail log) list (current pages site.image) site new quiet queue_is m.ready.pages.clean changes at_log at_front) (each_both site new _ _ sealed_forced rings_forced))
 
   -- What stands once it is sealed.
-  pub rings_then : (new : State) → Reaches log.geometry (changes_if (has_tail log) list) site.image new.image → AreRingsSound g new.image
+  pub rings_then : (new : State) → Reaches log.geometry (changes_if (has_tail log) list) site.image new.image → AreRingsSoundUnder newest g new.image
   rings_then new reaches =
-      beside.rings g (changes_if (has_tail log) list) site.image new.image m.rings (sealing_keeps g (has_tail log) list)
+      beside.rings newest g (changes_if (has_tail log) list) site.image new.image m.rings (sealing_keeps g (has_tail log) list)
       (subst (λ (k : Geometry). Reaches k (changes_if (has_tail log) list) site.image new.image) sizes reaches)
 
   pub sealed_then : (log' : LogStore) (new : State) → ChangesOnly Log site new → log'.geometry ≡ log.geometry → log_held.Finds log' new → log.ring.hi ≤ log'.ring.hi → AreSealed g new.image
   sealed_then log' new changes same finds more = more_sealed beside pages site new changes log log' sizes same m.ready.blocks finds more m.ahead.versions
 
-  pub commit_holds : (log' : LogStore) (new : State) → ChangesOnly Log site new → Goes site new → AreRingsSound g new.image → AreSealed g new.image → log_held.Finds log' new →
-      log_held.Holds log' new.image (sealed_if true list) → log'.ring.hi ≡ log.ring.hi + 1 → log'.used ≡ 2 → log.used ≤ block_len → has_tail log' ≡ false →
-      Holds log' pages new (records ++ record { lsn = lsn; rec = Commit txn number } ∷ []) (table_with table (writes_in txn records)) (commits + 1)
-  commit_holds log' new changes goes rings are_sealed finds holds next empty high none =
+  pub commit_holds : (log' : LogStore) (new : State) → ChangesOnly Log site new → Goes site new → AreRingsSoundUnder newest g new.image → AreSealed g new.image → log_held.Finds log' new →
+      log_held.Holds log' new.image (sealed_if true list) → log'.ring.hi ≡ log.ring.hi + 1 → log'.kept ≡ log.kept → log'.used ≡ 2 → log.used ≤ block_len → has_tail log' ≡ false →
+      Holds log' pages new newest (records ++ record { lsn = lsn; rec = Commit txn number } ∷ []) (table_with table (writes_in txn records)) (commits + 1)
+  commit_holds log' new changes goes rings are_sealed finds holds next same_kept empty high none =
       let same = versions_same beside pages site new changes in
       let stays = current_same beside pages site new changes in
       let one = ap tail_blocks some in
@@ -191,14 +194,15 @@ module _ (logs : LogLaws) (laws : PageLaws) (beside : BesideLaws) (own : CommitL
       let forced : end_forced log ≤ end_forced log' = omega (arith, one, no_tail, next) in
       record {
         log_holds = record {
+          kept = same_kept ∙ m.kept;
           blocks = more;
           tail = [];
           ready = record { pages = beside.fits pages site new changes goes m.ready.pages; blocks = finds; records = holds };
           rings = rings;
-          runs_on = subst (λ (versions : List Version). RunsOn (record { master = blank_master; log = log_from 0 more; hi = length more; blocks = g.blocks; pages = versions }) [] (records ++ e ∷ []) table' (commits + 1)) (sym same)
+          runs_on = subst (λ (versions : List Version). RunsOn (record { master = (master_of newest); log = log_from (kept_by newest) more; hi = next_block_under newest more; blocks = g.blocks; pages = versions }) [] (records ++ e ∷ []) table' (commits + 1)) (sym same)
               (runs_after (last_of_all AreBlock m.blocks tail holds.blocks.are_blocks));
           ahead = record { pool = logged_more (end_forced log) (end_forced log') forced pages.pool.frames m.ahead.pool; versions = are_sealed };
-          room = omega (arith, room, one, no_tail, next, owed_less);
+          room = omega (arith, room, one, no_tail, next, owed_less, same_kept);
         };
         shows = record {
           each = λ number' exists.
@@ -218,14 +222,14 @@ keeps_twice beside pages old mid new keeps changes = record {
 }
 
 -- a call that leaves the table of before
-pub before_only : (g : Geometry) (old mid : State) (before after : List Content) (commits : ℕ) → LeavesOnly old mid (LeavesTable g before commits old.told) → LeavesOnly old mid (LeavesEither g before after commits old.told)
-before_only g old mid before after commits first =
-    leaves_weaker old mid (LeavesTable g before commits old.told) (LeavesEither g before after commits old.told) (λ s q. record { told = q.told; stands = inl q.stands }) first
+pub before_only : (newest : Option Master) (g : Geometry) (old mid : State) (before after : List Content) (commits : ℕ) → LeavesOnly old mid (LeavesTableUnder newest g before commits old.told) → LeavesOnly old mid (LeavesEitherUnder newest g before after commits old.told)
+before_only newest g old mid before after commits first =
+    leaves_weaker old mid (LeavesTableUnder newest g before commits old.told) (LeavesEitherUnder newest g before after commits old.told) (λ s q. record { told = q.told; stands = inl q.stands }) first
 
 -- and behind it one that leaves either
-pub either_after : (g : Geometry) (old mid new : State) (before after : List Content) (commits : ℕ) → LeavesOnly old mid (LeavesTable g before commits old.told) → LeavesOnly mid new (LeavesEither g before after commits mid.told) →
-    LeavesOnly old new (LeavesEither g before after commits old.told)
-either_after g old mid new before after commits first second =
-    let told : mid.told ≡ old.told = (holds_now old mid (LeavesTable g before commits old.told) first).told in
-    in_sequence old mid new (Leaves (LeavesEither g before after commits old.told)) (before_only g old mid before after commits first)
-    (subst (λ (t : List ℕ). LeavesOnly mid new (LeavesEither g before after commits t)) told second)
+pub either_after : (newest : Option Master) (g : Geometry) (old mid new : State) (before after : List Content) (commits : ℕ) → LeavesOnly old mid (LeavesTableUnder newest g before commits old.told) → LeavesOnly mid new (LeavesEitherUnder newest g before after commits mid.told) →
+    LeavesOnly old new (LeavesEitherUnder newest g before after commits old.told)
+either_after newest g old mid new before after commits first second =
+    let told : mid.told ≡ old.told = (holds_now old mid (LeavesTableUnder newest g before commits old.told) first).told in
+    in_sequence old mid new (Leaves (LeavesEitherUnder newest g before after commits old.told)) (before_only newest g old mid before after commits first)
+    (subst (λ (t : List ℕ). LeavesOnly mid new (LeavesEitherUnder newest g before after commits t)) told second)

@@ -1,18 +1,22 @@
 -- The tail is sealed beside the pages.
-use Rattle.std.proofs.Common.{◌≡◌, ℕ, ◌+◌, ◌*◌, ◌≤◌, ◌<◌, Bool, true, false, List, [], ◌∷◌, ◌++◌, length, true≢false, refl, sym, ap, subst, ◌∙◌, arith, nat_lt}
-use Rattle.std.specs.Prelude.{if◌then◌else◌, Result, Ok, Err, OnOk}
+use Rattle.std.proofs.Common.{◌≡◌, ℕ, ◌+◌, ◌≤◌, ◌<◌, Bool, true, false, List, [], ◌∷◌, ◌++◌, true≢false, sym, ap, subst, ◌∙◌, arith, nat_lt, inl, inr}
+use Rattle.std.specs.Prelude.{Some, if◌then◌else◌, Result, Ok, Err, OnOk, IfErr, IsErrOf, ◌≢◌, ◌⊎◌, Option}
+use Rattle.std.specs.List.{AllByRecursion}
 use Rattle.std.proofs.lemmas.Bool.{lt-ltb}
+use Rattle.site.specs.declared.outside.Dev.{Dev}
 use Rattle.site.specs.declared.outside.Dev.TheVariants.{Log}
-use Rattle.site.specs.declared.geometry.Geometry.{Geometry}
-use Rattle.site.specs.State.{State}
+use Rattle.site.specs.declared.outside.Stop.{Stop}
+use Rattle.site.specs.declared.outside.Stop.TheVariants.{Device, Worn}
+use Rattle.site.specs.State.{State, IsQuiet}
 use Rattle.site.specs.Calls.{Goes}
 use Rattle.site.specs.Moments.{ChangesOnly}
 use Rattle.record_model.specs.State.{Content}
 use Rattle.log_records.specs.declared.log_record.LogRecord.{LogRecord}
 use Rattle.log_records.specs.Spelling.{AreBlock, block_len}
-use Rattle.log_records.specs.Log.{Entry, Version, log_from}
+use Rattle.log_records.specs.Log.{Entry, Version}
 use Rattle.slotted_page.specs.Layout.{lsn_of}
-use Rattle.image_changes.specs.Changes.{Reaches}
+use Rattle.image_changes.specs.Rings.{Masters}
+use Rattle.image_changes.specs.Changes.{Reaches, ring_of}
 use Rattle.log_store.specs.declared.store.LogStore.{LogStore}
 use Rattle.log_store.specs.LogList.{LogList, sealed_if, changes_if}
 use Rattle.log_store.specs.Held as log_held
@@ -20,7 +24,8 @@ use Rattle.log_store.specs.Held.{has_tail, end_of}
 use Rattle.page_store.specs.declared.store.PageStore.{PageStore}
 use Rattle.page_store.specs.Held.{current}
 use Rattle.page_store.specs.Ahead.{end_forced}
-use Rattle.image_meaning.specs.Meaning.{versions_on, version_in}
+use Rattle.checkpoint.specs.declared.master.Master.{Master}
+use Rattle.image_meaning.specs.Meaning.{versions_on, version_in, kept_by}
 use Rattle.image_meaning.specs.Redone.{ShowsAll}
 use Rattle.redo_undo.specs.Holding.{Holds, blocks_to}
 use Rattle.redo_undo.specs.Laws.{LogLaws, PageLaws, BesideLaws}
@@ -32,6 +37,7 @@ use Rattle.redo_undo.proofs.Appended.{logged_more, versions_same, current_same, 
 pub record IsForced (log log' : LogStore) (list : LogList) (site new : State) : Type 0 where
   pub next : log'.ring.hi ≡ (if has_tail log then log.ring.hi + 1 else log.ring.hi)
   pub empty : log'.used ≡ 2
+  pub kept : log'.kept ≡ log.kept
   pub geometry : log'.geometry ≡ log.geometry
   pub holds : log_held.Holds log' new.image (sealed_if (has_tail log) list)
   pub finds : log_held.Finds log' new
@@ -54,9 +60,9 @@ same_blocks log log' some next empty =
     let none : (if has_tail log' then 1 else 0) ≡ 0 = ap tail_blocks (none_now log' empty) in
     omega (arith, hi, one, none)
 
-module _ (logs : LogLaws) (laws : PageLaws) (beside : BesideLaws) (log : LogStore) (pages : PageStore) (site : State) (records : List Entry) (table : List Content) (commits : ℕ) (h : Holds log pages site records table commits)
+module _ (logs : LogLaws) (laws : PageLaws) (beside : BesideLaws) (log : LogStore) (pages : PageStore) (site : State) (newest : Option Master) (records : List Entry) (table : List Content) (commits : ℕ) (h : Holds log pages site newest records table commits)
     (sizes : log.geometry ≡ pages.flash.geometry) (log' : LogStore) (new : State) (some : has_tail log ≡ true) (high : log.used ≤ block_len)
-    (is : IsForced log log' (record { first = 0; blocks = h.log_holds.blocks; tail = h.log_holds.tail }) site new) where
+    (is : IsForced log log' (record { first = kept_by newest; blocks = h.log_holds.blocks; tail = h.log_holds.tail }) site new) where
   abbrev more : List (List LogRecord)
   more = h.log_holds.blocks ++ h.log_holds.tail ∷ []
 
@@ -66,26 +72,27 @@ module _ (logs : LogLaws) (laws : PageLaws) (beside : BesideLaws) (log : LogStor
   blocks_are : blocks_to log' ≡ blocks_to log
   blocks_are = same_blocks log log' some is.next is.empty
 
-  held : log_held.Holds log' new.image (record { first = 0; blocks = more; tail = [] })
-  held = subst (λ (b : Bool). log_held.Holds log' new.image (sealed_if b (record { first = 0; blocks = h.log_holds.blocks; tail = h.log_holds.tail }))) some is.holds
+  held : log_held.Holds log' new.image (record { first = kept_by newest; blocks = more; tail = [] })
+  held = subst (λ (b : Bool). log_held.Holds log' new.image (sealed_if b (record { first = kept_by newest; blocks = h.log_holds.blocks; tail = h.log_holds.tail }))) some is.holds
 
-  pub forced_holds : Holds log' pages new records table commits
+  pub forced_holds : Holds log' pages new newest records table commits
   forced_holds =
       let same = versions_same beside pages site new is.changes in
       let stays = current_same beside pages site new is.changes in
       record {
         log_holds = record {
+          kept = is.kept ∙ h.log_holds.kept;
           blocks = more;
           tail = [];
           ready = record { pages = beside.fits pages site new is.changes is.goes h.log_holds.ready.pages; blocks = is.finds; records = held };
-          rings = rings_now logs laws beside log pages site records table commits h sizes new (has_tail log) is.reaches;
-          runs_on = moved logs laws beside log pages site records table commits h sizes new is.changes more [] records
-              (runs_sealed logs laws log pages site records table commits h some (last_of_all AreBlock h.log_holds.blocks h.log_holds.tail held.blocks.are_blocks));
+          rings = rings_now logs laws beside log pages site newest records table commits h sizes new (has_tail log) is.reaches;
+          runs_on = moved logs laws beside log pages site newest records table commits h sizes new is.changes more [] records
+              (runs_sealed logs laws log pages site newest records table commits h some (last_of_all AreBlock h.log_holds.blocks h.log_holds.tail held.blocks.are_blocks));
           ahead = record {
             pool = logged_more (end_forced log) (end_forced log') (let all = blocks_are in omega (arith, all)) pages.pool.frames h.log_holds.ahead.pool;
-            versions = sealed_now logs laws beside log pages site records table commits h sizes new (has_tail log) log' is.changes is.geometry is.finds (let next = hi_is in omega (arith, next));
+            versions = sealed_now logs laws beside log pages site newest records table commits h sizes new (has_tail log) log' is.changes is.geometry is.finds (let next = hi_is in omega (arith, next));
           };
-          room = let room = h.log_holds.room in let all = blocks_are in omega (arith, room, all);
+          room = let room = h.log_holds.room in let all = blocks_are in let kept = is.kept in omega (arith, room, all, kept);
         };
         shows = record {
           each = λ number exists.
@@ -106,3 +113,14 @@ some_now log low other = lt-ltb 2 log.used (omega (arith, low, other))
 pub ok_five : {A E : Type 0} (r : Result A E) (P Q R S T Z : Type 0) → (P → Q → R → S → T → Z) → OnOk r P → OnOk r Q → OnOk r R → OnOk r S → OnOk r T → OnOk r Z
 ok_five (Ok x) P Q R S T Z f p q r s t = f p q r s t
 ok_five (Err e) P Q R S T Z f p q r s t = tt
+
+-- a call that is only refused, or stops at the log's device
+pub quiet_stops : {A : Type 0} (r : Result A Stop) (now old : State) → IsQuiet old → (IsErrOf r (Worn Log) → now ≡ old) → IfErr r (λ stop. (stop ≡ Device Log) ⊎ (stop ≡ Worn Log)) → IfErr r (λ stop. ((d : Dev) → stop ≢ Device d) → IsQuiet now)
+quiet_stops (Ok x) now old quiet same stops = tt
+quiet_stops (Err stop) now old quiet same (inl device) = λ other. absurd (other Log device)
+quiet_stops (Err stop) now old quiet same (inr worn) = λ other. subst IsQuiet (sym (same (ap Err worn))) quiet
+
+-- sealing a tail appends to no other ring
+pub seals_only : (sealing : Bool) (list : LogList) → AllByRecursion (λ change. ring_of change ≢ Some Masters) (changes_if sealing list)
+seals_only true list = ((λ same. cc), tt)
+seals_only false list = tt

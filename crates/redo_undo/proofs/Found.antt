@@ -1,14 +1,15 @@
 -- Undoing what analysis has found, record by record.
-use Rattle.std.proofs.Common.{◌≡◌, ℕ, ◌+◌, ◌-◌, ◌*◌, ◌≤◌, ◌<◌, Bool, true, false, List, [], ◌∷◌, ◌++◌, length, Option, None, Some, true≢false, refl, sym, ap, subst, ◌∙◌, arith, append_assoc, append-nil}
+use Rattle.std.proofs.Common.{◌≡◌, ℕ, ◌+◌, ◌-◌, ◌*◌, ◌≤◌, ◌<◌, ◌&&◌, ◌||◌, not, Bool, true, false, List, [], ◌∷◌, ◌++◌, length, Option, None, Some, true≢false, refl, sym, ap, subst, ◌∙◌, arith, append_assoc, append-nil}
+use Rattle.std.specs.List.{list_any}
 use Rattle.std.specs.Prelude.{if◌then◌else◌, map, filter, option_map}
 use Rattle.std.proofs.lemmas.List.{length-append, length-map}
 use Rattle.std.proofs.lemmas.Option.{none-some, same_Some}
 use Rattle.site.specs.State.{State}
 use Rattle.record_model.specs.State.{Content}
 use Rattle.log_records.specs.declared.log_record.LogRecord.TheVariants.{Clr, End}
-use Rattle.log_records.specs.Log.{Entry, txn_of, is_of, is_loser}
+use Rattle.log_records.specs.Log.{Entry, txn_of, is_of, is_loser, is_closed, entries_of}
 use Rattle.log_records.specs.Unfinished.{left_open, owed, owed_by}
-use Rattle.log_records.specs.Sound.{InTurn, IsInOrder, last_number}
+use Rattle.log_records.specs.Sound.{AreOrderly, InTurn, IsInOrder, last_number, is_known}
 use Rattle.log_laws.specs.Follow.{Follows, IsUndoable}
 use Rattle.log_laws.specs.Tail.{next_lsn}
 use Rattle.log_laws.specs.Analysis.{Unfinished, IsUnfinished}
@@ -17,12 +18,13 @@ use Rattle.log_store.specs.declared.store.LogStore.{LogStore}
 use Rattle.log_store.specs.Held.{has_tail}
 use Rattle.std.proofs.lemmas.Bool.{ltb-false}
 use Rattle.page_store.specs.declared.store.PageStore.{PageStore}
-use Rattle.image_meaning.specs.Meaning.{picture, blank_master, versions_on}
+use Rattle.checkpoint.specs.declared.master.Master.{Master}
+use Rattle.image_meaning.specs.Meaning.{kept_by, picture_under, master_of, versions_on}
 use Rattle.analysis.specs.declared.analysis.Analysis.{Analysis}
 use Rattle.analysis.specs.declared.analysis.Loser.{Loser}
 use Rattle.analysis.specs.Open.{Open, found_in, IsTop, Remains}
 use Rattle.analysis.specs.Table.{listed}
-use Rattle.analysis.specs.Read.{IsAnalysis, is_active, open_at}
+use Rattle.analysis.specs.Read.{IsTable, is_active, open_at}
 use Rattle.redo_undo.specs.declared.undo.Undoing.{Undoing}
 use Rattle.redo_undo.specs.Holding.{Holds, MayGrow, blocks_to}
 use Rattle.redo_undo.specs.Undoing.{Undone}
@@ -73,17 +75,29 @@ some_at_top : (us : List ℕ) (lsn : ℕ) → IsTop lsn us → 0 < length us
 some_at_top [] lsn top = absurd top
 some_at_top (u ∷ us) lsn top = omega arith
 
-module _ (found_laws : FoundLaws) (laws : UndoLaws) (log : LogStore) (pages : PageStore) (site : State) (records : List Entry) (table : List Content) (commits : ℕ) (found : Analysis) (h : Holds log pages site records table commits) (is : IsAnalysis blank_master records found) where
-  pub undoable : IsUndoable records
-  undoable = subst IsUndoable h.log_holds.runs_on.records_are (laws.undoable (picture pages.flash.geometry site.image h.log_holds.blocks) h.log_holds.tail h.log_holds.runs_on.carries)
+none_any : (test : Entry → Bool) (xs : List Entry) → list_any test xs ≡ false → filter test xs ≡ []
+none_any test [] none = refl
+none_any test (x ∷ xs) none = by (test x) none (none_any test xs)
+  where
+    by : (b : Bool) → (b || list_any test xs) ≡ false → (list_any test xs ≡ false → filter test xs ≡ []) → (if b then x ∷ filter test xs else filter test xs) ≡ []
+    by true is rest = absurd (true≢false is)
+    by false is rest = rest is
 
-  pub order : IsInOrder 0 records (next_lsn (picture pages.flash.geometry site.image h.log_holds.blocks) h.log_holds.tail)
+either_none : (a b : Bool) → (a || b) ≡ false → (a ≡ false) × (b ≡ false)
+either_none true b none = absurd (true≢false none)
+either_none false b none = (refl, none)
+
+module _ (found_laws : FoundLaws) (laws : UndoLaws) (log : LogStore) (pages : PageStore) (site : State) (newest : Option Master) (records : List Entry) (table : List Content) (commits : ℕ) (found : Analysis) (h : Holds log pages site newest records table commits) (is : IsTable [] records (listed found.table)) where
+  pub undoable : IsUndoable records
+  undoable = subst IsUndoable h.log_holds.runs_on.records_are (laws.undoable (picture_under newest pages.flash.geometry site.image h.log_holds.blocks) h.log_holds.tail h.log_holds.runs_on.carries)
+
+  pub order : IsInOrder (512 * kept_by newest) records (next_lsn (picture_under newest pages.flash.geometry site.image h.log_holds.blocks) h.log_holds.tail)
   order =
-      let p = picture pages.flash.geometry site.image h.log_holds.blocks in
-      subst (λ (l : List Entry). IsInOrder 0 l (next_lsn p h.log_holds.tail)) h.log_holds.runs_on.records_are (laws.in_order p h.log_holds.tail h.log_holds.runs_on.carries)
+      let p = picture_under newest pages.flash.geometry site.image h.log_holds.blocks in
+      subst (λ (l : List Entry). IsInOrder (512 * kept_by newest) l (next_lsn p h.log_holds.tail)) h.log_holds.runs_on.records_are (laws.in_order p h.log_holds.tail h.log_holds.runs_on.carries)
 
   pub open_is : (t : ℕ) (x : Open) → found_in (listed found.table) t ≡ Some x → (is_active [] records t ≡ true) × (x ≡ open_at [] records t)
-  open_is t x there = said (is_active [] records t) x (open_at [] records t) (is_active [] records t) refl (sym there ∙ is.table.says t)
+  open_is t x there = said (is_active [] records t) x (open_at [] records t) (is_active [] records t) refl (sym there ∙ is.says t)
 
   pub lives : (t : ℕ) (x : Open) → found_in (listed found.table) t ≡ Some x → is_loser records t ≡ true
   lives t x there = found_laws.loser records t (sym (found_laws.active [] records t tt) ∙ (open_is t x there).0)
@@ -104,7 +118,7 @@ module _ (found_laws : FoundLaws) (laws : UndoLaws) (log : LogStore) (pages : Pa
   next_at t lsn x there top =
       let same = (open_is t x there).1 in
       let head = head_of (left_open records t) lsn (subst (λ (y : Open). IsTop lsn y.updates) same top) in
-      (found_laws.next 0 (next_lsn (picture pages.flash.geometry site.image h.log_holds.blocks) h.log_holds.tail) records t head.0 head.1 order (undoable.undone t (lives t x there)) head.2).next ∙ head.3
+      (found_laws.next (512 * kept_by newest) (next_lsn (picture_under newest pages.flash.geometry site.image h.log_holds.blocks) h.log_holds.tail) records t head.0 head.1 order (undoable.undone t (lives t x there)) head.2).next ∙ head.3
 
   abbrev standing : Loser → ℕ → Unfinished
   standing loser lsn = record { txn = loser.txn; last = loser.last; next = lsn; remaining = loser.remaining }
@@ -136,7 +150,7 @@ module _ (found_laws : FoundLaws) (laws : UndoLaws) (log : LogStore) (pages : Pa
 
   found_some : (t : ℕ) → is_loser records t ≡ true → found_in (listed found.table) t ≡ Some (open_at [] records t)
   found_some t loser =
-      is.table.says t ∙ ap (λ (b : Bool). if b then Some (open_at [] records t) else None) (found_laws.active [] records t tt ∙ found_laws.listed records t undoable loser)
+      is.says t ∙ ap (λ (b : Bool). if b then Some (open_at [] records t) else None) (found_laws.active [] records t tt ∙ found_laws.listed records t undoable loser)
 
   -- where of each active transaction an Update remains, one remains of each unfinished one
   pub each_remains : Remain (listed found.table) → (t : ℕ) → is_loser records t ≡ true → 0 < length (left_open records t)
@@ -152,62 +166,75 @@ module _ (found_laws : FoundLaws) (laws : UndoLaws) (log : LogStore) (pages : Pa
       by false loser = refl
       by true loser = absurd (none-some (open_at [] records t) (sym (ap (λ (l : List Open). found_in l t) none) ∙ found_some t loser))
 
+  -- each record is of a transaction that has begun, or is closed
+  pub own_known : (t : ℕ) → (is_known [] records t || is_closed records t) ≡ false → entries_of t records ≡ []
+  own_known t none = none_any (is_of t) records (by (list_any (is_of t) records) refl)
+    where
+      by : (b : Bool) → list_any (is_of t) records ≡ b → list_any (is_of t) records ≡ false
+      by false is_none = is_none
+      by true some =
+          let parts = either_none (is_known [] records t) (is_closed records t) none in
+          let loser : is_loser records t ≡ true = ap (λ b. b && not (is_closed records t)) some ∙ ap not parts.1 in
+          let active : is_active [] records t ≡ true = found_laws.active [] records t tt ∙ found_laws.listed records t undoable loser in
+          absurd (true≢false (sym active ∙ ap (λ b. b && not (is_closed records t)) parts.0))
+
 -- The End of a transaction of which nothing remains.
-module _ (page_laws : PageLaws) (laws : UndoLaws) (log : LogStore) (pages : PageStore) (site : State) (records : List Entry) (table : List Content) (commits : ℕ) (h : Holds log pages site records table commits) (x : Unfinished) (unfinished : IsUnfinished records x) (none : x.remaining ≡ 0) where
+module _ (page_laws : PageLaws) (laws : UndoLaws) (log : LogStore) (pages : PageStore) (site : State) (newest : Option Master) (records : List Entry) (table : List Content) (commits : ℕ) (h : Holds log pages site newest records table commits) (x : Unfinished) (unfinished : IsUnfinished records x) (none : x.remaining ≡ 0) where
   pub owes_end : (lsn : ℕ) → owed records ≡ owed (records ++ record { lsn = lsn; rec = End x.txn } ∷ []) + 1
   owes_end lsn =
       let owes : owed records ≡ owed (records ++ record { lsn = lsn; rec = End x.txn } ∷ []) + owed_by records x.txn =
-      laws.owed_closing records (record { lsn = lsn; rec = End x.txn }) refl (laws.lives records x.txn unfinished.loser) (chain page_laws laws log pages site records table commits h x unfinished) in
+      laws.owed_closing records (record { lsn = lsn; rec = End x.txn }) refl (laws.lives records x.txn unfinished.loser) (chain page_laws laws log pages site newest records table commits h x unfinished) in
       let remains = unfinished.remaining_is in
       omega (arith, owes, remains, none)
 
-  pub room_to_end : blocks_to log + 1 ≤ pages.flash.geometry.blocks - 1
+  pub room_to_end : blocks_to log + 1 ≤ log.kept + (pages.flash.geometry.blocks - 1)
   room_to_end = let owes = owes_end 0 in let room = h.log_holds.room in omega (arith, owes, room)
 
-  pub end_may : (lsn : ℕ) → MayGrow log pages site.image records (record { lsn = lsn; rec = End x.txn })
+  pub end_may : (lsn : ℕ) → MayGrow log pages site.image newest records (record { lsn = lsn; rec = End x.txn })
   end_may lsn =
-      let p = picture pages.flash.geometry site.image h.log_holds.blocks in
+      let p = picture_under newest pages.flash.geometry site.image h.log_holds.blocks in
       let are = h.log_holds.runs_on.records_are in
       let owes = owes_end lsn in
       let room = h.log_holds.room in
       record {
-        follows = subst (λ (l : List Entry). Follows blank_master (versions_on pages.flash.geometry site.image) l (record { lsn = lsn; rec = End x.txn })) are
-            (laws.end p h.log_holds.tail x h.log_holds.runs_on.carries refl (subst (λ (l : List Entry). IsUnfinished l x) (sym are) unfinished) none lsn);
+        follows = subst (λ (l : List Entry). Follows (master_of newest) (versions_on pages.flash.geometry site.image) l (record { lsn = lsn; rec = End x.txn })) are
+            (laws.end p h.log_holds.tail x h.log_holds.runs_on.carries (subst (λ (l : List Entry). IsUnfinished l x) (sym are) unfinished) none lsn);
         no_commit = refl;
         room = omega (arith, owes, room);
       }
 
 -- One record more.
-module _ (laws : UndoLaws) (log : LogStore) (pages : PageStore) (site : State) (records : List Entry) (table : List Content) (commits : ℕ) (found : Analysis) where
-  unfoldable pub one_more : (e : Entry) → Holds log pages site (records ++ e ∷ []) table commits → IsAnalysis blank_master (records ++ e ∷ []) found → IsNextUndo records e → owed records ≡ owed (records ++ e ∷ []) + 1 →
-      UndoesSome log pages site records table commits found e.lsn
-  one_more e h is next owes =
-      let p = picture pages.flash.geometry site.image h.log_holds.blocks in
+module _ (laws : UndoLaws) (log : LogStore) (pages : PageStore) (site : State) (newest : Option Master) (records : List Entry) (table : List Content) (commits : ℕ) (found : Analysis) where
+  unfoldable pub one_more : (e : Entry) → Holds log pages site newest (records ++ e ∷ []) table commits → IsTable [] (records ++ e ∷ []) (listed found.table) → IsNextUndo records e → owed records ≡ owed (records ++ e ∷ []) + 1 →
+      (AreOrderly records → AreOrderly (records ++ e ∷ [])) → UndoesSome log pages site newest records table commits found e.lsn
+  one_more e h is next owes orderly =
+      let p = picture_under newest pages.flash.geometry site.image h.log_holds.blocks in
       record {
         more = e ∷ [];
         now = record {
           holds = h;
           analysis = is;
-          up_to = up_to_last 0 records e (next_lsn p h.log_holds.tail)
-              (subst (λ (l : List Entry). IsInOrder 0 l (next_lsn p h.log_holds.tail)) h.log_holds.runs_on.records_are (laws.in_order p h.log_holds.tail h.log_holds.runs_on.carries));
+          up_to = up_to_last (512 * kept_by newest) records e (next_lsn p h.log_holds.tail)
+              (subst (λ (l : List Entry). IsInOrder (512 * kept_by newest) l (next_lsn p h.log_holds.tail)) h.log_holds.runs_on.records_are (laws.in_order p h.log_holds.tail h.log_holds.runs_on.carries));
         };
         in_turn = (next, tt);
         count = omega (arith, owes);
+        orderly = orderly;
       }
 
   -- an End
-  unfoldable pub one_end : (t lsn : ℕ) → Holds log pages site (records ++ record { lsn = lsn; rec = End t } ∷ []) table commits → IsAnalysis blank_master (records ++ record { lsn = lsn; rec = End t } ∷ []) found →
-      owed records ≡ owed (records ++ record { lsn = lsn; rec = End t } ∷ []) + 1 → UndoesSome log pages site records table commits found lsn
-  one_end t lsn h is owes =
-      one_more (record { lsn = lsn; rec = End t }) h is (record { ends_first = λ clr. absurd (true≢false (sym clr)); greatest = λ clr. absurd (true≢false (sym clr)) }) owes
+  unfoldable pub one_end : (t lsn : ℕ) → Holds log pages site newest (records ++ record { lsn = lsn; rec = End t } ∷ []) table commits → IsTable [] (records ++ record { lsn = lsn; rec = End t } ∷ []) (listed found.table) →
+      owed records ≡ owed (records ++ record { lsn = lsn; rec = End t } ∷ []) + 1 → (AreOrderly records → AreOrderly (records ++ record { lsn = lsn; rec = End t } ∷ [])) → UndoesSome log pages site newest records table commits found lsn
+  one_end t lsn h is owes orderly =
+      one_more (record { lsn = lsn; rec = End t }) h is (record { ends_first = λ clr. absurd (true≢false (sym clr)); greatest = λ clr. absurd (true≢false (sym clr)) }) owes orderly
 
   -- a CLR
-  pub one_clr : (x : Unfinished) (now : Undoing) (u : Undone log pages site records table commits x now) → IsAnalysis blank_master (records ++ record { lsn = now.last; rec = Clr x.txn x.last now.next u.page u.slot u.before } ∷ []) found →
-      ((t : ℕ) → is_loser records t ≡ true → 0 < length (left_open records t)) → IsGreatest records x.txn → UndoesSome log pages site records table commits found now.last
+  pub one_clr : (x : Unfinished) (now : Undoing) (u : Undone log pages site newest records table commits x now) → IsTable [] (records ++ record { lsn = now.last; rec = Clr x.txn x.last now.next u.page u.slot u.before } ∷ []) (listed found.table) →
+      ((t : ℕ) → is_loser records t ≡ true → 0 < length (left_open records t)) → IsGreatest records x.txn → UndoesSome log pages site newest records table commits found now.last
   one_clr x now u is remain greatest =
-      subst (λ (lsn : ℕ). UndoesSome log pages site records table commits found lsn) (ap (λ (e : Entry). e.lsn) u.e_is)
-      (one_more u.e u.holds (subst (λ (e : Entry). IsAnalysis blank_master (records ++ e ∷ []) found) (sym u.e_is) is)
-      (record { ends_first = λ clr. remain; greatest = λ clr. subst (IsGreatest records) (sym u.own) greatest }) u.owes)
+      subst (λ (lsn : ℕ). UndoesSome log pages site newest records table commits found lsn) (ap (λ (e : Entry). e.lsn) u.e_is)
+      (one_more u.e u.holds (subst (λ (e : Entry). IsTable [] (records ++ e ∷ []) (listed found.table)) (sym u.e_is) is)
+      (record { ends_first = λ clr. remain; greatest = λ clr. subst (IsGreatest records) (sym u.own) greatest }) u.owes u.orderly)
 
 -- Records in turn.
 
@@ -216,34 +243,36 @@ in_turn_join P earlier [] ys first second = subst (λ (l : List Entry). InTurn P
 in_turn_join P earlier (x ∷ xs) ys first second = (first.0, in_turn_join P (earlier ++ x ∷ []) xs ys first.1 (subst (λ (l : List Entry). InTurn P l ys) (sym (append_assoc earlier (x ∷ []) xs)) second))
 
 -- nothing is undone yet
-unfoldable pub nothing_undone : (log : LogStore) (pages : PageStore) (site : State) (records : List Entry) (table : List Content) (commits : ℕ) (found : Analysis) (known : ℕ) → IsUndoing log pages site records table commits found known →
-    UndoesSome log pages site records table commits found known
-nothing_undone log pages site records table commits found known is = record {
+unfoldable pub nothing_undone : (log : LogStore) (pages : PageStore) (site : State) (newest : Option Master) (records : List Entry) (table : List Content) (commits : ℕ) (found : Analysis) (known : ℕ) → IsUndoing log pages site newest records table commits found known →
+    UndoesSome log pages site newest records table commits found known
+nothing_undone log pages site newest records table commits found known is = record {
   more = [];
-  now = subst (λ (l : List Entry). IsUndoing log pages site l table commits found known) (sym (append-nil records)) is;
+  now = subst (λ (l : List Entry). IsUndoing log pages site newest l table commits found known) (sym (append-nil records)) is;
   in_turn = tt;
   count = omega (arith, ap owed (append-nil records));
+  orderly = λ was. subst AreOrderly (sym (append-nil records)) was;
 }
 
 -- and more is, behind what was
-unfoldable pub more_undone : (log log' : LogStore) (pages pages' : PageStore) (site site' : State) (records : List Entry) (table : List Content) (commits : ℕ) (found found' : Analysis) (known known' : ℕ) →
-    (a : UndoesSome log pages site records table commits found known) → UndoesSome log' pages' site' (records ++ a.more) table commits found' known' → UndoesSome log' pages' site' records table commits found' known'
-more_undone log log' pages pages' site site' records table commits found found' known known' a b =
+unfoldable pub more_undone : (log log' : LogStore) (pages pages' : PageStore) (site site' : State) (newest : Option Master) (records : List Entry) (table : List Content) (commits : ℕ) (found found' : Analysis) (known known' : ℕ) →
+    (a : UndoesSome log pages site newest records table commits found known) → UndoesSome log' pages' site' newest (records ++ a.more) table commits found' known' → UndoesSome log' pages' site' newest records table commits found' known'
+more_undone log log' pages pages' site site' newest records table commits found found' known known' a b =
     let count = a.count in
     let count' = b.count in
     let all = append_assoc records a.more b.more in
     record {
       more = a.more ++ b.more;
-      now = subst (λ (l : List Entry). IsUndoing log' pages' site' l table commits found' known') all b.now;
+      now = subst (λ (l : List Entry). IsUndoing log' pages' site' newest l table commits found' known') all b.now;
       in_turn = in_turn_join IsNextUndo records a.more b.more a.in_turn b.in_turn;
       count = omega (arith, count, count', length-append a.more b.more, ap owed all);
+      orderly = λ was. subst AreOrderly all (b.orderly (a.orderly was));
     }
 
 -- until all is
-pub all_undone : FoundLaws → UndoLaws → (log : LogStore) (pages : PageStore) (site : State) (records : List Entry) (table : List Content) (commits : ℕ) (found : Analysis) (known : ℕ) →
-    UndoesSome log pages site records table commits found known → listed found.table ≡ [] → UndoesAll log pages site records table commits
-all_undone found_laws laws log pages site records table commits found known a none =
-    let done = none_unfinished found_laws laws log pages site (records ++ a.more) table commits found a.now.holds a.now.analysis none in
+pub all_undone : FoundLaws → UndoLaws → (log : LogStore) (pages : PageStore) (site : State) (newest : Option Master) (records : List Entry) (table : List Content) (commits : ℕ) (found : Analysis) (known : ℕ) →
+    UndoesSome log pages site newest records table commits found known → listed found.table ≡ [] → UndoesAll log pages site newest records table commits
+all_undone found_laws laws log pages site newest records table commits found known a none =
+    let done = none_unfinished found_laws laws log pages site newest (records ++ a.more) table commits found a.now.holds a.now.analysis none in
     let count = a.count in
     record {
       more = a.more;
@@ -251,19 +280,20 @@ all_undone found_laws laws log pages site records table commits found known a no
       none = done;
       count = omega (arith, count, found_laws.nothing (records ++ a.more) done);
       in_turn = a.in_turn;
+      orderly = a.orderly;
     }
 
 -- Where each record is sealed all of them stand before the log's next block.
-pub sealed_up_to : UndoLaws → (log : LogStore) (pages : PageStore) (site : State) (records : List Entry) (table : List Content) (commits known : ℕ) → Holds log pages site records table commits → has_tail log ≡ false → known ≡ 512 * log.ring.hi + 1 →
+pub sealed_up_to : PageLaws → UndoLaws → (log : LogStore) (pages : PageStore) (site : State) (newest : Option Master) (records : List Entry) (table : List Content) (commits known : ℕ) → Holds log pages site newest records table commits → has_tail log ≡ false → known ≡ 512 * log.ring.hi + 1 →
     AreUpTo known records
-sealed_up_to laws log pages site records table commits known h none at =
-    let p = picture pages.flash.geometry site.image h.log_holds.blocks in
-    let order = subst (λ (l : List Entry). IsInOrder 0 l (next_lsn p h.log_holds.tail)) h.log_holds.runs_on.records_are (laws.in_order p h.log_holds.tail h.log_holds.runs_on.carries) in
+sealed_up_to page_laws laws log pages site newest records table commits known h none at =
+    let p = picture_under newest pages.flash.geometry site.image h.log_holds.blocks in
+    let order = subst (λ (l : List Entry). IsInOrder (512 * kept_by newest) l (next_lsn p h.log_holds.tail)) h.log_holds.runs_on.records_are (laws.in_order p h.log_holds.tail h.log_holds.runs_on.carries) in
     let hi = h.log_holds.ready.blocks.hi in
     let next = h.log_holds.ready.records.blocks.next in
     let used = h.log_holds.ready.records.tail.end in
     let few = ltb-false 2 log.used none in
-    below_end 0 records (next_lsn p h.log_holds.tail) known (omega (arith, hi, next, used, few, at)) order
+    below_end (512 * kept_by newest) records (next_lsn p h.log_holds.tail) known (let behind = page_laws.next newest h.log_holds.blocks in omega (arith, hi, next, used, few, at, behind)) order
 
 -- the Update that analysis undoes next is the last of all that remain
 pub next_is_greatest : (next : Option (ℕ × ℕ)) (at : ℕ × ℕ) (last : Option Entry) → next ≡ Some at → next ≡ option_map (λ (u : Entry). record { 0 = txn_of u; 1 = u.lsn }) last → (u : Entry) × (last ≡ Some u) × (txn_of u ≡ at.0)

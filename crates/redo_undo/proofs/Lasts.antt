@@ -1,24 +1,26 @@
 -- The last record of an unfinished transaction.
-use Rattle.std.proofs.Common.{◌≡◌, ℕ, ◌≤◌, ◌==◌, Bool, true, false, List, [], ◌∷◌, ◌++◌, length, None, Some, refl, sym, ap, subst, ◌∙◌, arith}
-use Rattle.std.specs.Prelude.{if◌then◌else◌, map, filter, find, drop}
+use Rattle.std.proofs.Common.{◌≡◌, ℕ, ◌≤◌, ◌==◌, Bool, true, false, List, [], ◌∷◌, ◌++◌, length, None, Some, refl, sym, ap, subst, ◌∙◌, arith, ◌*◌, ◌+◌}
+use Rattle.std.specs.Prelude.{if◌then◌else◌, map, filter, find, drop, Option}
 use Rattle.site.specs.State.{State}
 use Rattle.record_model.specs.State.{Content}
 use Rattle.log_records.specs.declared.log_record.LogRecord.{LogRecord}
 use Rattle.log_records.specs.declared.log_record.LogRecord.TheVariants.{Begin, Update, Clr, Commit, End}
 use Rattle.log_records.specs.Log.{Entry, txn_by, txn_of, entries_of, is_of, is_closing}
 use Rattle.log_records.specs.Unfinished.{left_open, open_updates}
-use Rattle.log_records.specs.Sound.{InTurn, IsInOrder, IsLoserChain, Continues, Undoes, AreOrderly, last_number, last_lsn}
+use Rattle.log_records.specs.Sound.{InTurn, IsInOrder, IsLoserChain, Continues, Undoes, last_number, last_lsn}
 use Rattle.log_laws.specs.Tail.{next_lsn}
 use Rattle.log_laws.specs.Analysis.{Unfinished, IsUnfinished}
 use Rattle.log_laws.specs.UndoLaws.{next_by, next_in}
 use Rattle.log_store.specs.declared.store.LogStore.{LogStore}
 use Rattle.log_store.specs.LogList.{entries, at_lsn}
 use Rattle.page_store.specs.declared.store.PageStore.{PageStore}
-use Rattle.image_meaning.specs.Meaning.{picture}
+use Rattle.checkpoint.specs.declared.master.Master.{Master}
+use Rattle.image_meaning.specs.Meaning.{picture_under, kept_by}
 use Rattle.redo_undo.specs.Holding.{Holds}
 use Rattle.redo_undo.specs.Laws.{PageLaws, UndoLaws, FoundLaws}
 use Rattle.redo_undo.proofs.Compensations.{chain, found_at, entries_are}
 use Rattle.std.proofs.lemmas.Bool.{eqb-true}
+use Rattle.redo_undo.proofs.LeftUpdates.{order_filtered}
 
 -- what passes a test stands in the list
 pub split_at : (test : Entry → Bool) (xs front : List Entry) (e : Entry) (back : List Entry) → filter test xs ≡ front ++ e ∷ back → (a : List Entry) × (b : List Entry) × (xs ≡ a ++ e ∷ b) × (test e ≡ true)
@@ -94,32 +96,41 @@ pub record Says (x : Unfinished) (last : ℕ) (rec : LogRecord) : Type 0 where
   pub lives : is_closing rec ≡ false
   pub falls : x.next ≤ last
 
-module _ (page_laws : PageLaws) (found_laws : FoundLaws) (laws : UndoLaws) (log : LogStore) (pages : PageStore) (site : State) (records : List Entry) (table : List Content) (commits : ℕ) (h : Holds log pages site records table commits) (x : Unfinished) (unfinished : IsUnfinished records x) where
+abbrev first_lsn : List Entry → ℕ
+first_lsn [] = 0
+first_lsn (x ∷ xs) = x.lsn
+
+last_after : (from : ℕ) (xs : List Entry) (e : Entry) (to : ℕ) → IsInOrder from (xs ++ e ∷ []) to → from ≤ e.lsn
+last_after from [] e to order = order.0
+last_after from (x ∷ xs) e to order = let a = order.0 in let b = last_after (x.lsn + 1) xs e to order.1 in omega (arith, a, b)
+
+after_first : (from to : ℕ) (front : List Entry) (e : Entry) → IsInOrder from (front ++ e ∷ []) to → first_lsn (front ++ e ∷ []) ≤ e.lsn
+after_first from to [] e order = omega arith
+after_first from to (x ∷ front) e order = let a = last_after (x.lsn + 1) front e to order.1 in omega (arith, a)
+
+module _ (page_laws : PageLaws) (found_laws : FoundLaws) (laws : UndoLaws) (log : LogStore) (pages : PageStore) (site : State) (newest : Option Master) (records : List Entry) (table : List Content) (commits : ℕ) (h : Holds log pages site newest records table commits) (x : Unfinished) (unfinished : IsUnfinished records x) where
   its_chain : IsLoserChain x.txn (entries_of x.txn records)
-  its_chain = chain page_laws laws log pages site records table commits h x unfinished
+  its_chain = chain page_laws laws log pages site newest records table commits h x unfinished
 
   abbrev end : ℕ
-  end = next_lsn (picture pages.flash.geometry site.image h.log_holds.blocks) h.log_holds.tail
+  end = next_lsn (picture_under newest pages.flash.geometry site.image h.log_holds.blocks) h.log_holds.tail
 
-  order : IsInOrder 0 records end
-  order = subst (λ (l : List Entry). IsInOrder 0 l end) h.log_holds.runs_on.records_are (laws.in_order (picture pages.flash.geometry site.image h.log_holds.blocks) h.log_holds.tail h.log_holds.runs_on.carries)
-
-  orderly : AreOrderly records
-  orderly = subst AreOrderly h.log_holds.runs_on.records_are (found_laws.orderly (picture pages.flash.geometry site.image h.log_holds.blocks) h.log_holds.tail h.log_holds.runs_on.carries refl)
+  order : IsInOrder (512 * kept_by newest) records end
+  order = subst (λ (l : List Entry). IsInOrder (512 * kept_by newest) l end) h.log_holds.runs_on.records_are (laws.in_order (picture_under newest pages.flash.geometry site.image h.log_holds.blocks) h.log_holds.tail h.log_holds.runs_on.carries)
 
   falls : (last : ℕ) → x.txn ≤ last → x.last ≡ last → x.next ≤ last
   falls last late same = by (left_open records x.txn) refl
     where
       by : (left : List Entry) → left_open records x.txn ≡ left → x.next ≤ last
-      by [] is = let next = unfinished.next_is ∙ laws.next_undone 0 end records x.txn order its_chain is in omega (arith, next, late)
+      by [] is = let next = unfinished.next_is ∙ laws.next_undone (512 * kept_by newest) end records x.txn order its_chain is in omega (arith, next, late)
       by (u ∷ rest) is =
-          let to = found_laws.next 0 end records x.txn u rest order its_chain is in
+          let to = found_laws.next (512 * kept_by newest) end records x.txn u rest order its_chain is in
           let next = unfinished.next_is ∙ to.next in
           let early = to.early in
           let last_is = unfinished.last_is in
           omega (arith, next, early, last_is, same)
 
-  its_last : (e : Entry) × (at_lsn x.last (entries (record { first = 0; blocks = h.log_holds.blocks; tail = h.log_holds.tail })) ≡ Some e.rec) × Says x x.last e.rec
+  its_last : (e : Entry) × (at_lsn x.last (entries (record { first = kept_by newest; blocks = h.log_holds.blocks; tail = h.log_holds.tail })) ≡ Some e.rec) × Says x x.last e.rec
   its_last =
       let last = last_of_chain x.txn (entries_of x.txn records) its_chain in
       let e = last.0 in
@@ -127,31 +138,46 @@ module _ (page_laws : PageLaws) (found_laws : FoundLaws) (laws : UndoLaws) (log 
       let split = split_at (is_of x.txn) records is.front e [] is.are in
       let at : x.last ≡ e.lsn = unfinished.last_is ∙ ap last_lsn is.are ∙ last_number_end 0 is.front e in
       let own : txn_of e ≡ x.txn = eqb-true (txn_of e) x.txn split.3 in
-      let ordered = subst (λ (l : List Entry). IsInOrder 0 l end) split.2 order in
-      let begun = (found_laws.at 0 end split.0 e split.1 ordered (subst AreOrderly split.2 orderly)).1.begun in
-      let found = ap (find (λ v. v.lsn == x.last)) split.2 ∙ ap (λ (n : ℕ). find (λ v. v.lsn == n) (split.0 ++ e ∷ split.1)) at ∙ found_laws.by_lsn 0 end split.0 e split.1 ordered in (
+      let ordered = subst (λ (l : List Entry). IsInOrder (512 * kept_by newest) l end) split.2 order in
+      let head : first_lsn (is.front ++ e ∷ []) ≡ x.txn = ap first_lsn (sym is.are) ∙ ap first_lsn its_chain.begins in
+      let begun = after_first (512 * kept_by newest) end is.front e (subst (λ (l : List Entry). IsInOrder (512 * kept_by newest) l end) is.are (order_filtered (is_of x.txn) (512 * kept_by newest) end records order)) in
+      let found = ap (find (λ v. v.lsn == x.last)) split.2 ∙ ap (λ (n : ℕ). find (λ v. v.lsn == n) (split.0 ++ e ∷ split.1)) at ∙ found_laws.by_lsn (512 * kept_by newest) end split.0 e split.1 ordered in (
         e,
-        ap (at_lsn x.last) (entries_are pages.flash.geometry site.image h.log_holds.blocks h.log_holds.tail ∙ h.log_holds.runs_on.records_are) ∙ found_at x.last records e found,
+        ap (at_lsn x.last) (entries_are page_laws newest pages.flash.geometry site.image h.log_holds.blocks h.log_holds.tail ∙ h.log_holds.runs_on.records_are) ∙ found_at x.last records e found,
         record {
           own = ap (λ (n : ℕ). txn_by n e.rec) at ∙ own;
           next = ap (λ (n : ℕ). next_by x.txn n e.rec) at ∙ sym is.next ∙ sym unfinished.next_is;
           lives = is.lives;
-          falls = falls x.last (omega (arith, begun, own, at)) refl;
+          falls = falls x.last (omega (arith, begun, head, at)) refl;
         },
       )
 
+  -- it has begun in the kept log
+  pub begin_kept : 512 * kept_by newest ≤ x.txn
+  begin_kept = (subst (λ (l : List Entry). IsInOrder (512 * kept_by newest) l end) its_chain.begins (order_filtered (is_of x.txn) (512 * kept_by newest) end records order)).0
+
+  pub last_kept : 512 * kept_by newest ≤ x.last
+  last_kept =
+      let last = last_of_chain x.txn (entries_of x.txn records) its_chain in
+      let e = last.0 in
+      let is = last.1 in
+      let at : x.last ≡ e.lsn = unfinished.last_is ∙ ap last_lsn is.are ∙ last_number_end 0 is.front e in
+      let head : first_lsn (is.front ++ e ∷ []) ≡ x.txn = ap first_lsn (sym is.are) ∙ ap first_lsn its_chain.begins in
+      let begun = after_first (512 * kept_by newest) end is.front e (subst (λ (l : List Entry). IsInOrder (512 * kept_by newest) l end) is.are (order_filtered (is_of x.txn) (512 * kept_by newest) end records order)) in
+      omega (arith, begun, head, at, begin_kept)
+
   -- whichever record was read at its LSN
-  pub last_says : (last : ℕ) (rec : LogRecord) → x.last ≡ last → at_lsn last (entries (record { first = 0; blocks = h.log_holds.blocks; tail = h.log_holds.tail })) ≡ Some rec → Says x last rec
+  pub last_says : (last : ℕ) (rec : LogRecord) → x.last ≡ last → at_lsn last (entries (record { first = kept_by newest; blocks = h.log_holds.blocks; tail = h.log_holds.tail })) ≡ Some rec → Says x last rec
   last_says last rec at read =
       let own = its_last in
-      let there : at_lsn x.last (entries (record { first = 0; blocks = h.log_holds.blocks; tail = h.log_holds.tail })) ≡ Some rec = subst (λ (n : ℕ). at_lsn n (entries (record { first = 0; blocks = h.log_holds.blocks; tail = h.log_holds.tail })) ≡ Some rec) (sym at) read in
+      let there : at_lsn x.last (entries (record { first = kept_by newest; blocks = h.log_holds.blocks; tail = h.log_holds.tail })) ≡ Some rec = subst (λ (n : ℕ). at_lsn n (entries (record { first = kept_by newest; blocks = h.log_holds.blocks; tail = h.log_holds.tail })) ≡ Some rec) (sym at) read in
       let found = own.1 in
       let same : own.0.rec ≡ rec = cc in
       subst (λ (n : ℕ). Says x n rec) at (subst (Says x x.last) same own.2)
 
   -- and one is
-  pub last_is_there : (last : ℕ) → x.last ≡ last → at_lsn last (entries (record { first = 0; blocks = h.log_holds.blocks; tail = h.log_holds.tail })) ≡ None → ⊥
+  pub last_is_there : (last : ℕ) → x.last ≡ last → at_lsn last (entries (record { first = kept_by newest; blocks = h.log_holds.blocks; tail = h.log_holds.tail })) ≡ None → ⊥
   last_is_there last at none =
       let found = its_last.1 in
-      let there : at_lsn x.last (entries (record { first = 0; blocks = h.log_holds.blocks; tail = h.log_holds.tail })) ≡ None = subst (λ (n : ℕ). at_lsn n (entries (record { first = 0; blocks = h.log_holds.blocks; tail = h.log_holds.tail })) ≡ None) (sym at) none in
+      let there : at_lsn x.last (entries (record { first = kept_by newest; blocks = h.log_holds.blocks; tail = h.log_holds.tail })) ≡ None = subst (λ (n : ℕ). at_lsn n (entries (record { first = kept_by newest; blocks = h.log_holds.blocks; tail = h.log_holds.tail })) ≡ None) (sym at) none in
       cc

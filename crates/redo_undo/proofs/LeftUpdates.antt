@@ -1,6 +1,6 @@
 -- The Updates that a transaction leaves to be undone, as CLR after CLR takes the last of them off.
-use Rattle.std.proofs.Common.{◌≡◌, ℕ, ◌+◌, ◌≤◌, ◌<◌, Bool, true, false, List, [], ◌∷◌, ◌++◌, length, Some, true≢false, refl, sym, ap, subst, ◌∙◌, arith}
-use Rattle.std.specs.Prelude.{if◌then◌else◌, filter, drop, Ok, ⊤}
+use Rattle.std.proofs.Common.{◌≡◌, ℕ, ◌+◌, ◌≤◌, ◌<◌, Bool, true, false, List, [], ◌∷◌, ◌++◌, length, Some, true≢false, refl, sym, ap, subst, ◌∙◌, arith, ◌*◌}
+use Rattle.std.specs.Prelude.{if◌then◌else◌, filter, drop, Ok, ⊤, Option}
 use Rattle.std.specs.List.{AllByRecursion}
 use Rattle.std.proofs.lemmas.Bool.{eq-eqb}
 use Rattle.site.specs.State.{State}
@@ -17,7 +17,8 @@ use Rattle.log_laws.specs.UndoLaws.{IsNext}
 use Rattle.log_laws.specs.Analysis.{Unfinished, IsUnfinished}
 use Rattle.log_store.specs.declared.store.LogStore.{LogStore}
 use Rattle.log_store.specs.LogList.{entries, at_lsn}
-use Rattle.image_meaning.specs.Meaning.{picture}
+use Rattle.checkpoint.specs.declared.master.Master.{Master}
+use Rattle.image_meaning.specs.Meaning.{picture_under, kept_by}
 use Rattle.page_store.specs.declared.store.PageStore.{PageStore}
 use Rattle.redo_undo.specs.Holding.{Holds}
 use Rattle.redo_undo.specs.Laws.{PageLaws, UndoLaws, FoundLaws}
@@ -107,19 +108,19 @@ pub left_falls : (from to : ℕ) (records : List Entry) (t : ℕ) → IsInOrder 
 left_falls from to records t order = updates_fall from to (entries_of t records) [] (order_filtered (is_of t) from to records order) (record { below = tt; fall = tt })
 
 -- The record where undoing goes on is the last Update that is left.
-module _ (pages_laws : PageLaws) (found_laws : FoundLaws) (laws : UndoLaws) (log : LogStore) (pages : PageStore) (site : State) (records : List Entry) (table : List Content) (commits : ℕ) (h : Holds log pages site records table commits) (x : Unfinished) (unfinished : IsUnfinished records x) (u : Entry) (rest : List Entry) (left : left_open records x.txn ≡ u ∷ rest) where
+module _ (pages_laws : PageLaws) (found_laws : FoundLaws) (laws : UndoLaws) (log : LogStore) (pages : PageStore) (site : State) (newest : Option Master) (records : List Entry) (table : List Content) (commits : ℕ) (h : Holds log pages site newest records table commits) (x : Unfinished) (unfinished : IsUnfinished records x) (u : Entry) (rest : List Entry) (left : left_open records x.txn ≡ u ∷ rest) where
   abbrev end : ℕ
-  end = next_lsn (picture pages.flash.geometry site.image h.log_holds.blocks) h.log_holds.tail
+  end = next_lsn (picture_under newest pages.flash.geometry site.image h.log_holds.blocks) h.log_holds.tail
 
   next : IsNext records x.txn u rest
   next =
-      let order : IsInOrder 0 records end = subst (λ (l : List Entry). IsInOrder 0 l end) h.log_holds.runs_on.records_are (laws.in_order (picture pages.flash.geometry site.image h.log_holds.blocks) h.log_holds.tail h.log_holds.runs_on.carries) in
-      found_laws.next 0 end records x.txn u rest order (chain pages_laws laws log pages site records table commits h x unfinished) left
+      let order : IsInOrder (512 * kept_by newest) records end = subst (λ (l : List Entry). IsInOrder (512 * kept_by newest) l end) h.log_holds.runs_on.records_are (laws.in_order (picture_under newest pages.flash.geometry site.image h.log_holds.blocks) h.log_holds.tail h.log_holds.runs_on.carries) in
+      found_laws.next (512 * kept_by newest) end records x.txn u rest order (chain pages_laws laws log pages site newest records table commits h x unfinished) left
 
-  pub last_left_is : (lsn : ℕ) (rec : LogRecord) → lsn ≡ x.next → at_lsn lsn (entries (record { first = 0; blocks = h.log_holds.blocks; tail = h.log_holds.tail })) ≡ Some rec → u.rec ≡ rec
+  pub last_left_is : (lsn : ℕ) (rec : LogRecord) → lsn ≡ x.next → at_lsn lsn (entries (record { first = kept_by newest; blocks = h.log_holds.blocks; tail = h.log_holds.tail })) ≡ Some rec → u.rec ≡ rec
   last_left_is lsn rec at read =
-      let all = entries (record { first = 0; blocks = h.log_holds.blocks; tail = h.log_holds.tail }) in
+      let all = entries (record { first = kept_by newest; blocks = h.log_holds.blocks; tail = h.log_holds.tail }) in
       let here : lsn ≡ u.lsn = at ∙ unfinished.next_is ∙ next.next in
       let there : at_lsn u.lsn all ≡ Some u.rec =
-      ap (at_lsn u.lsn) (entries_are pages.flash.geometry site.image h.log_holds.blocks h.log_holds.tail ∙ h.log_holds.runs_on.records_are) ∙ found_at u.lsn records u next.found in
+      ap (at_lsn u.lsn) (entries_are pages_laws newest pages.flash.geometry site.image h.log_holds.blocks h.log_holds.tail ∙ h.log_holds.runs_on.records_are) ∙ found_at u.lsn records u next.found in
       same_Some u.rec rec (sym there ∙ sym (ap (λ (n : ℕ). at_lsn n all) here) ∙ read)

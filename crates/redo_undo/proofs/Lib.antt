@@ -9,6 +9,9 @@ pub mod Rollbacks
 pub mod Empties
 pub mod Committed
 pub mod Forced
+pub mod Orderlies
+pub mod Saved
+pub mod Outliving
 pub mod Sessions
 pub mod Opens
 pub mod Found
@@ -22,9 +25,11 @@ pub mod TakenRecords
 pub mod Costs
 pub mod Asking
 pub mod AskingUndo
+pub mod AskingFlush
 pub mod LeftUpdates
 pub mod UndoSoFar
 pub mod UndoneUpdates
 pub mod Pendings
 pub mod UndoneWrites
 pub mod RedoWorks
+pub mod WornLogs

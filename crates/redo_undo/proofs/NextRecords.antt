@@ -1,26 +1,27 @@
 -- The next record of an opened log is redone.
-use Rattle.std.proofs.Common.{◌≡◌, ◌≢◌, ◌⊎◌, inl, inr, ℕ, ◌+◌, ◌-◌, ◌*◌, ◌/◌, ◌≤◌, ◌<◌, List, [], ◌∷◌, ◌++◌, length, map, Some, refl, sym, ap, subst, ◌∙◌, arith}
+use Rattle.std.proofs.Common.{◌≡◌, ◌≢◌, ◌⊎◌, inl, inr, ℕ, ◌+◌, ◌-◌, ◌*◌, ◌/◌, ◌≤◌, ◌<◌, List, [], ◌∷◌, ◌++◌, length, map, Some, refl, sym, ap, subst, ◌∙◌, arith, true, false, Bool, append-nil}
 use Rattle.std.specs.List.{AllByRecursion}
-use Rattle.std.proofs.lemmas.Bool.{cases_eq}
+use Rattle.std.proofs.lemmas.Bool.{cases_eq, lt-ltb, cond-true, cond-false}
 use Rattle.std.proofs.lemmas.Option.{same_Some}
 use Rattle.site.specs.State.{State, Image}
 use Rattle.log_records.specs.declared.log_record.LogRecord.{LogRecord}
-use Rattle.log_records.specs.Log.{Entry, log_from, number_of}
-use Rattle.log_records.specs.Sound.{Picture, IsInOrder, IsInTable, last_lsn, last_number}
+use Rattle.log_records.specs.Log.{Entry, log_from, number_of, version_at}
+use Rattle.log_records.specs.Sound.{Picture, IsInOrder, IsInTable, last_lsn, last_number, before_block}
 use Rattle.slotted_page.specs.Layout.{lsn_of}
 use Rattle.log_store.specs.declared.store.LogStore.{LogStore}
 use Rattle.buffer_pool.specs.Frames.{front_of}
 use Rattle.page_store.specs.declared.store.PageStore.{PageStore}
 use Rattle.page_store.specs.Held.{current, Fits}
 use Rattle.page_store.specs.Ahead.{IsAhead, end_forced}
-use Rattle.image_meaning.specs.Meaning.{versions_on, version_in}
+use Rattle.image_meaning.specs.Meaning.{versions_on, version_in, kept_by, next_block_under}
 use Rattle.image_meaning.specs.Redone.{IsRedone, AreKnown, Redoes}
-use Rattle.analysis.specs.Taken.{Steps}
+use Rattle.analysis.specs.Taken.{Steps, is_taken}
 use Rattle.redo_undo.specs.Holding.{IsOnPage}
 use Rattle.redo_undo.specs.Laws.{PageLaws}
 use Rattle.redo_undo.proofs.Changed.{front_is_current}
 use Rattle.redo_undo.specs.RedoLaws.{RedoLaws}
-use Rattle.redo_undo.specs.Redoing.{Opening, opened, IsFrom, IsRedoing}
+use Rattle.std.specs.Prelude.{if◌then◌else◌, filter, nat_lt}
+use Rattle.redo_undo.specs.Redoing.{Opening, opened, IsFrom, IsRedoing, heard_of}
 
 all_append : {X : Type 0} (P : X → Type 0) (xs ys : List X) → AllByRecursion P xs → AllByRecursion P ys → AllByRecursion P (xs ++ ys)
 all_append P [] ys front rest = rest
@@ -29,6 +30,24 @@ all_append P (x ∷ xs) ys front rest = (front.0, all_append P xs ys front.1 res
 one_of_all : {X : Type 0} (P : X → Type 0) (front : List X) (x : X) (rest : List X) → AllByRecursion P (front ++ x ∷ rest) → P x
 one_of_all P [] x rest all = all.0
 one_of_all P (y ∷ front) x rest all = one_of_all P front x rest all.1
+
+-- one item passes a test
+filter_append : (test : Entry → Bool) (xs ys : List Entry) → filter test (xs ++ ys) ≡ filter test xs ++ filter test ys
+filter_append test [] ys = refl
+filter_append test (x ∷ xs) ys = by (test x) (filter_append test xs ys)
+  where
+    by : (b : Bool) → filter test (xs ++ ys) ≡ filter test xs ++ filter test ys → (if b then x ∷ filter test (xs ++ ys) else filter test (xs ++ ys)) ≡ (if b then x ∷ filter test xs else filter test xs) ++ filter test ys
+    by true rest = ap (λ (l : List Entry). x ∷ l) rest
+    by false rest = rest
+
+pub filter_split : (test : Entry → Bool) (front : List Entry) (e : Entry) (rest : List Entry) → test e ≡ true → filter test (front ++ e ∷ rest) ≡ filter test front ++ e ∷ filter test rest
+filter_split test front e rest here = filter_append test front (e ∷ rest) ∙ ap (λ (l : List Entry). filter test front ++ l) (cond-true (test e) (e ∷ filter test rest) (filter test rest) here)
+
+pub filter_more : (test : Entry → Bool) (front : List Entry) (e : Entry) → test e ≡ true → filter test (front ++ e ∷ []) ≡ filter test front ++ e ∷ []
+filter_more test front e here = filter_split test front e [] here
+
+pub filter_none : (test : Entry → Bool) (front : List Entry) (e : Entry) → test e ≡ false → filter test (front ++ e ∷ []) ≡ filter test front
+filter_none test front e here = filter_append test front (e ∷ []) ∙ ap (λ (l : List Entry). filter test front ++ l) (cond-false (test e) (e ∷ []) [] here) ∙ append-nil (filter test front)
 
 known_more : (log : List Entry) (page from to : ℕ) → from ≤ to → AreKnown log page from → AreKnown log page to
 known_more [] page from to more known = tt
@@ -71,7 +90,7 @@ front_knows pages image rec lsn page some is on least other number own at =
     subst (λ n. lsn ≤ lsn_of (current pages image n)) same (subst (λ (c : List ℕ). lsn ≤ lsn_of c) (sym (front_is_current pages image some)) least)
 
 module _ (laws : PageLaws) (redo : RedoLaws) (o : Opening) (log : LogStore) (pages : PageStore) (site : State) (front : List Entry) (h : IsRedoing o log pages site front)
-    (e : Entry) (rest : List Entry) (is : log_from 0 o.blocks ≡ front ++ e ∷ rest) where
+    (e : Entry) (rest : List Entry) (is : log_from (kept_by o.newest) o.blocks ≡ front ++ e ∷ rest) where
   -- its page exists
   pub page_exists : (page number : ℕ) → number_of e.rec ≡ Some number → number / 32 ≡ page → page < o.sizes.pages
   page_exists page number own at =
@@ -80,38 +99,54 @@ module _ (laws : PageLaws) (redo : RedoLaws) (o : Opening) (log : LogStore) (pag
       let long = laws.count o.sizes o.image in
       omega (arith, small, long, at)
 
-  hi_is : log.ring.hi ≡ length o.blocks
-  hi_is = let hi = h.ready.blocks.hi in let next = h.ready.records.blocks.next in omega (arith, hi, next)
+  hi_is : log.ring.hi ≡ next_block_under o.newest o.blocks
+  hi_is = let hi = h.ready.blocks.hi in let next = h.ready.records.blocks.next in let at = laws.next o.newest o.blocks in omega (arith, hi, next, at)
 
   -- its LSN is sealed
   pub lsn_sealed : e.lsn < end_forced log
   lsn_sealed =
-      let below = before_end (512 * 0) (512 * length o.blocks) front e rest (subst (λ (l : List Entry). IsInOrder (512 * 0) l (512 * length o.blocks)) is h.sound.in_order) in
+      let below = before_end (512 * kept_by o.newest) (512 * next_block_under o.newest o.blocks) front e rest (subst (λ (l : List Entry). IsInOrder (512 * kept_by o.newest) l (512 * next_block_under o.newest o.blocks)) is h.sound.in_order) in
       let hi = hi_is in
       omega (arith, below, hi)
 
   -- those before it have smaller ones
   pub last_below : last_lsn front ≤ e.lsn - 1
   last_below =
-      last_before (512 * 0) (512 * length o.blocks) 0 front e rest
-      (subst (λ (l : List Entry). IsInOrder (512 * 0) l (512 * length o.blocks)) is h.sound.in_order) (omega arith)
+      last_before (512 * kept_by o.newest) (512 * next_block_under o.newest o.blocks) 0 front e rest
+      (subst (λ (l : List Entry). IsInOrder (512 * kept_by o.newest) l (512 * next_block_under o.newest o.blocks)) is h.sound.in_order) (omega arith)
 
   from_still : (page : ℕ) → page < o.sizes.pages → IsFrom (opened o) (front ++ e ∷ []) page (lsn_of (current pages site.image page))
   from_still page exists = from_more (opened o) front e page (lsn_of (current pages site.image page)) last_below (h.from page exists)
 
-  -- analysis may take it
-  pub may_step : Steps [] front e
-  may_step = let all = redo.all_taken (opened o) h.sound refl in redo.steps (opened o) front e rest h.sound (all.0 ∙ is)
+  -- analysis may take it, where it hears of it
+  pub may_step : is_taken (opened o).master e ≡ true → Steps (opened o).master.active (heard_of (opened o).master front) e
+  may_step here =
+      redo.steps (opened o) (heard_of (opened o).master front) e (heard_of (opened o).master rest) h.sound
+      (ap (heard_of (opened o).master) is ∙ filter_split (is_taken (opened o).master) front e rest here)
+
+  -- before the redo block its page knows of it
+  pub known_before : e.lsn < 512 * (opened o).master.redo → (page number : ℕ) → page < o.sizes.pages → number_of e.rec ≡ Some number → number / 32 ≡ page → e.lsn ≤ lsn_of (current pages site.image page)
+  known_before early page number exists own at =
+      let long = laws.count o.sizes o.image in
+      let fits = h.sound.versions_fit page (omega (arith, exists, long)) in
+      let before : before_block (opened o).master.redo (opened o).log ≡ before_block (opened o).master.redo front ++ e ∷ before_block (opened o).master.redo rest =
+      ap (before_block (opened o).master.redo) is ∙ filter_split (λ (x : Entry). nat_lt x.lsn (512 * (opened o).master.redo)) front e rest (lt-ltb e.lsn (512 * (opened o).master.redo) early) in
+      let knows = one_of_all (λ (x : Entry). (n : ℕ) → number_of x.rec ≡ Some n → n / 32 ≡ page → x.lsn ≤ (version_at (opened o).pages page).lsn) (before_block (opened o).master.redo front) e (before_block (opened o).master.redo rest)
+      (subst (AllByRecursion (λ (x : Entry). (n : ℕ) → number_of x.rec ≡ Some n → n / 32 ≡ page → x.lsn ≤ (version_at (opened o).pages page).lsn)) before fits.knows) number own at in
+      let later = (h.redone page exists).later in
+      omega (arith, knows, later)
 
   with_known : (pages' : PageStore) → pages'.flash.geometry ≡ pages.flash.geometry → Fits pages' site → IsAhead log pages' site.image →
       ((page : ℕ) → page < o.sizes.pages → IsRedone (opened o) page (version_in (current pages' site.image page)) × AreKnown (front ++ e ∷ []) page (lsn_of (current pages' site.image page)) × IsFrom (opened o) (front ++ e ∷ []) page (lsn_of (current pages' site.image page))) →
       IsRedoing o log pages' site (front ++ e ∷ [])
   with_known pages' same fits are_ahead each = record {
     geometry = same ∙ h.geometry;
+    kept = h.kept;
     sound = h.sound;
     means = h.means;
     ready = record { pages = fits; blocks = h.ready.blocks; records = h.ready.records };
     rings = h.rings;
+    masters = h.masters;
     ahead = are_ahead;
     replace = h.replace;
     redone = λ page exists. (each page exists).0;

@@ -1,7 +1,7 @@
 -- What redo asks of the cache.
-use Rattle.std.proofs.Common.{◌≡◌, ◌≢◌, ◌⊎◌, inl, inr, ℕ, ◌-◌, ◌/◌, ◌≤◌, ◌<◌, nat_lt, Bool, true, false, cond, List, [], ◌∷◌, ◌++◌, Option, Some, None, append-nil, append_assoc, refl, sym, ap, subst, ◌∙◌, arith}
-use Rattle.std.specs.Prelude.{⊤, Result, Ok, Err, OnOk, IsErrOf, filter_map, option_map}
-use Rattle.std.proofs.lemmas.Bool.{le-leb, lt-ltb, le-ltb}
+use Rattle.std.proofs.Common.{◌≡◌, ◌≢◌, ◌⊎◌, inl, inr, ℕ, ◌-◌, ◌/◌, ◌≤◌, ◌<◌, nat_lt, Bool, true, false, List, [], ◌∷◌, ◌++◌, Option, Some, None, append-nil, append_assoc, refl, sym, ap, subst, ◌∙◌, arith, ◌*◌}
+use Rattle.std.specs.Prelude.{if◌then◌else◌, ⊤, Result, Ok, Err, OnOk, IsErrOf, filter_map, option_map, nat_le}
+use Rattle.std.proofs.lemmas.Bool.{le-leb, lt-ltb, le-ltb, cond-true, cond-false, lt-leb}
 use Rattle.std.proofs.lemmas.List.Elements.{filter_map-append}
 use Rattle.site.specs.declared.outside.Dev.{Dev}
 use Rattle.site.specs.declared.outside.Dev.TheVariants.{Log, Flash, Disk}
@@ -20,9 +20,10 @@ use Rattle.page_store.specs.Caching.{cache_of, rules, with_change}
 use Rattle.page_store.specs.Laws.{TouchThenChange}
 use Rattle.redo_undo.specs.Laws.{PageLaws}
 use Rattle.redo_undo.specs.RedoLaws.{RedoLaws}
-use Rattle.redo_undo.specs.Redoing.{Opening, opened, touches_of, IsFrom, IsRedoing}
-use Rattle.redo_undo.specs.Works.{one_touch, one_change, redo_works, Asks}
+use Rattle.redo_undo.specs.Redoing.{Opening, opened, touches_of, IsFrom, IsRedoing, asked_of}
+use Rattle.redo_undo.specs.Works.{one_touch, one_change, Asks}
 use Rattle.redo_undo.proofs.Asking.{change_reads, change_overflows, asks_nothing, asks_then, asks_stopped}
+use Rattle.image_meaning.specs.Meaning.{kept_by}
 use Rattle.redo_undo.proofs.NextRecords.{last_below, page_exists}
 
 -- nothing is asked yet
@@ -65,46 +66,63 @@ asks_reading result pages old new same never =
 
 -- Records after records.
 
-module _ (o : Opening) (entry mid new : PageStore) (old between now : State) (done : List Entry) (asked : Asks {T = ⊤} (Ok tt) (touches_of o done) entry mid old between) where
-  pub asks_more : {A : Type 0} (x : A) (more all : List Entry) → all ≡ done ++ more → Asks {T = A} (Ok x) (touches_of o more) mid new between now → Asks {T = ⊤} (Ok tt) (touches_of o all) entry new old now
+from_append : (n : ℕ) (xs ys : List Entry) → from_block n (xs ++ ys) ≡ from_block n xs ++ from_block n ys
+from_append n [] ys = refl
+from_append n (x ∷ xs) ys = by (nat_le (512 * n) x.lsn) (from_append n xs ys)
+  where
+    by : (b : Bool) → from_block n (xs ++ ys) ≡ from_block n xs ++ from_block n ys → (if b then x ∷ from_block n (xs ++ ys) else from_block n (xs ++ ys)) ≡ (if b then x ∷ from_block n xs else from_block n xs) ++ from_block n ys
+    by true rest = ap (λ (l : List Entry). x ∷ l) rest
+    by false rest = rest
+
+asked_append : (o : Opening) (xs ys : List Entry) → asked_of o (xs ++ ys) ≡ asked_of o xs ++ asked_of o ys
+asked_append o xs ys = ap (touches_of o) (from_append (opened o).master.redo xs ys) ∙ filter_map-append (redo_touch (opened o)) (from_block (opened o).master.redo xs) (from_block (opened o).master.redo ys)
+
+-- a record before the redo block asks for nothing, and one from there on for its redoing
+pub asked_early : (o : Opening) (e : Entry) → e.lsn < 512 * (opened o).master.redo → asked_of o (e ∷ []) ≡ []
+asked_early o e early = ap (touches_of o) (cond-false (nat_le (512 * (opened o).master.redo) e.lsn) (e ∷ []) [] (lt-leb (512 * (opened o).master.redo) e.lsn early))
+
+pub asked_late : (o : Opening) (e : Entry) → 512 * (opened o).master.redo ≤ e.lsn → asked_of o (e ∷ []) ≡ touches_of o (e ∷ [])
+asked_late o e late = ap (touches_of o) (cond-true (nat_le (512 * (opened o).master.redo) e.lsn) (e ∷ []) [] (le-leb (512 * (opened o).master.redo) e.lsn late))
+
+module _ (o : Opening) (entry mid new : PageStore) (old between now : State) (done : List Entry) (asked : Asks {T = ⊤} (Ok tt) (asked_of o done) entry mid old between) where
+  pub asks_more : {A : Type 0} (x : A) (more all : List Entry) → all ≡ done ++ more → Asks {T = A} (Ok x) (asked_of o more) mid new between now → Asks {T = ⊤} (Ok tt) (asked_of o all) entry new old now
   asks_more x more all is asks =
-      let both = asks_then tt (Ok x) (touches_of o done) (touches_of o more) entry mid new old between now asked asks in
-      let split : touches_of o all ≡ touches_of o done ++ touches_of o more = ap (touches_of o) is ∙ filter_map-append (redo_touch (opened o)) done more in
+      let both = asks_then tt (Ok x) (asked_of o done) (asked_of o more) entry mid new old between now asked asks in
+      let split : asked_of o all ≡ asked_of o done ++ asked_of o more = ap (asked_of o) is ∙ asked_append o done more in
       subst (λ (works : List CacheWork). Asks {T = ⊤} (Ok tt) works entry new old now) (sym split)
       (record { machine = both.machine; worn = λ worn. cc; reads = both.reads; rules_are = both.rules_are })
 
-  pub stops_within : {A B : Type 0} (stop : Stop) (more others all : List Entry) → 1 ≤ (rules entry).groups → all ≡ done ++ (more ++ others) → Asks {T = A} (Err stop) (touches_of o more) mid new between now →
-      Asks {T = B} (Err stop) (touches_of o all) entry new old now
+  pub stops_within : {A B : Type 0} (stop : Stop) (more others all : List Entry) → 1 ≤ (rules entry).groups → all ≡ done ++ (more ++ others) → Asks {T = A} (Err stop) (asked_of o more) mid new between now →
+      Asks {T = B} (Err stop) (asked_of o all) entry new old now
   stops_within {A} {B} stop more others all some is asks =
-      let both = asks_then {A = ⊤} {B = A} tt (Err stop) (touches_of o done) (touches_of o more) entry mid new old between now asked asks in
-      let split : touches_of o all ≡ (touches_of o done ++ touches_of o more) ++ touches_of o others =
-      ap (touches_of o) is ∙ filter_map-append (redo_touch (opened o)) done (more ++ others) ∙ ap (λ (works : List CacheWork). touches_of o done ++ works) (filter_map-append (redo_touch (opened o)) more others)
-      ∙ sym (append_assoc (touches_of o done) (touches_of o more) (touches_of o others)) in
+      let both = asks_then {A = ⊤} {B = A} tt (Err stop) (asked_of o done) (asked_of o more) entry mid new old between now asked asks in
+      let split : asked_of o all ≡ (asked_of o done ++ asked_of o more) ++ asked_of o others =
+      ap (asked_of o) is ∙ asked_append o done (more ++ others) ∙ ap (λ (works : List CacheWork). asked_of o done ++ works) (asked_append o more others)
+      ∙ sym (append_assoc (asked_of o done) (asked_of o more) (asked_of o others)) in
       subst (λ (works : List CacheWork). Asks {T = B} (Err stop) works entry new old now) (sym split)
-      (asks_stopped {A = A} {B = B} stop (touches_of o done ++ touches_of o more) (touches_of o others) entry new old now some both)
+      (asks_stopped {A = A} {B = B} stop (asked_of o done ++ asked_of o more) (asked_of o others) entry new old now some both)
 
 -- and with a read of the log behind it
 pub stops_reading : {A : Type 0} (stop : Stop) (pages : PageStore) (old new : State) → ((dev : Dev) → dev ≢ Log → reads_of dev new ≡ reads_of dev old) → stop ≢ Worn Flash → Asks {T = A} (Err stop) [] pages pages old new
 stops_reading {A} stop pages old new same never = asks_reading {A = A} (Err stop) pages old new same (λ is. never (let equal : stop ≡ Worn Flash = cc in equal))
 
-pub asks_with_read : (o : Opening) (entry pages : PageStore) (old mid new : State) (done : List Entry) → Asks {T = ⊤} (Ok tt) (touches_of o done) entry pages old mid → ((dev : Dev) → dev ≢ Log → reads_of dev new ≡ reads_of dev mid) →
-    Asks {T = ⊤} (Ok tt) (touches_of o done) entry pages old new
+pub asks_with_read : (o : Opening) (entry pages : PageStore) (old mid new : State) (done : List Entry) → Asks {T = ⊤} (Ok tt) (asked_of o done) entry pages old mid → ((dev : Dev) → dev ≢ Log → reads_of dev new ≡ reads_of dev mid) →
+    Asks {T = ⊤} (Ok tt) (asked_of o done) entry pages old new
 asks_with_read o entry pages old mid new done asked same =
     asks_more o entry pages pages old mid new done asked tt [] done (sym (append-nil done)) (asks_reading {A = ⊤} (Ok tt) pages mid new same (λ is. cc))
 
 -- all of some records
-pub asks_all : {A : Type 0} (x : A) (o : Opening) (old new : PageStore) (before now : State) (done all : List Entry) → done ≡ all → Asks {T = ⊤} (Ok tt) (touches_of o done) old new before now → Asks {T = A} (Ok x) (touches_of o all) old new before now
+pub asks_all : {A : Type 0} (x : A) (o : Opening) (old new : PageStore) (before now : State) (done all : List Entry) → done ≡ all → Asks {T = ⊤} (Ok tt) (asked_of o done) old new before now → Asks {T = A} (Ok x) (asked_of o all) old new before now
 asks_all {A} x o old new before now done all is asked =
-    subst (λ (l : List Entry). Asks {T = A} (Ok x) (touches_of o l) old new before now) is
+    subst (λ (l : List Entry). Asks {T = A} (Ok x) (asked_of o l) old new before now) is
     (record { machine = asked.machine; worn = λ worn. cc; reads = asked.reads; rules_are = asked.rules_are })
 
--- all records stand from the first block on
-all_from_first : (log : List Entry) → from_block 0 log ≡ log
-all_from_first [] = refl
-all_from_first (e ∷ log) = ap (λ (b : Bool). cond b (e ∷ from_block 0 log) (from_block 0 log)) (le-leb 0 e.lsn (omega arith)) ∙ ap (λ (l : List Entry). e ∷ l) (all_from_first log)
+pub asks_early : {A : Type 0} (x : A) (o : Opening) (e : Entry) (pages : PageStore) (site : State) → e.lsn < 512 * (opened o).master.redo → Asks {T = A} (Ok x) (asked_of o (e ∷ [])) pages pages site site
+asks_early {A} x o e pages site early =
+    subst (λ (works : List CacheWork). Asks {T = A} (Ok x) works pages pages site site) (sym (asked_early o e early)) (asks_nothing {T = A} (Ok x) pages site site (λ dev. refl) (λ is. cc))
 
-pub redo_asks : {A : Type 0} (result : Result A Stop) (o : Opening) (old new : PageStore) (before now : State) → Asks result (touches_of o (log_from 0 o.blocks)) old new before now → Asks result (redo_works (opened o)) old new before now
-redo_asks result o old new before now asks = subst (λ (works : List CacheWork). Asks result works old new before now) (ap (touches_of o) (sym (all_from_first (log_from 0 o.blocks)))) asks
+pub asks_late : {A : Type 0} (result : Result A Stop) (o : Opening) (e : Entry) (old new : PageStore) (before now : State) → 512 * (opened o).master.redo ≤ e.lsn → Asks result (touches_of o (e ∷ [])) old new before now → Asks result (asked_of o (e ∷ [])) old new before now
+asks_late result o e old new before now late asks = subst (λ (works : List CacheWork). Asks result works old new before now) (sym (asked_late o e late)) asks
 
 -- One touch.
 
@@ -157,7 +175,7 @@ older_version o front page lsn next low (inl same) least = omega (arith, same, l
 older_version o front page lsn next low (inr less) least = omega (arith, low, less, least)
 
 module _ (laws : PageLaws) (redo : RedoLaws) (o : Opening) (log : LogStore) (mid : PageStore) (between : State) (front : List Entry) (h : IsRedoing o log mid between front)
-    (e : Entry) (rest : List Entry) (split : log_from 0 o.blocks ≡ front ++ e ∷ rest) (page number : ℕ) (own : number_of e.rec ≡ Some number) (at : number / 32 ≡ page)
+    (e : Entry) (rest : List Entry) (split : log_from (kept_by o.newest) o.blocks ≡ front ++ e ∷ rest) (page number : ℕ) (own : number_of e.rec ≡ Some number) (at : number / 32 ≡ page)
     (old : PageStore) (before : State) {A : Type 0} (x : A) (asks : Asks {T = A} (Ok x) (one_touch page) old mid before between) where
   exists : page < o.sizes.pages
   exists = page_exists laws redo o log mid between front h e rest split page number own at

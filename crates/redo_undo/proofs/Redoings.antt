@@ -1,6 +1,6 @@
 -- Log and pages while the records of an opened log are redone.
 use Rattle.std.proofs.Common.{◌≡◌, ◌⊎◌, inl, inr, ℕ, ◌+◌, ◌*◌, ◌≤◌, ◌<◌, ◌==◌, ◌||◌, ◌&&◌, nat_lt, Bool, true, false, true≢false, IsTrue, List, [], append-nil, length, refl, sym, ap, subst, ◌∙◌, arith}
-use Rattle.std.specs.Prelude.{if◌then◌else◌, Result, Ok, Err, OnOk}
+use Rattle.std.specs.Prelude.{if◌then◌else◌, Result, Ok, Err, OnOk, Option}
 use Rattle.std.specs.List.{AllByRecursion}
 use Rattle.std.proofs.lemmas.Bool.Decides.{nat_tests}
 use Rattle.site.specs.declared.geometry.Geometry.{Geometry}
@@ -10,7 +10,7 @@ use Rattle.site.specs.declared.outside.Dev.TheVariants.{Log}
 use Rattle.site.specs.Moments.{Leaves, LeavesOnly, SameBut, ChangesOnly}
 use Rattle.site.specs.Laws.{each_both, each_weaker, holds_now, no_call, unchanged_calm, stays_honest, quiet_leaves, in_sequence}
 use Rattle.sealed_ring.specs.Ring.{IsRing, hi_of}
-use Rattle.image_changes.specs.Rings.{log_shape}
+use Rattle.image_changes.specs.Rings.{log_shape, KeepsUnits, master_shape, Masters}
 use Rattle.record_model.specs.State.{Content}
 use Rattle.log_records.specs.declared.log_record.LogRecord.{LogRecord}
 use Rattle.log_records.specs.Log.{Entry, Version, log_from}
@@ -30,15 +30,17 @@ use Rattle.page_store.specs.declared.store.PageStore.{PageStore}
 use Rattle.page_store.specs.Held.{IsStore, current, content_by}
 use Rattle.page_store.specs.Ahead.{IsAhead, IsLogged, end_forced, forces, sealed_end}
 use Rattle.page_store.specs.Leaves.{AreReady, LeavesPages, LeavesRings, KeepsCurrent}
-use Rattle.image_meaning.specs.Meaning.{IsSound, Stands, picture, versions_on, version_in}
+use Rattle.image_meaning.specs.Meaning.{IsSoundUnder, StandsUnder, picture_under, versions_on, version_in, kept_by, next_block_under}
 use Rattle.image_meaning.specs.Redone.{IsRedone, AreKnown, ShowsAll}
 use Rattle.image_meaning.specs.Pictures.{ReplaceAll}
-use Rattle.image_meaning.specs.Beside.{AreRingsSound}
+use Rattle.image_meaning.specs.Beside.{AreRingsSoundUnder}
 use Rattle.redo_undo.specs.Holding.{Holds, ShowRecords}
 use Rattle.redo_undo.specs.HoldingLaws.{OpenedHolds}
 use Rattle.redo_undo.specs.Laws.{PageLaws}
 use Rattle.redo_undo.specs.RedoLaws.{RedoLaws}
 use Rattle.redo_undo.specs.Redoing.{IsOpened, Opening, opened, IsFrom, LeavesOpened, IsRedoing}
+use Rattle.checkpoint.specs.declared.master.Master.{Master}
+use Rattle.redo_undo.proofs.Sames.{units_then}
 use Rattle.redo_undo.proofs.Standing.{current_sound}
 
 -- an empty tail is never forced
@@ -55,15 +57,15 @@ module _ (laws : PageLaws) (redo : RedoLaws) (o : Opening) (sound : lists.IsSoun
   -- the versions of an image, each of which replaces that of the opened one
   module _ (now : Image) (given : (number : ℕ) → number < o.sizes.pages → Replaces (opened o) number (version_in (version_on o.sizes now number))) where
     pub all_replace : ReplaceAll (opened o) (versions_on o.sizes now)
-    all_replace = laws.each_replaces o.sizes o.image now o.blocks given
+    all_replace = laws.each_replaces o.newest o.sizes o.image now o.blocks given
 
   pub version_replaces : (image : Image) → ReplaceAll (opened o) (versions_on o.sizes image) → (number : ℕ) → number < o.sizes.pages → Replaces (opened o) number (version_in (version_on o.sizes image number))
   version_replaces image replace number exists =
       subst (Replaces (opened o) number) (laws.at o.sizes image number exists) (replace.each number (exists_in number exists))
 
   -- such an image is sound, and stands for the same
-  pub sound_by : (now : Image) → ReplaceAll (opened o) (versions_on o.sizes now) → HasBlocks o.sizes 0 o.blocks now → AreRingsSound o.sizes now → IsCleanOn o.sizes now →
-      ((number : ℕ) → number < o.sizes.pages → page.IsSound (version_on o.sizes now number)) → IsSound o.sizes now o.blocks
+  pub sound_by : (now : Image) → ReplaceAll (opened o) (versions_on o.sizes now) → HasBlocks o.sizes (kept_by o.newest) o.blocks now → AreRingsSoundUnder o.newest o.sizes now → IsCleanOn o.sizes now →
+      ((number : ℕ) → number < o.sizes.pages → page.IsSound (version_on o.sizes now number)) → IsSoundUnder o.newest o.sizes now o.blocks
   sound_by now replace held rings clean sound_pages = record {
     octets = record {
       limits = rings.limits;
@@ -78,19 +80,19 @@ module _ (laws : PageLaws) (redo : RedoLaws) (o : Opening) (sound : lists.IsSoun
     records = redo.versions_sound (opened o) (versions_on o.sizes now) sound replace;
   }
 
-  pub means_by : (now : Image) → ReplaceAll (opened o) (versions_on o.sizes now) → Means (opened o) o.table o.commits → Means (picture o.sizes now o.blocks) o.table o.commits
+  pub means_by : (now : Image) → ReplaceAll (opened o) (versions_on o.sizes now) → Means (opened o) o.table o.commits → Means (picture_under o.newest o.sizes now o.blocks) o.table o.commits
   means_by now replace means = laws.versions_mean (opened o) (versions_on o.sizes now) sound replace o.table o.commits means
 
 module _ (o : Opening) (log : LogStore) (pages : PageStore) (site : State) (front : List Entry) (h : IsRedoing o log pages site front) where
-  pub rings_given : AreRingsSound pages.flash.geometry site.image
-  rings_given = subst (λ (k : Geometry). AreRingsSound k site.image) (sym h.geometry) h.rings
+  pub rings_given : AreRingsSoundUnder o.newest pages.flash.geometry site.image
+  rings_given = subst (λ (k : Geometry). AreRingsSoundUnder o.newest k site.image) (sym h.geometry) h.rings
 
-  pub rings_of : (new : State) → LeavesOnly site new (LeavesRings pages.flash.geometry) → LeavesOnly site new (LeavesRings o.sizes)
-  rings_of new rings = subst (λ (k : Geometry). LeavesOnly site new (LeavesRings k)) h.geometry rings
+  pub rings_of : (new : State) → LeavesOnly site new (LeavesRings o.newest pages.flash.geometry) → LeavesOnly site new (LeavesRings o.newest o.sizes)
+  rings_of new rings = subst (λ (k : Geometry). LeavesOnly site new (LeavesRings o.newest k)) h.geometry rings
 
 module _ (laws : PageLaws) (redo : RedoLaws) (o : Opening) (log : LogStore) (pages : PageStore) (site : State) (front : List Entry) (h : IsRedoing o log pages site front) where
   abbrev list : LogList
-  list = record { first = 0; blocks = o.blocks; tail = [] }
+  list = record { first = kept_by o.newest; blocks = o.blocks; tail = [] }
 
   version_sound : (number : ℕ) → number < o.sizes.pages → page.IsSound (version_on o.sizes site.image number)
   version_sound = subst (λ (k : Geometry). (number : ℕ) → number < k.pages → page.IsSound (version_on k site.image number)) h.geometry h.ready.pages.sound
@@ -102,14 +104,14 @@ module _ (laws : PageLaws) (redo : RedoLaws) (o : Opening) (log : LogStore) (pag
   clean_now : IsCleanOn o.sizes site.image
   clean_now = subst (λ (k : Geometry). IsCleanOn k site.image) h.geometry h.ready.pages.clean
 
-  pub held_now : log.geometry ≡ pages.flash.geometry → HasBlocks o.sizes 0 o.blocks site.image
-  held_now same = subst (λ (k : Geometry). HasBlocks k 0 o.blocks site.image) (same ∙ h.geometry) h.ready.records.blocks
+  pub held_now : log.geometry ≡ pages.flash.geometry → HasBlocks o.sizes (kept_by o.newest) o.blocks site.image
+  held_now same = subst (λ (k : Geometry). HasBlocks k (kept_by o.newest) o.blocks site.image) (same ∙ h.geometry) h.ready.records.blocks
 
   -- The site itself.
-  pub sound_now : log.geometry ≡ pages.flash.geometry → IsSound o.sizes site.image o.blocks
+  pub sound_now : log.geometry ≡ pages.flash.geometry → IsSoundUnder o.newest o.sizes site.image o.blocks
   sound_now same = sound_by laws redo o h.sound site.image h.replace (held_now same) h.rings clean_now version_sound
 
-  pub stands_now : log.geometry ≡ pages.flash.geometry → Stands o.sizes site.image o.table o.commits
+  pub stands_now : log.geometry ≡ pages.flash.geometry → StandsUnder o.newest o.sizes site.image o.table o.commits
   stands_now same = record { blocks = o.blocks; sound = sound_now same; means = means_by laws redo o h.sound site.image h.replace h.means }
 
   pub nothing_happens : log.geometry ≡ pages.flash.geometry → IsQuiet site → LeavesOnly site site (LeavesOpened o site.told)
@@ -127,13 +129,13 @@ module _ (laws : PageLaws) (redo : RedoLaws) (o : Opening) (log : LogStore) (pag
   pub replaced : (s : Snapshot) → LeavesPages o.sizes (current pages site.image) false list site s → ReplaceAll (opened o) (versions_on o.sizes s.image)
   replaced s leaves = all_replace laws redo o h.sound s.image (λ number exists. by_version s.image number exists (leaves.versions number exists))
 
-  blocks_left : (s : Snapshot) → LeavesPages o.sizes (current pages site.image) false list site s → HasBlocks o.sizes 0 o.blocks s.image
+  blocks_left : (s : Snapshot) → LeavesPages o.sizes (current pages site.image) false list site s → HasBlocks o.sizes (kept_by o.newest) o.blocks s.image
   blocks_left s leaves = elim leaves.log.blocks [
     | inl has ↦ has
     | inr more ↦ absurd (true≢false (sym more.0))
   ]
 
-  at_snapshot : IsStore pages → (s : Snapshot) → LeavesPages o.sizes (current pages site.image) false list site s → AreRingsSound o.sizes s.image → LeavesOpened o site.told s
+  at_snapshot : IsStore pages → (s : Snapshot) → LeavesPages o.sizes (current pages site.image) false list site s → AreRingsSoundUnder o.newest o.sizes s.image → LeavesOpened o site.told s
   at_snapshot own s leaves rings = record {
     told = leaves.log.told;
     stands = record {
@@ -152,9 +154,9 @@ module _ (laws : PageLaws) (redo : RedoLaws) (o : Opening) (log : LogStore) (pag
     leaves_so leaves = subst (λ (b : Bool). LeavesOnly site new (LeavesPages o.sizes (current pages site.image) b list site)) never
         (subst (λ (k : Geometry). LeavesOnly site new (LeavesPages k (current pages site.image) sealing list site)) h.geometry leaves)
 
-    pub touch_leaves : LeavesOnly site new (LeavesPages pages.flash.geometry (current pages site.image) sealing list site) → LeavesOnly site new (LeavesRings o.sizes) → IsStore pages → LeavesOnly site new (LeavesOpened o site.told)
+    pub touch_leaves : LeavesOnly site new (LeavesPages pages.flash.geometry (current pages site.image) sealing list site) → LeavesOnly site new (LeavesRings o.newest o.sizes) → IsStore pages → LeavesOnly site new (LeavesOpened o site.told)
     touch_leaves leaves rings own =
-        each_weaker site new (λ m. Leaves (LeavesPages o.sizes (current pages site.image) false list site) m × Leaves (LeavesRings o.sizes) m) (Leaves (LeavesOpened o site.told))
+        each_weaker site new (λ m. Leaves (LeavesPages o.sizes (current pages site.image) false list site) m × Leaves (LeavesRings o.newest o.sizes) m) (Leaves (LeavesOpened o site.told))
         (λ m q s left. at_snapshot own s (q.0 s left) (q.1 s left))
         (each_both site new _ _ (leaves_so leaves) rings)
 
@@ -163,14 +165,16 @@ module _ (laws : PageLaws) (redo : RedoLaws) (o : Opening) (log : LogStore) (pag
         (subst (λ (k : Geometry). LeavesPages k (current pages site.image) sealing list site (snapshot_of new)) h.geometry leaves)
 
     -- and behind it
-    pub touched : (log' : LogStore) (pages' : PageStore) → pages'.flash.geometry ≡ pages.flash.geometry → AreReady pages' log' (sealed_if sealing list) new → KeepsCurrent pages site.image pages' new.image →
-        IsAhead log' pages' new.image → LeavesPages pages.flash.geometry (current pages site.image) sealing list site (snapshot_of new) → AreRingsSound pages.flash.geometry new.image → IsRedoing o log' pages' new front
-    touched log' pages' same ready kept are_ahead leaves rings = record {
+    pub touched : (log' : LogStore) (pages' : PageStore) → pages'.flash.geometry ≡ pages.flash.geometry → log'.kept ≡ log.kept → AreReady pages' log' (sealed_if sealing list) new → KeepsCurrent pages site.image pages' new.image →
+        IsAhead log' pages' new.image → LeavesPages pages.flash.geometry (current pages site.image) sealing list site (snapshot_of new) → AreRingsSoundUnder o.newest pages.flash.geometry new.image → IsRedoing o log' pages' new front
+    touched log' pages' same same_kept ready kept are_ahead leaves rings = record {
       geometry = same ∙ h.geometry;
+      kept = same_kept ∙ h.kept;
       sound = h.sound;
       means = h.means;
       ready = subst (λ (b : Bool). AreReady pages' log' (sealed_if b list) new) never ready;
-      rings = subst (λ (k : Geometry). AreRingsSound k new.image) h.geometry rings;
+      rings = subst (λ (k : Geometry). AreRingsSoundUnder o.newest k new.image) h.geometry rings;
+      masters = units_then o.image site.image new.image h.masters (leaves.rings Masters (λ is. cc) (λ is. cc));
       ahead = are_ahead;
       replace = replaced (snapshot_of new) (left_so leaves);
       redone = λ number exists. subst (λ (c : List ℕ). IsRedone (opened o) number (version_in c)) (sym (kept_so number exists)) (h.redone number exists);
@@ -210,10 +214,10 @@ logged_number n end logged some = grind (arith, nat_tests)
 before_two : (n end : ℕ) → IsTrue ((n == 0) || nat_lt n end) → n < end + 2
 before_two n end logged = grind (arith, nat_tests)
 
-module _ (laws : PageLaws) (redo : RedoLaws) (log : LogStore) (pages : PageStore) (site : State) (blocks : List (List LogRecord)) (table : List Content) (commits : ℕ)
-    (h : IsOpened pages.flash.geometry log pages site blocks table commits) where
+module _ (laws : PageLaws) (redo : RedoLaws) (log : LogStore) (pages : PageStore) (site : State) (newest : Option Master) (blocks : List (List LogRecord)) (table : List Content) (commits : ℕ)
+    (h : IsOpened pages.flash.geometry log pages site newest blocks table commits) where
   abbrev pub begun : Opening
-  begun = record { sizes = pages.flash.geometry; image = site.image; blocks = blocks; table = table; commits = commits }
+  begun = record { sizes = pages.flash.geometry; image = site.image; newest = newest; blocks = blocks; table = table; commits = commits }
 
   unpooled : (number : ℕ) → current pages site.image number ≡ version_on pages.flash.geometry site.image number
   unpooled number = ap (λ (frames : List Frame). content_by (frame_of frames number) (version_on pages.flash.geometry site.image number)) h.empty
@@ -224,18 +228,21 @@ module _ (laws : PageLaws) (redo : RedoLaws) (log : LogStore) (pages : PageStore
   version_logged : (number : ℕ) → number < pages.flash.geometry.pages → IsLogged (sealed_end pages.flash.geometry site.image) (version_on pages.flash.geometry site.image number)
   version_logged number exists =
       let next = h.sound.held.next in
-      let end : 512 * length blocks ≡ sealed_end pages.flash.geometry site.image = omega (arith, next) in
+      let at = laws.next newest blocks in
+      let end : 512 * next_block_under newest blocks ≡ sealed_end pages.flash.geometry site.image = omega (arith, next, at) in
       let logged = (h.sound.records.versions_fit number (listed_there number exists)).logged in
-      let of_it = subst (λ (v : Version). IsTrue ((v.lsn == 0) || nat_lt v.lsn (512 * length blocks))) (laws.at pages.flash.geometry site.image number exists) logged in
-      record { below = λ some. subst (λ n. lsn_of (version_on pages.flash.geometry site.image number) < n) end (logged_number (lsn_of (version_on pages.flash.geometry site.image number)) (512 * length blocks) of_it some) }
+      let of_it = subst (λ (v : Version). IsTrue ((v.lsn == 0) || nat_lt v.lsn (512 * next_block_under newest blocks))) (laws.at pages.flash.geometry site.image number exists) logged in
+      record { below = λ some. subst (λ n. lsn_of (version_on pages.flash.geometry site.image number) < n) end (logged_number (lsn_of (version_on pages.flash.geometry site.image number)) (512 * next_block_under newest blocks) of_it some) }
 
   pub begins : IsRedoing begun log pages site []
   begins = record {
     geometry = refl;
+    kept = h.kept;
     sound = h.sound.records;
     means = h.means;
     ready = h.ready;
     rings = record { limits = h.sound.octets.limits; lengths = h.sound.octets.lengths; masters = h.sound.octets.masters; segments = h.sound.octets.segments; groups = h.sound.octets.groups };
+    masters = record { units = refl; form = λ form. form };
     ahead = record {
       pool = subst (AllByRecursion (λ (frame : Frame). IsLogged (end_forced log) frame.content)) (sym h.empty) tt;
       versions = record { each = version_logged };
@@ -250,31 +257,32 @@ module _ (laws : PageLaws) (redo : RedoLaws) (log : LogStore) (pages : PageStore
 
 -- All is redone.
 
-module _ (opens : OpenedHolds) (laws : PageLaws) (redo : RedoLaws) (o : Opening) (log : LogStore) (pages : PageStore) (site : State) (h : IsRedoing o log pages site (log_from 0 o.blocks)) (sizes : log.geometry ≡ pages.flash.geometry) where
-  shows_all : (number : ℕ) → number < o.sizes.pages → ShowsAll (log_from 0 o.blocks) (versions_on o.sizes site.image) number (version_in (current pages site.image number))
+module _ (opens : OpenedHolds) (laws : PageLaws) (redo : RedoLaws) (o : Opening) (log : LogStore) (pages : PageStore) (site : State) (h : IsRedoing o log pages site (log_from (kept_by o.newest) o.blocks)) (sizes : log.geometry ≡ pages.flash.geometry) where
+  shows_all : (number : ℕ) → number < o.sizes.pages → ShowsAll (log_from (kept_by o.newest) o.blocks) (versions_on o.sizes site.image) number (version_in (current pages site.image number))
   shows_all number exists =
       let v = version_in (current pages site.image number) in
       let long = laws.count o.sizes o.image in
       let is = redo.last (opened o) number v (h.redone number exists) (h.known number exists) in
-      subst (λ (l : List Entry). ShowsAll l (versions_on o.sizes site.image) number v) (append-nil (log_from 0 o.blocks))
+      subst (λ (l : List Entry). ShowsAll l (versions_on o.sizes site.image) number v) (append-nil (log_from (kept_by o.newest) o.blocks))
       (redo.shows (opened o) (versions_on o.sizes site.image) [] number v h.replace (omega (arith, exists, long))
-      (subst (λ (l : List Entry). ShowsAll l (versions_on o.sizes o.image) number v) (sym (append-nil (log_from 0 o.blocks))) is.all))
+      (subst (λ (l : List Entry). ShowsAll l (versions_on o.sizes o.image) number v) (sym (append-nil (log_from (kept_by o.newest) o.blocks))) is.all))
 
   below_end : (number : ℕ) → number < o.sizes.pages → lsn_of (current pages site.image number) < end_of log
   below_end number exists =
       let hi = h.ready.blocks.hi in
       let next = h.ready.records.blocks.next in
       let used = h.ready.records.tail.end in
-      let less = before_two (lsn_of (current pages site.image number)) (512 * length o.blocks) (h.redone number exists).logged in
-      omega (arith, hi, next, used, less)
+      let less = before_two (lsn_of (current pages site.image number)) (512 * next_block_under o.newest o.blocks) (h.redone number exists).logged in
+      let at = laws.next o.newest o.blocks in
+      omega (arith, hi, next, used, less, at)
 
-  pub holds_all : Holds log pages site (log_from 0 o.blocks) o.table o.commits
+  pub holds_all : Holds log pages site o.newest (log_from (kept_by o.newest) o.blocks) o.table o.commits
   holds_all =
       let back = sym h.geometry in
-      opens log pages site o.blocks o.table o.commits sizes h.ready
-      (subst (λ (k : Geometry). IsSound k site.image o.blocks) back (sound_now laws redo o log pages site (log_from 0 o.blocks) h sizes))
-      (subst (λ (k : Geometry). Means (picture k site.image o.blocks) o.table o.commits) back (means_by laws redo o h.sound site.image h.replace h.means))
-      (subst (λ (k : Geometry). ShowRecords k pages site.image (log_from 0 o.blocks)) back (record { each = shows_all }))
+      opens log pages site o.newest o.blocks o.table o.commits sizes h.kept h.ready
+      (subst (λ (k : Geometry). IsSoundUnder o.newest k site.image o.blocks) back (sound_now laws redo o log pages site (log_from (kept_by o.newest) o.blocks) h sizes))
+      (subst (λ (k : Geometry). Means (picture_under o.newest k site.image o.blocks) o.table o.commits) back (means_by laws redo o h.sound site.image h.replace h.means))
+      (subst (λ (k : Geometry). ShowRecords k pages site.image (log_from (kept_by o.newest) o.blocks)) back (record { each = shows_all }))
       h.ahead
       (subst (λ (k : Geometry). (number : ℕ) → number < k.pages → lsn_of (current pages site.image number) < end_of log) back below_end)
 
@@ -288,9 +296,10 @@ only_read old new same = record {
 
 pub redoing_still : RedoLaws → (o : Opening) (log : LogStore) (pages : PageStore) (old new : State) (front : List Entry) → Goes old new → IsUnchanged old new → IsRedoing o log pages old front → IsRedoing o log pages new front
 redoing_still redo o log pages old new front goes same h =
-    let list : LogList = record { first = 0; blocks = o.blocks; tail = [] } in
+    let list : LogList = record { first = kept_by o.newest; blocks = o.blocks; tail = [] } in
     record {
       geometry = h.geometry;
+      kept = h.kept;
       sound = h.sound;
       means = h.means;
       ready = record {
@@ -302,7 +311,8 @@ redoing_still redo o log pages old new front goes same h =
         };
         records = subst (λ (i : Image). log_held.Holds log i list) (sym same.image) h.ready.records;
       };
-      rings = subst (AreRingsSound o.sizes) (sym same.image) h.rings;
+      rings = subst (AreRingsSoundUnder o.newest o.sizes) (sym same.image) h.rings;
+      masters = subst (KeepsUnits master_shape o.image) (sym same.image) h.masters;
       ahead = subst (IsAhead log pages) (sym same.image) h.ahead;
       replace = subst (λ (i : Image). ReplaceAll (opened o) (versions_on o.sizes i)) (sym same.image) h.replace;
       redone = subst (λ (i : Image). (page : ℕ) → page < o.sizes.pages → IsRedone (opened o) page (version_in (current pages i page))) (sym same.image) h.redone;

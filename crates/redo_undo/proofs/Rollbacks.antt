@@ -1,5 +1,5 @@
 -- Undoing a transaction, CLR by CLR, and its End.
-use Rattle.std.proofs.Common.{◌≡◌, ◌≢◌, ℕ, zero, suc, ◌+◌, ◌-◌, ◌*◌, ◌<◌, ◌≤◌, true, List, [], ◌∷◌, ◌++◌, length, refl, sym, ap, subst, ◌∙◌, arith, append_assoc, append-nil}
+use Rattle.std.proofs.Common.{◌≡◌, ◌≢◌, ℕ, zero, suc, ◌+◌, ◌-◌, ◌*◌, ◌<◌, ◌≤◌, true, List, [], ◌∷◌, ◌++◌, length, refl, sym, ap, subst, ◌∙◌, arith, append_assoc, append-nil, Option}
 use Rattle.std.specs.List.{AllByRecursion}
 use Rattle.std.proofs.lemmas.Bool.{ne_eqb}
 use Rattle.std.proofs.lemmas.List.{length-append}
@@ -9,14 +9,15 @@ use Rattle.log_records.specs.declared.log_record.LogRecord.{LogRecord}
 use Rattle.log_records.specs.declared.log_record.LogRecord.TheVariants.{Begin, Update, Clr, Commit, End}
 use Rattle.log_records.specs.Log.{Entry, txn_of, is_loser}
 use Rattle.log_records.specs.Unfinished.{is_clr, left_open, owed, owed_by}
-use Rattle.log_records.specs.Sound.{IsInOrder}
+use Rattle.log_records.specs.Sound.{IsInOrder, AreOrderly}
 use Rattle.log_laws.specs.Follow.{Follows}
 use Rattle.log_laws.specs.Tail.{next_lsn}
 use Rattle.log_laws.specs.Analysis.{Unfinished, IsUnfinished, after_record}
 use Rattle.log_laws.specs.UndoSteps.{IsToUndo}
 use Rattle.log_store.specs.declared.store.LogStore.{LogStore}
 use Rattle.page_store.specs.declared.store.PageStore.{PageStore}
-use Rattle.image_meaning.specs.Meaning.{picture, blank_master, versions_on}
+use Rattle.checkpoint.specs.declared.master.Master.{Master}
+use Rattle.image_meaning.specs.Meaning.{picture_under, master_of, versions_on}
 use Rattle.redo_undo.specs.declared.undo.Undoing.{Undoing}
 use Rattle.redo_undo.specs.Holding.{Holds, MayGrow, blocks_to}
 use Rattle.redo_undo.specs.Undoing.{IsAt, Undone}
@@ -33,14 +34,14 @@ none_left [] is = refl
 none_left (x ∷ xs) is = absurd (omega (arith, is))
 
 -- nothing is compensated yet
-unfoldable pub starts : (log : LogStore) (pages : PageStore) (site : State) (records : List Entry) (table : List Content) (commits : ℕ) (x : Unfinished) (first : Undoing) → Holds log pages site records table commits → IsUnfinished records x → IsAt first x →
-    Compensates log pages site records table commits x.txn (blocks_to log) site.log_reads first
-starts log pages site records table commits x first holds unfinished at =
+unfoldable pub starts : (log : LogStore) (pages : PageStore) (site : State) (newest : Option Master) (records : List Entry) (table : List Content) (commits : ℕ) (x : Unfinished) (first : Undoing) → Holds log pages site newest records table commits → IsUnfinished records x → IsAt first x →
+    Compensates log pages site newest records table commits x.txn (blocks_to log) site.log_reads first
+starts log pages site newest records table commits x first holds unfinished at =
     let same : x ≡ left_of first x.remaining = λ i. record { txn = sym at.txn i; last = sym at.last i; next = sym at.next i; remaining = x.remaining } in
     record {
       clrs = [];
       own = tt;
-      holds = subst (λ (l : List Entry). Holds log pages site l table commits) (sym (append-nil records)) holds;
+      holds = subst (λ (l : List Entry). Holds log pages site newest l table commits) (sym (append-nil records)) holds;
       remaining = x.remaining;
       left = subst (λ (l : List Entry). IsUnfinished l (left_of first x.remaining)) (sym (append-nil records)) (subst (IsUnfinished records) same unfinished);
       same = at.txn;
@@ -48,9 +49,10 @@ starts log pages site records table commits x first holds unfinished at =
       owes = let none = ap owed (append-nil records) in omega (arith, none);
       few = omega arith;
       read = omega arith;
+      orderly = λ were. subst AreOrderly (sym (append-nil records)) were;
     }
 
-module _ (pages_laws : PageLaws) (laws : UndoLaws) (log : LogStore) (pages : PageStore) (site : State) (records : List Entry) (table : List Content) (commits txn blocks reads : ℕ) (now : Undoing) (c : Compensates log pages site records table commits txn blocks reads now) where
+module _ (pages_laws : PageLaws) (laws : UndoLaws) (log : LogStore) (pages : PageStore) (site : State) (newest : Option Master) (records : List Entry) (table : List Content) (commits txn blocks reads : ℕ) (now : Undoing) (c : Compensates log pages site newest records table commits txn blocks reads now) where
   -- as long as undoing hasn't come to the Begin an Update remains
   pub remains : now.next ≢ now.txn → 0 < c.remaining
   remains differ = by c.remaining refl
@@ -58,12 +60,12 @@ module _ (pages_laws : PageLaws) (laws : UndoLaws) (log : LogStore) (pages : Pag
       by : (n : ℕ) → c.remaining ≡ n → 0 < n
       by (suc n) is = omega arith
       by zero is =
-          let p = picture pages.flash.geometry site.image c.holds.log_holds.blocks in
+          let p = picture_under newest pages.flash.geometry site.image c.holds.log_holds.blocks in
           let order = subst (λ (l : List Entry). IsInOrder (512 * p.master.kept) l (next_lsn p c.holds.log_holds.tail)) c.holds.log_holds.runs_on.records_are (laws.in_order p c.holds.log_holds.tail c.holds.log_holds.runs_on.carries) in
           absurd (differ (c.left.next_is ∙ laws.next_undone (512 * p.master.kept) (next_lsn p c.holds.log_holds.tail) (records ++ c.clrs) now.txn order
-          (chain pages_laws laws log pages site (records ++ c.clrs) table commits c.holds (left_of now c.remaining) c.left) (none_left (left_open (records ++ c.clrs) now.txn) (sym is ∙ c.left.remaining_is))))
+          (chain pages_laws laws log pages site newest (records ++ c.clrs) table commits c.holds (left_of now c.remaining) c.left) (none_left (left_open (records ++ c.clrs) now.txn) (sym is ∙ c.left.remaining_is))))
 
-  later : (rec : LogRecord) → IsToUndo (picture pages.flash.geometry site.image c.holds.log_holds.blocks) (records ++ c.clrs) (left_of now c.remaining) rec → now.txn < now.next
+  later : (rec : LogRecord) → IsToUndo (picture_under newest pages.flash.geometry site.image c.holds.log_holds.blocks) (records ++ c.clrs) (left_of now c.remaining) rec → now.txn < now.next
   later (Update txn prev page slot before after) is = let late = is.1 in let early = is.2 in omega (arith, late, early)
   later Begin is = absurd is
   later (Clr txn prev undo_next page slot after) is = absurd is
@@ -77,13 +79,13 @@ module _ (pages_laws : PageLaws) (laws : UndoLaws) (log : LogStore) (pages : Pag
       by : (n : ℕ) → c.remaining ≡ n → n ≡ 0
       by zero is = refl
       by (suc n) is =
-          let there = to_undo pages_laws laws log pages site (records ++ c.clrs) table commits c.holds (left_of now c.remaining) c.left (omega (arith, is)) in
+          let there = to_undo pages_laws laws log pages site newest (records ++ c.clrs) table commits c.holds (left_of now c.remaining) c.left (omega (arith, is)) in
           let more = later there.0.rec there.2 in
           absurd (omega (arith, more, same))
 
   -- one more CLR
-  unfoldable pub goes_on : (log' : LogStore) (pages' : PageStore) (new : State) (next : Undoing) → Undone log' pages' new (records ++ c.clrs) table commits (left_of now c.remaining) next → blocks_to log' ≤ blocks_to log + 1 → new.log_reads ≤ site.log_reads + 1 →
-      Compensates log' pages' new records table commits txn blocks reads next
+  unfoldable pub goes_on : (log' : LogStore) (pages' : PageStore) (new : State) (next : Undoing) → Undone log' pages' new newest (records ++ c.clrs) table commits (left_of now c.remaining) next → blocks_to log' ≤ blocks_to log + 1 → new.log_reads ≤ site.log_reads + 1 →
+      Compensates log' pages' new newest records table commits txn blocks reads next
   goes_on log' pages' new next u one one_read =
       let y = after_record (left_of now c.remaining) u.e in
       let is : y ≡ left_of next y.remaining = λ i. record { txn = sym u.at.txn i; last = sym u.at.last i; next = sym u.at.next i; remaining = y.remaining } in
@@ -91,7 +93,7 @@ module _ (pages_laws : PageLaws) (laws : UndoLaws) (log : LogStore) (pages : Pag
       record {
         clrs = c.clrs ++ u.e ∷ [];
         own = all_append (λ (e : Entry). (is_clr e.rec ≡ true) × (txn_of e ≡ txn)) c.clrs (u.e ∷ []) c.own ((u.clr, u.own ∙ c.same), tt);
-        holds = subst (λ (l : List Entry). Holds log' pages' new l table commits) all u.holds;
+        holds = subst (λ (l : List Entry). Holds log' pages' new newest l table commits) all u.holds;
         remaining = y.remaining;
         left = subst (λ (l : List Entry). IsUnfinished l (left_of next y.remaining)) all (subst (IsUnfinished ((records ++ c.clrs) ++ u.e ∷ [])) is u.left);
         same = u.at.txn ∙ c.same;
@@ -99,6 +101,7 @@ module _ (pages_laws : PageLaws) (laws : UndoLaws) (log : LogStore) (pages : Pag
         owes = let owes = c.owes in let less = u.owes in let same = ap owed all in omega (arith, owes, less, same, length-append c.clrs (u.e ∷ []));
         few = let few = c.few in omega (arith, few, one, length-append c.clrs (u.e ∷ []));
         read = let read = c.read in omega (arith, read, one_read, length-append c.clrs (u.e ∷ []));
+        orderly = λ were. subst AreOrderly all (u.orderly (c.orderly were));
       }
 
   -- Where none remains, the End may be logged.
@@ -106,7 +109,7 @@ module _ (pages_laws : PageLaws) (laws : UndoLaws) (log : LogStore) (pages : Pag
     owes_less : (lsn : ℕ) → owed (records ++ c.clrs) ≡ owed ((records ++ c.clrs) ++ record { lsn = lsn; rec = End now.txn } ∷ []) + owed_by (records ++ c.clrs) now.txn
     owes_less lsn =
         laws.owed_closing (records ++ c.clrs) (record { lsn = lsn; rec = End now.txn }) refl (laws.lives (records ++ c.clrs) now.txn c.left.loser)
-        (chain pages_laws laws log pages site (records ++ c.clrs) table commits c.holds (left_of now c.remaining) c.left)
+        (chain pages_laws laws log pages site newest (records ++ c.clrs) table commits c.holds (left_of now c.remaining) c.left)
 
     -- then nothing of it is owed
     pub owes_all : (lsn : ℕ) → owed ((records ++ c.clrs) ++ record { lsn = lsn; rec = End txn } ∷ []) + (length c.clrs + 1) ≡ owed records
@@ -114,18 +117,18 @@ module _ (pages_laws : PageLaws) (laws : UndoLaws) (log : LogStore) (pages : Pag
         subst (λ (t : ℕ). owed ((records ++ c.clrs) ++ record { lsn = lsn; rec = End t } ∷ []) + (length c.clrs + 1) ≡ owed records) c.same
         (let less = owes_less lsn in let owes = c.owes in let left = c.left.remaining_is in omega (arith, less, owes, left, none))
 
-    pub room_for_end : blocks_to log + 1 ≤ pages.flash.geometry.blocks - 1
+    pub room_for_end : blocks_to log + 1 ≤ log.kept + (pages.flash.geometry.blocks - 1)
     room_for_end = let owes = owes_less 0 in let room = c.holds.log_holds.room in omega (arith, owes, room)
 
-    pub may_end : (lsn : ℕ) → MayGrow log pages site.image (records ++ c.clrs) (record { lsn = lsn; rec = End txn })
+    pub may_end : (lsn : ℕ) → MayGrow log pages site.image newest (records ++ c.clrs) (record { lsn = lsn; rec = End txn })
     may_end lsn =
-        let p = picture pages.flash.geometry site.image c.holds.log_holds.blocks in
+        let p = picture_under newest pages.flash.geometry site.image c.holds.log_holds.blocks in
         let are = c.holds.log_holds.runs_on.records_are in
         let owes = owes_less lsn in
         let room = c.holds.log_holds.room in
-        subst (λ (t : ℕ). MayGrow log pages site.image (records ++ c.clrs) (record { lsn = lsn; rec = End t })) c.same (record {
-          follows = subst (λ (l : List Entry). Follows blank_master (versions_on pages.flash.geometry site.image) l (record { lsn = lsn; rec = End now.txn })) are
-              (laws.end p c.holds.log_holds.tail (left_of now c.remaining) c.holds.log_holds.runs_on.carries refl (subst (λ (l : List Entry). IsUnfinished l (left_of now c.remaining)) (sym are) c.left) none lsn);
+        subst (λ (t : ℕ). MayGrow log pages site.image newest (records ++ c.clrs) (record { lsn = lsn; rec = End t })) c.same (record {
+          follows = subst (λ (l : List Entry). Follows (master_of newest) (versions_on pages.flash.geometry site.image) l (record { lsn = lsn; rec = End now.txn })) are
+              (laws.end p c.holds.log_holds.tail (left_of now c.remaining) c.holds.log_holds.runs_on.carries (subst (λ (l : List Entry). IsUnfinished l (left_of now c.remaining)) (sym are) c.left) none lsn);
           no_commit = refl;
           room = omega (arith, owes, room);
         })
@@ -138,10 +141,11 @@ others_stay laws records (e ∷ clrs) txn t differ own =
     ∙ laws.stays records e t (ne_eqb (txn_of e) t (λ same. differ (sym same ∙ own.0.1)))
 
 -- it is logged
-pub rolls_back : UndoLaws → (log : LogStore) (pages : PageStore) (site : State) (records : List Entry) (table : List Content) (commits txn : ℕ) (clrs : List Entry) (lsn : ℕ) → AreClrsOf txn clrs → length clrs ≡ length (left_open records txn) →
+pub rolls_back : UndoLaws → (log : LogStore) (pages : PageStore) (site : State) (newest : Option Master) (records : List Entry) (table : List Content) (commits txn : ℕ) (clrs : List Entry) (lsn : ℕ) → AreClrsOf txn clrs → length clrs ≡ length (left_open records txn) →
     owed ((records ++ clrs) ++ record { lsn = lsn; rec = End txn } ∷ []) + (length clrs + 1) ≡ owed records →
-    Holds log pages site ((records ++ clrs) ++ record { lsn = lsn; rec = End txn } ∷ []) table commits → RollsBack log pages site records table commits txn
-rolls_back laws log pages site records table commits txn clrs lsn own count owes holds =
+    Holds log pages site newest ((records ++ clrs) ++ record { lsn = lsn; rec = End txn } ∷ []) table commits →
+    (AreOrderly records → AreOrderly ((records ++ clrs) ++ record { lsn = lsn; rec = End txn } ∷ [])) → RollsBack log pages site newest records table commits txn
+rolls_back laws log pages site newest records table commits txn clrs lsn own count owes holds orderly =
     let e : Entry = record { lsn = lsn; rec = End txn } in
     record {
       clrs = clrs;
@@ -150,6 +154,7 @@ rolls_back laws log pages site records table commits txn clrs lsn own count owes
       count = count;
       owes = owes;
       holds = holds;
+      orderly = orderly;
       closed = laws.closed (records ++ clrs) e refl;
       others = λ t differ. laws.stays (records ++ clrs) e t (ne_eqb txn t (λ same. differ (sym same))) ∙ others_stay laws records clrs txn t differ own;
     }

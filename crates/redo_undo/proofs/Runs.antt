@@ -1,5 +1,5 @@
 -- The log as a list goes on, and the pages have other versions.
-use Rattle.std.proofs.Common.{◌≡◌, ℕ, ◌+◌, ◌*◌, ◌<◌, List, [], ◌∷◌, ◌++◌, length, None, inl, refl, sym, ap, subst, ◌∙◌, arith}
+use Rattle.std.proofs.Common.{◌≡◌, ℕ, ◌+◌, ◌*◌, ◌<◌, List, [], ◌∷◌, ◌++◌, length, None, inl, refl, sym, ap, subst, ◌∙◌, arith, Option}
 use Rattle.site.specs.declared.geometry.Geometry.{Geometry}
 use Rattle.site.specs.State.{Image}
 use Rattle.record_model.specs.State.{Content}
@@ -9,7 +9,8 @@ use Rattle.log_records.specs.Log.{Entry, Version}
 use Rattle.log_records.specs.Sound.{Picture, HasRoom, commit_numbers, commit_number}
 use Rattle.log_laws.specs.Follow.{Follows, sealed, next_entries, shown}
 use Rattle.log_laws.specs.Tail.{whole, next_lsn}
-use Rattle.image_meaning.specs.Meaning.{picture, versions_on}
+use Rattle.checkpoint.specs.declared.master.Master.{Master}
+use Rattle.image_meaning.specs.Meaning.{picture_under, versions_on}
 use Rattle.image_meaning.specs.Redone.{ShowsAll}
 use Rattle.image_meaning.specs.Pictures.{ReplaceAll}
 use Rattle.redo_undo.specs.Running.{RunsOn}
@@ -48,10 +49,10 @@ module _ (laws : LogLaws) where
 
 module _ (laws : PageLaws) where
   -- other versions
-  pub reversioned : (g : Geometry) (old new : Image) (blocks : List (List LogRecord)) (tail : List LogRecord) (records : List Entry) (table : List Content) (commits : ℕ) →
-      ReplaceAll (picture g old blocks) (versions_on g new) → RunsOn (picture g old blocks) tail records table commits → RunsOn (picture g new blocks) tail records table commits
-  reversioned g old new blocks tail records table commits replace runs =
-      let p = picture g old blocks in
+  pub reversioned : (g : Geometry) (old new : Image) (blocks : List (List LogRecord)) (tail : List LogRecord) (newest : Option Master) (records : List Entry) (table : List Content) (commits : ℕ) →
+      ReplaceAll (picture_under newest g old blocks) (versions_on g new) → RunsOn (picture_under newest g old blocks) tail records table commits → RunsOn (picture_under newest g new blocks) tail records table commits
+  reversioned g old new blocks tail newest records table commits replace runs =
+      let p = picture_under newest g old blocks in
       record {
         carries = laws.carries_still p (versions_on g new) tail replace runs.carries;
         means = laws.versions_mean p (versions_on g new) runs.carries.sound replace table commits runs.means;
@@ -60,11 +61,11 @@ module _ (laws : PageLaws) where
       }
 
   -- and pages that show all records show them still
-  pub shows_still : (g : Geometry) (old new : Image) (blocks : List (List LogRecord)) (tail : List LogRecord) (records : List Entry) (table : List Content) (commits : ℕ) (page : ℕ) (v : Version) →
-      ReplaceAll (picture g old blocks) (versions_on g new) → RunsOn (picture g old blocks) tail records table commits → page < g.pages →
+  pub shows_still : (g : Geometry) (old new : Image) (blocks : List (List LogRecord)) (tail : List LogRecord) (newest : Option Master) (records : List Entry) (table : List Content) (commits : ℕ) (page : ℕ) (v : Version) →
+      ReplaceAll (picture_under newest g old blocks) (versions_on g new) → RunsOn (picture_under newest g old blocks) tail records table commits → page < g.pages →
       ShowsAll records (versions_on g old) page v → ShowsAll records (versions_on g new) page v
-  shows_still g old new blocks tail records table commits page v replace runs exists shows =
-      let p = picture g old blocks in
+  shows_still g old new blocks tail newest records table commits page v replace runs exists shows =
+      let p = picture_under newest g old blocks in
       let long = laws.count g old in
       record {
         known = shows.known;

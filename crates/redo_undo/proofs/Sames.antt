@@ -1,6 +1,6 @@
 -- Calls one behind the other, and a site of which only was read.
 use Rattle.std.proofs.Common.{◌≡◌, ℕ, ◌<◌, Bool, false, nat_lt, arith, append-nil, [], List, refl, sym, ap, subst, ◌∙◌}
-use Rattle.std.specs.Prelude.{if◌then◌else◌}
+use Rattle.std.specs.Prelude.{if◌then◌else◌, Option}
 use Rattle.site.specs.declared.outside.Dev.TheVariants.{Log, Flash, Disk}
 use Rattle.site.specs.declared.geometry.Geometry.{Geometry}
 use Rattle.site.specs.State.{State, Image, IsQuiet}
@@ -8,7 +8,7 @@ use Rattle.site.specs.Calls.{Goes, IsUnchanged}
 use Rattle.site.specs.Laws.{in_sequence, holds_now, no_call, unchanged_calm, stays_honest, quiet_leaves}
 use Rattle.site.specs.Moments.{Leaves, LeavesOnly, SameBut, ChangesOnly}
 use Rattle.sealed_ring.specs.Ring.{IsRing, FitsIn, hi_of}
-use Rattle.image_changes.specs.Rings.{log_shape}
+use Rattle.image_changes.specs.Rings.{log_shape, KeepsUnits, master_shape}
 use Rattle.record_model.specs.State.{Content}
 use Rattle.log_records.specs.Log.{Entry, log_from}
 use Rattle.log_store.specs.declared.store.LogStore.{LogStore}
@@ -19,21 +19,22 @@ use Rattle.page_store.specs.declared.store.PageStore.{PageStore}
 use Rattle.page_store.specs.Held.{current}
 use Rattle.page_store.specs.Ahead.{IsAhead}
 use Rattle.page_store.specs.Laws.{FitsBeside}
-use Rattle.image_meaning.specs.Meaning.{picture, Stands}
-use Rattle.image_meaning.specs.Moments.{LeavesTable}
-use Rattle.image_meaning.specs.Beside.{AreRingsSound}
+use Rattle.checkpoint.specs.declared.master.Master.{Master}
+use Rattle.image_meaning.specs.Meaning.{picture_under, StandsUnder, kept_by, IsSoundUnder}
+use Rattle.image_meaning.specs.Moments.{LeavesTableUnder}
+use Rattle.image_meaning.specs.Beside.{AreRingsSoundUnder}
 use Rattle.redo_undo.specs.HoldingLaws.{OpenedHolds}
-use Rattle.redo_undo.specs.Laws.{LogLaws}
+use Rattle.redo_undo.specs.Laws.{LogLaws, PageLaws}
 use Rattle.redo_undo.specs.Running.{RunsOn}
 use Rattle.redo_undo.specs.Holding.{MayGoOn, Holds, ShowRecords}
 
 -- one call behind others
-pub and_then : (g g' : Geometry) (old mid new : State) (table : List Content) (commits : ℕ) → g' ≡ g → LeavesOnly old mid (LeavesTable g table commits old.told) → LeavesOnly mid new (LeavesTable g' table commits mid.told) →
-    LeavesOnly old new (LeavesTable g table commits old.told)
-and_then g g' old mid new table commits same first second =
-    let told : mid.told ≡ old.told = (holds_now old mid (LeavesTable g table commits old.told) first).told in
-    in_sequence old mid new (Leaves (LeavesTable g table commits old.told)) first
-    (subst (λ (t : List ℕ). LeavesOnly mid new (LeavesTable g table commits t)) told (subst (λ (x : Geometry). LeavesOnly mid new (LeavesTable x table commits mid.told)) same second))
+pub and_then : (newest : Option Master) (g g' : Geometry) (old mid new : State) (table : List Content) (commits : ℕ) → g' ≡ g → LeavesOnly old mid (LeavesTableUnder newest g table commits old.told) → LeavesOnly mid new (LeavesTableUnder newest g' table commits mid.told) →
+    LeavesOnly old new (LeavesTableUnder newest g table commits old.told)
+and_then newest g g' old mid new table commits same first second =
+    let told : mid.told ≡ old.told = (holds_now old mid (LeavesTableUnder newest g table commits old.told) first).told in
+    in_sequence old mid new (Leaves (LeavesTableUnder newest g table commits old.told)) first
+    (subst (λ (t : List ℕ). LeavesOnly mid new (LeavesTableUnder newest g table commits t)) told (subst (λ (x : Geometry). LeavesOnly mid new (LeavesTableUnder newest x table commits mid.told)) same second))
 
 -- reading changes no device
 only_read : (old new : State) → IsUnchanged old new → ChangesOnly Log old new
@@ -43,11 +44,12 @@ only_read old new same = record {
 }
 
 -- log and pages hold together still
-pub holds_still : FitsBeside → (log : LogStore) (pages : PageStore) (old new : State) (records : List Entry) (table : List Content) (commits : ℕ) → Goes old new → IsUnchanged old new → Holds log pages old records table commits → Holds log pages new records table commits
-holds_still fits log pages old new records table commits goes same h =
+pub holds_still : FitsBeside → (log : LogStore) (pages : PageStore) (old new : State) (newest : Option Master) (records : List Entry) (table : List Content) (commits : ℕ) → Goes old new → IsUnchanged old new → Holds log pages old newest records table commits → Holds log pages new newest records table commits
+holds_still fits log pages old new newest records table commits goes same h =
     let ready = h.log_holds.ready in
     record {
       log_holds = record {
+        kept = h.log_holds.kept;
         blocks = h.log_holds.blocks;
         tail = h.log_holds.tail;
         ready = record {
@@ -57,10 +59,10 @@ holds_still fits log pages old new records table commits goes same h =
             form = subst (λ (i : Image). IsRing (log_shape log.geometry) i.log) (sym same.image) ready.blocks.form;
             hi = subst (λ (i : Image). log.ring.hi ≡ hi_of (log_shape log.geometry) i.log) (sym same.image) ready.blocks.hi;
           };
-          records = subst (λ (i : Image). log_held.Holds log i (record { first = 0; blocks = h.log_holds.blocks; tail = h.log_holds.tail })) (sym same.image) ready.records;
+          records = subst (λ (i : Image). log_held.Holds log i (record { first = kept_by newest; blocks = h.log_holds.blocks; tail = h.log_holds.tail })) (sym same.image) ready.records;
         };
-        rings = subst (AreRingsSound pages.flash.geometry) (sym same.image) h.log_holds.rings;
-        runs_on = subst (λ (i : Image). RunsOn (picture pages.flash.geometry i h.log_holds.blocks) h.log_holds.tail records table commits) (sym same.image) h.log_holds.runs_on;
+        rings = subst (AreRingsSoundUnder newest pages.flash.geometry) (sym same.image) h.log_holds.rings;
+        runs_on = subst (λ (i : Image). RunsOn (picture_under newest pages.flash.geometry i h.log_holds.blocks) h.log_holds.tail records table commits) (sym same.image) h.log_holds.runs_on;
         ahead = subst (IsAhead log pages) (sym same.image) h.log_holds.ahead;
         room = h.log_holds.room;
       };
@@ -98,45 +100,47 @@ going_still log pages old new goes may = record {
   room = may.room;
 }
 
--- what stands there stands for the table
-pub stands_there : (log : LogStore) (pages : PageStore) (site : State) (records : List Entry) (table : List Content) (commits : ℕ) → log.geometry ≡ pages.flash.geometry → Holds log pages site records table commits → Stands pages.flash.geometry site.image table commits
-stands_there log pages site records table commits sizes h =
+-- what stands there is sound
+pub sound_there : (log : LogStore) (pages : PageStore) (site : State) (newest : Option Master) (records : List Entry) (table : List Content) (commits : ℕ) → log.geometry ≡ pages.flash.geometry → (h : Holds log pages site newest records table commits) →
+    IsSoundUnder newest pages.flash.geometry site.image h.log_holds.blocks
+sound_there log pages site newest records table commits sizes h =
     let rings = h.log_holds.rings in
     record {
-      blocks = h.log_holds.blocks;
-      sound = record {
-        octets = record {
-          limits = rings.limits;
-          lengths = rings.lengths;
-          masters = rings.masters;
-          segments = rings.segments;
-          groups = rings.groups;
-          versions = h.log_holds.ready.pages.sound;
-          clean = h.log_holds.ready.pages.clean;
-        };
-        held = subst (λ (k : Geometry). HasBlocks k 0 h.log_holds.blocks site.image) sizes h.log_holds.ready.records.blocks;
-        records = h.log_holds.runs_on.carries.sound;
+      octets = record {
+        limits = rings.limits;
+        lengths = rings.lengths;
+        masters = rings.masters;
+        segments = rings.segments;
+        groups = rings.groups;
+        versions = h.log_holds.ready.pages.sound;
+        clean = h.log_holds.ready.pages.clean;
       };
-      means = h.log_holds.runs_on.means;
+      held = subst (λ (k : Geometry). HasBlocks k (kept_by newest) h.log_holds.blocks site.image) sizes h.log_holds.ready.records.blocks;
+      records = h.log_holds.runs_on.carries.sound;
     }
 
-pub nothing_happens : (log : LogStore) (pages : PageStore) (site : State) (records : List Entry) (table : List Content) (commits : ℕ) → log.geometry ≡ pages.flash.geometry → Holds log pages site records table commits → IsQuiet site →
-    LeavesOnly site site (LeavesTable pages.flash.geometry table commits site.told)
-nothing_happens log pages site records table commits sizes h quiet =
-    no_call site (Leaves (LeavesTable pages.flash.geometry table commits site.told))
-    (λ snapshot left. subst (LeavesTable pages.flash.geometry table commits site.told) (sym (quiet_leaves site snapshot quiet left)) (record { told = refl; stands = stands_there log pages site records table commits sizes h }))
+-- and stands for the table
+pub stands_there : (log : LogStore) (pages : PageStore) (site : State) (newest : Option Master) (records : List Entry) (table : List Content) (commits : ℕ) → log.geometry ≡ pages.flash.geometry → Holds log pages site newest records table commits → StandsUnder newest pages.flash.geometry site.image table commits
+stands_there log pages site newest records table commits sizes h =
+    record { blocks = h.log_holds.blocks; sound = sound_there log pages site newest records table commits sizes h; means = h.log_holds.runs_on.means }
+
+pub nothing_happens : (log : LogStore) (pages : PageStore) (site : State) (newest : Option Master) (records : List Entry) (table : List Content) (commits : ℕ) → log.geometry ≡ pages.flash.geometry → Holds log pages site newest records table commits → IsQuiet site →
+    LeavesOnly site site (LeavesTableUnder newest pages.flash.geometry table commits site.told)
+nothing_happens log pages site newest records table commits sizes h quiet =
+    no_call site (Leaves (LeavesTableUnder newest pages.flash.geometry table commits site.told))
+    (λ snapshot left. subst (LeavesTableUnder newest pages.flash.geometry table commits site.told) (sym (quiet_leaves site snapshot quiet left)) (record { told = refl; stands = stands_there log pages site newest records table commits sizes h }))
 
 -- a crash while only was read leaves it
-pub leaves_still : (log : LogStore) (pages : PageStore) (old new : State) (records : List Entry) (table : List Content) (commits : ℕ) → log.geometry ≡ pages.flash.geometry → IsUnchanged old new → Holds log pages old records table commits → IsQuiet old →
-    LeavesOnly old new (LeavesTable pages.flash.geometry table commits old.told)
-leaves_still log pages old new records table commits sizes same h quiet =
-    unchanged_calm old old new (Leaves (LeavesTable pages.flash.geometry table commits old.told)) (nothing_happens log pages old records table commits sizes h quiet) same
+pub leaves_still : (log : LogStore) (pages : PageStore) (old new : State) (newest : Option Master) (records : List Entry) (table : List Content) (commits : ℕ) → log.geometry ≡ pages.flash.geometry → IsUnchanged old new → Holds log pages old newest records table commits → IsQuiet old →
+    LeavesOnly old new (LeavesTableUnder newest pages.flash.geometry table commits old.told)
+leaves_still log pages old new newest records table commits sizes same h quiet =
+    unchanged_calm old old new (Leaves (LeavesTableUnder newest pages.flash.geometry table commits old.told)) (nothing_happens log pages old newest records table commits sizes h quiet) same
 
 -- where the tail is empty all records are sealed ones
-pub opened_holds : LogLaws → OpenedHolds
-opened_holds laws log pages site blocks table commits sizes ready sound means shows are_ahead below =
+pub opened_holds : LogLaws → PageLaws → OpenedHolds
+opened_holds laws page_laws log pages site newest blocks table commits sizes kept ready sound means shows are_ahead below =
     let g = pages.flash.geometry in
-    let p = picture g site.image blocks in
+    let p = picture_under newest g site.image blocks in
     let hi = ready.blocks.hi in
     let next = ready.records.blocks.next in
     let room = sound.records.room_for_undo in
@@ -145,14 +149,19 @@ opened_holds laws log pages site blocks table commits sizes ready sound means sh
     let no_tail : (if has_tail log then 1 else 0) ≡ 0 = ap {B = ℕ} (λ (b : Bool). if b then 1 else 0) none in
     record {
       log_holds = record {
+        kept = kept;
         blocks = blocks;
         tail = [];
         ready = ready;
         rings = record { limits = sound.octets.limits; lengths = sound.octets.lengths; masters = sound.octets.masters; segments = sound.octets.segments; groups = sound.octets.groups };
-        runs_on = record { carries = laws.carries_nothing p sound.records; means = means; no_commit = refl; records_are = append-nil (log_from 0 blocks) };
+        runs_on = record { carries = laws.carries_nothing p sound.records; means = means; no_commit = refl; records_are = append-nil (log_from (kept_by newest) blocks) };
         ahead = are_ahead;
-        room = omega (arith, hi, next, room, no_tail);
+        room = (let at = page_laws.next newest blocks in omega (arith, hi, next, room, no_tail, kept, at));
       };
       shows = shows;
       below = below;
     }
+
+-- the master ring is kept by one call behind others
+pub units_then : (old mid new : Image) → KeepsUnits master_shape old mid → KeepsUnits master_shape mid new → KeepsUnits master_shape old new
+units_then old mid new first second = record { units = second.units ∙ first.units; form = λ form. second.form (first.form form) }

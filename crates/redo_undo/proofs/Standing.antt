@@ -1,9 +1,10 @@
 -- What a crash leaves of log and pages that hold together.
-use Rattle.std.proofs.Common.{◌≡◌, ◌⊎◌, inl, inr, ℕ, zero, suc, ◌*◌, ◌<◌, ◌==◌, ◌||◌, cond, Bool, true, false, List, [], ◌∷◌, ◌++◌, length, Option, None, Some, IsTrue, refl, sym, ap, subst, ◌∙◌, arith}
+use Rattle.std.proofs.Common.{◌≡◌, ◌⊎◌, inl, inr, ℕ, zero, suc, ◌+◌, ◌*◌, ◌<◌, ◌==◌, ◌||◌, cond, Bool, true, false, List, [], ◌∷◌, ◌++◌, Option, None, Some, IsTrue, refl, sym, ap, subst, ◌∙◌, arith}
 use Rattle.std.specs.Prelude.{nat_lt}
 use Rattle.std.specs.List.{AllByRecursion}
 use Rattle.std.proofs.lemmas.Bool.{lt-ltb, ne_eqb}
 use Rattle.std.proofs.lemmas.Option.{none-some}
+use Rattle.std.proofs.lemmas.List.{length-append}
 use Rattle.site.specs.declared.geometry.Geometry.{Geometry}
 use Rattle.site.specs.State.{Image}
 use Rattle.record_model.specs.State.{Content}
@@ -11,7 +12,6 @@ use Rattle.log_records.specs.declared.log_record.LogRecord.{LogRecord}
 use Rattle.log_records.specs.Log.{Entry}
 use Rattle.log_records.specs.Sound.{Picture}
 use Rattle.log_laws.specs.Follow.{sealed}
-use Rattle.log_laws.specs.Tail.{plain}
 use Rattle.log_laws.specs.NewImage.{Replaces}
 use Rattle.slotted_page.specs.Layout as page
 use Rattle.slotted_page.specs.Layout.{lsn_of}
@@ -23,11 +23,12 @@ use Rattle.page_store.specs.declared.store.PageStore.{PageStore}
 use Rattle.page_store.specs.Held.{IsPage, IsStore, current, content_by}
 use Rattle.page_store.specs.Ahead as ahead
 use Rattle.page_store.specs.Ahead.{AreSealed, sealed_end}
-use Rattle.image_meaning.specs.Meaning.{picture, blank_master, versions_on, version_in, Stands}
+use Rattle.checkpoint.specs.declared.master.Master.{Master}
+use Rattle.image_meaning.specs.Meaning.{picture_under, next_block_under, versions_on, version_in, StandsUnder, kept_by}
 use Rattle.image_meaning.specs.Redone as redone
-use Rattle.image_meaning.specs.Redone.{AreKnown, ShowsAll}
+use Rattle.image_meaning.specs.Redone.{ShowsAll}
 use Rattle.image_meaning.specs.Pictures.{ReplaceAll}
-use Rattle.image_meaning.specs.Beside.{AreRingsSound}
+use Rattle.image_meaning.specs.Beside.{AreRingsSoundUnder}
 use Rattle.redo_undo.specs.Running.{RunsOn}
 use Rattle.redo_undo.specs.Laws.{LogLaws, PageLaws}
 use Rattle.redo_undo.proofs.Runs.{reversioned, shows_still}
@@ -62,40 +63,42 @@ last_of_all P (y ∷ xs) x all = last_of_all P xs x all.1
 
 module _ (logs : LogLaws) (laws : PageLaws) where
   -- the picture of an image with one more block
-  pub more_blocks : (g : Geometry) (image : Image) (blocks : List (List LogRecord)) (tail : List LogRecord) → sealed (picture g image blocks) tail ≡ picture g image (blocks ++ tail ∷ [])
-  more_blocks g image blocks tail =
-      let same : sealed (plain g.pages g.blocks blocks) tail ≡ plain g.pages g.blocks (blocks ++ tail ∷ []) = logs.plain_sealed g.pages g.blocks blocks tail in
-      λ i. record { master = blank_master; log = (same i).log; hi = (same i).hi; blocks = g.blocks; pages = versions_on g image }
+  pub more_blocks : (newest : Option Master) (g : Geometry) (image : Image) (blocks : List (List LogRecord)) (tail : List LogRecord) → sealed (picture_under newest g image blocks) tail ≡ picture_under newest g image (blocks ++ tail ∷ [])
+  more_blocks newest g image blocks tail = sym (laws.more newest g image blocks tail)
+
+  -- the block behind these ones and one more
+  pub next_more : (newest : Option Master) (blocks : List (List LogRecord)) (tail : List LogRecord) → next_block_under newest (blocks ++ tail ∷ []) ≡ next_block_under newest blocks + 1
+  next_more newest blocks tail = let a = laws.next newest (blocks ++ tail ∷ []) in let b = laws.next newest blocks in omega (arith, a, b, length-append blocks (tail ∷ []))
 
   -- An image with these blocks, whose versions are the old ones or the current contents of pages that show all records.
-  module _ (g : Geometry) (old now : Image) (given : ℕ → List ℕ) (blocks : List (List LogRecord)) (tail : List LogRecord) (records : List Entry) (table : List Content) (commits : ℕ)
-      (runs : RunsOn (picture g old blocks) tail records table commits) (shows : (number : ℕ) → number < g.pages → ShowsAll records (versions_on g old) number (version_in (given number)))
-      (held : HasBlocks g 0 blocks now) (are_sealed : AreSealed g now)
+  module _ (g : Geometry) (old now : Image) (given : ℕ → List ℕ) (blocks : List (List LogRecord)) (tail : List LogRecord) (newest : Option Master) (records : List Entry) (table : List Content) (commits : ℕ)
+      (runs : RunsOn (picture_under newest g old blocks) tail records table commits) (shows : (number : ℕ) → number < g.pages → ShowsAll records (versions_on g old) number (version_in (given number)))
+      (held : HasBlocks g (kept_by newest) blocks now) (are_sealed : AreSealed g now)
       (versions : (number : ℕ) → number < g.pages → (version_on g now number ≡ version_on g old number) ⊎ (version_on g now number ≡ given number)) where
-    end_is : sealed_end g now ≡ 512 * length blocks
-    end_is = let next = held.next in omega (arith, next)
+    end_is : sealed_end g now ≡ 512 * next_block_under newest blocks
+    end_is = let next = held.next in let at = laws.next newest blocks in omega (arith, next, at)
 
-    by_version : (number : ℕ) → number < g.pages → (version_on g now number ≡ version_on g old number) ⊎ (version_on g now number ≡ given number) → Replaces (picture g old blocks) number (version_in (version_on g now number))
+    by_version : (number : ℕ) → number < g.pages → (version_on g now number ≡ version_on g old number) ⊎ (version_on g now number ≡ given number) → Replaces (picture_under newest g old blocks) number (version_in (version_on g now number))
     by_version number exists (inl same) =
         let long = laws.count g old in
-        subst (Replaces (picture g old blocks) number) (laws.at g old number exists ∙ ap version_in (sym same))
-        (laws.itself (picture g old blocks) number runs.carries.sound (omega (arith, exists, long)))
+        subst (Replaces (picture_under newest g old blocks) number) (laws.at g old number exists ∙ ap version_in (sym same))
+        (laws.itself (picture_under newest g old blocks) number runs.carries.sound (omega (arith, exists, long)))
     by_version number exists (inr same) =
-        subst (λ (c : List ℕ). Replaces (picture g old blocks) number (version_in c)) (sym same)
-        (laws.sealed_page (picture g old blocks) tail number (version_in (given number))
-        (subst (λ (c : List ℕ). redone.IsLogged (picture g old blocks) (version_in c)) same (logged_version (picture g old blocks) (sealed_end g now) (version_on g now number) end_is (are_sealed.each number exists)))
+        subst (λ (c : List ℕ). Replaces (picture_under newest g old blocks) number (version_in c)) (sym same)
+        (laws.sealed_page (picture_under newest g old blocks) tail number (version_in (given number))
+        (subst (λ (c : List ℕ). redone.IsLogged (picture_under newest g old blocks) (version_in c)) same (logged_version (picture_under newest g old blocks) (sealed_end g now) (version_on g now number) end_is (are_sealed.each number exists)))
         (subst (λ (l : List Entry). ShowsAll l (versions_on g old) number (version_in (given number))) (sym runs.records_are) (shows number exists)))
 
-    pub replaced : ReplaceAll (picture g old blocks) (versions_on g now)
-    replaced = laws.each_replaces g old now blocks (λ number exists. by_version number exists (versions number exists))
+    pub replaced : ReplaceAll (picture_under newest g old blocks) (versions_on g now)
+    replaced = laws.each_replaces newest g old now blocks (λ number exists. by_version number exists (versions number exists))
 
-    pub runs_now : RunsOn (picture g now blocks) tail records table commits
-    runs_now = reversioned laws g old now blocks tail records table commits replaced runs
+    pub runs_now : RunsOn (picture_under newest g now blocks) tail records table commits
+    runs_now = reversioned laws g old now blocks tail newest records table commits replaced runs
 
     pub shows_now : (number : ℕ) → number < g.pages → ShowsAll records (versions_on g now) number (version_in (given number))
-    shows_now number exists = shows_still laws g old now blocks tail records table commits number (version_in (given number)) replaced runs exists (shows number exists)
+    shows_now number exists = shows_still laws g old now blocks tail newest records table commits number (version_in (given number)) replaced runs exists (shows number exists)
 
-    pub stands_now : AreRingsSound g now → IsCleanOn g now → ((number : ℕ) → number < g.pages → page.IsSound (version_on g old number)) → ((number : ℕ) → number < g.pages → page.IsSound (given number)) → Stands g now table commits
+    pub stands_now : AreRingsSoundUnder newest g now → IsCleanOn g now → ((number : ℕ) → number < g.pages → page.IsSound (version_on g old number)) → ((number : ℕ) → number < g.pages → page.IsSound (given number)) → StandsUnder newest g now table commits
     stands_now rings clean sound_old sound_given = record {
       blocks = blocks;
       sound = record {

@@ -1,6 +1,6 @@
 -- The records of a block are taken, one after the other.
-use Rattle.std.proofs.Common.{◌≡◌, ℕ, suc, ◌+◌, ◌-◌, ◌*◌, ◌≤◌, ◌<◌, List, [], ◌∷◌, ◌++◌, length, take, drop, append-nil, refl, sym, ap, subst, ◌∙◌, arith}
-use Rattle.std.specs.Prelude.{⊤, Result, Ok, Err}
+use Rattle.std.proofs.Common.{◌≡◌, ℕ, suc, ◌+◌, ◌-◌, ◌*◌, ◌≤◌, ◌<◌, List, [], ◌∷◌, ◌++◌, length, take, drop, append-nil, refl, sym, ap, subst, ◌∙◌, arith, true, map}
+use Rattle.std.specs.Prelude.{⊤, Result, Ok, Err, Option}
 use Rattle.site.specs.Calls.{Goes, IsUnchanged}
 use Rattle.record_model.specs.State.{Content}
 use Rattle.site.specs.State.{State, IsQuiet}
@@ -11,18 +11,24 @@ use Rattle.log_records.specs.Spelling.{IsBlock, used_by}
 use Rattle.log_store.specs.declared.store.LogStore.{LogStore}
 use Rattle.log_store.specs.LogList.{LogList, sealed_block}
 use Rattle.log_store.specs.Held.{Finds}
-use Rattle.image_meaning.specs.Meaning.{blank_master}
-use Rattle.analysis.specs.Read.{IsAnalysis}
+use Rattle.image_meaning.specs.Meaning.{master_of, kept_by, saved_by}
+use Rattle.analysis.specs.Read.{IsAnalysis, IsTable, open_at}
 use Rattle.analysis.specs.declared.analysis.Analysis.{Analysis}
 use Rattle.page_store.specs.declared.store.PageStore.{PageStore}
 use Rattle.redo_undo.specs.declared.redo_pass.Redone.{Redone}
 use Rattle.redo_undo.specs.Laws.{PageLaws}
 use Rattle.redo_undo.specs.RedoLaws.{RedoLaws}
-use Rattle.redo_undo.specs.Redoing.{IsOpened, Opening, touches_of, LeavesOpened, HasTaken}
+use Rattle.redo_undo.specs.Redoing.{IsOpened, Opening, LeavesOpened, HasTaken, asked_of, opened, heard_of}
 use Rattle.redo_undo.specs.Works.{Asks}
 use Rattle.redo_undo.proofs.BlockRecords.{IsPast, past_none}
 use Rattle.redo_undo.proofs.LogBlocks.{block_of, log_split, log_take, take_whole}
 use Rattle.redo_undo.proofs.Redoings.{nothing_happens, redoing_still, then_read, begins}
+use Rattle.checkpoint.specs.declared.master.Master.{Master}
+use Rattle.checkpoint.specs.Newest.{seen}
+use Rattle.analysis.specs.Taken.{is_taken, Steps, taken}
+use Rattle.log_records.specs.Sound.{Picture, IsSound}
+use Rattle.log_records.specs.Unfinished.{losers}
+use Rattle.analysis.specs.Table.{listed}
 use Rattle.redo_undo.proofs.RedoWorks.{nothing_asked}
 
 -- up to a place of a block all records are taken, and at each moment so far the devices stood for the same table; the cache was asked for
@@ -32,7 +38,7 @@ pub record IsPartWay (o : Opening) (log : LogStore) (entry pages : PageStore) (o
   pub past : IsPast block octets used at records done
   pub taken : HasTaken o log pages site so_far (front ++ done)
   pub moments : IsQuiet old → LeavesOnly old site (LeavesOpened o old.told)
-  pub asked : Asks {T = ⊤} (Ok tt) (touches_of o done) entry pages old site
+  pub asked : Asks {T = ⊤} (Ok tt) (asked_of o done) entry pages old site
 
 pub part_begins : PageLaws → RedoLaws → (o : Opening) (log : LogStore) (pages : PageStore) (site : State) (so_far : Redone) (front : List Entry) (block : ℕ) (octets : List ℕ) (used : ℕ) (records : List LogRecord) →
     log.geometry ≡ pages.flash.geometry → HasTaken o log pages site so_far front → IsBlock octets records → used ≡ used_by records → IsPartWay o log pages pages site site so_far front block octets used 2 records
@@ -44,73 +50,101 @@ part_begins laws redo o log pages site so_far front block octets used records si
   asked = nothing_asked pages site;
 }
 
+-- how many of the opened blocks stand before a block, and their records
+abbrev pub place : Opening → ℕ → ℕ
+place o block = block - kept_by o.newest
+
+abbrev pub read_of : Opening → ℕ → List Entry
+read_of o block = log_from (kept_by o.newest) (take (block - kept_by o.newest) o.blocks)
+
 -- the first blocks are read, and at each moment so far the devices stood for the same table
 pub record IsUpTo (o : Opening) (log : LogStore) (pages : PageStore) (old site : State) (so_far : Redone) (block : ℕ) : Type 0 where
-  pub taken : HasTaken o log pages site so_far (log_from 0 (take block o.blocks))
+  pub from : kept_by o.newest ≤ block
+  pub taken : HasTaken o log pages site so_far (log_from (kept_by o.newest) (take (block - kept_by o.newest) o.blocks))
   pub moments : IsQuiet old → LeavesOnly old site (LeavesOpened o old.told)
 
 take_nothing : (blocks : List (List LogRecord)) → take 0 blocks ≡ []
 take_nothing [] = refl
 take_nothing (records ∷ blocks) = refl
 
-pub asks_first : (o : Opening) (pages : PageStore) (site : State) (block : ℕ) → block ≤ 0 → Asks {T = ⊤} (Ok tt) (touches_of o (log_from 0 (take block o.blocks))) pages pages site site
-asks_first o pages site block low =
-    let zero_is : 0 ≡ block = omega (arith, low) in
-    let none : [] ≡ log_from 0 (take block o.blocks) = sym (ap (log_from 0) (take_nothing o.blocks)) ∙ ap (λ (n : ℕ). log_from 0 (take n o.blocks)) zero_is in
-    subst (λ (done : List Entry). Asks {T = ⊤} (Ok tt) (touches_of o done) pages pages site site) none (nothing_asked pages site)
+none_read : (o : Opening) (block : ℕ) → block ≡ kept_by o.newest → log_from (kept_by o.newest) (take (block - kept_by o.newest) o.blocks) ≡ []
+none_read o block is =
+    let zero_is : block - kept_by o.newest ≡ 0 = omega (arith, is) in
+    ap (λ (n : ℕ). log_from (kept_by o.newest) (take n o.blocks)) zero_is ∙ ap (log_from (kept_by o.newest)) (take_nothing o.blocks)
+
+pub asks_first : (o : Opening) (pages : PageStore) (site : State) (block : ℕ) → block ≡ kept_by o.newest → Asks {T = ⊤} (Ok tt) (asked_of o (log_from (kept_by o.newest) (take (block - kept_by o.newest) o.blocks))) pages pages site site
+asks_first o pages site block is =
+    subst (λ (done : List Entry). Asks {T = ⊤} (Ok tt) (asked_of o done) pages pages site site) (sym (none_read o block is)) (nothing_asked pages site)
 
 -- before the first block
-pub up_to_none : PageLaws → RedoLaws → (log : LogStore) (pages : PageStore) (site : State) (blocks : List (List LogRecord)) (table : List Content) (commits : ℕ) (found : Analysis) (block : ℕ) →
-    log.geometry ≡ pages.flash.geometry → IsOpened pages.flash.geometry log pages site blocks table commits → IsAnalysis blank_master [] found → block ≤ 0 →
-    IsUpTo (record { sizes = pages.flash.geometry; image = site.image; blocks = blocks; table = table; commits = commits }) log pages site site (record { found = found; records = 0 }) block
-up_to_none laws redo log pages site blocks table commits found block sizes h analysis low =
-    let o : Opening = record { sizes = pages.flash.geometry; image = site.image; blocks = blocks; table = table; commits = commits } in
-    let zero_is : block ≡ 0 = omega (arith, low) in
-    let none : log_from 0 (take block blocks) ≡ [] = ap (λ (n : ℕ). log_from 0 (take n blocks)) zero_is ∙ ap (log_from 0) (take_nothing blocks) in
-    let first = begins laws redo log pages site blocks table commits h in
+pub up_to_none : PageLaws → RedoLaws → (log : LogStore) (pages : PageStore) (site : State) (newest : Option Master) (blocks : List (List LogRecord)) (table : List Content) (commits : ℕ) (found : Analysis) (block : ℕ) →
+    log.geometry ≡ pages.flash.geometry → IsOpened pages.flash.geometry log pages site newest blocks table commits → IsAnalysis (master_of newest) [] found → block ≡ kept_by newest →
+    IsUpTo (record { sizes = pages.flash.geometry; image = site.image; newest = newest; blocks = blocks; table = table; commits = commits }) log pages site site (record { found = found; records = 0 }) block
+up_to_none laws redo log pages site newest blocks table commits found block sizes h analysis is =
+    let o : Opening = record { sizes = pages.flash.geometry; image = site.image; newest = newest; blocks = blocks; table = table; commits = commits } in
+    let first = begins laws redo log pages site newest blocks table commits h in
     record {
-      taken = subst (HasTaken o log pages site (record { found = found; records = 0 })) (sym none) (record { pages_are = first; analysis = analysis; count = refl });
+      from = omega (arith, is);
+      taken = subst (HasTaken o log pages site (record { found = found; records = 0 })) (sym (none_read o block is)) (record { pages_are = first; analysis = analysis; count = refl });
       moments = nothing_happens laws redo o log pages site [] first sizes;
     }
 
-pub opened_count : (log : LogStore) (pages : PageStore) (site : State) (blocks : List (List LogRecord)) (table : List Content) (commits : ℕ) → IsOpened pages.flash.geometry log pages site blocks table commits → log.ring.hi ≡ length blocks
-opened_count log pages site blocks table commits h = let hi = h.ready.blocks.hi in let next = h.ready.records.blocks.next in omega (arith, hi, next)
+pub opened_count : (log : LogStore) (pages : PageStore) (site : State) (newest : Option Master) (blocks : List (List LogRecord)) (table : List Content) (commits : ℕ) → IsOpened pages.flash.geometry log pages site newest blocks table commits → log.ring.hi ≡ kept_by newest + length blocks
+opened_count log pages site newest blocks table commits h = let hi = h.ready.blocks.hi in let next = h.ready.records.blocks.next in omega (arith, hi, next)
 
 -- the next block was read
 pub record IsNextBlock (o : Opening) (log : LogStore) (pages : PageStore) (old site : State) (so_far : Redone) (block : ℕ) (content : List ℕ) (used : ℕ) : Type 0 where
-  pub taken : HasTaken o log pages site so_far (log_from 0 (take block o.blocks))
+  pub taken : HasTaken o log pages site so_far (log_from (kept_by o.newest) (take (block - kept_by o.newest) o.blocks))
   pub moments : IsQuiet old → LeavesOnly old site (LeavesOpened o old.told)
-  pub content_is : IsBlock content (block_of o.blocks block)
-  pub used_is : used ≡ used_by (block_of o.blocks block)
-  pub split : log_from 0 o.blocks ≡ log_from 0 (take block o.blocks) ++ (entries_from (512 * block + 2) (block_of o.blocks block) ++ log_from (block + 1) (drop (suc block) o.blocks))
+  pub content_is : IsBlock content (block_of o.blocks (block - kept_by o.newest))
+  pub used_is : used ≡ used_by (block_of o.blocks (block - kept_by o.newest))
+  pub split : log_from (kept_by o.newest) o.blocks ≡ log_from (kept_by o.newest) (take (block - kept_by o.newest) o.blocks)
+      ++ (entries_from (512 * block + 2) (block_of o.blocks (block - kept_by o.newest)) ++ log_from (block + 1) (drop (suc (block - kept_by o.newest)) o.blocks))
 
 module _ (redo : RedoLaws) (o : Opening) (log : LogStore) (pages : PageStore) (old site : State) (so_far : Redone) (block : ℕ) (up : IsUpTo o log pages old site so_far block) where
   abbrev pub list : LogList
-  list = record { first = 0; blocks = o.blocks; tail = [] }
+  list = record { first = kept_by o.newest; blocks = o.blocks; tail = [] }
 
   pub finds : Finds log site
   finds = let fits = up.taken.pages_are.ready.blocks in record { honest = fits.honest; form = fits.form; hi = fits.hi }
 
-  pub next_block : (new : State) (content : List ℕ) (used : ℕ) → Goes site new → IsUnchanged site new → block < length o.blocks → IsBlock content (sealed_block list block) × (used ≡ used_by (sealed_block list block)) →
+  pub next_block : (new : State) (content : List ℕ) (used : ℕ) → Goes site new → IsUnchanged site new → block - kept_by o.newest < length o.blocks → IsBlock content (sealed_block list block) × (used ≡ used_by (sealed_block list block)) →
       IsNextBlock o log pages old new so_far block content used
   next_block new content used goes same inside read =
-      let minus : block - 0 ≡ block = omega arith in
-      let is = subst (λ (n : ℕ). IsBlock content (block_of o.blocks n) × (used ≡ used_by (block_of o.blocks n))) minus read in
+      let from = up.from in
       record {
-        taken = record { pages_are = redoing_still redo o log pages site new (log_from 0 (take block o.blocks)) goes same up.taken.pages_are; analysis = up.taken.analysis; count = up.taken.count };
+        taken = record { pages_are = redoing_still redo o log pages site new (log_from (kept_by o.newest) (take (block - kept_by o.newest) o.blocks)) goes same up.taken.pages_are; analysis = up.taken.analysis; count = up.taken.count };
         moments = λ quiet. then_read o old site new (up.moments quiet) same;
-        content_is = is.0;
-        used_is = is.1;
-        split = log_split 0 block block o.blocks (omega arith) inside;
+        content_is = read.0;
+        used_is = read.1;
+        split = log_split (kept_by o.newest) (block - kept_by o.newest) block o.blocks (omega (arith, from)) inside;
       }
 
-pub one_more_block : (block : ℕ) (blocks : List (List LogRecord)) → block < length blocks → log_from 0 (take block blocks) ++ entries_from (512 * block + 2) (block_of blocks block) ≡ log_from 0 (take (block + 1) blocks)
-one_more_block block blocks inside =
-    let plus : suc block ≡ block + 1 = omega arith in
-    sym (log_take 0 block block blocks (omega arith) inside) ∙ ap (λ (n : ℕ). log_from 0 (take n blocks)) plus
+pub one_more_block : (o : Opening) (block : ℕ) → kept_by o.newest ≤ block → block - kept_by o.newest < length o.blocks →
+    log_from (kept_by o.newest) (take (block - kept_by o.newest) o.blocks) ++ entries_from (512 * block + 2) (block_of o.blocks (block - kept_by o.newest)) ≡ log_from (kept_by o.newest) (take (block + 1 - kept_by o.newest) o.blocks)
+one_more_block o block from inside =
+    let plus : suc (block - kept_by o.newest) ≡ block + 1 - kept_by o.newest = omega (arith, from) in
+    sym (log_take (kept_by o.newest) (block - kept_by o.newest) block o.blocks (omega (arith, from)) inside) ∙ ap (λ (n : ℕ). log_from (kept_by o.newest) (take n o.blocks)) plus
 
-pub all_blocks : (block : ℕ) (blocks : List (List LogRecord)) → block ≡ length blocks → log_from 0 (take block blocks) ≡ log_from 0 blocks
-all_blocks block blocks is = ap (log_from 0) (take_whole block blocks is)
+pub all_blocks : (o : Opening) (block : ℕ) → block - kept_by o.newest ≡ length o.blocks → log_from (kept_by o.newest) (take (block - kept_by o.newest) o.blocks) ≡ log_from (kept_by o.newest) o.blocks
+all_blocks o block is = ap (log_from (kept_by o.newest)) (take_whole (block - kept_by o.newest) o.blocks is)
+
+-- the master that is handed in is the newest one
+module _ (o : Opening) (m : Master) (is : m ≡ saved_by o.newest) (front : List Entry) where
+  pub analysis_to : (found : Analysis) → IsAnalysis (opened o).master (heard_of (opened o).master front) found → IsAnalysis (seen m) (heard_of (seen m) front) found
+  analysis_to found h = subst (λ (k : Master). IsAnalysis (seen k) (heard_of (seen k) front) found) (sym is) h
+
+  pub analysis_back : (found : Analysis) → IsAnalysis (seen m) (heard_of (seen m) front) found → IsAnalysis (opened o).master (heard_of (opened o).master front) found
+  analysis_back found h = subst (λ (k : Master). IsAnalysis (seen k) (heard_of (seen k) front) found) is h
+
+  pub step_to : (e : Entry) → (is_taken (opened o).master e ≡ true → Steps (opened o).master.active (heard_of (opened o).master front) e) → is_taken (seen m) e ≡ true → Steps (seen m).active (heard_of (seen m) front) e
+  step_to e h = subst (λ (k : Master). is_taken (seen k) e ≡ true → Steps (seen k).active (heard_of (seen k) front) e) (sym is) h
+
+-- what analysis has taken of a sound log says of each transaction what all records say
+pub unfinished_by : RedoLaws → (p : Picture) → IsSound p → (found : Analysis) → IsTable p.master.active (taken p) (listed found.table) → IsTable [] p.log (listed found.table)
+unfinished_by redo p sound found is =
+    subst (IsTable [] p.log) (redo.one_table p.master.active (taken p) (map (open_at [] p.log) (losers p.log)) (listed found.table) (redo.taken p sound) is)
+    (redo.unfinished [] p.log (512 * p.master.kept) (512 * p.hi) tt sound.in_order)
 
 -- the error of a result
 abbrev stop_of : {A E : Type 0} → E → Result A E → E

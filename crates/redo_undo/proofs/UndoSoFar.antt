@@ -1,6 +1,6 @@
 -- What the cache has done for some CLRs of a transaction.
 use Rattle.std.proofs.Common.{◌≡◌, ℕ, ◌+◌, true, ◌≤◌, List, [], ◌∷◌, ◌++◌, drop, append_assoc, append-nil, refl, sym, ap, ◌∙◌}
-use Rattle.std.specs.Prelude.{Ok, IsErrOf, ⊤}
+use Rattle.std.specs.Prelude.{Ok, IsErrOf, ⊤, Option}
 use Rattle.site.specs.declared.outside.Dev.TheVariants.{Flash}
 use Rattle.site.specs.declared.outside.Stop.TheVariants.{Worn}
 use Rattle.site.specs.State.{State}
@@ -11,6 +11,7 @@ use Rattle.log_laws.specs.RoomLaws.{LeftPush}
 use Rattle.log_laws.specs.Analysis.{Unfinished, IsUnfinished}
 use Rattle.log_store.specs.declared.store.LogStore.{LogStore}
 use Rattle.page_store.specs.declared.store.PageStore.{PageStore}
+use Rattle.checkpoint.specs.declared.master.Master.{Master}
 use Rattle.redo_undo.specs.declared.undo.Undoing.{Undoing}
 use Rattle.redo_undo.specs.Holding.{Holds, blocks_to}
 use Rattle.redo_undo.specs.Undoing.{IsAt, Undone}
@@ -45,22 +46,22 @@ asks_one_more push b records clrs txn old mid new before between now so_far u re
 
 -- With the CLRs themselves.
 
-abbrev pub AsksFor : LogStore → PageStore → State → List Entry → List Content → ℕ → ℕ → ℕ → Undoing → PageStore → State → Type 0
-AsksFor log pages site records table commits txn blocks now old before =
-    (made : Compensates log pages site records table commits txn blocks before.log_reads now) × AsksSoFar records made.clrs txn old pages before site
+abbrev pub AsksFor : LogStore → PageStore → State → Option Master → List Entry → List Content → ℕ → ℕ → ℕ → Undoing → PageStore → State → Type 0
+AsksFor log pages site newest records table commits txn blocks now old before =
+    (made : Compensates log pages site newest records table commits txn blocks before.log_reads now) × AsksSoFar records made.clrs txn old pages before site
 
-pub starts_asking : (log : LogStore) (pages : PageStore) (site : State) (records : List Entry) (table : List Content) (commits : ℕ) (x : Unfinished) (first : Undoing) → Holds log pages site records table commits → IsUnfinished records x → IsAt first x →
-    AsksFor log pages site records table commits x.txn (blocks_to log) first pages site
+pub starts_asking : (log : LogStore) (pages : PageStore) (site : State) (newest : Option Master) (records : List Entry) (table : List Content) (commits : ℕ) (x : Unfinished) (first : Undoing) → Holds log pages site newest records table commits → IsUnfinished records x → IsAt first x →
+    AsksFor log pages site newest records table commits x.txn (blocks_to log) first pages site
 unfolding starts
-starts_asking log pages site records table commits x first holds unfinished at = (starts log pages site records table commits x first holds unfinished at, asks_none records x.txn pages site)
+starts_asking log pages site newest records table commits x first holds unfinished at = (starts log pages site newest records table commits x first holds unfinished at, asks_none records x.txn pages site)
 
-pub goes_on_asking : PageLaws → (laws : UndoLaws) (log : LogStore) (pages : PageStore) (site : State) (records : List Entry) (table : List Content) (commits txn blocks : ℕ) (now : Undoing) (old : PageStore) (before : State) →
-    (c : AsksFor log pages site records table commits txn blocks now old before) (log' : LogStore) (pages' : PageStore) (new : State) (next : Undoing) (u : Entry) (rest : List Entry) →
-    left_open (records ++ c.0.clrs) now.txn ≡ u ∷ rest → Undone log' pages' new (records ++ c.0.clrs) table commits (left_of now c.0.remaining) next → blocks_to log' ≤ blocks_to log + 1 → new.log_reads ≤ site.log_reads + 1 →
-    Asks {T = Undoing} (Ok next) (works_of (u ∷ [])) pages pages' site new → AsksFor log' pages' new records table commits txn blocks next old before
+pub goes_on_asking : PageLaws → (laws : UndoLaws) (log : LogStore) (pages : PageStore) (site : State) (newest : Option Master) (records : List Entry) (table : List Content) (commits txn blocks : ℕ) (now : Undoing) (old : PageStore) (before : State) →
+    (c : AsksFor log pages site newest records table commits txn blocks now old before) (log' : LogStore) (pages' : PageStore) (new : State) (next : Undoing) (u : Entry) (rest : List Entry) →
+    left_open (records ++ c.0.clrs) now.txn ≡ u ∷ rest → Undone log' pages' new newest (records ++ c.0.clrs) table commits (left_of now c.0.remaining) next → blocks_to log' ≤ blocks_to log + 1 → new.log_reads ≤ site.log_reads + 1 →
+    Asks {T = Undoing} (Ok next) (works_of (u ∷ [])) pages pages' site new → AsksFor log' pages' new newest records table commits txn blocks next old before
 unfolding goes_on
-goes_on_asking page_laws laws log pages site records table commits txn blocks now old before c log' pages' new next u rest left done one one_read asks =
+goes_on_asking page_laws laws log pages site newest records table commits txn blocks now old before c log' pages' new next u rest left done one one_read asks =
     let made = c.0 in (
-      goes_on page_laws laws log pages site records table commits txn blocks before.log_reads now made log' pages' new next done one one_read,
+      goes_on page_laws laws log pages site newest records table commits txn blocks before.log_reads now made log' pages' new next done one one_read,
       asks_one_more laws.left_push next records made.clrs txn old pages pages' before site new c.1 u rest done.e done.clr (done.own ∙ made.same) (sym (ap (left_open (records ++ made.clrs)) made.same) ∙ left) asks,
     )

@@ -44,6 +44,6 @@ writes_undone (e ∷ entries) updates none = by e.rec refl none (writes_undone e
     by (End txn) is none later = later updates none
 
 pub active_is_undone_by : ActiveIsUndoneBy
-active_is_undone_by records txn last writes active =
+active_is_undone_by newest records txn last writes active =
     writes_undone (entries_of txn records) [] active.no_clrs ∙ append-nil (touches_of (reverse (writes_of (entries_of txn records))))
     ∙ ap (λ (w : List Write). touches_of (reverse w)) (sym active.writes_are)

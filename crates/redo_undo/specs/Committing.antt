@@ -1,5 +1,5 @@
 -- What a commit rests on, and what its record leaves in the tail.
-use Rattle.std.specs.Prelude.{◌≡◌, ℕ, ◌+◌, ◌≤◌, ◌<◌, List, [], ◌∷◌, ◌++◌}
+use Rattle.std.specs.Prelude.{◌≡◌, ℕ, ◌+◌, ◌≤◌, ◌<◌, List, [], ◌∷◌, ◌++◌, Option}
 use Rattle.site.specs.declared.geometry.Geometry.{Geometry}
 use Rattle.site.specs.State.{State}
 use Rattle.record_model.specs.State.{Content}
@@ -18,29 +18,31 @@ use Rattle.page_store.specs.declared.store.PageStore.{PageStore}
 use Rattle.page_store.specs.Held.{current}
 use Rattle.page_store.specs.Ahead.{IsAhead}
 use Rattle.page_store.specs.Leaves.{AreReady}
-use Rattle.image_meaning.specs.Meaning.{picture, blank_master}
-use Rattle.image_meaning.specs.Beside.{AreRingsSound}
+use Rattle.checkpoint.specs.declared.master.Master.{Master}
+use Rattle.image_meaning.specs.Meaning.{picture_under, master_of, kept_by}
+use Rattle.image_meaning.specs.Beside.{AreRingsSoundUnder}
 use Rattle.redo_undo.specs.Running.{RunsOn}
 use Rattle.redo_undo.specs.Holding.{ShowRecords, blocks_to}
 
 -- a transaction may be committed, as the next one
-pub record MayCommit (records : List Entry) (txn number commits : ℕ) : Type 0 where
-  pub begun : IsOpen blank_master records txn
+pub record MayCommit (newest : Option Master) (records : List Entry) (txn number commits : ℕ) : Type 0 where
+  pub begun : IsOpen (master_of newest) records txn
   pub chain : IsLoserChain txn (entries_of txn records)
   pub number_is : number ≡ commits + 1
 
--- Log and pages hold together with these records, and the log's tail ends with one more, whatever that is.
-pub record EndsWith (g : Geometry) (log : LogStore) (pages : PageStore) (site : State) (records : List Entry) (table : List Content) (commits : ℕ) (last : Entry) : Type 0 where
+-- Log and pages hold together under a newest master with these records, and the log's tail ends with one more, whatever that is.
+pub record EndsWith (g : Geometry) (log : LogStore) (pages : PageStore) (site : State) (newest : Option Master) (records : List Entry) (table : List Content) (commits : ℕ) (last : Entry) : Type 0 where
+  pub kept : log.kept ≡ kept_by newest
   pub blocks : List (List LogRecord)
   pub front : List LogRecord
-  pub ready : AreReady pages log (record { first = 0; blocks = blocks; tail = front ++ last.rec ∷ [] }) site
-  pub rings : AreRingsSound g site.image
-  pub runs_on : RunsOn (picture g site.image blocks) front records table commits
-  pub next : last.lsn ≡ next_lsn (picture g site.image blocks) front
+  pub ready : AreReady pages log (record { first = kept_by newest; blocks = blocks; tail = front ++ last.rec ∷ [] }) site
+  pub rings : AreRingsSoundUnder newest g site.image
+  pub runs_on : RunsOn (picture_under newest g site.image blocks) front records table commits
+  pub next : last.lsn ≡ next_lsn (picture_under newest g site.image blocks) front
   pub ahead : IsAhead log pages site.image
   pub shows : ShowRecords g pages site.image records
   pub below : (page : ℕ) → page < g.pages → lsn_of (current pages site.image page) < end_of log
-  pub room : blocks_to log + owed records ≤ g.blocks
+  pub room : blocks_to log + owed records ≤ log.kept + g.blocks
 
 -- the laws of the layers below on a Commit
 pub record CommitLaws : Type 0 where

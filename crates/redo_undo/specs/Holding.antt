@@ -1,7 +1,9 @@
 -- What the log and the pages hold together.
-use Rattle.std.specs.Prelude.{◌≡◌, ℕ, ◌+◌, ◌-◌, ◌/◌, ◌≤◌, ◌<◌, if◌then◌else◌, List, [], ◌∷◌, ◌++◌, Some, None}
+use Rattle.std.specs.Prelude.{◌≡◌, ◌⊎◌, ℕ, ◌+◌, ◌-◌, ◌/◌, ◌^◌, ◌≤◌, ◌<◌, if◌then◌else◌, List, [], ◌∷◌, ◌++◌, Some, None, Option}
 use Rattle.site.specs.declared.geometry.Geometry.{Geometry}
 use Rattle.site.specs.State.{State, Image}
+use Rattle.sealed_ring.specs.Ring.{hi_of}
+use Rattle.image_changes.specs.Rings.{log_shape, master_shape}
 use Rattle.record_model.specs.State.{Content}
 use Rattle.log_records.specs.declared.log_record.LogRecord.{LogRecord}
 use Rattle.log_records.specs.Log.{Entry, number_of}
@@ -17,9 +19,10 @@ use Rattle.page_store.specs.Held as page_held
 use Rattle.page_store.specs.Held.{current}
 use Rattle.page_store.specs.Ahead.{IsAhead}
 use Rattle.page_store.specs.Leaves.{AreReady}
-use Rattle.image_meaning.specs.Meaning.{picture, versions_on, version_in, blank_master}
+use Rattle.checkpoint.specs.declared.master.Master.{Master}
+use Rattle.image_meaning.specs.Meaning.{picture_under, versions_on, version_in, master_of, kept_by}
 use Rattle.image_meaning.specs.Redone.{ShowsAll}
-use Rattle.image_meaning.specs.Beside.{AreRingsSound}
+use Rattle.image_meaning.specs.Beside.{AreRingsSoundUnder}
 use Rattle.redo_undo.specs.Running.{RunsOn}
 
 -- how many blocks there are once the tail is sealed
@@ -33,35 +36,36 @@ pub record MayGoOn (log : LogStore) (pages : PageStore) (site : State) : Type 0 
   pub sizes : log.geometry ≡ pages.flash.geometry
   pub room : blocks_to log < log.kept + log.geometry.blocks
 
--- Of an honest site, whatever is loose, but for what the pages show: log and pages fit it, and the log has these records. What is sealed of them stands
--- for this table after so many commits. The log is ahead of the pages, and has room to undo all.
-pub record HoldsLog (g : Geometry) (log : LogStore) (pages : PageStore) (site : State) (records : List Entry) (table : List Content) (commits : ℕ) : Type 0 where
+-- Of an honest site, whatever is loose, but for what the pages show, under a newest master: log and pages fit it, and the log keeps the blocks that the master
+-- keeps, with these records. What is sealed of them stands for this table after so many commits. The log is ahead of the pages, and has room to undo all.
+pub record HoldsLog (g : Geometry) (log : LogStore) (pages : PageStore) (site : State) (newest : Option Master) (records : List Entry) (table : List Content) (commits : ℕ) : Type 0 where
+  pub kept : log.kept ≡ kept_by newest
   pub blocks : List (List LogRecord)
   pub tail : List LogRecord
-  pub ready : AreReady pages log (record { first = 0; blocks = blocks; tail = tail }) site
-  pub rings : AreRingsSound g site.image
-  pub runs_on : RunsOn (picture g site.image blocks) tail records table commits
+  pub ready : AreReady pages log (record { first = kept_by newest; blocks = blocks; tail = tail }) site
+  pub rings : AreRingsSoundUnder newest g site.image
+  pub runs_on : RunsOn (picture_under newest g site.image blocks) tail records table commits
   pub ahead : IsAhead log pages site.image
-  pub room : blocks_to log + owed records ≤ g.blocks - 1
+  pub room : blocks_to log + owed records ≤ log.kept + (g.blocks - 1)
 
 -- each page has all records redone, those of the tail too
 pub record ShowRecords (g : Geometry) (pages : PageStore) (image : Image) (records : List Entry) : Type 0 where
   pub each : (page : ℕ) → page < g.pages → ShowsAll records (versions_on g image) page (version_in (current pages image page))
 
 -- Of an honest site: both. No page has an LSN that a next record may get.
-pub record HoldsIn (g : Geometry) (log : LogStore) (pages : PageStore) (site : State) (records : List Entry) (table : List Content) (commits : ℕ) : Type 0 where
-  pub log_holds : HoldsLog g log pages site records table commits
+pub record HoldsIn (g : Geometry) (log : LogStore) (pages : PageStore) (site : State) (newest : Option Master) (records : List Entry) (table : List Content) (commits : ℕ) : Type 0 where
+  pub log_holds : HoldsLog g log pages site newest records table commits
   pub shows : ShowRecords g pages site.image records
   pub below : (page : ℕ) → page < g.pages → lsn_of (current pages site.image page) < end_of log
 
-abbrev pub Holds : LogStore → PageStore → State → List Entry → List Content → ℕ → Type 0
-Holds log pages site records table commits = HoldsIn pages.flash.geometry log pages site records table commits
+abbrev pub Holds : LogStore → PageStore → State → Option Master → List Entry → List Content → ℕ → Type 0
+Holds log pages site newest records table commits = HoldsIn pages.flash.geometry log pages site newest records table commits
 
 -- One more record may be appended: it may stand there, is no Commit, and leaves room to undo all.
-pub record MayGrow (log : LogStore) (pages : PageStore) (image : Image) (records : List Entry) (e : Entry) : Type 0 where
-  pub follows : Follows blank_master (versions_on pages.flash.geometry image) records e
+pub record MayGrow (log : LogStore) (pages : PageStore) (image : Image) (newest : Option Master) (records : List Entry) (e : Entry) : Type 0 where
+  pub follows : Follows (master_of newest) (versions_on pages.flash.geometry image) records e
   pub no_commit : commit_number e ≡ None
-  pub room : blocks_to log + 1 + owed (records ++ e ∷ []) ≤ pages.flash.geometry.blocks - 1
+  pub room : blocks_to log + 1 + owed (records ++ e ∷ []) ≤ log.kept + (pages.flash.geometry.blocks - 1)
 
 -- a record is an Update or a CLR on a page
 abbrev pub IsOnPage : ℕ → LogRecord → Type 0
@@ -71,3 +75,7 @@ IsOnPage page rec = (number : ℕ) × (number_of rec ≡ Some number) × (number
 pub record KeepsPages (g : Geometry) (pages : PageStore) (old new : Image) : Type 0 where
   pub versions : versions_on g new ≡ versions_on g old
   pub current : (page : ℕ) → current pages new page ≡ current pages old page
+
+-- the ring of the log's blocks, or that of the master units, stands at its end: nothing can be appended to it
+abbrev pub IsLogWorn : Geometry → Image → Type 0
+IsLogWorn g image = (hi_of (log_shape g) image.log ≡ 2 ^ 40) ⊎ (hi_of master_shape image.log ≡ 2 ^ 40)

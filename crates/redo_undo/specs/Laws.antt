@@ -1,19 +1,21 @@
 -- The laws of the layers below that the proofs rest on, in one place.
-use Rattle.log_laws.specs.TailLaws.{CarriesNothing, CarriesMore, WholeMore, CommitsStay, TailWithoutCommit, SealedTail, SealedCount, PlainSealed, WholeSealed}
+use Rattle.log_laws.specs.TailLaws.{CarriesNothing, CarriesMore, WholeMore, CommitsStay, TailWithoutCommit, SealedTail, SealedCount, WholeSealed}
 use Rattle.log_laws.specs.ShownLaws.{ShownPush}
-use Rattle.log_laws.specs.TailLaws.{WholeIsUndoable, WholeInOrder, WholeIsOrderly, OrderlyAt}
+use Rattle.log_laws.specs.TailLaws.{WholeIsUndoable, WholeInOrder}
 use Rattle.log_laws.specs.UndoLaws.{NextOfUndone, NextToUndo, FoundByLsn}
 use Rattle.log_laws.specs.LoserLaws.{ListedIsLoser, LoserIsListed}
 use Rattle.analysis.specs.Laws.{ActiveIsUnfinished}
-use Rattle.log_laws.specs.UndoSteps.{UndoStep, UndoEnd, UnfinishedStep}
+use Rattle.log_laws.specs.UndoSteps.{UndoGoesOn, UndoEnds, UnfinishedStep}
 use Rattle.log_laws.specs.ActiveLaws.{LoserStays, LoserIsClosed, LoserIsNotClosed}
 use Rattle.log_laws.specs.RoomLaws.{OwedClr, OwedClosing, OwedNone, LeftPush}
 use Rattle.log_store.specs.Laws.{FullTail}
 use Rattle.page_store.specs.Laws.{FitsBeside, VersionsBeside, LeavesBeside, SealedBeside}
-use Rattle.image_meaning.specs.Beside.{RingsKept}
+use Rattle.std.specs.Prelude.{Option}
+use Rattle.checkpoint.specs.declared.master.Master.{Master}
+use Rattle.image_meaning.specs.Beside.{RingsKeptUnder}
 use Rattle.image_meaning.specs.Pictures.{VersionsMean, VersionReplacesItself}
 use Rattle.image_meaning.specs.Ahead.{SealedPageReplaces, ShownStays, CarriesStill}
-use Rattle.image_meaning.specs.PictureLaws.{EachReplaces, VersionOfPage, CountOfVersions}
+use Rattle.image_meaning.specs.PictureLaws.{BlocksSealed, EachReplacesUnder, NextBlock, VersionOfPage, CountOfVersions}
 
 -- on logs
 pub record LogLaws : Type 0 where
@@ -24,7 +26,6 @@ pub record LogLaws : Type 0 where
   pub tail_without_commit : TailWithoutCommit
   pub sealed_tail : SealedTail
   pub sealed_count : SealedCount
-  pub plain_sealed : PlainSealed
   pub whole_sealed : WholeSealed
   pub shown_push : ShownPush
 
@@ -35,7 +36,9 @@ pub record PageLaws : Type 0 where
   pub sealed_page : SealedPageReplaces
   pub shown_stays : ShownStays
   pub carries_still : CarriesStill
-  pub each_replaces : EachReplaces
+  pub each_replaces : (newest : Option Master) → EachReplacesUnder newest
+  pub more : BlocksSealed
+  pub next : NextBlock
   pub at : VersionOfPage
   pub count : CountOfVersions
 
@@ -45,13 +48,13 @@ pub record BesideLaws : Type 0 where
   pub versions : VersionsBeside
   pub leaves : LeavesBeside
   pub are_sealed : SealedBeside
-  pub rings : RingsKept
+  pub rings : (newest : Option Master) → RingsKeptUnder newest
   pub full : FullTail
 
 -- on what undo has to do
 pub record UndoLaws : Type 0 where
-  pub step : UndoStep
-  pub end : UndoEnd
+  pub step : UndoGoesOn
+  pub end : UndoEnds
   pub unfinished : UnfinishedStep
   pub undoable : WholeIsUndoable
   pub in_order : WholeInOrder
@@ -71,5 +74,3 @@ pub record FoundLaws : Type 0 where
   pub next : NextToUndo
   pub nothing : OwedNone
   pub by_lsn : FoundByLsn
-  pub orderly : WholeIsOrderly
-  pub at : OrderlyAt

@@ -11,3 +11,4 @@ pub mod Redoing
 pub mod RedoLaws
 pub mod Works
 pub mod UndoWorks
+pub mod Checkpointing

@@ -2,7 +2,8 @@
 use Rattle.image_meaning.specs.Pictures.{VersionsAreSound}
 use Rattle.image_meaning.specs.Ahead.{ShowsStill}
 use Rattle.image_meaning.specs.Redone.{RedoneReplaces, VersionIsRedone, NextIsRedone, RedoneIsCurrent}
-use Rattle.analysis.specs.Taken.{StepsOn, AllAreTaken}
+use Rattle.analysis.specs.Laws.{OneTable, TableOfUnfinished}
+use Rattle.analysis.specs.Taken.{StepsOn, TakenTable}
 use Rattle.page_store.specs.Laws.{FitsBeside, TouchThenChange}
 
 pub record RedoLaws : Type 0 where
@@ -13,6 +14,8 @@ pub record RedoLaws : Type 0 where
   pub next : NextIsRedone
   pub last : RedoneIsCurrent
   pub steps : StepsOn
-  pub all_taken : AllAreTaken
+  pub taken : TakenTable
+  pub one_table : OneTable
+  pub unfinished : TableOfUnfinished
   pub fits : FitsBeside
   pub change : TouchThenChange

@@ -1,5 +1,5 @@
 -- What analysis and redo of a restart begin with, and how far they are.
-use Rattle.std.specs.Prelude.{◌≡◌, ◌⊎◌, ℕ, ◌≤◌, ◌<◌, List, [], length, filter_map}
+use Rattle.std.specs.Prelude.{◌≡◌, ◌⊎◌, ℕ, ◌≤◌, ◌<◌, List, [], length, filter_map, Option, filter}
 use Rattle.site.specs.declared.geometry.Geometry.{Geometry}
 use Rattle.site.specs.State.{State, Image, Snapshot}
 use Rattle.record_model.specs.State.{Content}
@@ -7,7 +7,7 @@ use Rattle.record_model.specs.Touches.{CacheWork}
 use Rattle.log_records.specs.declared.log_record.LogRecord.{LogRecord}
 use Rattle.log_records.specs.Log.{Entry, version_at}
 use Rattle.log_records.specs.Restart.{redo_touch}
-use Rattle.log_records.specs.Sound.{Picture, Means, last_lsn}
+use Rattle.log_records.specs.Sound.{Picture, Means, last_lsn, from_block}
 use Rattle.log_records.specs.Sound as lists
 use Rattle.slotted_page.specs.Layout.{lsn_of}
 use Rattle.log_store.specs.declared.store.LogStore.{LogStore}
@@ -15,36 +15,49 @@ use Rattle.page_store.specs.declared.store.PageStore.{PageStore}
 use Rattle.page_store.specs.Held.{current}
 use Rattle.page_store.specs.Ahead.{IsAhead}
 use Rattle.page_store.specs.Leaves.{AreReady}
-use Rattle.image_meaning.specs.Meaning.{IsSound, picture, blank_master, versions_on, version_in}
-use Rattle.image_meaning.specs.Moments.{LeavesTable}
+use Rattle.image_meaning.specs.Meaning.{IsSoundUnder, picture_under, versions_on, version_in, kept_by}
+use Rattle.image_meaning.specs.Moments.{LeavesTableUnder}
 use Rattle.image_meaning.specs.Pictures.{ReplaceAll}
 use Rattle.image_meaning.specs.Redone.{IsRedone, AreKnown}
-use Rattle.image_meaning.specs.Beside.{AreRingsSound}
+use Rattle.image_meaning.specs.Beside.{AreRingsSoundUnder}
 use Rattle.analysis.specs.Read.{IsAnalysis}
+use Rattle.checkpoint.specs.declared.master.Master.{Master}
+use Rattle.analysis.specs.Taken.{is_taken}
+use Rattle.image_changes.specs.Rings.{KeepsUnits, master_shape}
 use Rattle.redo_undo.specs.declared.redo_pass.Redone.{Redone}
 
--- What a restart begins with: log and pages fit an image that is sound and stands for this table. Nothing of the log is unsealed,
--- and the pool is empty.
-pub record IsOpened (g : Geometry) (log : LogStore) (pages : PageStore) (site : State) (blocks : List (List LogRecord)) (table : List Content) (commits : ℕ) : Type 0 where
-  pub ready : AreReady pages log (record { first = 0; blocks = blocks; tail = [] }) site
-  pub sound : IsSound g site.image blocks
-  pub means : Means (picture g site.image blocks) table commits
+-- What a restart begins with: log and pages fit an image that is sound and stands for this table under its newest master. Nothing of the log is
+-- unsealed, and the pool is empty.
+pub record IsOpened (g : Geometry) (log : LogStore) (pages : PageStore) (site : State) (newest : Option Master) (blocks : List (List LogRecord)) (table : List Content) (commits : ℕ) : Type 0 where
+  pub kept : log.kept ≡ kept_by newest
+  pub ready : AreReady pages log (record { first = kept_by newest; blocks = blocks; tail = [] }) site
+  pub sound : IsSoundUnder newest g site.image blocks
+  pub means : Means (picture_under newest g site.image blocks) table commits
   pub empty : pages.pool.frames ≡ []
 
--- the image that a restart begins with, the blocks of its log, and what it stands for
+-- the image that a restart begins with, its newest master, the blocks of its log, and what it stands for
 pub record Opening : Type 0 where
   pub sizes : Geometry
   pub image : Image
+  pub newest : Option Master
   pub blocks : List (List LogRecord)
   pub table : List Content
   pub commits : ℕ
 
 abbrev pub opened : Opening → Picture
-opened o = picture o.sizes o.image o.blocks
+opened o = picture_under o.newest o.sizes o.image o.blocks
 
 -- what redoing these records of the log asks of the cache
 abbrev pub touches_of : Opening → List Entry → List CacheWork
 touches_of o records = filter_map (redo_touch (opened o)) records
+
+-- what reading them asks: those from the redo block on are redone
+abbrev pub asked_of : Opening → List Entry → List CacheWork
+asked_of o records = touches_of o (from_block (opened o).master.redo records)
+
+-- of these records, those that analysis hears of
+abbrev pub heard_of : lists.Master → List Entry → List Entry
+heard_of m records = filter (is_taken m) records
 
 -- an LSN is that of the page's version, or none above the last of these records
 abbrev pub IsFrom : Picture → List Entry → ℕ → ℕ → Type 0
@@ -52,17 +65,19 @@ IsFrom p front page lsn = (lsn ≡ (version_at p.pages page).lsn) ⊎ (lsn ≤ l
 
 -- a snapshot stands for the same table
 abbrev pub LeavesOpened : Opening → List ℕ → Snapshot → Type 0
-LeavesOpened o told snapshot = LeavesTable o.sizes o.table o.commits told snapshot
+LeavesOpened o told snapshot = LeavesTableUnder o.newest o.sizes o.table o.commits told snapshot
 
--- While these records of an opened log are redone: log and pages fit the site, and nothing of the log is unsealed. Each page's version may
+-- While these records of an opened log are read, and redone from the redo block on: log and pages fit the site, and nothing of the log is unsealed. Each page's version may
 -- replace the one that it had when the log was opened. Each page's content is that version with the records up to the page's LSN redone,
 -- and it knows of all of these records. Its LSN is that version's, or none above the last of these records.
 pub record IsRedoing (o : Opening) (log : LogStore) (pages : PageStore) (site : State) (front : List Entry) : Type 0 where
   pub geometry : pages.flash.geometry ≡ o.sizes
+  pub kept : log.kept ≡ kept_by o.newest
   pub sound : lists.IsSound (opened o)
   pub means : Means (opened o) o.table o.commits
-  pub ready : AreReady pages log (record { first = 0; blocks = o.blocks; tail = [] }) site
-  pub rings : AreRingsSound o.sizes site.image
+  pub ready : AreReady pages log (record { first = kept_by o.newest; blocks = o.blocks; tail = [] }) site
+  pub rings : AreRingsSoundUnder o.newest o.sizes site.image
+  pub masters : KeepsUnits master_shape o.image site.image
   pub ahead : IsAhead log pages site.image
   pub replace : ReplaceAll (opened o) (versions_on o.sizes site.image)
   pub redone : (page : ℕ) → page < o.sizes.pages → IsRedone (opened o) page (version_in (current pages site.image page))
@@ -72,5 +87,5 @@ pub record IsRedoing (o : Opening) (log : LogStore) (pages : PageStore) (site : 
 -- These records are read: the pages have them redone, analysis knows of them, and they are counted.
 pub record HasTaken (o : Opening) (log : LogStore) (pages : PageStore) (site : State) (so_far : Redone) (front : List Entry) : Type 0 where
   pub pages_are : IsRedoing o log pages site front
-  pub analysis : IsAnalysis blank_master front so_far.found
+  pub analysis : IsAnalysis (opened o).master (heard_of (opened o).master front) so_far.found
   pub count : so_far.records ≡ length front

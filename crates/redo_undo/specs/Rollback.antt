@@ -1,5 +1,5 @@
 -- What undoing a transaction leaves.
-use Rattle.std.specs.Prelude.{◌≡◌, ◌≢◌, ℕ, ◌+◌, ◌≤◌, true, false, List, [], ◌∷◌, ◌++◌, length}
+use Rattle.std.specs.Prelude.{◌≡◌, ◌≢◌, ℕ, ◌+◌, ◌≤◌, true, false, List, [], ◌∷◌, ◌++◌, length, Option}
 use Rattle.std.specs.List.{AllByRecursion}
 use Rattle.site.specs.State.{State}
 use Rattle.record_model.specs.State.{Content}
@@ -7,8 +7,10 @@ use Rattle.log_records.specs.declared.log_record.LogRecord.TheVariants.{End}
 use Rattle.log_records.specs.Log.{Entry, txn_of, is_loser}
 use Rattle.log_records.specs.Unfinished.{is_clr, left_open, owed}
 use Rattle.log_laws.specs.Analysis.{Unfinished, IsUnfinished}
+use Rattle.log_records.specs.Sound.{AreOrderly}
 use Rattle.log_store.specs.declared.store.LogStore.{LogStore}
 use Rattle.page_store.specs.declared.store.PageStore.{PageStore}
+use Rattle.checkpoint.specs.declared.master.Master.{Master}
 use Rattle.redo_undo.specs.declared.undo.Undoing.{Undoing}
 use Rattle.redo_undo.specs.Holding.{Holds, blocks_to}
 
@@ -22,10 +24,10 @@ left_of at remaining = record { txn = at.txn; last = at.last; next = at.next; re
 
 -- Of an unfinished transaction some Updates are compensated, the last ones first: the log has their CLRs, and the pages show them. From so
 -- many blocks and log reads on it took at most one of each for each CLR.
-pub record Compensates (log : LogStore) (pages : PageStore) (site : State) (records : List Entry) (table : List Content) (commits : ℕ) (txn blocks reads : ℕ) (now : Undoing) : Type 0 where
+pub record Compensates (log : LogStore) (pages : PageStore) (site : State) (newest : Option Master) (records : List Entry) (table : List Content) (commits : ℕ) (txn blocks reads : ℕ) (now : Undoing) : Type 0 where
   pub clrs : List Entry
   pub own : AreClrsOf txn clrs
-  pub holds : Holds log pages site (records ++ clrs) table commits
+  pub holds : Holds log pages site newest (records ++ clrs) table commits
   pub remaining : ℕ
   pub left : IsUnfinished (records ++ clrs) (left_of now remaining)
   pub same : now.txn ≡ txn
@@ -33,15 +35,17 @@ pub record Compensates (log : LogStore) (pages : PageStore) (site : State) (reco
   pub owes : owed (records ++ clrs) + length clrs ≡ owed records
   pub few : blocks_to log ≤ blocks + length clrs
   pub read : site.log_reads ≤ reads + length clrs
+  pub orderly : AreOrderly records → AreOrderly (records ++ clrs)
 
 -- A transaction is undone as a whole: behind its CLRs the log has its End, and the pages show that. It is unfinished no more, and
 -- all others are as they were.
-pub record RollsBack (log : LogStore) (pages : PageStore) (site : State) (records : List Entry) (table : List Content) (commits : ℕ) (txn : ℕ) : Type 0 where
+pub record RollsBack (log : LogStore) (pages : PageStore) (site : State) (newest : Option Master) (records : List Entry) (table : List Content) (commits : ℕ) (txn : ℕ) : Type 0 where
   pub clrs : List Entry
   pub lsn : ℕ
   pub own : AreClrsOf txn clrs
   pub count : length clrs ≡ length (left_open records txn)
   pub owes : owed ((records ++ clrs) ++ record { lsn = lsn; rec = End txn } ∷ []) + (length clrs + 1) ≡ owed records
-  pub holds : Holds log pages site ((records ++ clrs) ++ record { lsn = lsn; rec = End txn } ∷ []) table commits
+  pub holds : Holds log pages site newest ((records ++ clrs) ++ record { lsn = lsn; rec = End txn } ∷ []) table commits
+  pub orderly : AreOrderly records → AreOrderly ((records ++ clrs) ++ record { lsn = lsn; rec = End txn } ∷ [])
   pub closed : is_loser ((records ++ clrs) ++ record { lsn = lsn; rec = End txn } ∷ []) txn ≡ false
   pub others : (t : ℕ) → t ≢ txn → is_loser ((records ++ clrs) ++ record { lsn = lsn; rec = End txn } ∷ []) t ≡ is_loser records t

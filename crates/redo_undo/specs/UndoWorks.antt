@@ -1,5 +1,5 @@
 -- What undo asks of the page cache, Update by Update.
-use Rattle.std.specs.Prelude.{◌≡◌, ℕ, true, List, ◌++◌, filter_map, reverse, Some}
+use Rattle.std.specs.Prelude.{◌≡◌, ℕ, true, List, ◌++◌, filter_map, reverse, Some, Option}
 use Rattle.site.specs.State.{State}
 use Rattle.record_model.specs.State.{Content}
 use Rattle.record_model.specs.Touches.{CacheWork}
@@ -9,6 +9,7 @@ use Rattle.log_records.specs.Restart.{undo_touch}
 use Rattle.log_store.specs.declared.store.LogStore.{LogStore}
 use Rattle.page_store.specs.declared.store.PageStore.{PageStore}
 use Rattle.analysis.specs.declared.analysis.Analysis.{Analysis}
+use Rattle.checkpoint.specs.declared.master.Master.{Master}
 use Rattle.redo_undo.specs.UndoingAll.{UndoesSome}
 
 -- undoing these Updates, the first one first
@@ -22,6 +23,6 @@ pub record IsLastAt (records : List Entry) (txn lsn : ℕ) (u : Entry) : Type 0 
   pub at : u.lsn ≡ lsn
 
 -- Some of what is unfinished is undone. Of all Updates that remained these don't any more, the last ones.
-pub record UndoesUpdates (log : LogStore) (pages : PageStore) (site : State) (records : List Entry) (table : List Content) (commits : ℕ) (found : Analysis) (known : ℕ) (updates : List Entry) : Type 0 where
-  pub some : UndoesSome log pages site records table commits found known
+pub record UndoesUpdates (log : LogStore) (pages : PageStore) (site : State) (newest : Option Master) (records : List Entry) (table : List Content) (commits : ℕ) (found : Analysis) (known : ℕ) (updates : List Entry) : Type 0 where
+  pub some : UndoesSome log pages site newest records table commits found known
   pub left : reverse (pending records) ≡ updates ++ reverse (pending (records ++ some.more))

@@ -1,18 +1,19 @@
 -- Undoing all unfinished transactions.
-use Rattle.std.specs.Prelude.{◌≡◌, ℕ, ◌+◌, ◌≤◌, ◌<◌, true, false, List, [], ◌++◌, length, Some}
+use Rattle.std.specs.Prelude.{◌≡◌, ℕ, ◌+◌, ◌≤◌, ◌<◌, true, false, List, [], ◌++◌, length, Some, Option}
 use Rattle.std.specs.List.{AllByRecursion}
 use Rattle.site.specs.State.{State}
 use Rattle.record_model.specs.State.{Content}
 use Rattle.log_records.specs.Log.{Entry, txn_of, is_loser, last_where}
 use Rattle.log_records.specs.Unfinished.{is_clr, left_open, pending, owed}
-use Rattle.log_records.specs.Sound.{InTurn}
+use Rattle.log_records.specs.Sound.{InTurn, AreOrderly}
 use Rattle.log_store.specs.declared.store.LogStore.{LogStore}
 use Rattle.page_store.specs.declared.store.PageStore.{PageStore}
-use Rattle.image_meaning.specs.Meaning.{blank_master}
+use Rattle.checkpoint.specs.declared.master.Master.{Master}
 use Rattle.analysis.specs.declared.analysis.Analysis.{Analysis}
 use Rattle.analysis.specs.declared.analysis.Loser.{Loser}
 use Rattle.analysis.specs.Open.{Open, found_in}
-use Rattle.analysis.specs.Read.{IsAnalysis, loser_of}
+use Rattle.analysis.specs.Table.{listed}
+use Rattle.analysis.specs.Read.{IsTable, loser_of}
 use Rattle.redo_undo.specs.Holding.{Holds}
 
 -- what a list says of a transaction, as callers see it
@@ -36,9 +37,9 @@ abbrev pub AreUpTo : ℕ → List Entry → Type 0
 AreUpTo known records = AllByRecursion (λ e. e.lsn ≤ known) records
 
 -- Of an honest site: log and pages have these records, analysis knows what they leave unfinished, and no record stands behind an LSN.
-pub record IsUndoing (log : LogStore) (pages : PageStore) (site : State) (records : List Entry) (table : List Content) (commits : ℕ) (found : Analysis) (known : ℕ) : Type 0 where
-  pub holds : Holds log pages site records table commits
-  pub analysis : IsAnalysis blank_master records found
+pub record IsUndoing (log : LogStore) (pages : PageStore) (site : State) (newest : Option Master) (records : List Entry) (table : List Content) (commits : ℕ) (found : Analysis) (known : ℕ) : Type 0 where
+  pub holds : Holds log pages site newest records table commits
+  pub analysis : IsTable [] records (listed found.table)
   pub up_to : AreUpTo known records
 
 -- the last of all Updates that remain is one of this transaction
@@ -51,16 +52,18 @@ pub record IsNextUndo (earlier : List Entry) (e : Entry) : Type 0 where
   pub greatest : is_clr e.rec ≡ true → IsGreatest earlier (txn_of e)
 
 -- Some of what is unfinished is undone: the log goes on by these records, in turn, and each takes away one that undo owes.
-pub record UndoesSome (log : LogStore) (pages : PageStore) (site : State) (records : List Entry) (table : List Content) (commits : ℕ) (found : Analysis) (known : ℕ) : Type 0 where
+pub record UndoesSome (log : LogStore) (pages : PageStore) (site : State) (newest : Option Master) (records : List Entry) (table : List Content) (commits : ℕ) (found : Analysis) (known : ℕ) : Type 0 where
   pub more : List Entry
-  pub now : IsUndoing log pages site (records ++ more) table commits found known
+  pub now : IsUndoing log pages site newest (records ++ more) table commits found known
   pub in_turn : InTurn IsNextUndo records more
   pub count : length more + owed (records ++ more) ≡ owed records
+  pub orderly : AreOrderly records → AreOrderly (records ++ more)
 
 -- All unfinished transactions are undone: behind their CLRs and Ends the log leaves none unfinished.
-pub record UndoesAll (log : LogStore) (pages : PageStore) (site : State) (records : List Entry) (table : List Content) (commits : ℕ) : Type 0 where
+pub record UndoesAll (log : LogStore) (pages : PageStore) (site : State) (newest : Option Master) (records : List Entry) (table : List Content) (commits : ℕ) : Type 0 where
   pub more : List Entry
-  pub holds : Holds log pages site (records ++ more) table commits
+  pub holds : Holds log pages site newest (records ++ more) table commits
   pub none : (t : ℕ) → is_loser (records ++ more) t ≡ false
   pub count : length more ≡ owed records
   pub in_turn : InTurn IsNextUndo records more
+  pub orderly : AreOrderly records → AreOrderly (records ++ more)

@@ -1,5 +1,5 @@
 -- What calls on pages ask of the cache: work for the machine, the groups that it appends, and the pages that it reads at most.
-use Rattle.std.specs.Prelude.{◌≡◌, ℕ, ◌+◌, ◌*◌, ◌^◌, ◌≤◌, ◌<◌, true, false, List, [], ◌∷◌, ◌++◌, length, map, filter_map, reverse, if◌then◌else◌, Result, OnOk, IsErrOf}
+use Rattle.std.specs.Prelude.{◌≡◌, ℕ, ◌+◌, ◌*◌, ◌^◌, ◌≤◌, ◌<◌, true, false, List, [], ◌∷◌, ◌++◌, length, map, filter_map, reverse, if◌then◌else◌, Result, OnOk, IsErrOf, Option}
 use Rattle.site.specs.declared.outside.Dev.TheVariants.{Flash}
 use Rattle.site.specs.declared.outside.Stop.{Stop}
 use Rattle.site.specs.declared.outside.Stop.TheVariants.{Worn}
@@ -11,7 +11,8 @@ use Rattle.log_records.specs.Unfinished.{pending, left_open}
 use Rattle.log_records.specs.Restart.{redo_touch, undo_touch}
 use Rattle.log_records.specs.Sound.{Picture, from_block}
 use Rattle.log_laws.specs.Follow.{IsActive}
-use Rattle.image_meaning.specs.Meaning.{blank_master}
+use Rattle.checkpoint.specs.declared.master.Master.{Master}
+use Rattle.image_meaning.specs.Meaning.{master_of}
 use Rattle.page_store.specs.declared.store.PageStore.{PageStore}
 use Rattle.page_store.specs.Caching.{cache_of, rules}
 use Rattle.second_chance.specs.Machine.{Rules, Cache, worked, after_works, finds, misses}
@@ -36,6 +37,10 @@ undo_works log = filter_map undo_touch (reverse (pending log))
 -- undoing one transaction: those of its Updates
 abbrev pub undo_one_works : List Entry → ℕ → List CacheWork
 undo_one_works log txn = filter_map undo_touch (left_open log txn)
+
+-- a checkpoint: all changed pages are pushed
+abbrev pub checkpoint_works : List CacheWork
+checkpoint_works = flush ∷ []
 
 -- The groups that it appends.
 
@@ -114,5 +119,5 @@ ChangeOverflows = (rules : Rules) (page : ℕ) (cache : Cache) → 1 ≤ rules.g
 -- undoing an active transaction touches the pages of its writes, the last one first
 abbrev pub ActiveIsUndoneBy : Type 0
 ActiveIsUndoneBy =
-    (records : List Entry) (txn last : ℕ) (writes : List Write) → IsActive blank_master records txn last writes →
+    (newest : Option Master) (records : List Entry) (txn last : ℕ) (writes : List Write) → IsActive (master_of newest) records txn last writes →
     undo_one_works records txn ≡ map (λ write. write_touch write.0) (reverse writes)

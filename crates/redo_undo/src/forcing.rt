@@ -1,5 +1,5 @@
 // The log's tail is sealed.
-ghost use Rattle.std.specs.Prelude.{◌≡◌, ◌≢◌, ◌⊎◌, ◌+◌, ◌^◌, ◌<◌, ◌≤◌, ℕ, List, OnOk, IfErr, IsErrOf, IsTrue};
+ghost use Rattle.std.specs.Prelude.{◌≡◌, ◌≢◌, ◌⊎◌, ◌+◌, ◌^◌, ◌<◌, ◌≤◌, ℕ, List, OnOk, IfErr, IsErrOf, IsTrue, Option};
 ghost use Rattle.site.specs.declared.outside.Dev.{Dev};
 ghost use Rattle.site.specs.declared.outside.Stop.{Stop};
 ghost use Rattle.site.specs.State.{IsQuiet};
@@ -9,10 +9,13 @@ ghost use Rattle.record_model.specs.State.{Content};
 ghost use Rattle.log_records.specs.Log.{Entry};
 ghost use Rattle.log_store.specs.Held as log_held;
 ghost use Rattle.page_store.specs.declared.store.PageStore.{PageStore};
-ghost use Rattle.image_meaning.specs.Moments.{LeavesTable};
-ghost use Rattle.redo_undo.specs.Holding.{MayGoOn, Holds, blocks_to};
+ghost use Rattle.image_changes.specs.Rings.{KeepsUnits, master_shape};
+ghost use Rattle.checkpoint.specs.declared.master.Master.{Master};
+ghost use Rattle.image_meaning.specs.Moments.{LeavesTableUnder};
+ghost use Rattle.redo_undo.specs.Holding.{MayGoOn, Holds, IsLogWorn, blocks_to};
 
 use crate::laws::{beside_laws, log_laws, page_laws};
+use image_changes::ring_kept;
 use log_store::LogStore;
 use site::{Site, Stop};
 
@@ -23,21 +26,27 @@ pub fn force<S: Site>(site: &mut S, log: &mut LogStore) -> Result<(), Stop>
     requires room { blocks_to log.old < log.old.kept + log.old.geometry.blocks }
 
     // Of an honest site on which log and pages hold together.
-    ensures holds { (pages : PageStore) (records : List Entry) (table : List Content) (commits : ℕ)
+    ensures holds { (pages : PageStore) (newest : Option Master) (records : List Entry) (table : List Content) (commits : ℕ)
         → log.old.geometry ≡ pages.flash.geometry
-        → Holds log.old pages (S.state site.old) records table commits
-        → OnOk result (Holds log.new pages (S.state site.new) records table commits) }
-    ensures any_moment { (pages : PageStore) (records : List Entry) (table : List Content) (commits : ℕ)
+        → Holds log.old pages (S.state site.old) newest records table commits
+        → OnOk result (Holds log.new pages (S.state site.new) newest records table commits) }
+    ensures any_moment { (pages : PageStore) (newest : Option Master) (records : List Entry) (table : List Content) (commits : ℕ)
         → MayGoOn log.old pages (S.state site.old)
-        → Holds log.old pages (S.state site.old) records table commits
+        → Holds log.old pages (S.state site.old) newest records table commits
         → IsQuiet (S.state site.old)
         → LeavesOnly (S.state site.old) (S.state site.new)
-        (LeavesTable pages.flash.geometry table commits (S.state site.old).told) }
+        (LeavesTableUnder newest pages.flash.geometry table commits (S.state site.old).told) }
+    ensures worn_log_end { (pages : PageStore) (newest : Option Master) (records : List Entry) (table : List Content) (commits : ℕ)
+        → Holds log.old pages (S.state site.old) newest records table commits
+        → IsErrOf result (Stop.Worn Dev.Log) → IsLogWorn log.old.geometry (S.state site.new).image }
+    ensures masters { (pages : PageStore) (newest : Option Master) (records : List Entry) (table : List Content) (commits : ℕ)
+        → Holds log.old pages (S.state site.old) newest records table commits
+        → OnOk result (KeepsUnits master_shape (S.state site.old).image (S.state site.new).image) }
     ensures left { IsTrue (S.state site.old).honest → (S.state site.new).left ≡ (S.state site.old).left }
     ensures stays_quiet { IsTrue (S.state site.old).honest → IsQuiet (S.state site.old)
         → OnOk result (IsQuiet (S.state site.new)) }
-    ensures quiet { (pages : PageStore) (records : List Entry) (table : List Content) (commits : ℕ)
-        → Holds log.old pages (S.state site.old) records table commits
+    ensures quiet { (pages : PageStore) (newest : Option Master) (records : List Entry) (table : List Content) (commits : ℕ)
+        → Holds log.old pages (S.state site.old) newest records table commits
         → IsQuiet (S.state site.old)
         → IfErr result (λ stop. ((d : Dev) → stop ≢ Stop.Device d) → IsQuiet (S.state site.new)) }
 
@@ -61,6 +70,7 @@ pub fn force<S: Site>(site: &mut S, log: &mut LogStore) -> Result<(), Stop>
     log_laws();
     page_laws();
     beside_laws();
+    ring_kept();
     if log.tail_empty() {
         return Ok(());
     }

@@ -4,13 +4,14 @@ ghost use Rattle.redo_undo.specs.Laws.{LogLaws, PageLaws, BesideLaws, UndoLaws, 
 
 use analysis::table_of_records;
 use image_meaning::{
-    new_versions, pictures, rings_kept, versions_beside_the_tail, versions_by_page, write_ahead,
+    new_versions, pictures, rings_kept_under, room_under, versions_beside_the_tail,
+    versions_by_page, write_ahead,
 };
 use log_laws::{
     carries_more, carries_nothing, commits_more, found_by_lsn, left_push, losers_after,
-    losers_listed, next_of_undone, next_to_undo, orderly_at, owed_closing, owed_clr, owed_none,
-    plain_sealed, sealed_count, sealed_tail, shown_push, tail_without_commit, undo_end, undo_step,
-    unfinished_step, whole_in_order, whole_is_orderly, whole_is_undoable, whole_more, whole_sealed,
+    losers_listed, next_of_undone, next_to_undo, owed_closing, owed_clr, owed_none, sealed_count,
+    sealed_tail, shown_push, tail_without_commit, undo_goes_on, unfinished_step, whole_in_order,
+    whole_is_undoable, whole_more, whole_sealed,
 };
 use log_store::full_tail;
 use page_store::{pages_beside_the_log, stays_beside};
@@ -26,7 +27,6 @@ pub(crate) fn log_laws()
     tail_without_commit();
     sealed_tail();
     sealed_count();
-    plain_sealed();
     whole_sealed();
     shown_push();
 }
@@ -40,6 +40,7 @@ pub(crate) fn page_laws()
     versions_beside_the_tail();
     pictures();
     versions_by_page();
+    room_under();
 }
 
 // On an append beside the pages.
@@ -48,7 +49,7 @@ pub(crate) fn beside_laws()
 {
     stays_beside();
     pages_beside_the_log();
-    rings_kept();
+    rings_kept_under();
     full_tail();
 }
 
@@ -56,8 +57,7 @@ pub(crate) fn beside_laws()
 pub(crate) fn undo_laws()
     ensures { UndoLaws }
 {
-    undo_step();
-    undo_end();
+    undo_goes_on();
     unfinished_step();
     whole_is_undoable();
     whole_in_order();
@@ -77,8 +77,6 @@ pub(crate) fn found_laws()
     next_to_undo();
     owed_none();
     found_by_lsn();
-    whole_is_orderly();
-    orderly_at();
 }
 
 /// Law: log and pages that fit a sound image hold together where the pages show all records; where they do the devices stand for the table, now and as long as nothing is called; they do still after

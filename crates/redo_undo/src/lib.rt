@@ -2,6 +2,7 @@
 #![tactic(auto)]
 
 mod changing;
+mod checkpointing;
 mod committing;
 mod forcing;
 mod laws;
@@ -16,12 +17,13 @@ mod undo_losers;
 mod undo_tests;
 mod work_laws;
 
+pub use checkpointing::checkpoint;
 pub use committing::commit;
 pub use forcing::force;
 pub use laws::hold_together;
 pub use logging::{log_change, log_record, touch};
 pub use redo_pass::{Redone, redo};
-pub use session_laws::{sessions_are_undone, sessions_go_on, sessions_see};
+pub use session_laws::{sessions_are_undone, sessions_go_on, sessions_outlive, sessions_see};
 pub use undo::undo_one;
 pub use undo_losers::undo_all;
 pub use work_laws::{changes_cost_a_touch, works_add_up};

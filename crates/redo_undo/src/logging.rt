@@ -1,5 +1,5 @@
 // A page is touched, a record is logged, and the page is changed.
-ghost use Rattle.std.specs.Prelude.{◌≡◌, ◌≢◌, ◌⊎◌, ◌+◌, ◌^◌, ◌<◌, ◌≤◌, ◌++◌, ◌∷◌, [], ℕ, List, length, None, IfOk, IsTrue, true, false, OnOk, OnErr, IfErr, IsErrOf};
+ghost use Rattle.std.specs.Prelude.{◌*◌, ◌≡◌, ◌≢◌, ◌⊎◌, ◌+◌, ◌^◌, ◌<◌, ◌≤◌, ◌++◌, ◌∷◌, [], ℕ, List, length, None, IfOk, IsTrue, true, false, OnOk, IfErr, IsErrOf, Option};
 ghost use Rattle.site.specs.declared.outside.Dev.{Dev};
 ghost use Rattle.site.specs.declared.outside.Stop.{Stop};
 ghost use Rattle.site.specs.State.{IsQuiet};
@@ -8,6 +8,7 @@ ghost use Rattle.site.specs.Moments.{LeavesOnly};
 ghost use Rattle.record_model.specs.State.{Content};
 ghost use Rattle.log_records.specs.declared.log_record.LogRecord.{LogRecord};
 ghost use Rattle.log_records.specs.Log.{Entry, number_of};
+ghost use Rattle.log_records.specs.Sound.{AreOrderly};
 ghost use Rattle.log_records.specs.Spelling.{HasForm};
 ghost use Rattle.flash_cache.specs.Held.{IsWorn};
 ghost use Rattle.log_store.specs.Held as log_held;
@@ -18,13 +19,17 @@ ghost use Rattle.buffer_pool.specs.Frames.{front_of};
 ghost use Rattle.page_store.specs.Caching.{cache_of, rules, with_change, pushes};
 ghost use Rattle.page_store.specs.Ahead.{end_forced};
 ghost use Rattle.page_store.specs.Stopping.{MayStop};
-ghost use Rattle.image_meaning.specs.Moments.{LeavesTable};
-ghost use Rattle.redo_undo.specs.Holding.{MayGoOn, HoldsLog, Holds, MayGrow, KeepsPages, IsOnPage, blocks_to};
+ghost use Rattle.image_changes.specs.Rings.{KeepsUnits, master_shape};
+ghost use Rattle.checkpoint.specs.declared.master.Master.{Master};
+ghost use Rattle.image_meaning.specs.Moments.{LeavesTableUnder};
+ghost use Rattle.redo_undo.specs.Holding.{MayGoOn, HoldsLog, Holds, MayGrow, KeepsPages, IsOnPage, IsLogWorn, blocks_to};
 ghost use Rattle.redo_undo.specs.Committing.{EndsWith};
 ghost use Rattle.redo_undo.specs.Works.{Asks, one_touch};
 
 use crate::changing::change_front;
 use crate::laws::{beside_laws, log_laws, page_laws};
+use image_changes::ring_kept;
+use log_laws::orderly_goes_on;
 use log_records::LogRecord;
 use log_store::LogStore;
 use page_store::PageStore;
@@ -42,25 +47,31 @@ pub fn touch<S: Site>(
     requires exists { page < pages.old.flash.geometry.pages }
 
     // Of an honest site on which log and pages hold together.
-    ensures holds { (records : List Entry) (table : List Content) (commits : ℕ)
-        → Holds log.old pages.old (S.state site.old) records table commits
-        → OnOk result (Holds log.new pages.new (S.state site.new) records table commits) }
-    ensures any_moment { (records : List Entry) (table : List Content) (commits : ℕ)
-        → Holds log.old pages.old (S.state site.old) records table commits
+    ensures holds { (newest : Option Master) (records : List Entry) (table : List Content) (commits : ℕ)
+        → Holds log.old pages.old (S.state site.old) newest records table commits
+        → OnOk result (Holds log.new pages.new (S.state site.new) newest records table commits) }
+    ensures any_moment { (newest : Option Master) (records : List Entry) (table : List Content) (commits : ℕ)
+        → Holds log.old pages.old (S.state site.old) newest records table commits
         → IsQuiet (S.state site.old)
         → LeavesOnly (S.state site.old) (S.state site.new)
-        (LeavesTable pages.old.flash.geometry table commits (S.state site.old).told) }
-    ensures readable { (records : List Entry) (table : List Content) (commits : ℕ)
-        → Holds log.old pages.old (S.state site.old) records table commits
+        (LeavesTableUnder newest pages.old.flash.geometry table commits (S.state site.old).told) }
+    ensures readable { (newest : Option Master) (records : List Entry) (table : List Content) (commits : ℕ)
+        → Holds log.old pages.old (S.state site.old) newest records table commits
         → IsErrOf result Stop.Foreign → ⊥ }
-    ensures worn_end { (records : List Entry) (table : List Content) (commits : ℕ)
-        → Holds log.old pages.old (S.state site.old) records table commits
+    ensures worn_end { (newest : Option Master) (records : List Entry) (table : List Content) (commits : ℕ)
+        → Holds log.old pages.old (S.state site.old) newest records table commits
         → IsErrOf result (Stop.Worn Dev.Flash) → IsWorn pages.old.flash.geometry (S.state site.new).image }
+    ensures worn_log_end { (newest : Option Master) (records : List Entry) (table : List Content) (commits : ℕ)
+        → Holds log.old pages.old (S.state site.old) newest records table commits
+        → IsErrOf result (Stop.Worn Dev.Log) → IsLogWorn pages.old.flash.geometry (S.state site.new).image }
+    ensures masters { (newest : Option Master) (records : List Entry) (table : List Content) (commits : ℕ)
+        → Holds log.old pages.old (S.state site.old) newest records table commits
+        → OnOk result (KeepsUnits master_shape (S.state site.old).image (S.state site.new).image) }
     ensures left { IsTrue (S.state site.old).honest → (S.state site.new).left ≡ (S.state site.old).left }
     ensures stays_quiet { IsTrue (S.state site.old).honest → IsQuiet (S.state site.old)
         → OnOk result (IsQuiet (S.state site.new)) }
-    ensures quiet { (records : List Entry) (table : List Content) (commits : ℕ)
-        → Holds log.old pages.old (S.state site.old) records table commits
+    ensures quiet { (newest : Option Master) (records : List Entry) (table : List Content) (commits : ℕ)
+        → Holds log.old pages.old (S.state site.old) newest records table commits
         → IsQuiet (S.state site.old)
         → IfErr result (λ stop. ((d : Dev) → stop ≢ Stop.Device d) → IsQuiet (S.state site.new)) }
 
@@ -100,37 +111,48 @@ pub fn log_record<S: Site>(site: &mut S, log: &mut LogStore, rec: &LogRecord) ->
     requires room { blocks_to log.old + 1 < log.old.kept + log.old.geometry.blocks }
 
     // Of an honest site on which log and pages hold together.
-    ensures log_holds { (pages : PageStore) (records : List Entry) (table : List Content) (commits : ℕ)
+    ensures log_holds { (pages : PageStore) (newest : Option Master) (records : List Entry) (table : List Content) (commits : ℕ)
         → log.old.geometry ≡ pages.flash.geometry
-        → Holds log.old pages (S.state site.old) records table commits
-        → IfOk result (λ lsn. MayGrow log.old pages (S.state site.old).image records (record { lsn = lsn; rec = rec.now })
-        → HoldsLog pages.flash.geometry log.new pages (S.state site.new)
+        → Holds log.old pages (S.state site.old) newest records table commits
+        → IfOk result (λ lsn. MayGrow log.old pages (S.state site.old).image newest records (record { lsn = lsn; rec = rec.now })
+        → HoldsLog pages.flash.geometry log.new pages (S.state site.new) newest
         (records ++ record { lsn = lsn; rec = rec.now } ∷ []) table commits) }
-    ensures pages { (pages : PageStore) (records : List Entry) (table : List Content) (commits : ℕ)
-        → Holds log.old pages (S.state site.old) records table commits
+    ensures pages { (pages : PageStore) (newest : Option Master) (records : List Entry) (table : List Content) (commits : ℕ)
+        → Holds log.old pages (S.state site.old) newest records table commits
         → KeepsPages pages.flash.geometry pages (S.state site.old).image (S.state site.new).image }
-    ensures holds { (pages : PageStore) (records : List Entry) (table : List Content) (commits : ℕ)
+    ensures holds { (pages : PageStore) (newest : Option Master) (records : List Entry) (table : List Content) (commits : ℕ)
         → log.old.geometry ≡ pages.flash.geometry
-        → Holds log.old pages (S.state site.old) records table commits → number_of rec.now ≡ None
-        → IfOk result (λ lsn. MayGrow log.old pages (S.state site.old).image records (record { lsn = lsn; rec = rec.now })
-        → Holds log.new pages (S.state site.new)
+        → Holds log.old pages (S.state site.old) newest records table commits → number_of rec.now ≡ None
+        → IfOk result (λ lsn. MayGrow log.old pages (S.state site.old).image newest records (record { lsn = lsn; rec = rec.now })
+        → Holds log.new pages (S.state site.new) newest
         (records ++ record { lsn = lsn; rec = rec.now } ∷ []) table commits) }
-    ensures last { (pages : PageStore) (records : List Entry) (table : List Content) (commits : ℕ)
+    ensures orderly { (pages : PageStore) (newest : Option Master) (records : List Entry) (table : List Content) (commits : ℕ)
         → log.old.geometry ≡ pages.flash.geometry
-        → Holds log.old pages (S.state site.old) records table commits
-        → IfOk result (λ lsn. EndsWith pages.flash.geometry log.new pages (S.state site.new) records table commits
+        → Holds log.old pages (S.state site.old) newest records table commits
+        → IfOk result (λ lsn. MayGrow log.old pages (S.state site.old).image newest records (record { lsn = lsn; rec = rec.now })
+        → AreOrderly records → AreOrderly (records ++ record { lsn = lsn; rec = rec.now } ∷ [])) }
+    ensures last { (pages : PageStore) (newest : Option Master) (records : List Entry) (table : List Content) (commits : ℕ)
+        → log.old.geometry ≡ pages.flash.geometry
+        → Holds log.old pages (S.state site.old) newest records table commits
+        → IfOk result (λ lsn. EndsWith pages.flash.geometry log.new pages (S.state site.new) newest records table commits
         (record { lsn = lsn; rec = rec.now })) }
-    ensures any_moment { (pages : PageStore) (records : List Entry) (table : List Content) (commits : ℕ)
+    ensures any_moment { (pages : PageStore) (newest : Option Master) (records : List Entry) (table : List Content) (commits : ℕ)
         → MayGoOn log.old pages (S.state site.old)
-        → Holds log.old pages (S.state site.old) records table commits
+        → Holds log.old pages (S.state site.old) newest records table commits
         → IsQuiet (S.state site.old)
         → LeavesOnly (S.state site.old) (S.state site.new)
-        (LeavesTable pages.flash.geometry table commits (S.state site.old).told) }
+        (LeavesTableUnder newest pages.flash.geometry table commits (S.state site.old).told) }
+    ensures worn_log_end { (pages : PageStore) (newest : Option Master) (records : List Entry) (table : List Content) (commits : ℕ)
+        → Holds log.old pages (S.state site.old) newest records table commits
+        → IsErrOf result (Stop.Worn Dev.Log) → IsLogWorn log.old.geometry (S.state site.new).image }
+    ensures masters { (pages : PageStore) (newest : Option Master) (records : List Entry) (table : List Content) (commits : ℕ)
+        → Holds log.old pages (S.state site.old) newest records table commits
+        → OnOk result (KeepsUnits master_shape (S.state site.old).image (S.state site.new).image) }
     ensures left { IsTrue (S.state site.old).honest → (S.state site.new).left ≡ (S.state site.old).left }
     ensures stays_quiet { IsTrue (S.state site.old).honest → IsQuiet (S.state site.old)
         → OnOk result (IsQuiet (S.state site.new)) }
-    ensures quiet { (pages : PageStore) (records : List Entry) (table : List Content) (commits : ℕ)
-        → Holds log.old pages (S.state site.old) records table commits
+    ensures quiet { (pages : PageStore) (newest : Option Master) (records : List Entry) (table : List Content) (commits : ℕ)
+        → Holds log.old pages (S.state site.old) newest records table commits
         → IsQuiet (S.state site.old)
         → IfErr result (λ stop. ((d : Dev) → stop ≢ Stop.Device d) → IsQuiet (S.state site.new)) }
 
@@ -140,6 +162,7 @@ pub fn log_record<S: Site>(site: &mut S, log: &mut LogStore, rec: &LogRecord) ->
     ensures going { (pages : PageStore) → MayGoOn log.old pages (S.state site.old)
         → OnOk result (MayGoOn log.new pages (S.state site.new)) }
     ensures log_going { log_held.MayGoOn log.new (S.state site.new) }
+    ensures last_block { IfOk result (λ lsn. 512 * log.new.ring.hi ≤ lsn) }
     ensures some { OnOk result (has_tail log.new ≡ true) }
     ensures blocks { OnOk result (blocks_to log.new ≤ blocks_to log.old + 1) }
     ensures hi { log.new.ring.hi ≤ log.old.ring.hi + 1 }
@@ -157,6 +180,8 @@ pub fn log_record<S: Site>(site: &mut S, log: &mut LogStore, rec: &LogRecord) ->
     log_laws();
     page_laws();
     beside_laws();
+    orderly_goes_on();
+    ring_kept();
     log.append(site, rec)
 }
 
@@ -176,24 +201,34 @@ pub fn log_change<S: Site>(
     requires room { blocks_to log.old + 1 < log.old.kept + log.old.geometry.blocks }
 
     // Of an honest site on which log and pages hold together.
-    ensures holds { (records : List Entry) (table : List Content) (commits : ℕ)
-        → Holds log.old pages.old (S.state site.old) records table commits
-        → IfOk result (λ lsn. MayGrow log.old pages.old (S.state site.old).image records (record { lsn = lsn; rec = rec.now })
-        → Holds log.new pages.new (S.state site.new)
+    ensures holds { (newest : Option Master) (records : List Entry) (table : List Content) (commits : ℕ)
+        → Holds log.old pages.old (S.state site.old) newest records table commits
+        → IfOk result (λ lsn. MayGrow log.old pages.old (S.state site.old).image newest records (record { lsn = lsn; rec = rec.now })
+        → Holds log.new pages.new (S.state site.new) newest
         (records ++ record { lsn = lsn; rec = rec.now } ∷ []) table commits) }
-    ensures any_moment { (records : List Entry) (table : List Content) (commits : ℕ)
-        → Holds log.old pages.old (S.state site.old) records table commits
+    ensures orderly { (newest : Option Master) (records : List Entry) (table : List Content) (commits : ℕ)
+        → Holds log.old pages.old (S.state site.old) newest records table commits
+        → IfOk result (λ lsn. MayGrow log.old pages.old (S.state site.old).image newest records (record { lsn = lsn; rec = rec.now })
+        → AreOrderly records → AreOrderly (records ++ record { lsn = lsn; rec = rec.now } ∷ [])) }
+    ensures any_moment { (newest : Option Master) (records : List Entry) (table : List Content) (commits : ℕ)
+        → Holds log.old pages.old (S.state site.old) newest records table commits
         → IsQuiet (S.state site.old)
         → LeavesOnly (S.state site.old) (S.state site.new)
-        (LeavesTable pages.old.flash.geometry table commits (S.state site.old).told) }
-    ensures readable { (records : List Entry) (table : List Content) (commits : ℕ)
-        → Holds log.old pages.old (S.state site.old) records table commits
+        (LeavesTableUnder newest pages.old.flash.geometry table commits (S.state site.old).told) }
+    ensures readable { (newest : Option Master) (records : List Entry) (table : List Content) (commits : ℕ)
+        → Holds log.old pages.old (S.state site.old) newest records table commits
         → IsErrOf result Stop.Foreign → ⊥ }
+    ensures worn_log_end { (newest : Option Master) (records : List Entry) (table : List Content) (commits : ℕ)
+        → Holds log.old pages.old (S.state site.old) newest records table commits
+        → IsErrOf result (Stop.Worn Dev.Log) → IsLogWorn pages.old.flash.geometry (S.state site.new).image }
+    ensures masters { (newest : Option Master) (records : List Entry) (table : List Content) (commits : ℕ)
+        → Holds log.old pages.old (S.state site.old) newest records table commits
+        → OnOk result (KeepsUnits master_shape (S.state site.old).image (S.state site.new).image) }
     ensures left { IsTrue (S.state site.old).honest → (S.state site.new).left ≡ (S.state site.old).left }
     ensures stays_quiet { IsTrue (S.state site.old).honest → IsQuiet (S.state site.old)
         → OnOk result (IsQuiet (S.state site.new)) }
-    ensures quiet { (records : List Entry) (table : List Content) (commits : ℕ)
-        → Holds log.old pages.old (S.state site.old) records table commits
+    ensures quiet { (newest : Option Master) (records : List Entry) (table : List Content) (commits : ℕ)
+        → Holds log.old pages.old (S.state site.old) newest records table commits
         → IsQuiet (S.state site.old)
         → IfErr result (λ stop. ((d : Dev) → stop ≢ Stop.Device d) → IsQuiet (S.state site.new)) }
 

@@ -1,5 +1,5 @@
 // Analysis and redo of a restart: the log is read once, from its kept block on.
-ghost use Rattle.std.specs.Prelude.{◌≡◌, ◌≢◌, ◌⊎◌, ◌+◌, ◌-◌, ◌*◌, ◌^◌, ◌<◌, ◌≤◌, ◌++◌, ◌∷◌, [], ℕ, List, length, None, IsTrue, true, false, IfSome, IfNone, OnOk, IfOk, IfErr, IsErrOf};
+ghost use Rattle.std.specs.Prelude.{◌≡◌, ◌≢◌, ◌⊎◌, ◌+◌, ◌-◌, ◌*◌, ◌^◌, ◌<◌, ◌≤◌, ◌++◌, ◌∷◌, [], ℕ, List, length, None, IsTrue, true, false, IfSome, IfNone, OnOk, IfOk, IfErr, IsErrOf, Option};
 ghost use Rattle.site.specs.declared.outside.Dev.{Dev};
 ghost use Rattle.site.specs.declared.outside.Stop.{Stop};
 ghost use Rattle.site.specs.State.{IsQuiet};
@@ -14,22 +14,24 @@ ghost use Rattle.flash_cache.specs.Held.{IsWorn};
 ghost use Rattle.buffer_pool.specs.Frames.{front_of};
 ghost use Rattle.page_store.specs.Stopping.{MayStop};
 ghost use Rattle.checkpoint.specs.Actives.{Ascend};
-ghost use Rattle.checkpoint.specs.Newest.{blank, seen};
-ghost use Rattle.image_meaning.specs.Meaning.{picture, blank_master};
-ghost use Rattle.image_meaning.specs.Moments.{LeavesTable};
+ghost use Rattle.checkpoint.specs.Newest.{seen};
+ghost use Rattle.image_meaning.specs.Meaning.{picture_under, master_of, kept_by, saved_by};
+ghost use Rattle.image_meaning.specs.Moments.{LeavesTableUnder};
 ghost use Rattle.analysis.specs.Open.{owed_for};
 ghost use Rattle.analysis.specs.Table.{listed};
 ghost use Rattle.analysis.specs.Read as read;
-ghost use Rattle.analysis.specs.Read.{IsAnalysis};
-ghost use Rattle.analysis.specs.Taken.{is_named, is_taken, Steps};
-ghost use Rattle.redo_undo.specs.Holding.{MayGoOn, Holds, IsOnPage, blocks_to};
-ghost use Rattle.redo_undo.specs.Redoing.{IsOpened, Opening, LeavesOpened, IsRedoing, HasTaken, touches_of};
+ghost use Rattle.analysis.specs.Read.{IsAnalysis, IsTable};
+ghost use Rattle.analysis.specs.Taken.{is_named, is_taken, Steps, taken};
+ghost use Rattle.redo_undo.specs.Holding.{MayGoOn, Holds, IsOnPage, IsLogWorn, blocks_to};
+ghost use Rattle.redo_undo.specs.Redoing.{IsOpened, Opening, LeavesOpened, IsRedoing, HasTaken, touches_of, asked_of, heard_of};
 ghost use Rattle.redo_undo.specs.RedoLaws.{RedoLaws};
+ghost use Rattle.checkpoint.specs.declared.master.Master.{Master};
+ghost use Rattle.image_changes.specs.Rings.{KeepsUnits, master_shape};
 ghost use Rattle.redo_undo.specs.Works.{Asks, one_touch, redo_works};
 
 use crate::changing::change_front;
 use crate::laws::{log_laws, page_laws};
-use analysis::{Analysis, losers_are_taken, sound_log_steps};
+use analysis::{Analysis, losers_are_taken, sound_log_steps, table_of_records};
 use checkpoint::Master;
 use image_meaning::{new_versions, redoing, redone_versions, versions_beside_the_tail};
 use log_records::{BLOCK_LEN, LogRecord, read_again, read_record};
@@ -55,6 +57,7 @@ fn redo_laws()
     redoing();
     sound_log_steps();
     losers_are_taken();
+    table_of_records();
     stays_beside();
     touch_then_change();
 }
@@ -112,12 +115,15 @@ fn is_heard(master: &Master, lsn: u64, rec: &LogRecord) -> bool
 fn analyse(master: &Master, found: &mut Analysis, lsn: u64, rec: &LogRecord) -> Result<(), Stop>
     requires going { read.MayGoOn found.old }
 
-    // Of a sound log without checkpoints.
-    ensures heard { (records : List Entry) → master.now ≡ blank → IsAnalysis blank_master records found.old
-        → Steps [] records (record { lsn = lsn; rec = rec.now })
-        → OnOk result (IsAnalysis blank_master (records ++ record { lsn = lsn; rec = rec.now } ∷ []) found.new) }
-    ensures readable { (records : List Entry) → master.now ≡ blank → IsAnalysis blank_master records found.old
-        → Steps [] records (record { lsn = lsn; rec = rec.now })
+    // Of a sound log of which these records were read: it may come next, where it is heard.
+    ensures heard { (records : List Entry) → IsAnalysis (seen master.now) (heard_of (seen master.now) records) found.old
+        → (is_taken (seen master.now) (record { lsn = lsn; rec = rec.now }) ≡ true
+        → Steps (seen master.now).active (heard_of (seen master.now) records) (record { lsn = lsn; rec = rec.now }))
+        → OnOk result (IsAnalysis (seen master.now)
+        (heard_of (seen master.now) (records ++ record { lsn = lsn; rec = rec.now } ∷ [])) found.new) }
+    ensures readable { (records : List Entry) → IsAnalysis (seen master.now) (heard_of (seen master.now) records) found.old
+        → (is_taken (seen master.now) (record { lsn = lsn; rec = rec.now }) ≡ true
+        → Steps (seen master.now).active (heard_of (seen master.now) records) (record { lsn = lsn; rec = rec.now }))
         → IsErrOf result Stop.Foreign → ⊥ }
 
     // Of every log.
@@ -151,6 +157,8 @@ fn touch_page<S: Site>(
         → IsErrOf result Stop.Foreign → ⊥ }
     ensures worn_end { (o : Opening) (front : List Entry) → IsRedoing o log.old pages.old (S.state site.old) front
         → IsErrOf result (Stop.Worn Dev.Flash) → IsWorn o.sizes (S.state site.new).image }
+    ensures worn_log_end { (o : Opening) (front : List Entry) → IsRedoing o log.old pages.old (S.state site.old) front
+        → IsErrOf result (Stop.Worn Dev.Log) → IsLogWorn o.sizes (S.state site.new).image }
     ensures left { IsTrue (S.state site.old).honest → (S.state site.new).left ≡ (S.state site.old).left }
     ensures stays_quiet { IsTrue (S.state site.old).honest → IsQuiet (S.state site.old)
         → OnOk result (IsQuiet (S.state site.new)) }
@@ -194,18 +202,20 @@ fn redo_record<S: Site>(
 
     // Of an honest site with an opened log, of which it is the next record.
     ensures redoing { (o : Opening) (front rest : List Entry) → IsRedoing o log.old pages.old (S.state site.old) front
-        → log_from 0 o.blocks ≡ front ++ record { lsn = lsn; rec = rec.now } ∷ rest
+        → log_from (kept_by o.newest) o.blocks ≡ front ++ record { lsn = lsn; rec = rec.now } ∷ rest
         → OnOk result (IsRedoing o log.new pages.new (S.state site.new) (front ++ record { lsn = lsn; rec = rec.now } ∷ [])) }
     ensures any_moment { (o : Opening) (front : List Entry) → IsRedoing o log.old pages.old (S.state site.old) front
         → IsQuiet (S.state site.old)
         → LeavesOnly (S.state site.old) (S.state site.new) (LeavesOpened o (S.state site.old).told) }
     ensures readable { (o : Opening) (front rest : List Entry) → IsRedoing o log.old pages.old (S.state site.old) front
-        → log_from 0 o.blocks ≡ front ++ record { lsn = lsn; rec = rec.now } ∷ rest
+        → log_from (kept_by o.newest) o.blocks ≡ front ++ record { lsn = lsn; rec = rec.now } ∷ rest
         → IsErrOf result Stop.Foreign → ⊥ }
     ensures worn_end { (o : Opening) (front : List Entry) → IsRedoing o log.old pages.old (S.state site.old) front
         → IsErrOf result (Stop.Worn Dev.Flash) → IsWorn o.sizes (S.state site.new).image }
+    ensures worn_log_end { (o : Opening) (front : List Entry) → IsRedoing o log.old pages.old (S.state site.old) front
+        → IsErrOf result (Stop.Worn Dev.Log) → IsLogWorn o.sizes (S.state site.new).image }
     ensures asks { (o : Opening) (front rest : List Entry) → IsRedoing o log.old pages.old (S.state site.old) front
-        → log_from 0 o.blocks ≡ front ++ record { lsn = lsn; rec = rec.now } ∷ rest
+        → log_from (kept_by o.newest) o.blocks ≡ front ++ record { lsn = lsn; rec = rec.now } ∷ rest
         → Asks result (touches_of o (record { lsn = lsn; rec = rec.now } ∷ [])) pages.old pages.new (S.state site.old) (S.state site.new) }
     ensures left { IsTrue (S.state site.old).honest → (S.state site.new).left ≡ (S.state site.old).left }
     ensures stays_quiet { IsTrue (S.state site.old).honest → IsQuiet (S.state site.old)
@@ -263,26 +273,29 @@ fn take_record<S: Site>(
     requires form { HasForm rec.now }
     requires few { so_far.old.records < 2 ^ 40 }
 
-    // Of an honest site with an opened log without checkpoints, of which it is the next record.
-    ensures taken { (o : Opening) (front rest : List Entry) → master.now ≡ blank
+    // Of an honest site with an opened log and its newest master, of which it is the next record.
+    ensures taken { (o : Opening) (front rest : List Entry) → master.now ≡ saved_by o.newest
         → HasTaken o log.old pages.old (S.state site.old) so_far.old front
-        → log_from 0 o.blocks ≡ front ++ record { lsn = lsn; rec = rec.now } ∷ rest
+        → log_from (kept_by o.newest) o.blocks ≡ front ++ record { lsn = lsn; rec = rec.now } ∷ rest
         → OnOk result (HasTaken o log.new pages.new (S.state site.new) so_far.new (front ++ record { lsn = lsn; rec = rec.now } ∷ [])) }
     ensures any_moment { (o : Opening) (front : List Entry)
         → HasTaken o log.old pages.old (S.state site.old) so_far.old front
         → IsQuiet (S.state site.old)
         → LeavesOnly (S.state site.old) (S.state site.new) (LeavesOpened o (S.state site.old).told) }
-    ensures readable { (o : Opening) (front rest : List Entry) → master.now ≡ blank
+    ensures readable { (o : Opening) (front rest : List Entry) → master.now ≡ saved_by o.newest
         → HasTaken o log.old pages.old (S.state site.old) so_far.old front
-        → log_from 0 o.blocks ≡ front ++ record { lsn = lsn; rec = rec.now } ∷ rest
+        → log_from (kept_by o.newest) o.blocks ≡ front ++ record { lsn = lsn; rec = rec.now } ∷ rest
         → IsErrOf result Stop.Foreign → ⊥ }
     ensures worn_end { (o : Opening) (front : List Entry)
         → HasTaken o log.old pages.old (S.state site.old) so_far.old front
         → IsErrOf result (Stop.Worn Dev.Flash) → IsWorn o.sizes (S.state site.new).image }
-    ensures asks { (o : Opening) (front rest : List Entry) → master.now ≡ blank
+    ensures worn_log_end { (o : Opening) (front : List Entry)
         → HasTaken o log.old pages.old (S.state site.old) so_far.old front
-        → log_from 0 o.blocks ≡ front ++ record { lsn = lsn; rec = rec.now } ∷ rest
-        → Asks result (touches_of o (record { lsn = lsn; rec = rec.now } ∷ [])) pages.old pages.new (S.state site.old) (S.state site.new) }
+        → IsErrOf result (Stop.Worn Dev.Log) → IsLogWorn o.sizes (S.state site.new).image }
+    ensures asks { (o : Opening) (front rest : List Entry) → master.now ≡ saved_by o.newest
+        → HasTaken o log.old pages.old (S.state site.old) so_far.old front
+        → log_from (kept_by o.newest) o.blocks ≡ front ++ record { lsn = lsn; rec = rec.now } ∷ rest
+        → Asks result (asked_of o (record { lsn = lsn; rec = rec.now } ∷ [])) pages.old pages.new (S.state site.old) (S.state site.new) }
     ensures left { IsTrue (S.state site.old).honest → (S.state site.new).left ≡ (S.state site.old).left }
     ensures stays_quiet { IsTrue (S.state site.old).honest → IsQuiet (S.state site.old)
         → OnOk result (IsQuiet (S.state site.new)) }
@@ -339,40 +352,45 @@ fn take_block<S: Site>(
     requires few { so_far.old.records + 503 ≤ 2 ^ 40 }
     requires number { block ≤ 2 ^ 40 }
 
-    // Of an honest site with an opened log without checkpoints, of which they are the next records.
-    ensures taken { (o : Opening) (front rest : List Entry) (records : List LogRecord) → master.now ≡ blank
+    // Of an honest site with an opened log and its newest master, of which they are the next records.
+    ensures taken { (o : Opening) (front rest : List Entry) (records : List LogRecord) → master.now ≡ saved_by o.newest
         → HasTaken o log.old pages.old (S.state site.old) so_far.old front
         → IsBlock content.now records → used ≡ used_by records
-        → log_from 0 o.blocks ≡ front ++ (entries_from (512 * block + 2) records ++ rest)
+        → log_from (kept_by o.newest) o.blocks ≡ front ++ (entries_from (512 * block + 2) records ++ rest)
         → OnOk result (HasTaken o log.new pages.new (S.state site.new) so_far.new (front ++ entries_from (512 * block + 2) records)) }
-    ensures any_moment { (o : Opening) (front rest : List Entry) (records : List LogRecord) → master.now ≡ blank
+    ensures any_moment { (o : Opening) (front rest : List Entry) (records : List LogRecord) → master.now ≡ saved_by o.newest
         → HasTaken o log.old pages.old (S.state site.old) so_far.old front
         → IsBlock content.now records → used ≡ used_by records
-        → log_from 0 o.blocks ≡ front ++ (entries_from (512 * block + 2) records ++ rest)
+        → log_from (kept_by o.newest) o.blocks ≡ front ++ (entries_from (512 * block + 2) records ++ rest)
         → IsQuiet (S.state site.old)
         → LeavesOnly (S.state site.old) (S.state site.new) (LeavesOpened o (S.state site.old).told) }
-    ensures readable { (o : Opening) (front rest : List Entry) (records : List LogRecord) → master.now ≡ blank
+    ensures readable { (o : Opening) (front rest : List Entry) (records : List LogRecord) → master.now ≡ saved_by o.newest
         → HasTaken o log.old pages.old (S.state site.old) so_far.old front
         → IsBlock content.now records → used ≡ used_by records
-        → log_from 0 o.blocks ≡ front ++ (entries_from (512 * block + 2) records ++ rest)
+        → log_from (kept_by o.newest) o.blocks ≡ front ++ (entries_from (512 * block + 2) records ++ rest)
         → IsErrOf result Stop.Foreign → ⊥ }
-    ensures worn_end { (o : Opening) (front rest : List Entry) (records : List LogRecord) → master.now ≡ blank
+    ensures worn_end { (o : Opening) (front rest : List Entry) (records : List LogRecord) → master.now ≡ saved_by o.newest
         → HasTaken o log.old pages.old (S.state site.old) so_far.old front
         → IsBlock content.now records → used ≡ used_by records
-        → log_from 0 o.blocks ≡ front ++ (entries_from (512 * block + 2) records ++ rest)
+        → log_from (kept_by o.newest) o.blocks ≡ front ++ (entries_from (512 * block + 2) records ++ rest)
         → IsErrOf result (Stop.Worn Dev.Flash) → IsWorn o.sizes (S.state site.new).image }
-    ensures asks { (o : Opening) (front rest : List Entry) (records : List LogRecord) → master.now ≡ blank
+    ensures worn_log_end { (o : Opening) (front rest : List Entry) (records : List LogRecord) → master.now ≡ saved_by o.newest
         → HasTaken o log.old pages.old (S.state site.old) so_far.old front
         → IsBlock content.now records → used ≡ used_by records
-        → log_from 0 o.blocks ≡ front ++ (entries_from (512 * block + 2) records ++ rest)
-        → Asks result (touches_of o (entries_from (512 * block + 2) records)) pages.old pages.new (S.state site.old) (S.state site.new) }
+        → log_from (kept_by o.newest) o.blocks ≡ front ++ (entries_from (512 * block + 2) records ++ rest)
+        → IsErrOf result (Stop.Worn Dev.Log) → IsLogWorn o.sizes (S.state site.new).image }
+    ensures asks { (o : Opening) (front rest : List Entry) (records : List LogRecord) → master.now ≡ saved_by o.newest
+        → HasTaken o log.old pages.old (S.state site.old) so_far.old front
+        → IsBlock content.now records → used ≡ used_by records
+        → log_from (kept_by o.newest) o.blocks ≡ front ++ (entries_from (512 * block + 2) records ++ rest)
+        → Asks result (asked_of o (entries_from (512 * block + 2) records)) pages.old pages.new (S.state site.old) (S.state site.new) }
     ensures left { IsTrue (S.state site.old).honest → (S.state site.new).left ≡ (S.state site.old).left }
     ensures stays_quiet { IsTrue (S.state site.old).honest → IsQuiet (S.state site.old)
         → OnOk result (IsQuiet (S.state site.new)) }
-    ensures quiet { (o : Opening) (front rest : List Entry) (records : List LogRecord) → master.now ≡ blank
+    ensures quiet { (o : Opening) (front rest : List Entry) (records : List LogRecord) → master.now ≡ saved_by o.newest
         → HasTaken o log.old pages.old (S.state site.old) so_far.old front
         → IsBlock content.now records → used ≡ used_by records
-        → log_from 0 o.blocks ≡ front ++ (entries_from (512 * block + 2) records ++ rest)
+        → log_from (kept_by o.newest) o.blocks ≡ front ++ (entries_from (512 * block + 2) records ++ rest)
         → IsQuiet (S.state site.old)
         → IfErr result (λ stop. ((d : Dev) → stop ≢ Stop.Device d) → IsQuiet (S.state site.new)) }
 
@@ -434,36 +452,46 @@ pub fn redo<S: Site>(
     requires going { MayGoOn log.old pages.old (S.state site.old) }
     requires ascend { Ascend master.now.active }
 
-    // Of an honest site with a sound image, on which no checkpoint was made.
-    ensures holds { (blocks : List (List LogRecord)) (table : List Content) (commits : ℕ) → master.now ≡ blank
-        → IsOpened pages.old.flash.geometry log.old pages.old (S.state site.old) blocks table commits
-        → OnOk result (Holds log.new pages.new (S.state site.new) (log_from 0 blocks) table commits) }
-    ensures read { (blocks : List (List LogRecord)) (table : List Content) (commits : ℕ) → master.now ≡ blank
-        → IsOpened pages.old.flash.geometry log.old pages.old (S.state site.old) blocks table commits
-        → IfOk result (λ redone. IsAnalysis blank_master (log_from 0 blocks) redone.found) }
-    ensures count { (blocks : List (List LogRecord)) (table : List Content) (commits : ℕ) → master.now ≡ blank
-        → IsOpened pages.old.flash.geometry log.old pages.old (S.state site.old) blocks table commits
-        → IfOk result (λ redone. redone.records ≡ length (log_from 0 blocks)) }
-    ensures any_moment { (blocks : List (List LogRecord)) (table : List Content) (commits : ℕ) → master.now ≡ blank
-        → IsOpened pages.old.flash.geometry log.old pages.old (S.state site.old) blocks table commits
+    // Of an honest site with a sound image, whose newest master is handed in. Blocks are those from the oldest kept one on.
+    ensures holds { (newest : Option Master) (blocks : List (List LogRecord)) (table : List Content) (commits : ℕ) → master.now ≡ saved_by newest
+        → IsOpened pages.old.flash.geometry log.old pages.old (S.state site.old) newest blocks table commits
+        → OnOk result (Holds log.new pages.new (S.state site.new) newest (log_from (kept_by newest) blocks) table commits) }
+    ensures read { (newest : Option Master) (blocks : List (List LogRecord)) (table : List Content) (commits : ℕ) → master.now ≡ saved_by newest
+        → IsOpened pages.old.flash.geometry log.old pages.old (S.state site.old) newest blocks table commits
+        → IfOk result (λ redone. IsAnalysis (master_of newest)
+        (taken (picture_under newest pages.old.flash.geometry (S.state site.old).image blocks)) redone.found) }
+    ensures unfinished { (newest : Option Master) (blocks : List (List LogRecord)) (table : List Content) (commits : ℕ) → master.now ≡ saved_by newest
+        → IsOpened pages.old.flash.geometry log.old pages.old (S.state site.old) newest blocks table commits
+        → IfOk result (λ redone. IsTable [] (log_from (kept_by newest) blocks) (listed redone.found.table)) }
+    ensures count { (newest : Option Master) (blocks : List (List LogRecord)) (table : List Content) (commits : ℕ) → master.now ≡ saved_by newest
+        → IsOpened pages.old.flash.geometry log.old pages.old (S.state site.old) newest blocks table commits
+        → IfOk result (λ redone. redone.records ≡ length (log_from (kept_by newest) blocks)) }
+    ensures any_moment { (newest : Option Master) (blocks : List (List LogRecord)) (table : List Content) (commits : ℕ) → master.now ≡ saved_by newest
+        → IsOpened pages.old.flash.geometry log.old pages.old (S.state site.old) newest blocks table commits
         → IsQuiet (S.state site.old)
         → LeavesOnly (S.state site.old) (S.state site.new)
-        (LeavesTable pages.old.flash.geometry table commits (S.state site.old).told) }
-    ensures readable { (blocks : List (List LogRecord)) (table : List Content) (commits : ℕ) → master.now ≡ blank
-        → IsOpened pages.old.flash.geometry log.old pages.old (S.state site.old) blocks table commits
+        (LeavesTableUnder newest pages.old.flash.geometry table commits (S.state site.old).told) }
+    ensures readable { (newest : Option Master) (blocks : List (List LogRecord)) (table : List Content) (commits : ℕ) → master.now ≡ saved_by newest
+        → IsOpened pages.old.flash.geometry log.old pages.old (S.state site.old) newest blocks table commits
         → IsErrOf result Stop.Foreign → ⊥ }
-    ensures worn_end { (blocks : List (List LogRecord)) (table : List Content) (commits : ℕ) → master.now ≡ blank
-        → IsOpened pages.old.flash.geometry log.old pages.old (S.state site.old) blocks table commits
+    ensures worn_end { (newest : Option Master) (blocks : List (List LogRecord)) (table : List Content) (commits : ℕ) → master.now ≡ saved_by newest
+        → IsOpened pages.old.flash.geometry log.old pages.old (S.state site.old) newest blocks table commits
         → IsErrOf result (Stop.Worn Dev.Flash) → IsWorn pages.old.flash.geometry (S.state site.new).image }
-    ensures asks { (blocks : List (List LogRecord)) (table : List Content) (commits : ℕ) → master.now ≡ blank
-        → IsOpened pages.old.flash.geometry log.old pages.old (S.state site.old) blocks table commits
-        → Asks result (redo_works (picture pages.old.flash.geometry (S.state site.old).image blocks))
+    ensures worn_log_end { (newest : Option Master) (blocks : List (List LogRecord)) (table : List Content) (commits : ℕ) → master.now ≡ saved_by newest
+        → IsOpened pages.old.flash.geometry log.old pages.old (S.state site.old) newest blocks table commits
+        → IsErrOf result (Stop.Worn Dev.Log) → IsLogWorn pages.old.flash.geometry (S.state site.new).image }
+    ensures asks { (newest : Option Master) (blocks : List (List LogRecord)) (table : List Content) (commits : ℕ) → master.now ≡ saved_by newest
+        → IsOpened pages.old.flash.geometry log.old pages.old (S.state site.old) newest blocks table commits
+        → Asks result (redo_works (picture_under newest pages.old.flash.geometry (S.state site.old).image blocks))
         pages.old pages.new (S.state site.old) (S.state site.new) }
+    ensures masters { (newest : Option Master) (blocks : List (List LogRecord)) (table : List Content) (commits : ℕ) → master.now ≡ saved_by newest
+        → IsOpened pages.old.flash.geometry log.old pages.old (S.state site.old) newest blocks table commits
+        → OnOk result (KeepsUnits master_shape (S.state site.old).image (S.state site.new).image) }
     ensures left { IsTrue (S.state site.old).honest → (S.state site.new).left ≡ (S.state site.old).left }
     ensures stays_quiet { IsTrue (S.state site.old).honest → IsQuiet (S.state site.old)
         → OnOk result (IsQuiet (S.state site.new)) }
-    ensures quiet { (blocks : List (List LogRecord)) (table : List Content) (commits : ℕ) → master.now ≡ blank
-        → IsOpened pages.old.flash.geometry log.old pages.old (S.state site.old) blocks table commits
+    ensures quiet { (newest : Option Master) (blocks : List (List LogRecord)) (table : List Content) (commits : ℕ) → master.now ≡ saved_by newest
+        → IsOpened pages.old.flash.geometry log.old pages.old (S.state site.old) newest blocks table commits
         → IsQuiet (S.state site.old)
         → IfErr result (λ stop. ((d : Dev) → stop ≢ Stop.Device d) → IsQuiet (S.state site.new)) }
 

@@ -1,11 +1,11 @@
 // Laws for sessions over log and pages that hold together. The functions do nothing.
-ghost use Rattle.redo_undo.specs.SessionLaws.{NextIsFresh, BeginMayGrow, UpdateMayGrow, ActiveMayCommit, ActiveMayBeUndone, EndMayGrow, HoldsSize, FrontIsCommitted, FrontIsSeen};
+ghost use Rattle.redo_undo.specs.SessionLaws.{NextIsFresh, BeginMayGrow, UpdateMayGrow, ActiveMayCommit, ActiveMayBeUndone, EndMayGrow, HoldsSize, FrontIsCommitted, FrontIsSeen, ActiveOutlives};
 ghost use Rattle.redo_undo.specs.Works.{ActiveIsUndoneBy};
 
 use crate::laws::{hold_together, log_laws, page_laws, undo_laws};
 use log_laws::{
-    active_is_unfinished, active_may_write, begin_follows, fresh_at_end, owed_begin, owed_update,
-    shown_is_seen, shown_is_value, table_at, whole_is_undoable,
+    active_is_unfinished, active_may_write, begin_follows, orderly_goes_on, owed_begin,
+    owed_update, shown_is_seen, shown_is_value, table_at, whole_is_undoable,
 };
 
 /// Law: where log and pages hold together and there is room, a Begin may be logged; an active transaction's Update of the page in front
@@ -19,7 +19,7 @@ pub fn sessions_go_on()
     ensures undo { ActiveMayBeUndone }
     ensures end { EndMayGrow }
 {
-    fresh_at_end();
+    orderly_goes_on();
     begin_follows();
     owed_begin();
     active_may_write();
@@ -50,4 +50,9 @@ pub fn sessions_see()
 /// Law: undoing an active transaction asks the page cache for a change of the page of each of its writes, the last one first.
 pub fn sessions_are_undone()
     ensures { ActiveIsUndoneBy }
+{}
+
+/// Law: an active transaction stays one in the records that a checkpoint keeps, under the master that names it.
+pub fn sessions_outlive()
+    ensures { ActiveOutlives }
 {}

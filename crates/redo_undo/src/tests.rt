@@ -3,12 +3,13 @@ ghost use Rattle.std.specs.Prelude.{◌≡◌, ◌+◌, ◌<◌, length, IfOk, O
 ghost use Rattle.site.specs.Geometry.{HasLengths};
 ghost use Rattle.site.specs.MemState.{state_of};
 ghost use Rattle.log_records.specs.Spelling.{HasForm};
+ghost use Rattle.checkpoint.specs.Actives.{Ascend};
 ghost use Rattle.log_store.specs.Held as log_held;
 ghost use Rattle.log_store.specs.Held.{end_of};
 ghost use Rattle.redo_undo.specs.Holding.{MayGoOn, IsOnPage, blocks_to};
 
-use crate::{Redone, commit, log_change, log_record, redo, touch, undo_one};
-use checkpoint::Master;
+use crate::{Redone, checkpoint, commit, log_change, log_record, redo, touch, undo_one};
+use checkpoint::{Master, Pairs, newest};
 use log_records::LogRecord;
 use log_store::LogStore;
 use page_store::PageStore;
@@ -58,7 +59,7 @@ fn changed(alloc: Global, site: &mut MemSite) -> Result<(LogStore, PageStore, u6
     requires { HasLengths (record { pages = 1; groups = 8; blocks = 16 }) (state_of site.old).image }
     ensures going { IfOk result (λ all. MayGoOn all.0 all.1 (state_of site.new)) }
     ensures last { IfOk result (λ all. all.2 < end_of all.0) }
-    ensures room { IfOk result (λ all. blocks_to all.0 + 1 < all.0.kept + all.0.geometry.blocks) }
+    ensures room { IfOk result (λ all. blocks_to all.0 + 3 < all.0.kept + all.0.geometry.blocks) }
     ensures geometry { IfOk result (λ all. all.0.geometry ≡ record { pages = 1; groups = 8; blocks = 16 }) }
     ensures pages { IfOk result (λ all. all.1.flash.geometry.pages ≡ 1) }
 {
@@ -211,5 +212,64 @@ fn a_record_is_redone_once(rt: HostRuntime) -> Result<(), Fail> {
     let second = flushed(rt.alloc(), &mut site)?;
     assert!(rt; first > 0);
     assert_eq!(rt; second, 0);
+    Ok(())
+}
+
+// A transaction is committed, and its records are block 0.
+fn committed(alloc: Global, site: &mut MemSite) -> Result<(LogStore, PageStore), Stop>
+    requires { HasLengths (record { pages = 1; groups = 8; blocks = 16 }) (state_of site.old).image }
+    ensures going { IfOk result (λ both. MayGoOn both.0 both.1 (state_of site.new)) }
+    ensures room { IfOk result (λ both. blocks_to both.0 + 2 < both.0.kept + both.0.geometry.blocks) }
+{
+    let (mut log, pages, _last) = changed(alloc, site)?;
+    commit(site, &mut log, 2, 1)?;
+    Ok((log, pages))
+}
+
+// Makes a checkpoint with these active transactions after one commit. The newest master then, and the oldest block that the log keeps.
+fn checkpointed(
+    site: &mut MemSite,
+    log: &mut LogStore,
+    pages: &mut PageStore,
+    active: Pairs,
+) -> Result<(Master, u64), Stop>
+    requires going { MayGoOn log.old pages.old (state_of site.old) }
+    requires ascend { Ascend active }
+{
+    let (mut masters, _blank) = newest(site)?;
+    checkpoint(site, log, pages, &mut masters, active, 1)?;
+    let (_ring, master) = newest(site)?;
+    Ok((master, log.kept()))
+}
+
+// The Begin stands at LSN 514.
+#[test]
+fn a_checkpoint_keeps_the_block_of_an_active_begin(rt: HostRuntime) -> Result<(), Fail> {
+    let mut site = MemSite::new(rt.alloc(), &SMALL)?;
+    let (mut log, mut pages) = committed(rt.alloc(), &mut site)?;
+    let begin = log_record(&mut site, &mut log, &LogRecord::Begin)?;
+    assert_eq!(rt; begin, 514);
+    let mut active = Pairs::new();
+    active.push(514, 514);
+    let (master, kept) = checkpointed(&mut site, &mut log, &mut pages, active)?;
+    assert_eq!(rt; master.redo, 2);
+    assert_eq!(rt; master.kept, 1);
+    assert_eq!(rt; kept, 1);
+    assert_eq!(rt; master.commits, 1);
+    assert_eq!(rt; master.active.len(), 1);
+    assert_eq!(rt; master.active.at(0), (514, 514));
+    Ok(())
+}
+
+#[test]
+fn a_checkpoint_of_no_transaction_keeps_no_block(rt: HostRuntime) -> Result<(), Fail> {
+    let mut site = MemSite::new(rt.alloc(), &SMALL)?;
+    let (mut log, mut pages) = committed(rt.alloc(), &mut site)?;
+    let (master, kept) = checkpointed(&mut site, &mut log, &mut pages, Pairs::new())?;
+    assert_eq!(rt; master.redo, 1);
+    assert_eq!(rt; master.kept, 1);
+    assert_eq!(rt; kept, 1);
+    assert_eq!(rt; master.commits, 1);
+    assert!(rt; master.active.is_empty());
     Ok(())
 }

@@ -1,5 +1,5 @@
 // Undoing an Update: a compensation record, and what stood before it.
-ghost use Rattle.std.specs.Prelude.{◌≡◌, ◌≢◌, ◌⊎◌, ◌↔◌, ◌+◌, ◌*◌, ◌<◌, ◌≤◌, ◌++◌, ◌∷◌, [], ◌^◌, ℕ, List, length, Some, IsTrue, true, false, IfOk, IfErr, IfSome, IfNone, OnOk, IsErrOf};
+ghost use Rattle.std.specs.Prelude.{◌≡◌, ◌≢◌, ◌⊎◌, ◌↔◌, ◌+◌, ◌*◌, ◌<◌, ◌≤◌, ◌++◌, ◌∷◌, [], ◌^◌, ℕ, List, Some, IsTrue, true, false, IfOk, IfErr, IfSome, IfNone, OnOk, IsErrOf, Option};
 ghost use Rattle.site.specs.declared.outside.Dev.{Dev};
 ghost use Rattle.site.specs.declared.outside.Stop.{Stop};
 ghost use Rattle.site.specs.State.{IsQuiet, reads_of};
@@ -8,6 +8,7 @@ ghost use Rattle.site.specs.Moments.{LeavesOnly};
 ghost use Rattle.record_model.specs.State.{Content};
 ghost use Rattle.log_records.specs.declared.log_record.LogRecord.{LogRecord};
 ghost use Rattle.log_records.specs.Log.{Entry, txn_by, is_closing, number_of};
+ghost use Rattle.log_records.specs.Sound.{AreOrderly};
 ghost use Rattle.log_records.specs.Spelling.{IsShort};
 ghost use Rattle.log_records.specs.Unfinished.{left_open};
 ghost use Rattle.log_laws.specs.Analysis.{Unfinished, IsUnfinished};
@@ -17,8 +18,10 @@ ghost use Rattle.log_store.specs.Held as log_held;
 ghost use Rattle.log_store.specs.Held.{end_of};
 ghost use Rattle.page_store.specs.declared.store.PageStore.{PageStore};
 ghost use Rattle.page_store.specs.Stopping.{MayStop};
-ghost use Rattle.image_meaning.specs.Moments.{LeavesTable};
-ghost use Rattle.redo_undo.specs.Holding.{MayGoOn, Holds, MayGrow, blocks_to};
+ghost use Rattle.image_changes.specs.Rings.{KeepsUnits, master_shape};
+ghost use Rattle.checkpoint.specs.declared.master.Master.{Master};
+ghost use Rattle.image_meaning.specs.Moments.{LeavesTableUnder};
+ghost use Rattle.redo_undo.specs.Holding.{MayGoOn, Holds, MayGrow, IsLogWorn, blocks_to};
 ghost use Rattle.redo_undo.specs.Undoing.{IsAt, IsWanted, Undone};
 ghost use Rattle.redo_undo.specs.Rollback.{Compensates, RollsBack};
 ghost use Rattle.redo_undo.specs.Works.{Asks, one_change, undo_one_works};
@@ -72,20 +75,20 @@ fn read_update<S: Site>(log: &LogStore, site: &mut S, at: &Undoing) -> Result<Wa
     requires last { at.now.last < end_of log.now }
 
     // Of an honest site on which log and pages hold together.
-    ensures wanted { (pages : PageStore) (records : List Entry) (table : List Content) (commits : ℕ) (x : Unfinished)
+    ensures wanted { (pages : PageStore) (newest : Option Master) (records : List Entry) (table : List Content) (commits : ℕ) (x : Unfinished)
         → log.now.geometry ≡ pages.flash.geometry
-        → Holds log.now pages (S.state site.old) records table commits
+        → Holds log.now pages (S.state site.old) newest records table commits
         → IsUnfinished records x → IsAt at.now x → 0 < x.remaining
-        → IfOk result (IsWanted pages.flash.geometry (S.state site.old).image records x) }
-    ensures readable { (pages : PageStore) (records : List Entry) (table : List Content) (commits : ℕ) (x : Unfinished)
+        → IfOk result (IsWanted pages.flash.geometry (S.state site.old).image newest records x) }
+    ensures readable { (pages : PageStore) (newest : Option Master) (records : List Entry) (table : List Content) (commits : ℕ) (x : Unfinished)
         → log.now.geometry ≡ pages.flash.geometry
-        → Holds log.now pages (S.state site.old) records table commits
+        → Holds log.now pages (S.state site.old) newest records table commits
         → IsUnfinished records x → IsAt at.now x → 0 < x.remaining
         → IfErr result (λ stop. stop ≢ Stop.Foreign) }
-    ensures last_left { (pages : PageStore) (records : List Entry) (table : List Content) (commits : ℕ) (x : Unfinished)
+    ensures last_left { (pages : PageStore) (newest : Option Master) (records : List Entry) (table : List Content) (commits : ℕ) (x : Unfinished)
         (u : Entry) (rest : List Entry)
         → log.now.geometry ≡ pages.flash.geometry
-        → Holds log.now pages (S.state site.old) records table commits
+        → Holds log.now pages (S.state site.old) newest records table commits
         → IsUnfinished records x → IsAt at.now x → left_open records x.txn ≡ u ∷ rest
         → IfOk result (λ wanted. number_of u.rec ≡ Some (32 * wanted.page + wanted.slot)) }
 
@@ -159,29 +162,41 @@ fn compensate<S: Site>(
     requires room { blocks_to log.old + 1 < log.old.kept + log.old.geometry.blocks }
 
     // Of an honest site on which log and pages hold together.
-    ensures holds { (records : List Entry) (table : List Content) (commits : ℕ)
-        → Holds log.old pages.old (S.state site.old) records table commits
-        → IfOk result (λ lsn. MayGrow log.old pages.old (S.state site.old).image records
+    ensures holds { (newest : Option Master) (records : List Entry) (table : List Content) (commits : ℕ)
+        → Holds log.old pages.old (S.state site.old) newest records table commits
+        → IfOk result (λ lsn. MayGrow log.old pages.old (S.state site.old).image newest records
         (record { lsn = lsn; rec = LogRecord.Clr at.now.txn at.now.last wanted.prev wanted.page wanted.slot wanted.before })
-        → Holds log.new pages.new (S.state site.new) (records
+        → Holds log.new pages.new (S.state site.new) newest (records
         ++ record { lsn = lsn; rec = LogRecord.Clr at.now.txn at.now.last wanted.prev wanted.page wanted.slot wanted.before } ∷ [])
         table commits) }
-    ensures any_moment { (records : List Entry) (table : List Content) (commits : ℕ)
-        → Holds log.old pages.old (S.state site.old) records table commits
+    ensures orderly { (newest : Option Master) (records : List Entry) (table : List Content) (commits : ℕ)
+        → Holds log.old pages.old (S.state site.old) newest records table commits
+        → IfOk result (λ lsn. MayGrow log.old pages.old (S.state site.old).image newest records
+        (record { lsn = lsn; rec = LogRecord.Clr at.now.txn at.now.last wanted.prev wanted.page wanted.slot wanted.before })
+        → AreOrderly records → AreOrderly (records
+        ++ record { lsn = lsn; rec = LogRecord.Clr at.now.txn at.now.last wanted.prev wanted.page wanted.slot wanted.before } ∷ [])) }
+    ensures any_moment { (newest : Option Master) (records : List Entry) (table : List Content) (commits : ℕ)
+        → Holds log.old pages.old (S.state site.old) newest records table commits
         → IsQuiet (S.state site.old)
         → LeavesOnly (S.state site.old) (S.state site.new)
-        (LeavesTable pages.old.flash.geometry table commits (S.state site.old).told) }
-    ensures readable { (records : List Entry) (table : List Content) (commits : ℕ)
-        → Holds log.old pages.old (S.state site.old) records table commits
+        (LeavesTableUnder newest pages.old.flash.geometry table commits (S.state site.old).told) }
+    ensures readable { (newest : Option Master) (records : List Entry) (table : List Content) (commits : ℕ)
+        → Holds log.old pages.old (S.state site.old) newest records table commits
         → IsErrOf result Stop.Foreign → ⊥ }
-    ensures worn_end { (records : List Entry) (table : List Content) (commits : ℕ)
-        → Holds log.old pages.old (S.state site.old) records table commits
+    ensures worn_end { (newest : Option Master) (records : List Entry) (table : List Content) (commits : ℕ)
+        → Holds log.old pages.old (S.state site.old) newest records table commits
         → IsErrOf result (Stop.Worn Dev.Flash) → IsWorn pages.old.flash.geometry (S.state site.new).image }
+    ensures worn_log_end { (newest : Option Master) (records : List Entry) (table : List Content) (commits : ℕ)
+        → Holds log.old pages.old (S.state site.old) newest records table commits
+        → IsErrOf result (Stop.Worn Dev.Log) → IsLogWorn pages.old.flash.geometry (S.state site.new).image }
+    ensures masters { (newest : Option Master) (records : List Entry) (table : List Content) (commits : ℕ)
+        → Holds log.old pages.old (S.state site.old) newest records table commits
+        → OnOk result (KeepsUnits master_shape (S.state site.old).image (S.state site.new).image) }
     ensures left { IsTrue (S.state site.old).honest → (S.state site.new).left ≡ (S.state site.old).left }
     ensures stays_quiet { IsTrue (S.state site.old).honest → IsQuiet (S.state site.old)
         → OnOk result (IsQuiet (S.state site.new)) }
-    ensures quiet { (records : List Entry) (table : List Content) (commits : ℕ)
-        → Holds log.old pages.old (S.state site.old) records table commits
+    ensures quiet { (newest : Option Master) (records : List Entry) (table : List Content) (commits : ℕ)
+        → Holds log.old pages.old (S.state site.old) newest records table commits
         → IsQuiet (S.state site.old)
         → IfErr result (λ stop. ((d : Dev) → stop ≢ Stop.Device d) → IsQuiet (S.state site.new)) }
 
@@ -220,7 +235,7 @@ fn compensate<S: Site>(
     }
 }
 
-/// Compensates the last Update of a transaction that isn't compensated yet: its slot has again what stood before it. Where what it reads
+/// Compensates the last Update newest of a transaction that isn't compensated yet: its slot has again what stood before it. Where what it reads
 /// is no such Update, or there is no room for the CLR, it answers Foreign.
 pub(crate) fn undo_update<S: Site>(
     site: &mut S,
@@ -232,32 +247,38 @@ pub(crate) fn undo_update<S: Site>(
     requires last { at.last < end_of log.old }
 
     // Of an honest site on which log and pages hold together.
-    ensures undone { (records : List Entry) (table : List Content) (commits : ℕ) (x : Unfinished)
-        → Holds log.old pages.old (S.state site.old) records table commits
+    ensures undone { (newest : Option Master) (records : List Entry) (table : List Content) (commits : ℕ) (x : Unfinished)
+        → Holds log.old pages.old (S.state site.old) newest records table commits
         → IsUnfinished records x → IsAt at x → 0 < x.remaining
-        → IfOk result (Undone log.new pages.new (S.state site.new) records table commits x) }
-    ensures any_moment { (records : List Entry) (table : List Content) (commits : ℕ)
-        → Holds log.old pages.old (S.state site.old) records table commits
+        → IfOk result (Undone log.new pages.new (S.state site.new) newest records table commits x) }
+    ensures any_moment { (newest : Option Master) (records : List Entry) (table : List Content) (commits : ℕ)
+        → Holds log.old pages.old (S.state site.old) newest records table commits
         → IsQuiet (S.state site.old)
         → LeavesOnly (S.state site.old) (S.state site.new)
-        (LeavesTable pages.old.flash.geometry table commits (S.state site.old).told) }
-    ensures readable { (records : List Entry) (table : List Content) (commits : ℕ) (x : Unfinished)
-        → Holds log.old pages.old (S.state site.old) records table commits
+        (LeavesTableUnder newest pages.old.flash.geometry table commits (S.state site.old).told) }
+    ensures readable { (newest : Option Master) (records : List Entry) (table : List Content) (commits : ℕ) (x : Unfinished)
+        → Holds log.old pages.old (S.state site.old) newest records table commits
         → IsUnfinished records x → IsAt at x → 0 < x.remaining
         → IfErr result (λ stop. stop ≢ Stop.Foreign) }
-    ensures worn_end { (records : List Entry) (table : List Content) (commits : ℕ)
-        → Holds log.old pages.old (S.state site.old) records table commits
+    ensures worn_end { (newest : Option Master) (records : List Entry) (table : List Content) (commits : ℕ)
+        → Holds log.old pages.old (S.state site.old) newest records table commits
         → IsErrOf result (Stop.Worn Dev.Flash) → IsWorn pages.old.flash.geometry (S.state site.new).image }
+    ensures worn_log_end { (newest : Option Master) (records : List Entry) (table : List Content) (commits : ℕ)
+        → Holds log.old pages.old (S.state site.old) newest records table commits
+        → IsErrOf result (Stop.Worn Dev.Log) → IsLogWorn pages.old.flash.geometry (S.state site.new).image }
+    ensures masters { (newest : Option Master) (records : List Entry) (table : List Content) (commits : ℕ)
+        → Holds log.old pages.old (S.state site.old) newest records table commits
+        → OnOk result (KeepsUnits master_shape (S.state site.old).image (S.state site.new).image) }
     ensures left { IsTrue (S.state site.old).honest → (S.state site.new).left ≡ (S.state site.old).left }
     ensures stays_quiet { IsTrue (S.state site.old).honest → IsQuiet (S.state site.old)
         → OnOk result (IsQuiet (S.state site.new)) }
-    ensures quiet { (records : List Entry) (table : List Content) (commits : ℕ)
-        → Holds log.old pages.old (S.state site.old) records table commits
+    ensures quiet { (newest : Option Master) (records : List Entry) (table : List Content) (commits : ℕ)
+        → Holds log.old pages.old (S.state site.old) newest records table commits
         → IsQuiet (S.state site.old)
         → IfErr result (λ stop. ((d : Dev) → stop ≢ Stop.Device d) → IsQuiet (S.state site.new)) }
 
-    ensures asks { (records : List Entry) (table : List Content) (commits : ℕ) (x : Unfinished) (u : Entry) (rest : List Entry)
-        → Holds log.old pages.old (S.state site.old) records table commits
+    ensures asks { (newest : Option Master) (records : List Entry) (table : List Content) (commits : ℕ) (x : Unfinished) (u : Entry) (rest : List Entry)
+        → Holds log.old pages.old (S.state site.old) newest records table commits
         → IsUnfinished records x → IsAt at x → left_open records x.txn ≡ u ∷ rest
         → Asks result (works_of (u ∷ [])) pages.old pages.new (S.state site.old) (S.state site.new) }
 
@@ -303,7 +324,7 @@ pub(crate) fn undo_update<S: Site>(
     })
 }
 
-// Compensates all Updates of a transaction that aren't compensated, the last one first.
+// Compensates all Updates of newest a transaction that aren't compensated, the last one first.
 fn undo_updates<S: Site>(
     site: &mut S,
     log: &mut LogStore,
@@ -314,43 +335,51 @@ fn undo_updates<S: Site>(
     requires last { first.last < end_of log.old }
 
     // Of an honest site on which log and pages hold together.
-    ensures undone { (records : List Entry) (table : List Content) (commits : ℕ) (x : Unfinished)
-        → Holds log.old pages.old (S.state site.old) records table commits
+    ensures undone { (newest : Option Master) (records : List Entry) (table : List Content) (commits : ℕ) (x : Unfinished)
+        → Holds log.old pages.old (S.state site.old) newest records table commits
         → IsUnfinished records x → IsAt first x
-        → IfOk result (Compensates log.new pages.new (S.state site.new) records table commits x.txn
+        → IfOk result (Compensates log.new pages.new (S.state site.new) newest records table commits x.txn
         (blocks_to log.old) (S.state site.old).log_reads) }
-    ensures any_moment { (records : List Entry) (table : List Content) (commits : ℕ) (x : Unfinished)
-        → Holds log.old pages.old (S.state site.old) records table commits
+    ensures any_moment { (newest : Option Master) (records : List Entry) (table : List Content) (commits : ℕ) (x : Unfinished)
+        → Holds log.old pages.old (S.state site.old) newest records table commits
         → IsUnfinished records x → IsAt first x
         → IsQuiet (S.state site.old)
         → LeavesOnly (S.state site.old) (S.state site.new)
-        (LeavesTable pages.old.flash.geometry table commits (S.state site.old).told) }
-    ensures readable { (records : List Entry) (table : List Content) (commits : ℕ) (x : Unfinished)
-        → Holds log.old pages.old (S.state site.old) records table commits
+        (LeavesTableUnder newest pages.old.flash.geometry table commits (S.state site.old).told) }
+    ensures readable { (newest : Option Master) (records : List Entry) (table : List Content) (commits : ℕ) (x : Unfinished)
+        → Holds log.old pages.old (S.state site.old) newest records table commits
         → IsUnfinished records x → IsAt first x
         → IfErr result (λ stop. stop ≢ Stop.Foreign) }
-    ensures worn_end { (records : List Entry) (table : List Content) (commits : ℕ) (x : Unfinished)
-        → Holds log.old pages.old (S.state site.old) records table commits
+    ensures worn_end { (newest : Option Master) (records : List Entry) (table : List Content) (commits : ℕ) (x : Unfinished)
+        → Holds log.old pages.old (S.state site.old) newest records table commits
         → IsUnfinished records x → IsAt first x
         → IsErrOf result (Stop.Worn Dev.Flash) → IsWorn pages.old.flash.geometry (S.state site.new).image }
+    ensures worn_log_end { (newest : Option Master) (records : List Entry) (table : List Content) (commits : ℕ) (x : Unfinished)
+        → Holds log.old pages.old (S.state site.old) newest records table commits
+        → IsUnfinished records x → IsAt first x
+        → IsErrOf result (Stop.Worn Dev.Log) → IsLogWorn pages.old.flash.geometry (S.state site.new).image }
+    ensures masters { (newest : Option Master) (records : List Entry) (table : List Content) (commits : ℕ) (x : Unfinished)
+        → Holds log.old pages.old (S.state site.old) newest records table commits
+        → IsUnfinished records x → IsAt first x
+        → OnOk result (KeepsUnits master_shape (S.state site.old).image (S.state site.new).image) }
     ensures left { IsTrue (S.state site.old).honest → (S.state site.new).left ≡ (S.state site.old).left }
     ensures stays_quiet { IsTrue (S.state site.old).honest → IsQuiet (S.state site.old)
         → OnOk result (IsQuiet (S.state site.new)) }
-    ensures quiet { (records : List Entry) (table : List Content) (commits : ℕ) (x : Unfinished)
-        → Holds log.old pages.old (S.state site.old) records table commits
+    ensures quiet { (newest : Option Master) (records : List Entry) (table : List Content) (commits : ℕ) (x : Unfinished)
+        → Holds log.old pages.old (S.state site.old) newest records table commits
         → IsUnfinished records x → IsAt first x
         → IsQuiet (S.state site.old)
         → IfErr result (λ stop. ((d : Dev) → stop ≢ Stop.Device d) → IsQuiet (S.state site.new)) }
-    ensures log_reads { (records : List Entry) (table : List Content) (commits : ℕ) (x : Unfinished)
-        → Holds log.old pages.old (S.state site.old) records table commits
+    ensures log_reads { (newest : Option Master) (records : List Entry) (table : List Content) (commits : ℕ) (x : Unfinished)
+        → Holds log.old pages.old (S.state site.old) newest records table commits
         → IsUnfinished records x → IsAt first x
         → (S.state site.new).log_reads ≤ (S.state site.old).log_reads + x.remaining }
-    ensures worn_log { (records : List Entry) (table : List Content) (commits : ℕ) (x : Unfinished)
-        → Holds log.old pages.old (S.state site.old) records table commits
+    ensures worn_log { (newest : Option Master) (records : List Entry) (table : List Content) (commits : ℕ) (x : Unfinished)
+        → Holds log.old pages.old (S.state site.old) newest records table commits
         → IsUnfinished records x → IsAt first x
         → IsErrOf result (Stop.Worn Dev.Log) → 2 ^ 40 ≤ blocks_to log.old + x.remaining }
-    ensures asks { (records : List Entry) (table : List Content) (commits : ℕ) (x : Unfinished)
-        → Holds log.old pages.old (S.state site.old) records table commits
+    ensures asks { (newest : Option Master) (records : List Entry) (table : List Content) (commits : ℕ) (x : Unfinished)
+        → Holds log.old pages.old (S.state site.old) newest records table commits
         → IsUnfinished records x → IsAt first x
         → Asks result (undo_one_works records x.txn) pages.old pages.new (S.state site.old) (S.state site.new) }
 
@@ -402,14 +431,14 @@ fn read_last<S: Site>(log: &LogStore, site: &mut S, txn: u64, last: u64) -> Resu
     requires last { last < end_of log.now }
 
     // Of an honest site on which log and pages hold together, and of an unfinished transaction.
-    ensures at { (pages : PageStore) (records : List Entry) (table : List Content) (commits : ℕ) (x : Unfinished)
+    ensures at { (pages : PageStore) (newest : Option Master) (records : List Entry) (table : List Content) (commits : ℕ) (x : Unfinished)
         → log.now.geometry ≡ pages.flash.geometry
-        → Holds log.now pages (S.state site.old) records table commits
+        → Holds log.now pages (S.state site.old) newest records table commits
         → IsUnfinished records x → x.txn ≡ txn → x.last ≡ last
         → IfOk result (λ at. IsAt at x) }
-    ensures readable { (pages : PageStore) (records : List Entry) (table : List Content) (commits : ℕ) (x : Unfinished)
+    ensures readable { (pages : PageStore) (newest : Option Master) (records : List Entry) (table : List Content) (commits : ℕ) (x : Unfinished)
         → log.now.geometry ≡ pages.flash.geometry
-        → Holds log.now pages (S.state site.old) records table commits
+        → Holds log.now pages (S.state site.old) newest records table commits
         → IsUnfinished records x → x.txn ≡ txn → x.last ≡ last
         → IfErr result (λ stop. stop ≢ Stop.Foreign) }
 
@@ -462,47 +491,55 @@ pub fn undo_one<S: Site>(
     requires last { last < end_of log.old }
 
     // Of an honest site on which log and pages hold together, and of an unfinished transaction.
-    ensures undone { (records : List Entry) (table : List Content) (commits : ℕ) (x : Unfinished)
-        → Holds log.old pages.old (S.state site.old) records table commits
+    ensures undone { (newest : Option Master) (records : List Entry) (table : List Content) (commits : ℕ) (x : Unfinished)
+        → Holds log.old pages.old (S.state site.old) newest records table commits
         → IsUnfinished records x → x.txn ≡ txn → x.last ≡ last
-        → OnOk result (RollsBack log.new pages.new (S.state site.new) records table commits txn) }
-    ensures any_moment { (records : List Entry) (table : List Content) (commits : ℕ) (x : Unfinished)
-        → Holds log.old pages.old (S.state site.old) records table commits
+        → OnOk result (RollsBack log.new pages.new (S.state site.new) newest records table commits txn) }
+    ensures any_moment { (newest : Option Master) (records : List Entry) (table : List Content) (commits : ℕ) (x : Unfinished)
+        → Holds log.old pages.old (S.state site.old) newest records table commits
         → IsUnfinished records x → x.txn ≡ txn → x.last ≡ last
         → IsQuiet (S.state site.old)
         → LeavesOnly (S.state site.old) (S.state site.new)
-        (LeavesTable pages.old.flash.geometry table commits (S.state site.old).told) }
-    ensures readable { (records : List Entry) (table : List Content) (commits : ℕ) (x : Unfinished)
-        → Holds log.old pages.old (S.state site.old) records table commits
+        (LeavesTableUnder newest pages.old.flash.geometry table commits (S.state site.old).told) }
+    ensures readable { (newest : Option Master) (records : List Entry) (table : List Content) (commits : ℕ) (x : Unfinished)
+        → Holds log.old pages.old (S.state site.old) newest records table commits
         → IsUnfinished records x → x.txn ≡ txn → x.last ≡ last
         → IfErr result (λ stop. stop ≢ Stop.Foreign) }
-    ensures worn_end { (records : List Entry) (table : List Content) (commits : ℕ) (x : Unfinished)
-        → Holds log.old pages.old (S.state site.old) records table commits
+    ensures worn_end { (newest : Option Master) (records : List Entry) (table : List Content) (commits : ℕ) (x : Unfinished)
+        → Holds log.old pages.old (S.state site.old) newest records table commits
         → IsUnfinished records x → x.txn ≡ txn → x.last ≡ last
         → IsErrOf result (Stop.Worn Dev.Flash) → IsWorn pages.old.flash.geometry (S.state site.new).image }
+    ensures worn_log_end { (newest : Option Master) (records : List Entry) (table : List Content) (commits : ℕ) (x : Unfinished)
+        → Holds log.old pages.old (S.state site.old) newest records table commits
+        → IsUnfinished records x → x.txn ≡ txn → x.last ≡ last
+        → IsErrOf result (Stop.Worn Dev.Log) → IsLogWorn pages.old.flash.geometry (S.state site.new).image }
 
-    ensures blocks { (records : List Entry) (table : List Content) (commits : ℕ) (x : Unfinished)
-        → Holds log.old pages.old (S.state site.old) records table commits
+    ensures blocks { (newest : Option Master) (records : List Entry) (table : List Content) (commits : ℕ) (x : Unfinished)
+        → Holds log.old pages.old (S.state site.old) newest records table commits
         → IsUnfinished records x → x.txn ≡ txn → x.last ≡ last
         → OnOk result (blocks_to log.new ≤ blocks_to log.old + (x.remaining + 1)) }
+    ensures masters { (newest : Option Master) (records : List Entry) (table : List Content) (commits : ℕ) (x : Unfinished)
+        → Holds log.old pages.old (S.state site.old) newest records table commits
+        → IsUnfinished records x → x.txn ≡ txn → x.last ≡ last
+        → OnOk result (KeepsUnits master_shape (S.state site.old).image (S.state site.new).image) }
     ensures left { IsTrue (S.state site.old).honest → (S.state site.new).left ≡ (S.state site.old).left }
     ensures stays_quiet { IsTrue (S.state site.old).honest → IsQuiet (S.state site.old)
         → OnOk result (IsQuiet (S.state site.new)) }
-    ensures quiet { (records : List Entry) (table : List Content) (commits : ℕ) (x : Unfinished)
-        → Holds log.old pages.old (S.state site.old) records table commits
+    ensures quiet { (newest : Option Master) (records : List Entry) (table : List Content) (commits : ℕ) (x : Unfinished)
+        → Holds log.old pages.old (S.state site.old) newest records table commits
         → IsUnfinished records x → x.txn ≡ txn → x.last ≡ last
         → IsQuiet (S.state site.old)
         → IfErr result (λ stop. ((d : Dev) → stop ≢ Stop.Device d) → IsQuiet (S.state site.new)) }
-    ensures log_reads { (records : List Entry) (table : List Content) (commits : ℕ) (x : Unfinished)
-        → Holds log.old pages.old (S.state site.old) records table commits
+    ensures log_reads { (newest : Option Master) (records : List Entry) (table : List Content) (commits : ℕ) (x : Unfinished)
+        → Holds log.old pages.old (S.state site.old) newest records table commits
         → IsUnfinished records x → x.txn ≡ txn → x.last ≡ last
         → (S.state site.new).log_reads ≤ (S.state site.old).log_reads + (x.remaining + 1) }
-    ensures worn_log { (records : List Entry) (table : List Content) (commits : ℕ) (x : Unfinished)
-        → Holds log.old pages.old (S.state site.old) records table commits
+    ensures worn_log { (newest : Option Master) (records : List Entry) (table : List Content) (commits : ℕ) (x : Unfinished)
+        → Holds log.old pages.old (S.state site.old) newest records table commits
         → IsUnfinished records x → x.txn ≡ txn → x.last ≡ last
         → IsErrOf result (Stop.Worn Dev.Log) → 2 ^ 40 ≤ blocks_to log.old + (x.remaining + 1) }
-    ensures asks { (records : List Entry) (table : List Content) (commits : ℕ) (x : Unfinished)
-        → Holds log.old pages.old (S.state site.old) records table commits
+    ensures asks { (newest : Option Master) (records : List Entry) (table : List Content) (commits : ℕ) (x : Unfinished)
+        → Holds log.old pages.old (S.state site.old) newest records table commits
         → IsUnfinished records x → x.txn ≡ txn → x.last ≡ last
         → Asks result (undo_one_works records txn) pages.old pages.new (S.state site.old) (S.state site.new) }
 

@@ -1,5 +1,5 @@
 // Undoing all transactions that a log leaves unfinished.
-ghost use Rattle.std.specs.Prelude.{◌≡◌, ◌≢◌, ◌⊎◌, ◌+◌, ◌<◌, ◌≤◌, [], ◌∷◌, ◌^◌, ℕ, List, length, drop, false, None, Some, IsTrue, IfOk, IfErr, IfSome, IfNone, OnOk, IsErrOf};
+ghost use Rattle.std.specs.Prelude.{◌≡◌, ◌≢◌, ◌⊎◌, ◌+◌, ◌<◌, ◌≤◌, [], ◌∷◌, ◌^◌, ℕ, List, drop, false, None, Some, IsTrue, IfOk, IfErr, IfSome, IfNone, OnOk, IsErrOf, Option};
 ghost use Rattle.site.specs.declared.outside.Dev.{Dev};
 ghost use Rattle.site.specs.declared.outside.Stop.{Stop};
 ghost use Rattle.site.specs.State.{IsQuiet};
@@ -12,14 +12,16 @@ ghost use Rattle.log_store.specs.Held as log_held;
 ghost use Rattle.log_store.specs.Held.{end_of, has_tail};
 ghost use Rattle.page_store.specs.declared.store.PageStore.{PageStore};
 ghost use Rattle.page_store.specs.Stopping.{MayStop};
-ghost use Rattle.image_meaning.specs.Meaning.{blank_master};
-ghost use Rattle.image_meaning.specs.Moments.{LeavesTable};
-ghost use Rattle.analysis.specs.Open.{Open, found_in, IsTop, Replaces, Remains, TakesOut, owed_for};
+ghost use Rattle.checkpoint.specs.declared.master.Master.{Master};
+ghost use Rattle.image_meaning.specs.Moments.{LeavesTableUnder};
+ghost use Rattle.analysis.specs.Open.{found_in, Replaces, Remains, TakesOut, owed_for};
 ghost use Rattle.analysis.specs.Table.{listed};
 ghost use Rattle.analysis.specs.Read as analysis;
-ghost use Rattle.redo_undo.specs.Holding.{MayGoOn, Holds, blocks_to};
+ghost use Rattle.analysis.specs.Read.{IsTable};
+ghost use Rattle.redo_undo.specs.Holding.{MayGoOn, Holds, IsLogWorn, blocks_to};
 ghost use Rattle.redo_undo.specs.Works.{Asks, undo_works};
 ghost use Rattle.redo_undo.specs.UndoWorks.{works_of, IsLastAt, UndoesUpdates};
+ghost use Rattle.image_changes.specs.Rings.{KeepsUnits, master_shape};
 ghost use Rattle.redo_undo.specs.UndoingAll.{IsOf, Remain, HasNone, IsGreatest, IsUndoing, UndoesSome, UndoesAll};
 
 use crate::laws::{found_laws, page_laws, undo_laws};
@@ -78,34 +80,41 @@ fn end_one<S: Site>(
     requires none { HasNone (listed found.old.table) txn }
 
     // Of an honest site on which log and pages hold together.
-    ensures undone { (pages : PageStore) (records : List Entry) (table : List Content) (commits known : ℕ)
+    ensures undone { (pages : PageStore) (newest : Option Master) (records : List Entry) (table : List Content) (commits known : ℕ)
         → log.old.geometry ≡ pages.flash.geometry
-        → IsUndoing log.old pages (S.state site.old) records table commits found.old known
-        → IfOk result (λ lsn. UndoesSome log.new pages (S.state site.new) records table commits found.new lsn) }
-    ensures any_moment { (pages : PageStore) (records : List Entry) (table : List Content) (commits : ℕ)
+        → IsUndoing log.old pages (S.state site.old) newest records table commits found.old known
+        → IfOk result (λ lsn. UndoesSome log.new pages (S.state site.new) newest records table commits found.new lsn) }
+    ensures any_moment { (pages : PageStore) (newest : Option Master) (records : List Entry) (table : List Content) (commits : ℕ)
         → MayGoOn log.old pages (S.state site.old)
-        → Holds log.old pages (S.state site.old) records table commits
+        → Holds log.old pages (S.state site.old) newest records table commits
         → IsQuiet (S.state site.old)
         → LeavesOnly (S.state site.old) (S.state site.new)
-        (LeavesTable pages.flash.geometry table commits (S.state site.old).told) }
-    ensures readable { (pages : PageStore) (records : List Entry) (table : List Content) (commits known : ℕ)
+        (LeavesTableUnder newest pages.flash.geometry table commits (S.state site.old).told) }
+    ensures readable { (pages : PageStore) (newest : Option Master) (records : List Entry) (table : List Content) (commits known : ℕ)
         → log.old.geometry ≡ pages.flash.geometry
-        → IsUndoing log.old pages (S.state site.old) records table commits found.old known
+        → IsUndoing log.old pages (S.state site.old) newest records table commits found.old known
         → IfErr result (λ stop. stop ≢ Stop.Foreign) }
-    ensures updates { (pages : PageStore) (records : List Entry) (table : List Content) (commits known : ℕ)
+    ensures updates { (pages : PageStore) (newest : Option Master) (records : List Entry) (table : List Content) (commits known : ℕ)
         → log.old.geometry ≡ pages.flash.geometry
-        → IsUndoing log.old pages (S.state site.old) records table commits found.old known
-        → IfOk result (λ lsn. UndoesUpdates log.new pages (S.state site.new) records table commits found.new lsn []) }
+        → IsUndoing log.old pages (S.state site.old) newest records table commits found.old known
+        → IfOk result (λ lsn. UndoesUpdates log.new pages (S.state site.new) newest records table commits found.new lsn []) }
+    ensures worn_log_end { (pages : PageStore) (newest : Option Master) (records : List Entry) (table : List Content) (commits : ℕ)
+        → Holds log.old pages (S.state site.old) newest records table commits
+        → IsErrOf result (Stop.Worn Dev.Log) → IsLogWorn log.old.geometry (S.state site.new).image }
+    ensures masters { (pages : PageStore) (newest : Option Master) (records : List Entry) (table : List Content) (commits : ℕ)
+        → Holds log.old pages (S.state site.old) newest records table commits
+        → OnOk result (KeepsUnits master_shape (S.state site.old).image (S.state site.new).image) }
     ensures left { IsTrue (S.state site.old).honest → (S.state site.new).left ≡ (S.state site.old).left }
     ensures stays_quiet { IsTrue (S.state site.old).honest → IsQuiet (S.state site.old)
         → OnOk result (IsQuiet (S.state site.new)) }
-    ensures quiet { (pages : PageStore) (records : List Entry) (table : List Content) (commits : ℕ)
-        → Holds log.old pages (S.state site.old) records table commits
+    ensures quiet { (pages : PageStore) (newest : Option Master) (records : List Entry) (table : List Content) (commits : ℕ)
+        → Holds log.old pages (S.state site.old) newest records table commits
         → IsQuiet (S.state site.old)
         → IfErr result (λ stop. ((d : Dev) → stop ≢ Stop.Device d) → IsQuiet (S.state site.new)) }
 
     // Of every site.
     ensures before { IfOk result (λ lsn. lsn < end_of log.new) }
+    ensures rises { OnOk result (end_of log.old ≤ end_of log.new) }
     ensures going { (pages : PageStore) → MayGoOn log.old pages (S.state site.old)
         → OnOk result (MayGoOn log.new pages (S.state site.new)) }
     ensures log_going { log_held.MayGoOn log.new (S.state site.new) }
@@ -154,35 +163,44 @@ fn end_undone<S: Site>(
     requires known { known < end_of log.old }
 
     // Of an honest site on which log and pages hold together.
-    ensures undone { (pages : PageStore) (records : List Entry) (table : List Content) (commits : ℕ)
+    ensures undone { (pages : PageStore) (newest : Option Master) (records : List Entry) (table : List Content) (commits : ℕ)
         → MayGoOn log.old pages (S.state site.old)
-        → IsUndoing log.old pages (S.state site.old) records table commits found.old known
-        → IfOk result (λ lsn. UndoesSome log.new pages (S.state site.new) records table commits found.new lsn) }
-    ensures any_moment { (pages : PageStore) (records : List Entry) (table : List Content) (commits : ℕ)
+        → IsUndoing log.old pages (S.state site.old) newest records table commits found.old known
+        → IfOk result (λ lsn. UndoesSome log.new pages (S.state site.new) newest records table commits found.new lsn) }
+    ensures any_moment { (pages : PageStore) (newest : Option Master) (records : List Entry) (table : List Content) (commits : ℕ)
         → MayGoOn log.old pages (S.state site.old)
-        → IsUndoing log.old pages (S.state site.old) records table commits found.old known
+        → IsUndoing log.old pages (S.state site.old) newest records table commits found.old known
         → IsQuiet (S.state site.old)
         → LeavesOnly (S.state site.old) (S.state site.new)
-        (LeavesTable pages.flash.geometry table commits (S.state site.old).told) }
-    ensures readable { (pages : PageStore) (records : List Entry) (table : List Content) (commits : ℕ)
+        (LeavesTableUnder newest pages.flash.geometry table commits (S.state site.old).told) }
+    ensures readable { (pages : PageStore) (newest : Option Master) (records : List Entry) (table : List Content) (commits : ℕ)
         → MayGoOn log.old pages (S.state site.old)
-        → IsUndoing log.old pages (S.state site.old) records table commits found.old known
+        → IsUndoing log.old pages (S.state site.old) newest records table commits found.old known
         → IfErr result (λ stop. stop ≢ Stop.Foreign) }
-    ensures updates { (pages : PageStore) (records : List Entry) (table : List Content) (commits : ℕ)
+    ensures updates { (pages : PageStore) (newest : Option Master) (records : List Entry) (table : List Content) (commits : ℕ)
         → MayGoOn log.old pages (S.state site.old)
-        → IsUndoing log.old pages (S.state site.old) records table commits found.old known
-        → IfOk result (λ lsn. UndoesUpdates log.new pages (S.state site.new) records table commits found.new lsn []) }
+        → IsUndoing log.old pages (S.state site.old) newest records table commits found.old known
+        → IfOk result (λ lsn. UndoesUpdates log.new pages (S.state site.new) newest records table commits found.new lsn []) }
+    ensures worn_log_end { (pages : PageStore) (newest : Option Master) (records : List Entry) (table : List Content) (commits : ℕ)
+        → MayGoOn log.old pages (S.state site.old)
+        → IsUndoing log.old pages (S.state site.old) newest records table commits found.old known
+        → IsErrOf result (Stop.Worn Dev.Log) → IsLogWorn log.old.geometry (S.state site.new).image }
+    ensures masters { (pages : PageStore) (newest : Option Master) (records : List Entry) (table : List Content) (commits : ℕ)
+        → MayGoOn log.old pages (S.state site.old)
+        → IsUndoing log.old pages (S.state site.old) newest records table commits found.old known
+        → OnOk result (KeepsUnits master_shape (S.state site.old).image (S.state site.new).image) }
     ensures left { IsTrue (S.state site.old).honest → (S.state site.new).left ≡ (S.state site.old).left }
     ensures stays_quiet { IsTrue (S.state site.old).honest → IsQuiet (S.state site.old)
         → OnOk result (IsQuiet (S.state site.new)) }
-    ensures quiet { (pages : PageStore) (records : List Entry) (table : List Content) (commits : ℕ)
+    ensures quiet { (pages : PageStore) (newest : Option Master) (records : List Entry) (table : List Content) (commits : ℕ)
         → MayGoOn log.old pages (S.state site.old)
-        → IsUndoing log.old pages (S.state site.old) records table commits found.old known
+        → IsUndoing log.old pages (S.state site.old) newest records table commits found.old known
         → IsQuiet (S.state site.old)
         → IfErr result (λ stop. ((d : Dev) → stop ≢ Stop.Device d) → IsQuiet (S.state site.new)) }
 
     // Of every site.
     ensures before { IfOk result (λ lsn. lsn < end_of log.new) }
+    ensures rises { OnOk result (end_of log.old ≤ end_of log.new) }
     ensures going { (pages : PageStore) → MayGoOn log.old pages (S.state site.old)
         → OnOk result (MayGoOn log.new pages (S.state site.new)) }
     ensures log_going { log_held.MayGoOn log.new (S.state site.new) }
@@ -233,34 +251,40 @@ fn undo_greatest<S: Site>(
     requires remain { Remain (listed found.old.table) }
 
     // Of an honest site on which log and pages hold together.
-    ensures undone { (records : List Entry) (table : List Content) (commits known : ℕ)
-        → IsUndoing log.old pages.old (S.state site.old) records table commits found.old known
+    ensures undone { (newest : Option Master) (records : List Entry) (table : List Content) (commits known : ℕ)
+        → IsUndoing log.old pages.old (S.state site.old) newest records table commits found.old known
         → IsGreatest records loser.txn
-        → IfOk result (λ last. UndoesSome log.new pages.new (S.state site.new) records table commits found.new last) }
-    ensures any_moment { (records : List Entry) (table : List Content) (commits : ℕ)
-        → Holds log.old pages.old (S.state site.old) records table commits
+        → IfOk result (λ last. UndoesSome log.new pages.new (S.state site.new) newest records table commits found.new last) }
+    ensures any_moment { (newest : Option Master) (records : List Entry) (table : List Content) (commits : ℕ)
+        → Holds log.old pages.old (S.state site.old) newest records table commits
         → IsQuiet (S.state site.old)
         → LeavesOnly (S.state site.old) (S.state site.new)
-        (LeavesTable pages.old.flash.geometry table commits (S.state site.old).told) }
-    ensures readable { (records : List Entry) (table : List Content) (commits known : ℕ)
-        → IsUndoing log.old pages.old (S.state site.old) records table commits found.old known
+        (LeavesTableUnder newest pages.old.flash.geometry table commits (S.state site.old).told) }
+    ensures readable { (newest : Option Master) (records : List Entry) (table : List Content) (commits known : ℕ)
+        → IsUndoing log.old pages.old (S.state site.old) newest records table commits found.old known
         → IfErr result (λ stop. stop ≢ Stop.Foreign) }
-    ensures updates { (records : List Entry) (table : List Content) (commits known : ℕ) (u : Entry)
-        → IsUndoing log.old pages.old (S.state site.old) records table commits found.old known
+    ensures updates { (newest : Option Master) (records : List Entry) (table : List Content) (commits known : ℕ) (u : Entry)
+        → IsUndoing log.old pages.old (S.state site.old) newest records table commits found.old known
         → IsLastAt records loser.txn lsn u
-        → IfOk result (λ last. UndoesUpdates log.new pages.new (S.state site.new) records table commits found.new last (u ∷ [])) }
-    ensures asks { (records : List Entry) (table : List Content) (commits known : ℕ) (u : Entry)
-        → IsUndoing log.old pages.old (S.state site.old) records table commits found.old known
+        → IfOk result (λ last. UndoesUpdates log.new pages.new (S.state site.new) newest records table commits found.new last (u ∷ [])) }
+    ensures asks { (newest : Option Master) (records : List Entry) (table : List Content) (commits known : ℕ) (u : Entry)
+        → IsUndoing log.old pages.old (S.state site.old) newest records table commits found.old known
         → IsLastAt records loser.txn lsn u
         → Asks result (works_of (u ∷ [])) pages.old pages.new (S.state site.old) (S.state site.new) }
-    ensures worn_end { (records : List Entry) (table : List Content) (commits : ℕ)
-        → Holds log.old pages.old (S.state site.old) records table commits
+    ensures worn_end { (newest : Option Master) (records : List Entry) (table : List Content) (commits : ℕ)
+        → Holds log.old pages.old (S.state site.old) newest records table commits
         → IsErrOf result (Stop.Worn Dev.Flash) → IsWorn pages.old.flash.geometry (S.state site.new).image }
+    ensures worn_log_end { (newest : Option Master) (records : List Entry) (table : List Content) (commits : ℕ)
+        → Holds log.old pages.old (S.state site.old) newest records table commits
+        → IsErrOf result (Stop.Worn Dev.Log) → IsLogWorn pages.old.flash.geometry (S.state site.new).image }
+    ensures masters { (newest : Option Master) (records : List Entry) (table : List Content) (commits : ℕ)
+        → Holds log.old pages.old (S.state site.old) newest records table commits
+        → OnOk result (KeepsUnits master_shape (S.state site.old).image (S.state site.new).image) }
     ensures left { IsTrue (S.state site.old).honest → (S.state site.new).left ≡ (S.state site.old).left }
     ensures stays_quiet { IsTrue (S.state site.old).honest → IsQuiet (S.state site.old)
         → OnOk result (IsQuiet (S.state site.new)) }
-    ensures quiet { (records : List Entry) (table : List Content) (commits : ℕ)
-        → Holds log.old pages.old (S.state site.old) records table commits
+    ensures quiet { (newest : Option Master) (records : List Entry) (table : List Content) (commits : ℕ)
+        → Holds log.old pages.old (S.state site.old) newest records table commits
         → IsQuiet (S.state site.old)
         → IfErr result (λ stop. ((d : Dev) → stop ≢ Stop.Device d) → IsQuiet (S.state site.new)) }
 
@@ -277,6 +301,7 @@ fn undo_greatest<S: Site>(
     ensures log_geometry { log.new.geometry ≡ log.old.geometry }
     ensures geometry { pages.new.flash.geometry ≡ pages.old.flash.geometry }
     ensures size { pages.new.pool.size ≡ pages.old.pool.size }
+    ensures rises { OnOk result (end_of log.old ≤ end_of log.new) }
     ensures goes { Goes (S.state site.old) (S.state site.new) }
     ensures log_reads { (S.state site.new).log_reads ≤ (S.state site.old).log_reads + 1 }
 
@@ -303,7 +328,7 @@ fn undo_greatest<S: Site>(
     Ok(now.last)
 }
 
-// Compensates the greatest Update that remains, and ends its transaction where nothing of that remains. `known` is an LSN before the log's
+// Compensates the greatest Update newest that remains, and ends its transaction where nothing of that remains. `known` is an LSN before the log's
 // end, and so is the answer, which is that of the last record that undo has logged. A transaction whose last record stands behind
 // `known` is Foreign.
 fn undo_next<S: Site>(
@@ -321,36 +346,44 @@ fn undo_next<S: Site>(
     requires remain { Remain (listed found.old.table) }
 
     // Of an honest site on which log and pages hold together.
-    ensures undone { (records : List Entry) (table : List Content) (commits : ℕ)
-        → IsUndoing log.old pages.old (S.state site.old) records table commits found.old known
+    ensures undone { (newest : Option Master) (records : List Entry) (table : List Content) (commits : ℕ)
+        → IsUndoing log.old pages.old (S.state site.old) newest records table commits found.old known
         → IsGreatest records next.0
-        → IfOk result (λ last. UndoesSome log.new pages.new (S.state site.new) records table commits found.new last) }
-    ensures any_moment { (records : List Entry) (table : List Content) (commits : ℕ)
-        → IsUndoing log.old pages.old (S.state site.old) records table commits found.old known
+        → IfOk result (λ last. UndoesSome log.new pages.new (S.state site.new) newest records table commits found.new last) }
+    ensures any_moment { (newest : Option Master) (records : List Entry) (table : List Content) (commits : ℕ)
+        → IsUndoing log.old pages.old (S.state site.old) newest records table commits found.old known
         → IsGreatest records next.0
         → IsQuiet (S.state site.old)
         → LeavesOnly (S.state site.old) (S.state site.new)
-        (LeavesTable pages.old.flash.geometry table commits (S.state site.old).told) }
-    ensures readable { (records : List Entry) (table : List Content) (commits : ℕ)
-        → IsUndoing log.old pages.old (S.state site.old) records table commits found.old known
+        (LeavesTableUnder newest pages.old.flash.geometry table commits (S.state site.old).told) }
+    ensures readable { (newest : Option Master) (records : List Entry) (table : List Content) (commits : ℕ)
+        → IsUndoing log.old pages.old (S.state site.old) newest records table commits found.old known
         → IsGreatest records next.0
         → IfErr result (λ stop. stop ≢ Stop.Foreign) }
-    ensures updates { (records : List Entry) (table : List Content) (commits : ℕ) (u : Entry)
-        → IsUndoing log.old pages.old (S.state site.old) records table commits found.old known
+    ensures updates { (newest : Option Master) (records : List Entry) (table : List Content) (commits : ℕ) (u : Entry)
+        → IsUndoing log.old pages.old (S.state site.old) newest records table commits found.old known
         → IsLastAt records next.0 next.1 u
-        → IfOk result (λ last. UndoesUpdates log.new pages.new (S.state site.new) records table commits found.new last (u ∷ [])) }
-    ensures asks { (records : List Entry) (table : List Content) (commits : ℕ) (u : Entry)
-        → IsUndoing log.old pages.old (S.state site.old) records table commits found.old known
+        → IfOk result (λ last. UndoesUpdates log.new pages.new (S.state site.new) newest records table commits found.new last (u ∷ [])) }
+    ensures asks { (newest : Option Master) (records : List Entry) (table : List Content) (commits : ℕ) (u : Entry)
+        → IsUndoing log.old pages.old (S.state site.old) newest records table commits found.old known
         → IsLastAt records next.0 next.1 u
         → Asks result (works_of (u ∷ [])) pages.old pages.new (S.state site.old) (S.state site.new) }
-    ensures worn_end { (records : List Entry) (table : List Content) (commits : ℕ)
-        → Holds log.old pages.old (S.state site.old) records table commits
+    ensures worn_end { (newest : Option Master) (records : List Entry) (table : List Content) (commits : ℕ)
+        → Holds log.old pages.old (S.state site.old) newest records table commits
         → IsErrOf result (Stop.Worn Dev.Flash) → IsWorn pages.old.flash.geometry (S.state site.new).image }
+    ensures worn_log_end { (newest : Option Master) (records : List Entry) (table : List Content) (commits : ℕ)
+        → IsUndoing log.old pages.old (S.state site.old) newest records table commits found.old known
+        → IsGreatest records next.0
+        → IsErrOf result (Stop.Worn Dev.Log) → IsLogWorn pages.old.flash.geometry (S.state site.new).image }
+    ensures masters { (newest : Option Master) (records : List Entry) (table : List Content) (commits : ℕ)
+        → IsUndoing log.old pages.old (S.state site.old) newest records table commits found.old known
+        → IsGreatest records next.0
+        → OnOk result (KeepsUnits master_shape (S.state site.old).image (S.state site.new).image) }
     ensures left { IsTrue (S.state site.old).honest → (S.state site.new).left ≡ (S.state site.old).left }
     ensures stays_quiet { IsTrue (S.state site.old).honest → IsQuiet (S.state site.old)
         → OnOk result (IsQuiet (S.state site.new)) }
-    ensures quiet { (records : List Entry) (table : List Content) (commits : ℕ)
-        → IsUndoing log.old pages.old (S.state site.old) records table commits found.old known
+    ensures quiet { (newest : Option Master) (records : List Entry) (table : List Content) (commits : ℕ)
+        → IsUndoing log.old pages.old (S.state site.old) newest records table commits found.old known
         → IsGreatest records next.0
         → IsQuiet (S.state site.old)
         → IfErr result (λ stop. ((d : Dev) → stop ≢ Stop.Device d) → IsQuiet (S.state site.new)) }
@@ -368,6 +401,7 @@ fn undo_next<S: Site>(
     ensures log_geometry { log.new.geometry ≡ log.old.geometry }
     ensures geometry { pages.new.flash.geometry ≡ pages.old.flash.geometry }
     ensures size { pages.new.pool.size ≡ pages.old.pool.size }
+    ensures rises { OnOk result (end_of log.old ≤ end_of log.new) }
     ensures goes { Goes (S.state site.old) (S.state site.new) }
     ensures log_reads { (S.state site.new).log_reads ≤ (S.state site.old).log_reads + 1 }
 
@@ -410,40 +444,50 @@ pub fn undo_all<S: Site>(
     requires found { analysis.MayGoOn found.old }
 
     // Of an honest site on which log and pages hold together, where each record is sealed and analysis has taken all of them.
-    ensures undone { (records : List Entry) (table : List Content) (commits : ℕ)
+    ensures undone { (newest : Option Master) (records : List Entry) (table : List Content) (commits : ℕ)
         → has_tail log.old ≡ false
-        → Holds log.old pages.old (S.state site.old) records table commits
-        → analysis.IsAnalysis blank_master records found.old
-        → OnOk result (UndoesAll log.new pages.new (S.state site.new) records table commits) }
-    ensures any_moment { (records : List Entry) (table : List Content) (commits : ℕ)
+        → Holds log.old pages.old (S.state site.old) newest records table commits
+        → IsTable [] records (listed found.old.table)
+        → OnOk result (UndoesAll log.new pages.new (S.state site.new) newest records table commits) }
+    ensures any_moment { (newest : Option Master) (records : List Entry) (table : List Content) (commits : ℕ)
         → has_tail log.old ≡ false
-        → Holds log.old pages.old (S.state site.old) records table commits
-        → analysis.IsAnalysis blank_master records found.old
+        → Holds log.old pages.old (S.state site.old) newest records table commits
+        → IsTable [] records (listed found.old.table)
         → IsQuiet (S.state site.old)
         → LeavesOnly (S.state site.old) (S.state site.new)
-        (LeavesTable pages.old.flash.geometry table commits (S.state site.old).told) }
-    ensures readable { (records : List Entry) (table : List Content) (commits : ℕ)
+        (LeavesTableUnder newest pages.old.flash.geometry table commits (S.state site.old).told) }
+    ensures readable { (newest : Option Master) (records : List Entry) (table : List Content) (commits : ℕ)
         → has_tail log.old ≡ false
-        → Holds log.old pages.old (S.state site.old) records table commits
-        → analysis.IsAnalysis blank_master records found.old
+        → Holds log.old pages.old (S.state site.old) newest records table commits
+        → IsTable [] records (listed found.old.table)
         → IfErr result (λ stop. stop ≢ Stop.Foreign) }
-    ensures worn_end { (records : List Entry) (table : List Content) (commits : ℕ)
+    ensures worn_end { (newest : Option Master) (records : List Entry) (table : List Content) (commits : ℕ)
         → has_tail log.old ≡ false
-        → Holds log.old pages.old (S.state site.old) records table commits
-        → analysis.IsAnalysis blank_master records found.old
+        → Holds log.old pages.old (S.state site.old) newest records table commits
+        → IsTable [] records (listed found.old.table)
         → IsErrOf result (Stop.Worn Dev.Flash) → IsWorn pages.old.flash.geometry (S.state site.new).image }
-    ensures asks { (records : List Entry) (table : List Content) (commits : ℕ)
+    ensures worn_log_end { (newest : Option Master) (records : List Entry) (table : List Content) (commits : ℕ)
         → has_tail log.old ≡ false
-        → Holds log.old pages.old (S.state site.old) records table commits
-        → analysis.IsAnalysis blank_master records found.old
+        → Holds log.old pages.old (S.state site.old) newest records table commits
+        → IsTable [] records (listed found.old.table)
+        → IsErrOf result (Stop.Worn Dev.Log) → IsLogWorn pages.old.flash.geometry (S.state site.new).image }
+    ensures asks { (newest : Option Master) (records : List Entry) (table : List Content) (commits : ℕ)
+        → has_tail log.old ≡ false
+        → Holds log.old pages.old (S.state site.old) newest records table commits
+        → IsTable [] records (listed found.old.table)
         → Asks result (undo_works records) pages.old pages.new (S.state site.old) (S.state site.new) }
+    ensures masters { (newest : Option Master) (records : List Entry) (table : List Content) (commits : ℕ)
+        → has_tail log.old ≡ false
+        → Holds log.old pages.old (S.state site.old) newest records table commits
+        → IsTable [] records (listed found.old.table)
+        → OnOk result (KeepsUnits master_shape (S.state site.old).image (S.state site.new).image) }
     ensures left { IsTrue (S.state site.old).honest → (S.state site.new).left ≡ (S.state site.old).left }
     ensures stays_quiet { IsTrue (S.state site.old).honest → IsQuiet (S.state site.old)
         → OnOk result (IsQuiet (S.state site.new)) }
-    ensures quiet { (records : List Entry) (table : List Content) (commits : ℕ)
+    ensures quiet { (newest : Option Master) (records : List Entry) (table : List Content) (commits : ℕ)
         → has_tail log.old ≡ false
-        → Holds log.old pages.old (S.state site.old) records table commits
-        → analysis.IsAnalysis blank_master records found.old
+        → Holds log.old pages.old (S.state site.old) newest records table commits
+        → IsTable [] records (listed found.old.table)
         → IsQuiet (S.state site.old)
         → IfErr result (λ stop. ((d : Dev) → stop ≢ Stop.Device d) → IsQuiet (S.state site.new)) }
 
@@ -456,6 +500,7 @@ pub fn undo_all<S: Site>(
     ensures log_geometry { log.new.geometry ≡ log.old.geometry }
     ensures geometry { pages.new.flash.geometry ≡ pages.old.flash.geometry }
     ensures size { pages.new.pool.size ≡ pages.old.pool.size }
+    ensures rises { OnOk result (end_of log.old ≤ end_of log.new) }
     ensures goes { Goes (S.state site.old) (S.state site.new) }
     ensures log_reads { (S.state site.new).log_reads
         ≤ (S.state site.old).log_reads + owed_for (listed found.old.table) }
@@ -467,6 +512,7 @@ pub fn undo_all<S: Site>(
         → FaultRose d (S.state site.old) (S.state site.new) }
     ensures stops { IfErr result (λ stop. MayStop stop) }
 {
+    page_laws();
     undo_laws();
     found_laws();
     let sealed = log.sealed_end() + 1;

@@ -3,15 +3,22 @@ use Rattle.std.specs.Prelude.{if◌then◌else◌}
 use Rattle.site.specs.Laws.{stays_honest, fault_since}
 use Rattle.site.specs.State.{IsQuiet}
 use Rattle.site.specs.declared.outside.Dev.TheVariants.{Log}
-use Rattle.site.specs.declared.outside.Stop.TheVariants.{Device}
+use Rattle.site.specs.declared.outside.Stop.TheVariants.{Device, Worn}
 use Rattle.site.specs.declared.geometry.Geometry.{Geometry}
 use Rattle.log_records.specs.declared.log_record.LogRecord.TheVariants.{Commit}
-use Rattle.log_store.specs.LogList.{LogList, sealed_if}
+use Rattle.log_store.specs.LogList.{LogList, sealed_if, changes_if}
 use Rattle.log_store.specs.Held as log_held
-use Rattle.log_store.specs.Held.{Finds}
+use Rattle.image_meaning.specs.Meaning.{kept_by}
 use Rattle.redo_undo.proofs.Touched.{tail_blocks}
 use Rattle.redo_undo.proofs.Committed.{leaves_either, rings_then, sealed_then, commit_holds, keeps_twice, before_only, either_after}
+use Rattle.image_meaning.specs.Meaning.{versions_on, master_of}
+use Rattle.redo_undo.proofs.Orderlies.{ends_orderly}
 use Rattle.redo_undo.proofs.Appended.{found_fits}
+use Rattle.image_changes.specs.Rings.{Masters, KeepsUnits, master_shape}
+use Rattle.redo_undo.proofs.Forced.{seals_only}
+use Rattle.log_store.specs.Held.{has_tail}
+use Rattle.redo_undo.specs.Holding.{IsLogWorn}
+use Rattle.redo_undo.proofs.WornLogs.{log_at_end}
 use Rattle.redo_undo.proofs.committing.commit.Goals as goal
 
 pub force-requires-clause-room : goal.force-requires-clause-room
@@ -21,41 +28,41 @@ force-requires-clause-room g c =
     omega (arith, one, same, c.in-Ok.ensures.blocks, c.log_record.ensures.kept, c.requires.room)
 
 pub returns-in-Err-clause-any_moment : goal.returns-in-Err-clause-any_moment
-returns-in-Err-clause-any_moment g c pages records table commits going h may quiet =
-    before_only pages.flash.geometry (g.S.Site.state c.args.site.now) (g.S.Site.state c.log_record.new.site) table _ commits (c.log_record.ensures.any_moment pages records table commits going h quiet)
+returns-in-Err-clause-any_moment g c pages newest records table commits going h may quiet =
+    before_only newest pages.flash.geometry (g.S.Site.state c.args.site.now) (g.S.Site.state c.log_record.new.site) table _ commits (c.log_record.ensures.any_moment pages newest records table commits going h quiet)
 
 pub returns-in-Err-force-clause-any_moment : goal.returns-in-Err-force-clause-any_moment
-returns-in-Err-force-clause-any_moment g c pages records table commits going h may quiet =
+returns-in-Err-force-clause-any_moment g c pages newest records table commits going h may quiet =
     let old = g.S.Site.state c.args.site.now in
     let mid = g.S.Site.state c.log_record.new.site in
     let new = g.S.Site.state c.force.new.site in
     let sizes = c.log_record.ensures.geometry ∙ going.sizes in
-    let m = c.in-Ok.ensures.last pages records table commits going.sizes h in
-    let list : LogList = record { first = 0; blocks = m.blocks; tail = m.front ++ Commit c.args.txn c.args.number ∷ [] } in
+    let m = c.in-Ok.ensures.last pages newest records table commits going.sizes h in
+    let list : LogList = record { first = kept_by newest; blocks = m.blocks; tail = m.front ++ Commit c.args.txn c.args.number ∷ [] } in
     let ready = m.ready in
     let mid_quiet = c.in-Ok.ensures.stays_quiet h.log_holds.ready.blocks.honest quiet in
     let fits = found_fits c.log_record.new.log mid mid_quiet ready.blocks in
-    either_after pages.flash.geometry old mid new table _ commits (c.log_record.ensures.any_moment pages records table commits going h quiet)
-    (leaves_either c.log_laws.ensures c.page_laws.ensures c.beside_laws.ensures c.commit_laws.ensures c.log_record.new.log pages mid records table commits c.args.txn c.args.number c.in-Ok.lsn m sizes c.in-Ok.ensures.some may new mid_quiet
+    either_after newest pages.flash.geometry old mid new table _ commits (c.log_record.ensures.any_moment pages newest records table commits going h quiet)
+    (leaves_either c.log_laws.ensures c.page_laws.ensures c.beside_laws.ensures c.commit_laws.ensures c.log_record.new.log pages mid newest records table commits c.args.txn c.args.number c.in-Ok.lsn m sizes c.in-Ok.ensures.some may new mid_quiet
     (c.force.ensures.changes ready.blocks.honest) (c.force.ensures.any_moment list fits ready.records) (c.force.ensures.front list fits ready.records mid_quiet) going.pages_going.own)
 
 pub returns-in-Ok-force-clause-any_moment : goal.returns-in-Ok-force-clause-any_moment
-returns-in-Ok-force-clause-any_moment g c pages records table commits going h may quiet =
+returns-in-Ok-force-clause-any_moment g c pages newest records table commits going h may quiet =
     let old = g.S.Site.state c.args.site.now in
     let mid = g.S.Site.state c.log_record.new.site in
     let new = g.S.Site.state c.force.new.site in
     let sizes = c.log_record.ensures.geometry ∙ going.sizes in
-    let m = c.in-Ok.ensures.last pages records table commits going.sizes h in
-    let list : LogList = record { first = 0; blocks = m.blocks; tail = m.front ++ Commit c.args.txn c.args.number ∷ [] } in
+    let m = c.in-Ok.ensures.last pages newest records table commits going.sizes h in
+    let list : LogList = record { first = kept_by newest; blocks = m.blocks; tail = m.front ++ Commit c.args.txn c.args.number ∷ [] } in
     let ready = m.ready in
     let mid_quiet = c.in-Ok.ensures.stays_quiet h.log_holds.ready.blocks.honest quiet in
     let fits = found_fits c.log_record.new.log mid mid_quiet ready.blocks in
-    either_after pages.flash.geometry old mid new table _ commits (c.log_record.ensures.any_moment pages records table commits going h quiet)
-    (leaves_either c.log_laws.ensures c.page_laws.ensures c.beside_laws.ensures c.commit_laws.ensures c.log_record.new.log pages mid records table commits c.args.txn c.args.number c.in-Ok.lsn m sizes c.in-Ok.ensures.some may new mid_quiet
+    either_after newest pages.flash.geometry old mid new table _ commits (c.log_record.ensures.any_moment pages newest records table commits going h quiet)
+    (leaves_either c.log_laws.ensures c.page_laws.ensures c.beside_laws.ensures c.commit_laws.ensures c.log_record.new.log pages mid newest records table commits c.args.txn c.args.number c.in-Ok.lsn m sizes c.in-Ok.ensures.some may new mid_quiet
     (c.force.ensures.changes ready.blocks.honest) (c.force.ensures.any_moment list fits ready.records) (c.force.ensures.front list fits ready.records mid_quiet) going.pages_going.own)
 
 pub returns-in-Ok-force-clause-holds : goal.returns-in-Ok-force-clause-holds
-returns-in-Ok-force-clause-holds g c pages records table commits own h may =
+returns-in-Ok-force-clause-holds g c pages newest records table commits own h may =
     let mid = g.S.Site.state c.log_record.new.site in
     let new = g.S.Site.state c.force.new.site in
     let log = c.log_record.new.log in
@@ -64,35 +71,35 @@ returns-in-Ok-force-clause-holds g c pages records table commits own h may =
     let lsn = c.in-Ok.lsn in
     let sizes = c.log_record.ensures.geometry ∙ own in
     let some = c.in-Ok.ensures.some in
-    let m = c.in-Ok.ensures.last pages records table commits own h in
+    let m = c.in-Ok.ensures.last pages newest records table commits own h in
     let ready = m.ready in
-    let list : LogList = record { first = 0; blocks = m.blocks; tail = m.front ++ Commit c.args.txn c.args.number ∷ [] } in
+    let list : LogList = record { first = kept_by newest; blocks = m.blocks; tail = m.front ++ Commit c.args.txn c.args.number ∷ [] } in
     let finds = ready.blocks in
     let changes = c.force.ensures.changes ready.blocks.honest in
     let finds' = c.in-Ok-force.ensures.finds finds in
     let holds : log_held.Holds log' new.image (sealed_if true list) = subst (λ (b : Bool). log_held.Holds log' new.image (sealed_if b list)) some (c.in-Ok-force.ensures.holds list finds ready.records) in
     let next : log'.ring.hi ≡ log.ring.hi + 1 = c.in-Ok-force.ensures.next ∙ ap (λ (b : Bool). if b then log.ring.hi + 1 else log.ring.hi) some in
-    commit_holds c.log_laws.ensures c.page_laws.ensures c.beside_laws.ensures c.commit_laws.ensures log pages mid records table commits c.args.txn c.args.number lsn m sizes some may log' new changes c.force.ensures.goes
-    (rings_then c.log_laws.ensures c.page_laws.ensures c.beside_laws.ensures c.commit_laws.ensures log pages mid records table commits c.args.txn c.args.number lsn m sizes some may new (c.in-Ok-force.ensures.reaches list finds ready.records))
-    (sealed_then c.log_laws.ensures c.page_laws.ensures c.beside_laws.ensures c.commit_laws.ensures log pages mid records table commits c.args.txn c.args.number lsn m sizes some may log' new changes c.force.ensures.geometry finds' c.force.ensures.at_most_one.0)
-    finds' holds next c.in-Ok-force.ensures.empty c.log_record.ensures.log_going.high
+    commit_holds c.log_laws.ensures c.page_laws.ensures c.beside_laws.ensures c.commit_laws.ensures log pages mid newest records table commits c.args.txn c.args.number lsn m sizes some may log' new changes c.force.ensures.goes
+    (rings_then c.log_laws.ensures c.page_laws.ensures c.beside_laws.ensures c.commit_laws.ensures log pages mid newest records table commits c.args.txn c.args.number lsn m sizes some may new (c.in-Ok-force.ensures.reaches list finds ready.records))
+    (sealed_then c.log_laws.ensures c.page_laws.ensures c.beside_laws.ensures c.commit_laws.ensures log pages mid newest records table commits c.args.txn c.args.number lsn m sizes some may log' new changes c.force.ensures.geometry finds' c.force.ensures.at_most_one.0)
+    finds' holds next c.force.ensures.kept c.in-Ok-force.ensures.empty c.log_record.ensures.log_going.high
     (ap (nat_lt 2) c.in-Ok-force.ensures.empty)
 
 pub returns-in-Err-clause-pages : goal.returns-in-Err-clause-pages
-returns-in-Err-clause-pages g c pages records table commits h = c.log_record.ensures.pages pages records table commits h
+returns-in-Err-clause-pages g c pages newest records table commits h = c.log_record.ensures.pages pages newest records table commits h
 
 pub returns-in-Err-force-clause-pages : goal.returns-in-Err-force-clause-pages
-returns-in-Err-force-clause-pages g c pages records table commits h =
+returns-in-Err-force-clause-pages g c pages newest records table commits h =
     let old = g.S.Site.state c.args.site.now in
     let mid = g.S.Site.state c.log_record.new.site in
-    keeps_twice c.beside_laws.ensures pages old mid (g.S.Site.state c.force.new.site) (c.log_record.ensures.pages pages records table commits h)
+    keeps_twice c.beside_laws.ensures pages old mid (g.S.Site.state c.force.new.site) (c.log_record.ensures.pages pages newest records table commits h)
     (c.force.ensures.changes (stays_honest old mid c.log_record.ensures.goes h.log_holds.ready.blocks.honest))
 
 pub returns-in-Ok-force-clause-pages : goal.returns-in-Ok-force-clause-pages
-returns-in-Ok-force-clause-pages g c pages records table commits h =
+returns-in-Ok-force-clause-pages g c pages newest records table commits h =
     let old = g.S.Site.state c.args.site.now in
     let mid = g.S.Site.state c.log_record.new.site in
-    keeps_twice c.beside_laws.ensures pages old mid (g.S.Site.state c.force.new.site) (c.log_record.ensures.pages pages records table commits h)
+    keeps_twice c.beside_laws.ensures pages old mid (g.S.Site.state c.force.new.site) (c.log_record.ensures.pages pages newest records table commits h)
     (c.force.ensures.changes (stays_honest old mid c.log_record.ensures.goes h.log_holds.ready.blocks.honest))
 
 pub returns-in-Err-force-clause-left : goal.returns-in-Err-force-clause-left
@@ -108,9 +115,9 @@ returns-in-Ok-force-clause-left g c honest =
     (c.force.ensures.changes (stays_honest old mid c.log_record.ensures.goes honest)).left ∙ c.log_record.ensures.left honest
 
 pub returns-in-Err-force-clause-quiet : goal.returns-in-Err-force-clause-quiet
-returns-in-Err-force-clause-quiet g c pages records table commits sizes h quiet other =
+returns-in-Err-force-clause-quiet g c pages newest records table commits sizes h quiet other =
     let state = g.S.Site.state in
-    let m = c.in-Ok.ensures.last pages records table commits sizes h in
+    let m = c.in-Ok.ensures.last pages newest records table commits sizes h in
     elim c.in-Err-force.ensures.stops [
       | inl device ↦ absurd (other Log device)
       | inr worn ↦ subst IsQuiet (ap state (sym (c.force.ensures.unchanged (inr (c.in-Err-force.ensures.worn.0 (ap Err worn)).1)))) (c.in-Ok.ensures.stays_quiet h.log_holds.ready.blocks.honest quiet)
@@ -120,3 +127,43 @@ pub returns-in-Err-force-clause-device : goal.returns-in-Err-force-clause-device
 returns-in-Err-force-clause-device g c is =
     fault_since Log (g.S.Site.state c.args.site.now) (g.S.Site.state c.log_record.new.site) (g.S.Site.state c.force.new.site) c.log_record.ensures.goes
     (let same : c.in-Err-force.stop ≡ Device Log = cc in c.in-Err-force.ensures.device (ap Err same))
+
+pub returns-in-Err-clause-quiet : goal.returns-in-Err-clause-quiet
+returns-in-Err-clause-quiet g c pages newest records table commits sizes h quiet = c.in-Err.ensures.quiet pages newest records table commits h quiet
+
+pub returns-in-Err-clause-worn_log_end : goal.returns-in-Err-clause-worn_log_end
+returns-in-Err-clause-worn_log_end g c pages newest records table commits sizes h worn =
+    let same : c.in-Err.stop ≡ Worn Log = cc in
+    c.in-Err.ensures.worn_log_end pages newest records table commits h (ap Err same)
+
+pub returns-in-Err-force-clause-worn_log_end : goal.returns-in-Err-force-clause-worn_log_end
+returns-in-Err-force-clause-worn_log_end g c pages newest records table commits sizes h is =
+    let mid = g.S.Site.state c.log_record.new.site in
+    let new = g.S.Site.state c.force.new.site in
+    let m = c.in-Ok.ensures.last pages newest records table commits sizes h in
+    let same : c.in-Err-force.stop ≡ Worn Log = cc in
+    let worn = (c.in-Err-force.ensures.worn.0 (ap Err same)).1 in
+    subst (λ (k : Geometry). IsLogWorn k new.image) c.log_record.ensures.geometry
+    (log_at_end c.log_record.new.log mid new m.ready.blocks (ap g.S.Site.state (c.force.ensures.unchanged (inr worn))) worn)
+
+pub returns-in-Ok-force-clause-orderly : goal.returns-in-Ok-force-clause-orderly
+returns-in-Ok-force-clause-orderly g c pages newest records table commits sizes h may =
+    let site = g.S.Site.state c.args.site.now in
+    let mid = g.S.Site.state c.log_record.new.site in
+    let k = pages.flash.geometry in
+    let lsn = c.in-Ok.lsn in
+    ends_orderly c.log_laws.ensures c.orderly_goes_on.ensures.orderly k c.log_record.new.log pages mid newest records table commits (Commit c.args.txn c.args.number) lsn (versions_on k site.image)
+    (c.in-Ok.ensures.last pages newest records table commits sizes h) (c.log_record.ensures.pages pages newest records table commits h).versions
+    (c.commit_laws.ensures.follows (master_of newest) (versions_on k site.image) records lsn c.args.txn c.args.number may.begun)
+
+pub returns-in-Ok-force-clause-masters : goal.returns-in-Ok-force-clause-masters
+returns-in-Ok-force-clause-masters g c pages newest records table commits sizes h =
+    let mid = g.S.Site.state c.log_record.new.site in
+    let new = g.S.Site.state c.force.new.site in
+    let log = c.log_record.new.log in
+    let m = c.in-Ok.ensures.last pages newest records table commits sizes h in
+    let list : LogList = record { first = kept_by newest; blocks = m.blocks; tail = m.front ++ Commit c.args.txn c.args.number ∷ [] } in
+    let first = c.in-Ok.ensures.masters pages newest records table commits h in
+    let second : KeepsUnits master_shape mid.image new.image =
+    c.ring_kept.ensures log.geometry Masters (changes_if (has_tail log) list) mid.image new.image (seals_only (has_tail log) list) (c.in-Ok-force.ensures.reaches list m.ready.blocks m.ready.records) in
+    record { units = second.units ∙ first.units; form = λ form. second.form (first.form form) }

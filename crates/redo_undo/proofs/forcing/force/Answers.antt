@@ -1,39 +1,67 @@
-use Rattle.std.proofs.Common.{◌≡◌, ◌∙◌, true, true≢false, sym}
-use Rattle.log_store.specs.LogList.{LogList}
+use Rattle.std.proofs.Common.{◌≡◌, ◌∙◌, true, true≢false, sym, ap, inr, refl}
+use Rattle.log_store.specs.LogList.{LogList, changes_if}
 use Rattle.log_store.specs.Held.{has_tail}
+use Rattle.image_meaning.specs.Meaning.{kept_by}
+use Rattle.image_changes.specs.Rings.{Masters, KeepsUnits, master_shape}
 use Rattle.redo_undo.specs.Holding.{Holds}
+use Rattle.redo_undo.proofs.Redoings.{ok_one_of}
 use Rattle.redo_undo.proofs.Sames.{nothing_happens}
 use Rattle.redo_undo.proofs.Appended.{append_leaves, found_fits}
-use Rattle.redo_undo.proofs.Forced.{forced_holds, some_now, ok_five}
+use Rattle.redo_undo.proofs.Forced.{forced_holds, some_now, ok_five, quiet_stops, seals_only}
+use Rattle.redo_undo.proofs.WornLogs.{log_at_end}
 use Rattle.redo_undo.proofs.forcing.force.Goals as goal
 
 pub returns-then-tail_empty-clause-any_moment : goal.returns-then-tail_empty-clause-any_moment
-returns-then-tail_empty-clause-any_moment g c pages records table commits going h quiet = nothing_happens c.args.log.now pages (g.S.Site.state c.args.site.now) records table commits going.sizes h quiet
+returns-then-tail_empty-clause-any_moment g c pages newest records table commits going h quiet = nothing_happens c.args.log.now pages (g.S.Site.state c.args.site.now) newest records table commits going.sizes h quiet
 
 pub returns-clause-any_moment : goal.returns-clause-any_moment
-returns-clause-any_moment g c pages records table commits going h quiet =
+returns-clause-any_moment g c pages newest records table commits going h quiet =
     let site = g.S.Site.state c.args.site.now in
     let new = g.S.Site.state c.force.new.site in
     let log = c.args.log.now in
     let ready = h.log_holds.ready in
-    let list : LogList = record { first = 0; blocks = h.log_holds.blocks; tail = h.log_holds.tail } in
+    let list : LogList = record { first = kept_by newest; blocks = h.log_holds.blocks; tail = h.log_holds.tail } in
     let fits = found_fits log site quiet ready.blocks in
-    append_leaves c.log_laws.ensures c.page_laws.ensures c.beside_laws.ensures log pages site records table commits h going.sizes new (has_tail log) quiet
+    append_leaves c.log_laws.ensures c.page_laws.ensures c.beside_laws.ensures log pages site newest records table commits h going.sizes new (has_tail log) quiet
     (c.force.ensures.changes ready.blocks.honest) (c.force.ensures.any_moment list fits ready.records) (c.force.ensures.front list fits ready.records quiet)
     going.pages_going.own (λ some. some)
 
 pub returns-clause-holds : goal.returns-clause-holds
-returns-clause-holds g c pages records table commits sizes h =
+returns-clause-holds g c pages newest records table commits sizes h =
     let site = g.S.Site.state c.args.site.now in
     let new = g.S.Site.state c.force.new.site in
     let log = c.args.log.now in
     let ready = h.log_holds.ready in
-    let list : LogList = record { first = 0; blocks = h.log_holds.blocks; tail = h.log_holds.tail } in
+    let list : LogList = record { first = kept_by newest; blocks = h.log_holds.blocks; tail = h.log_holds.tail } in
     let finds = ready.blocks in
     let changes = c.force.ensures.changes ready.blocks.honest in
     let some : has_tail log ≡ true = some_now log c.requires.going.low (λ two. true≢false (sym (c.tail_empty.ensures.1 two) ∙ c.if-tail_empty.false)) in
-    ok_five c.force.result _ _ _ _ _ (Holds c.force.new.self pages new records table commits)
+    ok_five c.force.result _ _ _ _ _ (Holds c.force.new.self pages new newest records table commits)
     (λ holds finds' reaches next empty.
-    forced_holds c.log_laws.ensures c.page_laws.ensures c.beside_laws.ensures log pages site records table commits h sizes c.force.new.self new some c.requires.going.high
-    (record { next = next; empty = empty; geometry = c.force.ensures.geometry; holds = holds; finds = finds'; reaches = reaches; changes = changes; goes = c.force.ensures.goes }))
+    forced_holds c.log_laws.ensures c.page_laws.ensures c.beside_laws.ensures log pages site newest records table commits h sizes c.force.new.self new some c.requires.going.high
+    (record { next = next; empty = empty; kept = c.force.ensures.kept; geometry = c.force.ensures.geometry; holds = holds; finds = finds'; reaches = reaches; changes = changes; goes = c.force.ensures.goes }))
     (c.force.ensures.holds list finds ready.records) (c.force.ensures.finds finds) (c.force.ensures.reaches list finds ready.records) c.force.ensures.next c.force.ensures.empty
+
+pub returns-clause-quiet : goal.returns-clause-quiet
+returns-clause-quiet g c pages newest records table commits h quiet =
+    quiet_stops c.force.result (g.S.Site.state c.force.new.site) (g.S.Site.state c.args.site.now) quiet
+    (λ is. ap g.S.Site.state (c.force.ensures.unchanged (inr (c.force.ensures.worn.0 is).1))) c.force.ensures.stops
+
+pub returns-clause-worn_log_end : goal.returns-clause-worn_log_end
+returns-clause-worn_log_end g c pages newest records table commits h is =
+    let worn = (c.force.ensures.worn.0 is).1 in
+    log_at_end c.args.log.now (g.S.Site.state c.args.site.now) (g.S.Site.state c.force.new.site) h.log_holds.ready.blocks (ap g.S.Site.state (c.force.ensures.unchanged (inr worn))) worn
+
+pub returns-then-tail_empty-clause-masters : goal.returns-then-tail_empty-clause-masters
+returns-then-tail_empty-clause-masters g c pages newest records table commits h = record { units = refl; form = λ form. form }
+
+pub returns-clause-masters : goal.returns-clause-masters
+returns-clause-masters g c pages newest records table commits h =
+    let site = g.S.Site.state c.args.site.now in
+    let new = g.S.Site.state c.force.new.site in
+    let log = c.args.log.now in
+    let ready = h.log_holds.ready in
+    let list : LogList = record { first = kept_by newest; blocks = h.log_holds.blocks; tail = h.log_holds.tail } in
+    ok_one_of c.force.result _ (KeepsUnits master_shape site.image new.image)
+    (λ reaches. c.ring_kept.ensures log.geometry Masters (changes_if (has_tail log) list) site.image new.image (seals_only (has_tail log) list) reaches)
+    (c.force.ensures.reaches list ready.blocks ready.records)

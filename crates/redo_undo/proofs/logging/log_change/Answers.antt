@@ -1,24 +1,26 @@
-use Rattle.std.proofs.Common.{◌≡◌, ◌∷◌, [], ◌++◌, sym, ap, subst, arith}
+use Rattle.std.proofs.Common.{◌≡◌, ◌∷◌, [], ◌++◌, sym, ap, subst, arith, Err}
 use Rattle.slotted_page.specs.Layout.{lsn_of}
 use Rattle.site.specs.declared.geometry.Geometry.{Geometry}
 use Rattle.page_store.specs.Held.{current}
 use Rattle.flash_cache.specs.declared.cache.FlashCache.{FlashCache}
-use Rattle.redo_undo.specs.Holding.{HoldsIn}
+use Rattle.redo_undo.specs.Holding.{HoldsIn, IsLogWorn}
 use Rattle.redo_undo.proofs.Changed.{holds_on, other_pages, front_exists, front_is_current}
+use Rattle.site.specs.declared.outside.Stop.TheVariants.{Worn}
+use Rattle.site.specs.declared.outside.Dev.TheVariants.{Log}
 use Rattle.redo_undo.proofs.logging.log_change.Goals as goal
 use Rattle.buffer_pool.specs.Frames.{front_of}
 
 pub returns-in-Err-clause-any_moment : goal.returns-in-Err-clause-any_moment
-returns-in-Err-clause-any_moment g c records table commits h = c.log_record.ensures.any_moment c.args.pages.now records table commits c.requires.going h
+returns-in-Err-clause-any_moment g c newest records table commits h = c.log_record.ensures.any_moment c.args.pages.now newest records table commits c.requires.going h
 
 pub returns-then-front_lsn-lsn-clause-any_moment : goal.returns-then-front_lsn-lsn-clause-any_moment
-returns-then-front_lsn-lsn-clause-any_moment g c records table commits h = c.log_record.ensures.any_moment c.args.pages.now records table commits c.requires.going h
+returns-then-front_lsn-lsn-clause-any_moment g c newest records table commits h = c.log_record.ensures.any_moment c.args.pages.now newest records table commits c.requires.going h
 
 pub returns-clause-any_moment : goal.returns-clause-any_moment
-returns-clause-any_moment g c records table commits h = c.log_record.ensures.any_moment c.args.pages.now records table commits c.requires.going h
+returns-clause-any_moment g c newest records table commits h = c.log_record.ensures.any_moment c.args.pages.now newest records table commits c.requires.going h
 
 pub returns-then-front_lsn-lsn-clause-readable : goal.returns-then-front_lsn-lsn-clause-readable
-returns-then-front_lsn-lsn-clause-readable g c records table commits h foreign =
+returns-then-front_lsn-lsn-clause-readable g c newest records table commits h foreign =
     let pages = c.args.pages.now in
     let site = g.S.Site.state c.args.site.now in
     let front = (front_of pages.pool.frames).page in
@@ -28,7 +30,7 @@ returns-then-front_lsn-lsn-clause-readable g c records table commits h foreign =
     omega (arith, below, is, c.front_lsn.ensures, c.if-front_lsn-lsn.true, c.in-Ok.ensures.rises.0)
 
 pub returns-clause-holds : goal.returns-clause-holds
-returns-clause-holds g c records table commits h may =
+returns-clause-holds g c newest records table commits h may =
     let pages = c.args.pages.now in
     let site = g.S.Site.state c.args.site.now in
     let new = g.S.Site.state c.log_record.new.site in
@@ -38,13 +40,27 @@ returns-clause-holds g c records table commits h may =
     let log' = c.log_record.new.log in
     let pages' = c.change_front.new.pages in
     let front = (front_of pages.pool.frames).page in
-    let holds = c.in-Ok.ensures.log_holds pages records table commits c.requires.going.sizes h may in
+    let holds = c.in-Ok.ensures.log_holds pages newest records table commits c.requires.going.sizes h may in
     let is : lsn_of (current pages new.image front) ≡ lsn_of (front_of pages.pool.frames).content = ap lsn_of (front_is_current pages new.image c.requires.there) in
-    subst (λ (x : Geometry). HoldsIn x log' pages' new (records ++ record { lsn = lsn; rec = rec } ∷ []) table commits) (sym (ap (λ (f : FlashCache). f.geometry) c.change_front.ensures.flash))
-    (holds_on c.log_laws.ensures k c.args.log.now log' pages site new records table commits h (c.log_record.ensures.pages pages records table commits h) pages' rec lsn c.requires.on_page.0 front
+    subst (λ (x : Geometry). HoldsIn x log' pages' new newest (records ++ record { lsn = lsn; rec = rec } ∷ []) table commits) (sym (ap (λ (f : FlashCache). f.geometry) c.change_front.ensures.flash))
+    (holds_on c.log_laws.ensures k c.args.log.now log' pages site new newest records table commits h (c.log_record.ensures.pages pages newest records table commits h) pages' rec lsn c.requires.on_page.0 front
     c.requires.on_page.1 c.requires.on_page.2 (omega (arith, is, c.front_lsn.ensures, c.if-front_lsn-lsn.false)) (c.change_front.ensures.redoes new.image c.requires.on_page.0 c.requires.on_page.1)
     (c.change_front.ensures.others new.image) c.in-Ok.ensures.rises.0 c.in-Ok.ensures.rises.1
-    (other_pages k log' pages pages' new (records ++ record { lsn = lsn; rec = rec } ∷ []) table commits (c.change_front.ensures.fit new holds.ready.pages) (c.change_front.ensures.ahead log' new.image holds.ahead c.in-Ok.ensures.forced) holds))
+    (other_pages k log' pages pages' new newest (records ++ record { lsn = lsn; rec = rec } ∷ []) table commits (c.change_front.ensures.fit new holds.ready.pages) (c.change_front.ensures.ahead log' new.image holds.ahead c.in-Ok.ensures.forced) holds))
 
 pub returns-then-front_lsn-lsn-clause-quiet : goal.returns-then-front_lsn-lsn-clause-quiet
-returns-then-front_lsn-lsn-clause-quiet g c records table commits h quiet other = c.in-Ok.ensures.stays_quiet h.log_holds.ready.blocks.honest quiet
+returns-then-front_lsn-lsn-clause-quiet g c newest records table commits h quiet other = c.in-Ok.ensures.stays_quiet h.log_holds.ready.blocks.honest quiet
+
+pub returns-in-Err-clause-quiet : goal.returns-in-Err-clause-quiet
+returns-in-Err-clause-quiet g c newest records table commits h quiet = c.in-Err.ensures.quiet c.args.pages.now newest records table commits h quiet
+
+pub returns-in-Err-clause-worn_log_end : goal.returns-in-Err-clause-worn_log_end
+returns-in-Err-clause-worn_log_end g c newest records table commits h worn =
+    let same : c.in-Err.stop ≡ Worn Log = cc in
+    subst (λ (k : Geometry). IsLogWorn k (g.S.Site.state c.log_record.new.site).image) c.requires.going.sizes (c.in-Err.ensures.worn_log_end c.args.pages.now newest records table commits h (ap Err same))
+
+pub returns-clause-orderly : goal.returns-clause-orderly
+returns-clause-orderly g c newest records table commits h = c.in-Ok.ensures.orderly c.args.pages.now newest records table commits c.requires.going.sizes h
+
+pub returns-clause-masters : goal.returns-clause-masters
+returns-clause-masters g c newest records table commits h = c.in-Ok.ensures.masters c.args.pages.now newest records table commits h

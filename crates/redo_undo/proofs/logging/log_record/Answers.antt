@@ -1,26 +1,47 @@
-use Rattle.std.proofs.Common.{◌≡◌, ◌≤◌, ◌<◌, Bool, ◌∷◌, [], ◌++◌}
+use Rattle.std.proofs.Common.{◌≡◌, ◌≤◌, ◌<◌, ◌+◌, ◌*◌, ℕ, Bool, true, false, ◌∷◌, [], ◌++◌, ap, inr, arith}
+use Rattle.std.specs.Prelude.{Result, Ok, Err, IfOk, OnOk, if◌then◌else◌}
+use Rattle.log_records.specs.declared.log_record.LogRecord.{LogRecord}
+use Rattle.log_store.specs.declared.store.LogStore.{LogStore}
+use Rattle.log_records.specs.Sound.{AreOrderly}
+use Rattle.image_meaning.specs.Meaning.{versions_on}
+use Rattle.redo_undo.proofs.Forced.{quiet_stops, seals_only}
+use Rattle.redo_undo.proofs.Orderlies.{ends_orderly}
 use Rattle.log_store.specs.Held.{overflows, next_lsn, end_of}
-use Rattle.log_store.specs.LogList.{LogList}
+use Rattle.log_store.specs.LogList.{LogList, changes_if}
 use Rattle.page_store.specs.Ahead.{end_forced}
+use Rattle.image_meaning.specs.Meaning.{kept_by}
 use Rattle.redo_undo.specs.Holding.{MayGrow, HoldsLog, Holds}
-use Rattle.redo_undo.proofs.Appended.{found_fits, has_now, before_end, appended, ends_with, append_leaves, rings_now, sealed_now, versions_same, current_same, if_ok_six, if_ok_two, if_ok_three, ok_two}
+use Rattle.redo_undo.proofs.Appended.{found_fits, has_now, before_end, appended, ends_with, append_leaves, rings_now, sealed_now, versions_same, current_same, if_ok_six, if_ok_one, if_ok_two, if_ok_three, ok_two}
 use Rattle.redo_undo.specs.Committing.{EndsWith}
 use Rattle.redo_undo.proofs.Changed.{holds_off}
+use Rattle.image_changes.specs.Rings.{Masters, KeepsUnits, master_shape}
+use Rattle.redo_undo.proofs.Redoings.{ok_one_of}
+use Rattle.redo_undo.proofs.WornLogs.{log_at_end}
 use Rattle.redo_undo.proofs.logging.log_record.Goals as goal
 
+pub returns-clause-quiet : goal.returns-clause-quiet
+returns-clause-quiet g c pages newest records table commits h quiet =
+    quiet_stops c.append.result (g.S.Site.state c.append.new.site) (g.S.Site.state c.args.site.now) quiet
+    (λ is. ap g.S.Site.state (c.append.ensures.unchanged (inr (c.append.ensures.worn.0 is).1))) c.append.ensures.stops
+
+pub returns-clause-worn_log_end : goal.returns-clause-worn_log_end
+returns-clause-worn_log_end g c pages newest records table commits h is =
+    let worn = (c.append.ensures.worn.0 is).1 in
+    log_at_end c.args.log.now (g.S.Site.state c.args.site.now) (g.S.Site.state c.append.new.site) h.log_holds.ready.blocks (ap g.S.Site.state (c.append.ensures.unchanged (inr worn))) worn
+
 pub returns-clause-any_moment : goal.returns-clause-any_moment
-returns-clause-any_moment g c pages records table commits going h quiet =
+returns-clause-any_moment g c pages newest records table commits going h quiet =
     let site = g.S.Site.state c.args.site.now in
     let new = g.S.Site.state c.append.new.site in
     let log = c.args.log.now in
     let ready = h.log_holds.ready in
-    let list : LogList = record { first = 0; blocks = h.log_holds.blocks; tail = h.log_holds.tail } in
-    append_leaves c.log_laws.ensures c.page_laws.ensures c.beside_laws.ensures log pages site records table commits h going.sizes new (overflows log c.args.rec.now) quiet
+    let list : LogList = record { first = kept_by newest; blocks = h.log_holds.blocks; tail = h.log_holds.tail } in
+    append_leaves c.log_laws.ensures c.page_laws.ensures c.beside_laws.ensures log pages site newest records table commits h going.sizes new (overflows log c.args.rec.now) quiet
     (c.append.ensures.changes ready.blocks.honest) (c.append.ensures.any_moment list (found_fits log site quiet ready.blocks) ready.records) (c.append.ensures.front list (found_fits log site quiet ready.blocks) ready.records quiet)
     going.pages_going.own (c.beside_laws.ensures.full log c.args.rec.now c.requires.form)
 
 pub returns-clause-pages : goal.returns-clause-pages
-returns-clause-pages g c pages records table commits h =
+returns-clause-pages g c pages newest records table commits h =
     let site = g.S.Site.state c.args.site.now in
     let new = g.S.Site.state c.append.new.site in
     let changes = c.append.ensures.changes h.log_holds.ready.blocks.honest in
@@ -30,25 +51,26 @@ returns-clause-pages g c pages records table commits h =
     }
 
 pub returns-clause-log_holds : goal.returns-clause-log_holds
-returns-clause-log_holds g c pages records table commits sizes h =
+returns-clause-log_holds g c pages newest records table commits sizes h =
     let site = g.S.Site.state c.args.site.now in
     let new = g.S.Site.state c.append.new.site in
     let log = c.args.log.now in
     let rec = c.args.rec.now in
     let ready = h.log_holds.ready in
-    let list : LogList = record { first = 0; blocks = h.log_holds.blocks; tail = h.log_holds.tail } in
+    let list : LogList = record { first = kept_by newest; blocks = h.log_holds.blocks; tail = h.log_holds.tail } in
     let sealing : Bool = overflows log rec in
     let k = pages.flash.geometry in
     let finds = ready.blocks in
     let changes = c.append.ensures.changes ready.blocks.honest in
     if_ok_six c.append.result _ _ _ _ (λ lsn. lsn ≡ next_lsn log rec) (λ lsn. (end_of log ≤ lsn) × (lsn < end_of c.append.new.self))
-    (λ lsn. MayGrow log pages site.image records (record { lsn = lsn; rec = rec }) → HoldsLog k c.append.new.self pages new (records ++ record { lsn = lsn; rec = rec } ∷ []) table commits)
+    (λ lsn. MayGrow log pages site.image newest records (record { lsn = lsn; rec = rec }) → HoldsLog k c.append.new.self pages new newest (records ++ record { lsn = lsn; rec = rec } ∷ []) table commits)
     (λ lsn holds finds' reaches next lsn_is rises may.
-    appended c.log_laws.ensures c.page_laws.ensures c.beside_laws.ensures log pages site records table commits h sizes c.append.new.self new rec lsn
-    (rings_now c.log_laws.ensures c.page_laws.ensures c.beside_laws.ensures log pages site records table commits h sizes new sealing reaches)
-    (sealed_now c.log_laws.ensures c.page_laws.ensures c.beside_laws.ensures log pages site records table commits h sizes new sealing c.append.new.self changes c.append.ensures.geometry finds' c.append.ensures.at_most_one.0)
+    appended c.log_laws.ensures c.page_laws.ensures c.beside_laws.ensures log pages site newest records table commits h sizes c.append.new.self new rec lsn
+    (rings_now c.log_laws.ensures c.page_laws.ensures c.beside_laws.ensures log pages site newest records table commits h sizes new sealing reaches)
+    (sealed_now c.log_laws.ensures c.page_laws.ensures c.beside_laws.ensures log pages site newest records table commits h sizes new sealing c.append.new.self changes c.append.ensures.geometry finds' c.append.ensures.at_most_one.0)
     may sealing (c.beside_laws.ensures.full log rec c.requires.form) (record {
       numbers = record { lsn_is = lsn_is; next = next; below = rises.1; low = c.requires.going.low; high = c.append.ensures.going.high };
+      kept = c.append.ensures.kept;
       holds = holds;
       finds = finds';
       changes = changes;
@@ -57,18 +79,18 @@ returns-clause-log_holds g c pages records table commits sizes h =
     (c.append.ensures.holds list finds ready.records) (c.append.ensures.finds finds) (c.append.ensures.reaches list finds ready.records) c.append.ensures.next c.append.ensures.lsn c.append.ensures.rises
 
 pub returns-clause-holds : goal.returns-clause-holds
-returns-clause-holds g c pages records table commits sizes h none =
+returns-clause-holds g c pages newest records table commits sizes h none =
     let site = g.S.Site.state c.args.site.now in
     let new = g.S.Site.state c.append.new.site in
     let log = c.args.log.now in
     let rec = c.args.rec.now in
     let k = pages.flash.geometry in
     if_ok_two c.append.result
-    (λ lsn. MayGrow log pages site.image records (record { lsn = lsn; rec = rec }) → HoldsLog k c.append.new.self pages new (records ++ record { lsn = lsn; rec = rec } ∷ []) table commits)
+    (λ lsn. MayGrow log pages site.image newest records (record { lsn = lsn; rec = rec }) → HoldsLog k c.append.new.self pages new newest (records ++ record { lsn = lsn; rec = rec } ∷ []) table commits)
     (λ lsn. (end_of log ≤ lsn) × (lsn < end_of c.append.new.self))
-    (λ lsn. MayGrow log pages site.image records (record { lsn = lsn; rec = rec }) → Holds c.append.new.self pages new (records ++ record { lsn = lsn; rec = rec } ∷ []) table commits)
-    (λ lsn holds rises may. holds_off c.log_laws.ensures k log c.append.new.self pages site new records table commits h (returns-clause-pages g c pages records table commits h) rec lsn none rises.0 rises.1 (holds may))
-    (returns-clause-log_holds g c pages records table commits sizes h) c.append.ensures.rises
+    (λ lsn. MayGrow log pages site.image newest records (record { lsn = lsn; rec = rec }) → Holds c.append.new.self pages new newest (records ++ record { lsn = lsn; rec = rec } ∷ []) table commits)
+    (λ lsn holds rises may. holds_off c.log_laws.ensures k log c.append.new.self pages site new newest records table commits h (returns-clause-pages g c pages newest records table commits h) rec lsn none rises.0 rises.1 (holds may))
+    (returns-clause-log_holds g c pages newest records table commits sizes h) c.append.ensures.rises
 
 pub returns-clause-forced : goal.returns-clause-forced
 returns-clause-forced g c =
@@ -79,26 +101,27 @@ returns-clause-forced g c =
     c.append.ensures.next c.append.ensures.lsn c.append.ensures.rises
 
 pub returns-clause-last : goal.returns-clause-last
-returns-clause-last g c pages records table commits sizes h =
+returns-clause-last g c pages newest records table commits sizes h =
     let site = g.S.Site.state c.args.site.now in
     let new = g.S.Site.state c.append.new.site in
     let log = c.args.log.now in
     let rec = c.args.rec.now in
     let ready = h.log_holds.ready in
-    let list : LogList = record { first = 0; blocks = h.log_holds.blocks; tail = h.log_holds.tail } in
+    let list : LogList = record { first = kept_by newest; blocks = h.log_holds.blocks; tail = h.log_holds.tail } in
     let sealing : Bool = overflows log rec in
     let k = pages.flash.geometry in
     let finds = ready.blocks in
     let changes = c.append.ensures.changes ready.blocks.honest in
     if_ok_six c.append.result _ _ _ _ (λ lsn. lsn ≡ next_lsn log rec) (λ lsn. (end_of log ≤ lsn) × (lsn < end_of c.append.new.self))
-    (λ lsn. EndsWith k c.append.new.self pages new records table commits (record { lsn = lsn; rec = rec }))
+    (λ lsn. EndsWith k c.append.new.self pages new newest records table commits (record { lsn = lsn; rec = rec }))
     (λ lsn holds finds' reaches next lsn_is rises.
-    ends_with c.log_laws.ensures c.page_laws.ensures c.beside_laws.ensures log pages site records table commits h sizes c.append.new.self new rec lsn
-    (rings_now c.log_laws.ensures c.page_laws.ensures c.beside_laws.ensures log pages site records table commits h sizes new sealing reaches)
-    (sealed_now c.log_laws.ensures c.page_laws.ensures c.beside_laws.ensures log pages site records table commits h sizes new sealing c.append.new.self changes c.append.ensures.geometry finds' c.append.ensures.at_most_one.0)
-    (returns-clause-pages g c pages records table commits h) rises.0
+    ends_with c.log_laws.ensures c.page_laws.ensures c.beside_laws.ensures log pages site newest records table commits h sizes c.append.new.self new rec lsn
+    (rings_now c.log_laws.ensures c.page_laws.ensures c.beside_laws.ensures log pages site newest records table commits h sizes new sealing reaches)
+    (sealed_now c.log_laws.ensures c.page_laws.ensures c.beside_laws.ensures log pages site newest records table commits h sizes new sealing c.append.new.self changes c.append.ensures.geometry finds' c.append.ensures.at_most_one.0)
+    (returns-clause-pages g c pages newest records table commits h) rises.0
     sealing (c.beside_laws.ensures.full log rec c.requires.form) (record {
       numbers = record { lsn_is = lsn_is; next = next; below = rises.1; low = c.requires.going.low; high = c.append.ensures.going.high };
+      kept = c.append.ensures.kept;
       holds = holds;
       finds = finds';
       changes = changes;
@@ -113,3 +136,39 @@ returns-clause-some g c =
     (λ lsn next lsn_is rises. has_now log c.append.new.self lsn (overflows log c.args.rec.now)
     (record { lsn_is = lsn_is; next = next; below = rises.1; low = c.requires.going.low; high = c.append.ensures.going.high }))
     c.append.ensures.next c.append.ensures.lsn c.append.ensures.rises
+
+pub returns-clause-orderly : goal.returns-clause-orderly
+returns-clause-orderly g c pages newest records table commits sizes h =
+    let site = g.S.Site.state c.args.site.now in
+    let new = g.S.Site.state c.append.new.site in
+    let log = c.args.log.now in
+    let rec = c.args.rec.now in
+    let k = pages.flash.geometry in
+    if_ok_one c.append.result (λ lsn. EndsWith k c.append.new.self pages new newest records table commits (record { lsn = lsn; rec = rec }))
+    (λ lsn. MayGrow log pages site.image newest records (record { lsn = lsn; rec = rec }) → AreOrderly records → AreOrderly (records ++ record { lsn = lsn; rec = rec } ∷ []))
+    (λ lsn ends may. ends_orderly c.log_laws.ensures c.orderly_goes_on.ensures.orderly k c.append.new.self pages new newest records table commits rec lsn (versions_on k site.image) ends
+    (returns-clause-pages g c pages newest records table commits h).versions may.follows)
+    (returns-clause-last g c pages newest records table commits sizes h)
+
+-- a record goes into the block that is sealed next
+in_last_block : {E : Type 0} (r : Result ℕ E) (old new : LogStore) (rec : LogRecord) → IfOk r (λ lsn. lsn ≡ next_lsn old rec) → OnOk r (new.ring.hi ≡ (if overflows old rec then old.ring.hi + 1 else old.ring.hi)) → IfOk r (λ lsn. 512 * new.ring.hi ≤ lsn)
+in_last_block (Err e) old new rec at next = tt
+in_last_block (Ok lsn) old new rec at next = by (overflows old rec) at next
+  where
+    by : (b : Bool) → lsn ≡ (if b then 512 * (old.ring.hi + 1) + 2 else end_of old) → new.ring.hi ≡ (if b then old.ring.hi + 1 else old.ring.hi) → 512 * new.ring.hi ≤ lsn
+    by true at next = omega (arith, at, next)
+    by false at next = omega (arith, at, next)
+
+pub returns-clause-last_block : goal.returns-clause-last_block
+returns-clause-last_block g c = in_last_block c.append.result c.args.log.now c.append.new.self c.args.rec.now c.append.ensures.lsn c.append.ensures.next
+
+pub returns-clause-masters : goal.returns-clause-masters
+returns-clause-masters g c pages newest records table commits h =
+    let site = g.S.Site.state c.args.site.now in
+    let new = g.S.Site.state c.append.new.site in
+    let log = c.args.log.now in
+    let ready = h.log_holds.ready in
+    let list : LogList = record { first = kept_by newest; blocks = h.log_holds.blocks; tail = h.log_holds.tail } in
+    let sealing : Bool = overflows log c.args.rec.now in
+    ok_one_of c.append.result _ (KeepsUnits master_shape site.image new.image)
+    (λ reaches. c.ring_kept.ensures log.geometry Masters (changes_if sealing list) site.image new.image (seals_only sealing list) reaches) (c.append.ensures.reaches list ready.blocks ready.records)

@@ -1,50 +1,56 @@
-use Rattle.std.proofs.Common.{◌≤◌, Bool, arith, sym, subst, ◌∙◌}
+use Rattle.std.proofs.Common.{◌≤◌, Bool, arith, sym, subst, ◌∙◌, inl}
 use Rattle.site.specs.declared.geometry.Geometry.{Geometry}
 use Rattle.page_store.specs.Ahead.{forces, pushed_by_touch}
 use Rattle.log_store.specs.LogList.{LogList}
+use Rattle.image_meaning.specs.Meaning.{kept_by}
 use Rattle.redo_undo.specs.Holding.{HoldsIn, Holds}
 use Rattle.redo_undo.proofs.Touched.{forced_tail, leaves_table, touched_holds, ok_seven}
 use Rattle.second_chance.specs.Machine.{rules_of}
 use Rattle.page_store.specs.Caching.{cache_of, rules}
 use Rattle.redo_undo.proofs.Asking.{touch_overflows, touch_reads}
+use Rattle.image_changes.specs.Rings.{Masters, KeepsUnits, master_shape}
+use Rattle.redo_undo.proofs.Redoings.{ok_one_of}
 use Rattle.redo_undo.proofs.logging.touch.Goals as goal
 
 pub returns-clause-any_moment : goal.returns-clause-any_moment
-returns-clause-any_moment g c records table commits h quiet =
+returns-clause-any_moment g c newest records table commits h quiet =
     let site = g.S.Site.state c.args.site.now in
     let log = c.args.log.now in
     let pages = c.args.pages.now in
     let ready = h.log_holds.ready in
-    let list : LogList = record { first = 0; blocks = h.log_holds.blocks; tail = h.log_holds.tail } in
-    leaves_table c.log_laws.ensures c.page_laws.ensures log pages site records table commits h c.requires.going.pages_going.own (forces log (pushed_by_touch pages c.args.page))
+    let list : LogList = record { first = kept_by newest; blocks = h.log_holds.blocks; tail = h.log_holds.tail } in
+    leaves_table c.log_laws.ensures c.page_laws.ensures log pages site newest records table commits h c.requires.going.pages_going.own (forces log (pushed_by_touch pages c.args.page))
     (forced_tail log (pushed_by_touch pages c.args.page)) (g.S.Site.state c.touch.new.site)
-    (c.touch.ensures.any_moment list ready quiet) (c.touch.ensures.ahead_moment list ready quiet h.log_holds.ahead) (c.touch.ensures.rings_moment list ready quiet h.log_holds.rings)
+    (c.touch.ensures.any_moment list ready quiet) (c.touch.ensures.ahead_moment list ready quiet h.log_holds.ahead) (c.touch.ensures.rings_moment newest list ready quiet h.log_holds.rings)
 
 pub returns-clause-holds : goal.returns-clause-holds
-returns-clause-holds g c records table commits h =
+returns-clause-holds g c newest records table commits h =
     let site = g.S.Site.state c.args.site.now in
     let new = g.S.Site.state c.touch.new.site in
     let log = c.args.log.now in
     let pages = c.args.pages.now in
     let ready = h.log_holds.ready in
-    let list : LogList = record { first = 0; blocks = h.log_holds.blocks; tail = h.log_holds.tail } in
+    let list : LogList = record { first = kept_by newest; blocks = h.log_holds.blocks; tail = h.log_holds.tail } in
     let sealing : Bool = forces log (pushed_by_touch pages c.args.page) in
     let k = pages.flash.geometry in
-    ok_seven c.touch.result _ _ _ _ _ _ _ (Holds c.touch.new.log c.touch.new.self new records table commits)
-    (λ ready' kept are_ahead end are_sealed rings leaves. subst (λ (x : Geometry). HoldsIn x c.touch.new.log c.touch.new.self new records table commits) (sym c.touch.ensures.geometry)
-    (touched_holds c.log_laws.ensures c.page_laws.ensures log pages site records table commits h c.touch.new.log c.touch.new.self new (c.touch.ensures.log_geometry ∙ c.requires.going.sizes) kept are_ahead end
+    ok_seven c.touch.result _ _ _ _ _ _ _ (Holds c.touch.new.log c.touch.new.self new newest records table commits)
+    (λ ready' kept are_ahead end are_sealed rings leaves. subst (λ (x : Geometry). HoldsIn x c.touch.new.log c.touch.new.self new newest records table commits) (sym c.touch.ensures.geometry)
+    (touched_holds c.log_laws.ensures c.page_laws.ensures log pages site newest records table commits h c.touch.new.log c.touch.new.self new (c.touch.ensures.log_geometry ∙ c.requires.going.sizes) c.touch.ensures.kept kept are_ahead end
     are_sealed rings c.requires.going.log_going.high sealing (forced_tail log (pushed_by_touch pages c.args.page)) ready' leaves))
     (c.touch.ensures.ready list ready) (c.touch.ensures.current list ready) (c.touch.ensures.ahead list ready h.log_holds.ahead) c.touch.ensures.end
-    (c.touch.ensures.sealed list ready h.log_holds.ahead) (c.touch.ensures.rings list ready h.log_holds.rings) (c.touch.ensures.leaves list ready)
+    (c.touch.ensures.sealed list ready h.log_holds.ahead) (c.touch.ensures.rings newest list ready h.log_holds.rings) (c.touch.ensures.leaves list ready)
 
 pub returns-clause-readable : goal.returns-clause-readable
-returns-clause-readable g c records table commits h is = c.touch.ensures.foreign is (record { first = 0; blocks = h.log_holds.blocks; tail = h.log_holds.tail }) h.log_holds.ready
+returns-clause-readable g c newest records table commits h is = c.touch.ensures.foreign is (record { first = kept_by newest; blocks = h.log_holds.blocks; tail = h.log_holds.tail }) h.log_holds.ready
 
 pub returns-clause-quiet : goal.returns-clause-quiet
-returns-clause-quiet g c records table commits h quiet = c.touch.ensures.quiet (record { first = 0; blocks = h.log_holds.blocks; tail = h.log_holds.tail }) h.log_holds.ready quiet
+returns-clause-quiet g c newest records table commits h quiet = c.touch.ensures.quiet (record { first = kept_by newest; blocks = h.log_holds.blocks; tail = h.log_holds.tail }) h.log_holds.ready quiet
 
 pub returns-clause-worn_end : goal.returns-clause-worn_end
-returns-clause-worn_end g c records table commits h = c.touch.ensures.worn_end (record { first = 0; blocks = h.log_holds.blocks; tail = h.log_holds.tail }) h.log_holds.ready
+returns-clause-worn_end g c newest records table commits h = c.touch.ensures.worn_end (record { first = kept_by newest; blocks = h.log_holds.blocks; tail = h.log_holds.tail }) h.log_holds.ready
+
+pub returns-clause-worn_log_end : goal.returns-clause-worn_log_end
+returns-clause-worn_log_end g c newest records table commits h worn = inl (c.touch.ensures.worn_log_end (record { first = kept_by newest; blocks = h.log_holds.blocks; tail = h.log_holds.tail }) h.log_holds.ready worn)
 
 pub returns-clause-asks : goal.returns-clause-asks
 returns-clause-asks g c =
@@ -57,3 +63,9 @@ returns-clause-asks g c =
       reads = touch_reads (rules pages) c.args.page (cache_of pages) (g.S.Site.state c.args.site.now) (g.S.Site.state c.touch.new.site) some c.touch.ensures.flash_reads c.touch.ensures.disk_reads;
       rules_are = (λ i. rules_of (c.touch.ensures.size i) (c.touch.ensures.geometry i).groups);
     }
+
+pub returns-clause-masters : goal.returns-clause-masters
+returns-clause-masters g c newest records table commits h =
+    let ready = h.log_holds.ready in
+    ok_one_of c.touch.result _ (KeepsUnits master_shape (g.S.Site.state c.args.site.now).image (g.S.Site.state c.touch.new.site).image)
+    (λ leaves. leaves.rings Masters (λ same. cc) (λ same. cc)) (c.touch.ensures.leaves (record { first = kept_by newest; blocks = h.log_holds.blocks; tail = h.log_holds.tail }) ready)

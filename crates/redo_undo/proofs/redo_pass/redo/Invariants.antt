@@ -1,18 +1,19 @@
 use Rattle.std.proofs.Common.{IsTrue, ◌≡◌, ◌+◌, ◌-◌, ◌*◌, ◌≤◌, ℕ, List, length, take}
-use Rattle.std.specs.Prelude.{⊤, Ok}
+use Rattle.std.specs.Prelude.{⊤, Ok, Option}
 use Rattle.site.specs.State.{IsQuiet}
 use Rattle.site.specs.Calls.{Goes}
 use Rattle.record_model.specs.State.{Content}
 use Rattle.log_records.specs.declared.log_record.LogRecord.{LogRecord}
 use Rattle.log_records.specs.Log.{log_from}
-use Rattle.checkpoint.specs.Newest.{blank}
 use Rattle.analysis.specs.Open.{owed_for}
 use Rattle.analysis.specs.Table.{listed}
 use Rattle.analysis.specs.Read as read
 use Rattle.redo_undo.specs.Holding.{MayGoOn, blocks_to}
-use Rattle.redo_undo.specs.Redoing.{IsOpened, touches_of}
+use Rattle.redo_undo.specs.Redoing.{IsOpened, asked_of}
 use Rattle.redo_undo.specs.Works.{Asks}
 use Rattle.redo_undo.proofs.TakenRecords.{IsUpTo}
+use Rattle.image_meaning.specs.Meaning.{kept_by, saved_by}
+use Rattle.checkpoint.specs.declared.master.Master.{Master}
 use Rattle.redo_undo.proofs.redo_pass.redo.Given as goal
 
 abbrev pub invariant-loop-block : goal.invariant-loop-block
@@ -36,8 +37,8 @@ invariant-loop-block g l =
       left : IsTrue old.honest → now.left ≡ old.left;
       stays_quiet : IsTrue old.honest → IsQuiet old → IsQuiet now;
       log_reads : now.log_reads ≤ old.log_reads + (l.block - l.fn.log.kept);
-      up_to : (blocks : List (List LogRecord)) (table : List Content) (commits : ℕ) → l.master ≡ blank → IsOpened l.fn.pages.flash.geometry l.fn.log l.fn.pages old blocks table commits →
-          IsUpTo (record { sizes = l.fn.pages.flash.geometry; image = old.image; blocks = blocks; table = table; commits = commits }) l.log l.pages old now l.so_far l.block;
-      asked : (blocks : List (List LogRecord)) (table : List Content) (commits : ℕ) → l.master ≡ blank → IsOpened l.fn.pages.flash.geometry l.fn.log l.fn.pages old blocks table commits →
-          Asks {T = ⊤} (Ok tt) (touches_of (record { sizes = l.fn.pages.flash.geometry; image = old.image; blocks = blocks; table = table; commits = commits }) (log_from 0 (take l.block blocks))) l.fn.pages l.pages old now;
+      up_to : (newest : Option Master) (blocks : List (List LogRecord)) (table : List Content) (commits : ℕ) → l.master ≡ saved_by newest → IsOpened l.fn.pages.flash.geometry l.fn.log l.fn.pages old newest blocks table commits →
+          IsUpTo (record { sizes = l.fn.pages.flash.geometry; image = old.image; newest = newest; blocks = blocks; table = table; commits = commits }) l.log l.pages old now l.so_far l.block;
+      asked : (newest : Option Master) (blocks : List (List LogRecord)) (table : List Content) (commits : ℕ) → l.master ≡ saved_by newest → IsOpened l.fn.pages.flash.geometry l.fn.log l.fn.pages old newest blocks table commits →
+          Asks {T = ⊤} (Ok tt) (asked_of (record { sizes = l.fn.pages.flash.geometry; image = old.image; newest = newest; blocks = blocks; table = table; commits = commits }) (log_from (kept_by newest) (take (l.block - kept_by newest) blocks))) l.fn.pages l.pages old now;
     }

@@ -71,6 +71,9 @@ returns-in-Err-clause-quiet g c o front h quiet = c.in-Err.ensures.quiet o front
 pub returns-in-Err-clause-worn_end : goal.returns-in-Err-clause-worn_end
 returns-in-Err-clause-worn_end g c o front h = c.in-Err.ensures.worn_end o front h
 
+pub returns-in-Err-clause-worn_log_end : goal.returns-in-Err-clause-worn_log_end
+returns-in-Err-clause-worn_log_end g c o front h = c.in-Err.ensures.worn_log_end o front h
+
 pub returns-in_default-clause-asks : goal.returns-in_default-clause-asks
 returns-in_default-clause-asks g c o front rest h is =
     asks_no_page _ o (record { lsn = c.args.lsn; rec = c.args.rec.now }) c.args.pages.now (g.S.Site.state c.args.site.now) c.in_default.ensures.none

@@ -31,29 +31,29 @@ loop-at-init g c =
       left = λ honest. refl;
       stays_quiet = λ honest quiet. quiet;
       log_reads = refl;
-      part = λ o front rest records blank h block used is. part_begins c.page_laws.ensures c.redo_laws.ensures o c.args.log.now c.args.pages.now (g.S.Site.state c.args.site.now) c.args.so_far.now front
+      part = λ o front rest records own h block used is. part_begins c.page_laws.ensures c.redo_laws.ensures o c.args.log.now c.args.pages.now (g.S.Site.state c.args.site.now) c.args.so_far.now front
           c.args.block c.args.content.now c.args.used records c.requires.going.sizes h block used;
     }
 
 pub returns-in_default-clause-any_moment : goal.returns-in_default-clause-any_moment
-returns-in_default-clause-any_moment g c o front rest records blank h block used is quiet = (c.loop-at.invariant.part o front rest records blank h block used is).moments quiet
+returns-in_default-clause-any_moment g c o front rest records own h block used is quiet = (c.loop-at.invariant.part o front rest records own h block used is).moments quiet
 
 pub returns-in_default-clause-readable : goal.returns-in_default-clause-readable
-returns-in_default-clause-readable g c o front rest records blank h block used is = λ same.
-    let a = c.loop-at.invariant.part o front rest records blank h block used is in
+returns-in_default-clause-readable g c o front rest records own h block used is = λ same.
+    let a = c.loop-at.invariant.part o front rest records own h block used is in
     none_there c.read_again.ensures.only c.args.block c.args.content.now c.args.used c.loop-at.at records a.done a.past c.loop-at-test.true c.in_default.ensures.bad
 
 pub returns-in-Err-clause-any_moment : goal.returns-in-Err-clause-any_moment
-returns-in-Err-clause-any_moment g c o front rest records blank h block used is quiet =
-    let a = c.loop-at.invariant.part o front rest records blank h block used is in
+returns-in-Err-clause-any_moment g c o front rest records own h block used is quiet =
+    let a = c.loop-at.invariant.part o front rest records own h block used is in
     and_opened o (g.S.Site.state c.args.site.now) (g.S.Site.state c.loop-at.site) (g.S.Site.state c.take_record.new.site) (a.moments quiet)
     (c.take_record.ensures.any_moment o (front ++ a.done) a.taken (c.loop-at.invariant.stays_quiet h.pages_are.ready.blocks.honest quiet))
 
 pub returns-in-Err-clause-readable : goal.returns-in-Err-clause-readable
-returns-in-Err-clause-readable g c o front rest records blank h block used is = λ same.
-    let a = c.loop-at.invariant.part o front rest records blank h block used is in
+returns-in-Err-clause-readable g c o front rest records own h block used is = λ same.
+    let a = c.loop-at.invariant.part o front rest records own h block used is in
     let next = next_of_log c.read_again.ensures.only c.args.block c.args.content.now c.args.used c.loop-at.at records a.done a.past front c.in-Ok.rec c.in-Ok.end _ rest c.loop-at-test.true c.in-Ok.ensures.found is in
-    c.in-Err.ensures.readable o (front ++ a.done) next.0 blank a.taken next.1 same
+    c.in-Err.ensures.readable o (front ++ a.done) next.0 own a.taken next.1 same
 
 pub loop-at-smaller : goal.loop-at-smaller
 loop-at-smaller g c =
@@ -98,28 +98,28 @@ loop-at-preserved g c =
       left = λ honest. t.left (stays_honest old mid i.goes honest) ∙ i.left honest;
       stays_quiet = λ honest quiet. t.stays_quiet (stays_honest old mid i.goes honest) (i.stays_quiet honest quiet);
       log_reads = t.log_reads ∙ i.log_reads;
-      part = λ o front rest records blank h block used is.
-          let a = i.part o front rest records blank h block used is in
+      part = λ o front rest records own h block used is.
+          let a = i.part o front rest records own h block used is in
           let e : Entry = record { lsn = 512 * c.args.block + c.loop-at.at; rec = c.in-Ok.rec } in
           let next = next_of_log c.read_again.ensures.only c.args.block c.args.content.now c.args.used c.loop-at.at records a.done a.past front c.in-Ok.rec c.in-Ok.end _ rest before found is in
           record {
             done = a.done ++ e ∷ [];
             past = past_one c.read_again.ensures.only c.args.block c.args.content.now c.args.used c.loop-at.at records a.done a.past c.in-Ok.rec c.in-Ok.end before found;
             taken = subst (HasTaken o c.take_record.new.log c.take_record.new.pages new c.take_record.new.so_far) (append_assoc front a.done (e ∷ []))
-                (t.taken o (front ++ a.done) next.0 blank a.taken next.1);
+                (t.taken o (front ++ a.done) next.0 own a.taken next.1);
             moments = λ quiet. and_opened o old mid new (a.moments quiet) (t.any_moment o (front ++ a.done) a.taken (i.stays_quiet h.pages_are.ready.blocks.honest quiet));
-            asked = asks_more o c.args.pages.now c.loop-at.pages c.take_record.new.pages old mid new a.done a.asked _ (e ∷ []) (a.done ++ e ∷ []) refl (t.asks o (front ++ a.done) next.0 blank a.taken next.1);
+            asked = asks_more o c.args.pages.now c.loop-at.pages c.take_record.new.pages old mid new a.done a.asked _ (e ∷ []) (a.done ++ e ∷ []) refl (t.asks o (front ++ a.done) next.0 own a.taken next.1);
           };
     }
 
 pub returns-clause-taken : goal.returns-clause-taken
-returns-clause-taken g c o front rest records blank h block used is =
-    let a = c.loop-at.invariant.part o front rest records blank h block used is in
+returns-clause-taken g c o front rest records own h block used is =
+    let a = c.loop-at.invariant.part o front rest records own h block used is in
     subst (λ (l : List Entry). HasTaken o c.loop-at.log c.loop-at.pages (g.S.Site.state c.loop-at.site) c.loop-at.so_far (front ++ l))
     (past_all c.read_again.ensures.only c.args.block c.args.content.now c.args.used c.loop-at.at records a.done a.past c.loop-at-test.false) a.taken
 
 pub returns-clause-any_moment : goal.returns-clause-any_moment
-returns-clause-any_moment g c o front rest records blank h block used is quiet = (c.loop-at.invariant.part o front rest records blank h block used is).moments quiet
+returns-clause-any_moment g c o front rest records own h block used is quiet = (c.loop-at.invariant.part o front rest records own h block used is).moments quiet
 
 pub returns-in-Err-clause-left : goal.returns-in-Err-clause-left
 returns-in-Err-clause-left g c honest =
@@ -127,36 +127,41 @@ returns-in-Err-clause-left g c honest =
     c.take_record.ensures.left (stays_honest (g.S.Site.state c.args.site.now) (g.S.Site.state c.loop-at.site) i.goes honest) ∙ i.left honest
 
 pub returns-in_default-clause-quiet : goal.returns-in_default-clause-quiet
-returns-in_default-clause-quiet g c o front rest records blank h block used is quiet other = c.loop-at.invariant.stays_quiet h.pages_are.ready.blocks.honest quiet
+returns-in_default-clause-quiet g c o front rest records own h block used is quiet other = c.loop-at.invariant.stays_quiet h.pages_are.ready.blocks.honest quiet
 
 pub returns-in-Err-clause-quiet : goal.returns-in-Err-clause-quiet
-returns-in-Err-clause-quiet g c o front rest records blank h block used is quiet =
-    let a = c.loop-at.invariant.part o front rest records blank h block used is in
+returns-in-Err-clause-quiet g c o front rest records own h block used is quiet =
+    let a = c.loop-at.invariant.part o front rest records own h block used is in
     c.in-Err.ensures.quiet o (front ++ a.done) a.taken (c.loop-at.invariant.stays_quiet h.pages_are.ready.blocks.honest quiet)
 
 pub returns-in-Err-clause-worn_end : goal.returns-in-Err-clause-worn_end
-returns-in-Err-clause-worn_end g c o front rest records blank h block used is =
-    let a = c.loop-at.invariant.part o front rest records blank h block used is in
+returns-in-Err-clause-worn_end g c o front rest records own h block used is =
+    let a = c.loop-at.invariant.part o front rest records own h block used is in
     c.in-Err.ensures.worn_end o (front ++ a.done) a.taken
 
+pub returns-in-Err-clause-worn_log_end : goal.returns-in-Err-clause-worn_log_end
+returns-in-Err-clause-worn_log_end g c o front rest records own h block used is =
+    let a = c.loop-at.invariant.part o front rest records own h block used is in
+    c.in-Err.ensures.worn_log_end o (front ++ a.done) a.taken
+
 pub returns-in_default-clause-asks : goal.returns-in_default-clause-asks
-returns-in_default-clause-asks g c o front rest records blank h block used is =
-    let a = c.loop-at.invariant.part o front rest records blank h block used is in
+returns-in_default-clause-asks g c o front rest records own h block used is =
+    let a = c.loop-at.invariant.part o front rest records own h block used is in
     absurd (none_there c.read_again.ensures.only c.args.block c.args.content.now c.args.used c.loop-at.at records a.done a.past c.loop-at-test.true c.in_default.ensures.bad)
 
 pub returns-in-Err-clause-asks : goal.returns-in-Err-clause-asks
-returns-in-Err-clause-asks g c o front rest records blank h block used is =
-    let a = c.loop-at.invariant.part o front rest records blank h block used is in
+returns-in-Err-clause-asks g c o front rest records own h block used is =
+    let a = c.loop-at.invariant.part o front rest records own h block used is in
     let e : Entry = record { lsn = 512 * c.args.block + c.loop-at.at; rec = c.in-Ok.rec } in
     let entries = entries_from (512 * c.args.block + 2) records in
     let next = next_of_log c.read_again.ensures.only c.args.block c.args.content.now c.args.used c.loop-at.at records a.done a.past front c.in-Ok.rec c.in-Ok.end _ rest c.loop-at-test.true c.in-Ok.ensures.found is in
     let later = next_of_log c.read_again.ensures.only c.args.block c.args.content.now c.args.used c.loop-at.at records a.done a.past [] c.in-Ok.rec c.in-Ok.end entries [] c.loop-at-test.true c.in-Ok.ensures.found (sym (append-nil entries)) in
     let some : 1 ≤ (rules c.args.pages.now).groups = omega (arith, c.requires.going.pages_going.flash.limits.groups) in
     stops_within o c.args.pages.now c.loop-at.pages c.take_record.new.pages (g.S.Site.state c.args.site.now) (g.S.Site.state c.loop-at.site) (g.S.Site.state c.take_record.new.site) a.done a.asked
-    c.in-Err.stop (e ∷ []) later.0 entries some later.1 (c.in-Err.ensures.asks o (front ++ a.done) next.0 blank a.taken next.1)
+    c.in-Err.stop (e ∷ []) later.0 entries some later.1 (c.in-Err.ensures.asks o (front ++ a.done) next.0 own a.taken next.1)
 
 pub returns-clause-asks : goal.returns-clause-asks
-returns-clause-asks g c o front rest records blank h block used is =
-    let a = c.loop-at.invariant.part o front rest records blank h block used is in
+returns-clause-asks g c o front rest records own h block used is =
+    let a = c.loop-at.invariant.part o front rest records own h block used is in
     asks_all _ o c.args.pages.now c.loop-at.pages (g.S.Site.state c.args.site.now) (g.S.Site.state c.loop-at.site) a.done (entries_from (512 * c.args.block + 2) records)
     (past_all c.read_again.ensures.only c.args.block c.args.content.now c.args.used c.loop-at.at records a.done a.past c.loop-at-test.false) a.asked

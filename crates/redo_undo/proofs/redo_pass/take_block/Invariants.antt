@@ -4,13 +4,13 @@ use Rattle.site.specs.Calls.{Goes}
 use Rattle.log_records.specs.declared.log_record.LogRecord.{LogRecord}
 use Rattle.log_records.specs.Spelling.{IsBlock, used_by}
 use Rattle.log_records.specs.Log.{Entry, log_from, entries_from}
-use Rattle.checkpoint.specs.Newest.{blank}
 use Rattle.analysis.specs.Open.{owed_for}
 use Rattle.analysis.specs.Table.{listed}
 use Rattle.analysis.specs.Read as read
 use Rattle.redo_undo.specs.Holding.{MayGoOn, blocks_to}
 use Rattle.redo_undo.specs.Redoing.{Opening, HasTaken}
 use Rattle.redo_undo.proofs.TakenRecords.{IsPartWay}
+use Rattle.image_meaning.specs.Meaning.{kept_by, saved_by}
 use Rattle.redo_undo.proofs.redo_pass.take_block.Given as goal
 
 abbrev pub invariant-loop-at : goal.invariant-loop-at
@@ -36,8 +36,8 @@ invariant-loop-at g l =
       left : IsTrue old.honest → now.left ≡ old.left;
       stays_quiet : IsTrue old.honest → IsQuiet old → IsQuiet now;
       log_reads : now.log_reads ≡ old.log_reads;
-      part : (o : Opening) (front rest : List Entry) (records : List LogRecord) → l.master ≡ blank → HasTaken o l.fn.log l.fn.pages old l.fn.so_far front → IsBlock l.content records → l.used ≡ used_by records →
-          log_from 0 o.blocks ≡ front ++ (entries_from (512 * l.block + 2) records ++ rest) → IsPartWay o l.log l.fn.pages l.pages old now l.so_far front l.block l.content l.used l.at records;
+      part : (o : Opening) (front rest : List Entry) (records : List LogRecord) → l.master ≡ saved_by o.newest → HasTaken o l.fn.log l.fn.pages old l.fn.so_far front → IsBlock l.content records → l.used ≡ used_by records →
+          log_from (kept_by o.newest) o.blocks ≡ front ++ (entries_from (512 * l.block + 2) records ++ rest) → IsPartWay o l.log l.fn.pages l.pages old now l.so_far front l.block l.content l.used l.at records;
     }
 
 abbrev pub decreases-loop-at : goal.decreases-loop-at

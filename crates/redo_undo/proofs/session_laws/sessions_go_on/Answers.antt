@@ -3,16 +3,16 @@ use Rattle.redo_undo.proofs.Sessions.{next_is_fresh, begin_may_grow, update_may_
 use Rattle.redo_undo.proofs.session_laws.sessions_go_on.Goals as goal
 
 pub returns-clause-fresh : goal.returns-clause-fresh
-returns-clause-fresh c = next_is_fresh c.log_laws.ensures c.page_laws.ensures c.fresh_at_end.ensures
+returns-clause-fresh c = next_is_fresh c.log_laws.ensures c.page_laws.ensures c.orderly_goes_on.ensures.fresh
 
 pub returns-clause-begin : goal.returns-clause-begin
-returns-clause-begin c = begin_may_grow c.log_laws.ensures c.page_laws.ensures c.fresh_at_end.ensures c.begin_follows.ensures c.owed_begin.ensures
+returns-clause-begin c = begin_may_grow c.log_laws.ensures c.page_laws.ensures c.orderly_goes_on.ensures.fresh c.begin_follows.ensures c.owed_begin.ensures
 
 pub returns-clause-update : goal.returns-clause-update
 returns-clause-update c = update_may_grow c.log_laws.ensures c.page_laws.ensures c.hold_together.ensures.front c.active_may_write.ensures c.owed_update.ensures
 
 pub returns-clause-commit : goal.returns-clause-commit
-returns-clause-commit c records txn last commits writes active = record { begun = active.lives; chain = active.chain; number_is = refl }
+returns-clause-commit c newest records txn last commits writes active = record { begun = active.lives; chain = active.chain; number_is = refl }
 
 pub returns-clause-undo : goal.returns-clause-undo
 returns-clause-undo c = active_may_be_undone c.log_laws.ensures c.page_laws.ensures c.undo_laws.ensures c.active_is_unfinished.ensures

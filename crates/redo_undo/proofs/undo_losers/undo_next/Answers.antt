@@ -3,39 +3,43 @@ use Rattle.analysis.specs.Open.{Open, Replaces, TakesOut}
 use Rattle.analysis.specs.Table.{listed}
 use Rattle.redo_undo.specs.UndoingAll.{Remain, HasNone, IsGreatest, UndoesSome}
 use Rattle.redo_undo.proofs.Appended.{if_ok_one}
-use Rattle.redo_undo.proofs.Sames.{and_then, nothing_happens}
+use Rattle.redo_undo.proofs.Sames.{and_then, nothing_happens, units_then}
 use Rattle.redo_undo.proofs.Opens.{still_remain, none_remains_of, others_remain, ok_one}
 use Rattle.redo_undo.proofs.Found.{last_known, more_undone}
 use Rattle.site.specs.Laws.{stays_honest}
 use Rattle.site.specs.declared.outside.Stop.TheVariants.{Worn, Foreign}
-use Rattle.site.specs.declared.outside.Dev.TheVariants.{Flash}
+use Rattle.site.specs.declared.outside.Dev.TheVariants.{Flash, Log}
 use Rattle.page_store.specs.Caching.{rules}
 use Rattle.redo_undo.specs.UndoWorks.{works_of, IsLastAt, UndoesUpdates}
 use Rattle.redo_undo.proofs.AskingUndo.{none_read, not_worn, never_worn, asks_refused, asks_before}
 use Rattle.redo_undo.proofs.UndoneUpdates.{more_updates}
+use Rattle.image_changes.specs.Rings.{KeepsUnits, master_shape}
+use Rattle.redo_undo.proofs.Redoings.{ok_one_of}
+use Rattle.site.specs.declared.geometry.Geometry.{Geometry}
+use Rattle.redo_undo.specs.Holding.{IsLogWorn}
 use Rattle.redo_undo.proofs.undo_losers.undo_next.Goals as goal
 
 pub returns-then-loser-known-clause-any_moment : goal.returns-then-loser-known-clause-any_moment
-returns-then-loser-known-clause-any_moment g c records table commits h greatest quiet =
-    nothing_happens c.args.log.now c.args.pages.now (g.S.Site.state c.args.site.now) records table commits c.requires.going.sizes h.holds quiet
+returns-then-loser-known-clause-any_moment g c newest records table commits h greatest quiet =
+    nothing_happens c.args.log.now c.args.pages.now (g.S.Site.state c.args.site.now) newest records table commits c.requires.going.sizes h.holds quiet
 
 pub returns-then-loser-known-clause-readable : goal.returns-then-loser-known-clause-readable
-returns-then-loser-known-clause-readable g c records table commits h greatest = λ same.
-    let less = last_known c.found_laws.ensures c.undo_laws.ensures c.args.log.now c.args.pages.now (g.S.Site.state c.args.site.now) records table commits c.args.found.now h.holds h.analysis c.args.known c.in-Some.loser h.up_to c.in-Some.ensures.there in
+returns-then-loser-known-clause-readable g c newest records table commits h greatest = λ same.
+    let less = last_known c.found_laws.ensures c.undo_laws.ensures c.args.log.now c.args.pages.now (g.S.Site.state c.args.site.now) newest records table commits c.args.found.now h.holds h.analysis c.args.known c.in-Some.loser h.up_to c.in-Some.ensures.there in
     absurd (omega (arith, less, c.if-loser-known.true))
 
 pub returns-in-Err-clause-any_moment : goal.returns-in-Err-clause-any_moment
-returns-in-Err-clause-any_moment g c records table commits h greatest quiet = c.undo_greatest.ensures.any_moment records table commits h.holds quiet
+returns-in-Err-clause-any_moment g c newest records table commits h greatest quiet = c.undo_greatest.ensures.any_moment newest records table commits h.holds quiet
 
 pub returns-in-Err-clause-readable : goal.returns-in-Err-clause-readable
-returns-in-Err-clause-readable g c records table commits h greatest = c.in-Err.ensures.readable records table commits c.args.known h
+returns-in-Err-clause-readable g c newest records table commits h greatest = c.in-Err.ensures.readable newest records table commits c.args.known h
 
 pub returns-then-loser-gt1-clause-undone : goal.returns-then-loser-gt1-clause-undone
-returns-then-loser-gt1-clause-undone g c records table commits h greatest =
-    c.in-Ok.ensures.undone records table commits c.args.known h (subst (IsGreatest records) (sym c.in-Some.ensures.named) greatest)
+returns-then-loser-gt1-clause-undone g c newest records table commits h greatest =
+    c.in-Ok.ensures.undone newest records table commits c.args.known h (subst (IsGreatest records) (sym c.in-Some.ensures.named) greatest)
 
 pub returns-then-loser-gt1-clause-any_moment : goal.returns-then-loser-gt1-clause-any_moment
-returns-then-loser-gt1-clause-any_moment g c records table commits h greatest quiet = c.undo_greatest.ensures.any_moment records table commits h.holds quiet
+returns-then-loser-gt1-clause-any_moment g c newest records table commits h greatest quiet = c.undo_greatest.ensures.any_moment newest records table commits h.holds quiet
 
 pub returns-then-loser-gt1-clause-remain : goal.returns-then-loser-gt1-clause-remain
 returns-then-loser-gt1-clause-remain g c =
@@ -48,27 +52,27 @@ end_one-requires-clause-none g c =
     c.in-Ok.ensures.replaces)
 
 pub returns-clause-undone : goal.returns-clause-undone
-returns-clause-undone g c records table commits h greatest =
+returns-clause-undone g c newest records table commits h greatest =
     let mid = g.S.Site.state c.undo_greatest.new.site in
     let new = g.S.Site.state c.end_one.new.site in
     let pages = c.undo_greatest.new.pages in
-    let first = c.in-Ok.ensures.undone records table commits c.args.known h (subst (IsGreatest records) (sym c.in-Some.ensures.named) greatest) in
+    let first = c.in-Ok.ensures.undone newest records table commits c.args.known h (subst (IsGreatest records) (sym c.in-Some.ensures.named) greatest) in
     if_ok_one c.end_one.result
-    (λ lsn. UndoesSome c.end_one.new.log pages new (records ++ first.more) table commits c.end_one.new.found lsn)
-    (λ lsn. UndoesSome c.end_one.new.log pages new records table commits c.end_one.new.found lsn)
-    (λ lsn second. more_undone c.undo_greatest.new.log c.end_one.new.log pages pages mid new records table commits c.undo_greatest.new.found c.end_one.new.found c.in-Ok.last lsn first second)
-    (c.end_one.ensures.undone pages (records ++ first.more) table commits c.in-Ok.last c.in-Ok.ensures.going.sizes first.now)
+    (λ lsn. UndoesSome c.end_one.new.log pages new newest (records ++ first.more) table commits c.end_one.new.found lsn)
+    (λ lsn. UndoesSome c.end_one.new.log pages new newest records table commits c.end_one.new.found lsn)
+    (λ lsn second. more_undone c.undo_greatest.new.log c.end_one.new.log pages pages mid new newest records table commits c.undo_greatest.new.found c.end_one.new.found c.in-Ok.last lsn first second)
+    (c.end_one.ensures.undone pages newest (records ++ first.more) table commits c.in-Ok.last c.in-Ok.ensures.going.sizes first.now)
 
 pub returns-clause-any_moment : goal.returns-clause-any_moment
-returns-clause-any_moment g c records table commits h greatest quiet =
-    let first = c.in-Ok.ensures.undone records table commits c.args.known h (subst (IsGreatest records) (sym c.in-Some.ensures.named) greatest) in
-    and_then c.args.pages.now.flash.geometry c.undo_greatest.new.pages.flash.geometry (g.S.Site.state c.args.site.now) (g.S.Site.state c.undo_greatest.new.site) (g.S.Site.state c.end_one.new.site) table commits c.undo_greatest.ensures.geometry
-    (c.undo_greatest.ensures.any_moment records table commits h.holds quiet) (c.end_one.ensures.any_moment c.undo_greatest.new.pages (records ++ first.more) table commits c.in-Ok.ensures.going first.now.holds (c.in-Ok.ensures.stays_quiet h.holds.log_holds.ready.blocks.honest quiet))
+returns-clause-any_moment g c newest records table commits h greatest quiet =
+    let first = c.in-Ok.ensures.undone newest records table commits c.args.known h (subst (IsGreatest records) (sym c.in-Some.ensures.named) greatest) in
+    and_then newest c.args.pages.now.flash.geometry c.undo_greatest.new.pages.flash.geometry (g.S.Site.state c.args.site.now) (g.S.Site.state c.undo_greatest.new.site) (g.S.Site.state c.end_one.new.site) table commits c.undo_greatest.ensures.geometry
+    (c.undo_greatest.ensures.any_moment newest records table commits h.holds quiet) (c.end_one.ensures.any_moment c.undo_greatest.new.pages newest (records ++ first.more) table commits c.in-Ok.ensures.going first.now.holds (c.in-Ok.ensures.stays_quiet h.holds.log_holds.ready.blocks.honest quiet))
 
 pub returns-clause-readable : goal.returns-clause-readable
-returns-clause-readable g c records table commits h greatest =
-    let first = c.in-Ok.ensures.undone records table commits c.args.known h (subst (IsGreatest records) (sym c.in-Some.ensures.named) greatest) in
-    c.end_one.ensures.readable c.undo_greatest.new.pages (records ++ first.more) table commits c.in-Ok.last c.in-Ok.ensures.going.sizes first.now
+returns-clause-readable g c newest records table commits h greatest =
+    let first = c.in-Ok.ensures.undone newest records table commits c.args.known h (subst (IsGreatest records) (sym c.in-Some.ensures.named) greatest) in
+    c.end_one.ensures.readable c.undo_greatest.new.pages newest (records ++ first.more) table commits c.in-Ok.last c.in-Ok.ensures.going.sizes first.now
 
 pub returns-clause-remain : goal.returns-clause-remain
 returns-clause-remain g c =
@@ -81,59 +85,80 @@ returns-clause-remain g c =
     c.end_one.ensures.takes
 
 pub returns-then-loser-known-clause-quiet : goal.returns-then-loser-known-clause-quiet
-returns-then-loser-known-clause-quiet g c records table commits h greatest quiet = λ other. quiet
+returns-then-loser-known-clause-quiet g c newest records table commits h greatest quiet = λ other. quiet
 
 pub returns-in-Err-clause-quiet : goal.returns-in-Err-clause-quiet
-returns-in-Err-clause-quiet g c records table commits h greatest quiet = c.in-Err.ensures.quiet records table commits h.holds quiet
+returns-in-Err-clause-quiet g c newest records table commits h greatest quiet = c.in-Err.ensures.quiet newest records table commits h.holds quiet
 
 pub returns-clause-quiet : goal.returns-clause-quiet
-returns-clause-quiet g c records table commits h greatest quiet =
-    let first = c.in-Ok.ensures.undone records table commits c.args.known h (subst (IsGreatest records) (sym c.in-Some.ensures.named) greatest) in
-    c.end_one.ensures.quiet c.undo_greatest.new.pages (records ++ first.more) table commits first.now.holds (c.in-Ok.ensures.stays_quiet h.holds.log_holds.ready.blocks.honest quiet)
+returns-clause-quiet g c newest records table commits h greatest quiet =
+    let first = c.in-Ok.ensures.undone newest records table commits c.args.known h (subst (IsGreatest records) (sym c.in-Some.ensures.named) greatest) in
+    c.end_one.ensures.quiet c.undo_greatest.new.pages newest (records ++ first.more) table commits first.now.holds (c.in-Ok.ensures.stays_quiet h.holds.log_holds.ready.blocks.honest quiet)
 
 pub returns-clause-left : goal.returns-clause-left
 returns-clause-left g c honest =
     c.end_one.ensures.left (stays_honest (g.S.Site.state c.args.site.now) (g.S.Site.state c.undo_greatest.new.site) c.undo_greatest.ensures.goes honest) ∙ c.undo_greatest.ensures.left honest
 
 pub returns-in-Err-clause-worn_end : goal.returns-in-Err-clause-worn_end
-returns-in-Err-clause-worn_end g c records table commits h worn = let same : c.in-Err.stop ≡ Worn Flash = cc in c.in-Err.ensures.worn_end records table commits h (ap Err same)
+returns-in-Err-clause-worn_end g c newest records table commits h worn = let same : c.in-Err.stop ≡ Worn Flash = cc in c.in-Err.ensures.worn_end newest records table commits h (ap Err same)
+
+pub returns-in-Err-clause-worn_log_end : goal.returns-in-Err-clause-worn_log_end
+returns-in-Err-clause-worn_log_end g c newest records table commits h greatest worn = let same : c.in-Err.stop ≡ Worn Log = cc in c.in-Err.ensures.worn_log_end newest records table commits h.holds (ap Err same)
+
+pub returns-clause-worn_log_end : goal.returns-clause-worn_log_end
+returns-clause-worn_log_end g c newest records table commits h greatest worn =
+    let first = c.in-Ok.ensures.undone newest records table commits c.args.known h (subst (IsGreatest records) (sym c.in-Some.ensures.named) greatest) in
+    subst (λ (k : Geometry). IsLogWorn k (g.S.Site.state c.end_one.new.site).image) (c.undo_greatest.ensures.log_geometry ∙ c.requires.going.sizes)
+    (c.end_one.ensures.worn_log_end c.undo_greatest.new.pages newest (records ++ first.more) table commits first.now.holds worn)
 
 pub returns-then-loser-gt1-clause-updates : goal.returns-then-loser-gt1-clause-updates
-returns-then-loser-gt1-clause-updates g c records table commits u h last =
-    c.in-Ok.ensures.updates records table commits c.args.known u h (subst (λ (t : ℕ). IsLastAt records t c.args.next.1 u) (sym c.in-Some.ensures.named) last)
+returns-then-loser-gt1-clause-updates g c newest records table commits u h last =
+    c.in-Ok.ensures.updates newest records table commits c.args.known u h (subst (λ (t : ℕ). IsLastAt records t c.args.next.1 u) (sym c.in-Some.ensures.named) last)
 
 pub returns-clause-updates : goal.returns-clause-updates
-returns-clause-updates g c records table commits u h last =
+returns-clause-updates g c newest records table commits u h last =
     let mid = g.S.Site.state c.undo_greatest.new.site in
     let new = g.S.Site.state c.end_one.new.site in
     let pages = c.undo_greatest.new.pages in
-    let first = c.in-Ok.ensures.updates records table commits c.args.known u h (subst (λ (t : ℕ). IsLastAt records t c.args.next.1 u) (sym c.in-Some.ensures.named) last) in
+    let first = c.in-Ok.ensures.updates newest records table commits c.args.known u h (subst (λ (t : ℕ). IsLastAt records t c.args.next.1 u) (sym c.in-Some.ensures.named) last) in
     if_ok_one c.end_one.result
-    (λ lsn. UndoesUpdates c.end_one.new.log pages new (records ++ first.some.more) table commits c.end_one.new.found lsn [])
-    (λ lsn. UndoesUpdates c.end_one.new.log pages new records table commits c.end_one.new.found lsn (u ∷ []))
-    (λ lsn second. more_updates c.undo_greatest.new.log c.end_one.new.log pages pages mid new records table commits c.undo_greatest.new.found c.end_one.new.found c.in-Ok.last lsn (u ∷ []) [] first second)
-    (c.end_one.ensures.updates pages (records ++ first.some.more) table commits c.in-Ok.last c.in-Ok.ensures.going.sizes first.some.now)
+    (λ lsn. UndoesUpdates c.end_one.new.log pages new newest (records ++ first.some.more) table commits c.end_one.new.found lsn [])
+    (λ lsn. UndoesUpdates c.end_one.new.log pages new newest records table commits c.end_one.new.found lsn (u ∷ []))
+    (λ lsn second. more_updates c.undo_greatest.new.log c.end_one.new.log pages pages mid new newest records table commits c.undo_greatest.new.found c.end_one.new.found c.in-Ok.last lsn (u ∷ []) [] first second)
+    (c.end_one.ensures.updates pages newest (records ++ first.some.more) table commits c.in-Ok.last c.in-Ok.ensures.going.sizes first.some.now)
 
 pub returns-then-loser-known-clause-asks : goal.returns-then-loser-known-clause-asks
-returns-then-loser-known-clause-asks g c records table commits u h last =
+returns-then-loser-known-clause-asks g c newest records table commits u h last =
     let pages = c.args.pages.now in
     let some : 1 ≤ (rules pages).groups = omega (arith, c.requires.going.pages_going.flash.limits.groups) in
     asks_refused Foreign (works_of (u ∷ [])) pages (g.S.Site.state c.args.site.now) (g.S.Site.state c.args.site.now) some (not_worn Foreign (inr refl)) (record { flash = refl; disk = refl })
 
 pub returns-in-Err-clause-asks : goal.returns-in-Err-clause-asks
-returns-in-Err-clause-asks g c records table commits u h last =
-    c.in-Err.ensures.asks records table commits c.args.known u h (subst (λ (t : ℕ). IsLastAt records t c.args.next.1 u) (sym c.in-Some.ensures.named) last)
+returns-in-Err-clause-asks g c newest records table commits u h last =
+    c.in-Err.ensures.asks newest records table commits c.args.known u h (subst (λ (t : ℕ). IsLastAt records t c.args.next.1 u) (sym c.in-Some.ensures.named) last)
 
 pub returns-then-loser-gt1-clause-asks : goal.returns-then-loser-gt1-clause-asks
-returns-then-loser-gt1-clause-asks g c records table commits u h last =
-    c.in-Ok.ensures.asks records table commits c.args.known u h (subst (λ (t : ℕ). IsLastAt records t c.args.next.1 u) (sym c.in-Some.ensures.named) last)
+returns-then-loser-gt1-clause-asks g c newest records table commits u h last =
+    c.in-Ok.ensures.asks newest records table commits c.args.known u h (subst (λ (t : ℕ). IsLastAt records t c.args.next.1 u) (sym c.in-Some.ensures.named) last)
 
 pub returns-clause-asks : goal.returns-clause-asks
-returns-clause-asks g c records table commits u h last =
+returns-clause-asks g c newest records table commits u h last =
     let pages = c.args.pages.now in
     let some : 1 ≤ (rules pages).groups = omega (arith, c.requires.going.pages_going.flash.limits.groups) in
     let mid = g.S.Site.state c.undo_greatest.new.site in
     let new = g.S.Site.state c.end_one.new.site in
     asks_before c.in-Ok.last c.end_one.result (works_of (u ∷ [])) pages c.undo_greatest.new.pages (g.S.Site.state c.args.site.now) mid new some (none_read mid new c.end_one.ensures.reads)
     (never_worn c.end_one.result c.end_one.ensures.stops)
-    (c.in-Ok.ensures.asks records table commits c.args.known u h (subst (λ (t : ℕ). IsLastAt records t c.args.next.1 u) (sym c.in-Some.ensures.named) last))
+    (c.in-Ok.ensures.asks newest records table commits c.args.known u h (subst (λ (t : ℕ). IsLastAt records t c.args.next.1 u) (sym c.in-Some.ensures.named) last))
+
+pub returns-then-loser-gt1-clause-masters : goal.returns-then-loser-gt1-clause-masters
+returns-then-loser-gt1-clause-masters g c newest records table commits h greatest = c.in-Ok.ensures.masters newest records table commits h.holds
+
+pub returns-clause-masters : goal.returns-clause-masters
+returns-clause-masters g c newest records table commits h greatest =
+    let old = g.S.Site.state c.args.site.now in
+    let mid = g.S.Site.state c.undo_greatest.new.site in
+    let new = g.S.Site.state c.end_one.new.site in
+    let first = c.in-Ok.ensures.undone newest records table commits c.args.known h (subst (IsGreatest records) (sym c.in-Some.ensures.named) greatest) in
+    ok_one_of c.end_one.result _ (KeepsUnits master_shape old.image new.image) (units_then old.image mid.image new.image (c.in-Ok.ensures.masters newest records table commits h.holds))
+    (c.end_one.ensures.masters c.undo_greatest.new.pages newest (records ++ first.more) table commits first.now.holds)

@@ -7,7 +7,7 @@ use Rattle.second_chance.specs.Queue.{has_frame}
 use Rattle.second_chance.specs.Machine.{Cache}
 use Rattle.log_store.specs.LogList.{sealed_if}
 use Rattle.page_store.specs.Held.{current}
-use Rattle.image_meaning.specs.Beside.{AreRingsSound}
+use Rattle.image_meaning.specs.Beside.{AreRingsSoundUnder}
 use Rattle.page_store.specs.Ahead.{AreSealed, IsAhead, LeavesSealed, forces, pushed_for_room}
 use Rattle.page_store.specs.Leaves.{AreReady, LeavesPages, LeavesRings, KeepsCurrent}
 use Rattle.page_store.proofs.PushLaws.{ok_then}
@@ -82,10 +82,10 @@ returns-in-Ok-clause-ahead g c list ready ahead =
     c.read_in.ensures.put (c.read_in.ensures.read there.pages)
 
 pub returns-in-Ok-clause-rings_moment : goal.returns-in-Ok-clause-rings_moment
-returns-in-Ok-clause-rings_moment g c list ready quiet rings =
+returns-in-Ok-clause-rings_moment g c newest list ready quiet rings =
     let there = c.in-Ok.ensures.ready list ready in
-    unchanged_calm (g.S.Site.state c.args.site.now) (g.S.Site.state c.make_room.new.site) (g.S.Site.state c.read_in.new.site) (Leaves (LeavesRings c.args.self.now.flash.geometry))
-    (c.make_room.ensures.rings_moment list ready quiet rings) (c.read_in.ensures.same there.pages.flash.honest)
+    unchanged_calm (g.S.Site.state c.args.site.now) (g.S.Site.state c.make_room.new.site) (g.S.Site.state c.read_in.new.site) (Leaves (LeavesRings newest c.args.self.now.flash.geometry))
+    (c.make_room.ensures.rings_moment newest list ready quiet rings) (c.read_in.ensures.same there.pages.flash.honest)
 
 pub returns-in-Ok-clause-foreign : goal.returns-in-Ok-clause-foreign
 returns-in-Ok-clause-foreign g c is list ready = c.read_in.ensures.foreign is (c.in-Ok.ensures.ready list ready).pages
@@ -116,9 +116,9 @@ returns-in-Ok-clause-sealed g c list ready ahead =
     on_ok c.read_in.result _ (subst (AreSealed c.args.self.now.flash.geometry) (sym (c.read_in.ensures.same there.pages.flash.honest).image) (c.in-Ok.ensures.sealed list ready ahead))
 
 pub returns-in-Ok-clause-rings : goal.returns-in-Ok-clause-rings
-returns-in-Ok-clause-rings g c list ready rings =
+returns-in-Ok-clause-rings g c newest list ready rings =
     let there = c.in-Ok.ensures.ready list ready in
-    on_ok c.read_in.result _ (subst (AreRingsSound c.args.self.now.flash.geometry) (sym (c.read_in.ensures.same there.pages.flash.honest).image) (c.in-Ok.ensures.rings list ready rings))
+    on_ok c.read_in.result _ (subst (AreRingsSoundUnder newest c.args.self.now.flash.geometry) (sym (c.read_in.ensures.same there.pages.flash.honest).image) (c.in-Ok.ensures.rings newest list ready rings))
 
 pub returns-in-Ok-clause-front_moment : goal.returns-in-Ok-clause-front_moment
 returns-in-Ok-clause-front_moment g c list ready quiet =

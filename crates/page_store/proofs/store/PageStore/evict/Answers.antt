@@ -161,13 +161,13 @@ returns-clause-machine g c =
     c.push.ensures.directory
 
 pub returns-in_default-clause-rings_moment : goal.returns-in_default-clause-rings_moment
-returns-in_default-clause-rings_moment g c list ready quiet rings = stays_rings _ (g.S.Site.state c.args.site.now) quiet rings
+returns-in_default-clause-rings_moment g c newest list ready quiet rings = stays_rings newest _ (g.S.Site.state c.args.site.now) quiet rings
 
 pub returns-then-not-must_be_pushed-clause-rings_moment : goal.returns-then-not-must_be_pushed-clause-rings_moment
-returns-then-not-must_be_pushed-clause-rings_moment g c list ready quiet rings = stays_rings _ (g.S.Site.state c.args.site.now) quiet rings
+returns-then-not-must_be_pushed-clause-rings_moment g c newest list ready quiet rings = stays_rings newest _ (g.S.Site.state c.args.site.now) quiet rings
 
 pub returns-clause-rings_moment : goal.returns-clause-rings_moment
-returns-clause-rings_moment g c list ready quiet rings =
+returns-clause-rings_moment g c newest list ready quiet rings =
     let store = c.args.self.now in
     let log = c.args.log.now in
     let old = g.S.Site.state c.args.site.now in
@@ -175,7 +175,7 @@ returns-clause-rings_moment g c list ready quiet rings =
     let last : Frame = record { page = c.in-Some.page; changed = c.in-Some.changed; content = c.in-Some.content } in
     let is : store.pool.frames ≡ rest.frames ++ last ∷ [] = c.in-Some.ensures.some in
     let one = c.frames_of_pages.ensures.last rest.frames last (subst AreDistinct is c.requires.going.own.pool.distinct) in
-    c.push.ensures.rings_moment list (rest_ready store rest last is one log list old ready) quiet rings ((last_page store rest last is one c.requires.going.own).sound, tt)
+    c.push.ensures.rings_moment newest list (rest_ready store rest last is one log list old ready) quiet rings ((last_page store rest last is one c.requires.going.own).sound, tt)
 
 pub returns-clause-quiet : goal.returns-clause-quiet
 returns-clause-quiet g c list ready quiet =
@@ -227,7 +227,7 @@ returns-clause-sealed g c list ready ahead =
     c.push.ensures.sealed list (rest_ready store rest last is one log list old ready) ahead.versions (last_logged store rest last is one (end_forced log) ahead.pool, tt)
 
 pub returns-clause-rings : goal.returns-clause-rings
-returns-clause-rings g c list ready rings =
+returns-clause-rings g c newest list ready rings =
     let store = c.args.self.now in
     let log = c.args.log.now in
     let old = g.S.Site.state c.args.site.now in
@@ -235,7 +235,7 @@ returns-clause-rings g c list ready rings =
     let last : Frame = record { page = c.in-Some.page; changed = c.in-Some.changed; content = c.in-Some.content } in
     let is : store.pool.frames ≡ rest.frames ++ last ∷ [] = c.in-Some.ensures.some in
     let one = c.frames_of_pages.ensures.last rest.frames last (subst AreDistinct is c.requires.going.own.pool.distinct) in
-    c.push.ensures.rings list (rest_ready store rest last is one log list old ready) rings ((last_page store rest last is one c.requires.going.own).sound, tt)
+    c.push.ensures.rings newest list (rest_ready store rest last is one log list old ready) rings ((last_page store rest last is one c.requires.going.own).sound, tt)
 
 pub returns-in_default-clause-front_moment : goal.returns-in_default-clause-front_moment
 returns-in_default-clause-front_moment g c list ready quiet = none_front _ _ (g.S.Site.state c.args.site.now) quiet
@@ -299,3 +299,12 @@ returns-clause-worn_end g c list ready =
     let is : store.pool.frames ≡ rest.frames ++ last ∷ [] = c.in-Some.ensures.some in
     let one = c.frames_of_pages.ensures.last rest.frames last (subst AreDistinct is c.requires.going.own.pool.distinct) in
     c.push.ensures.worn_end list (rest_ready store rest last is one c.args.log.now list (g.S.Site.state c.args.site.now) ready)
+
+pub returns-clause-worn_log_end : goal.returns-clause-worn_log_end
+returns-clause-worn_log_end g c list ready =
+    let store = c.args.self.now in
+    let rest : Pool = c.take_coldest.new.self in
+    let last : Frame = record { page = c.in-Some.page; changed = c.in-Some.changed; content = c.in-Some.content } in
+    let is : store.pool.frames ≡ rest.frames ++ last ∷ [] = c.in-Some.ensures.some in
+    let one = c.frames_of_pages.ensures.last rest.frames last (subst AreDistinct is c.requires.going.own.pool.distinct) in
+    c.push.ensures.worn_log_end list (rest_ready store rest last is one c.args.log.now list (g.S.Site.state c.args.site.now) ready)

@@ -2,11 +2,10 @@ use Rattle.std.proofs.Common.{◌≡◌, ℕ, ◌+◌, Bool, true, false, cond, 
 use Rattle.std.specs.Prelude.{nat_lt}
 use Rattle.std.proofs.lemmas.Bool.Decides.{nat_tests}
 use Rattle.site.specs.declared.geometry.Geometry.{Geometry}
-use Rattle.site.specs.Laws.{holds_now}
 use Rattle.second_chance.specs.Machine.{wants_flush}
 use Rattle.page_store.specs.Caching.{cache_of, rules}
 use Rattle.log_store.specs.LogList.{sealed_if}
-use Rattle.page_store.specs.Ahead.{AreSealed, LeavesSealed, forces}
+use Rattle.page_store.specs.Ahead.{AreSealed, forces}
 use Rattle.page_store.specs.Flushing.{flushed_contents}
 use Rattle.page_store.specs.Leaves.{AreReady}
 use Rattle.page_store.proofs.store.PageStore.flush_all.Goals as goal
@@ -28,11 +27,9 @@ returns-clause-ready g c list ready =
     is_sealed false h0 h1 is = grind (arith, nat_tests)
 
 pub returns-clause-ahead : goal.returns-clause-ahead
-returns-clause-ahead g c list ready quiet ahead =
-    let old = g.S.Site.state c.args.site.now in
+returns-clause-ahead g c list ready ahead =
     let new = g.S.Site.state c.push_all_changed.new.site in
-    let sealed = holds_now old new (LeavesSealed c.args.self.now.flash.geometry) (c.push_all_changed.ensures.ahead_moment list ready quiet ahead) in
     record {
       pool = c.in_default.ensures.ahead ahead.pool;
-      versions = subst (λ (h : Geometry). AreSealed h new.image) (sym c.push_all_changed.ensures.geometry) sealed;
+      versions = subst (λ (h : Geometry). AreSealed h new.image) (sym c.push_all_changed.ensures.geometry) (c.in_default.ensures.sealed list ready ahead);
     }

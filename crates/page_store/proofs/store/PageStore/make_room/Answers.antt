@@ -32,7 +32,7 @@ returns-clause-any_moment g c list ready quiet =
     subst (λ (contents : List (List ℕ)). LeavesOnly old new (LeavesPages store.flash.geometry (current store old.image) (forces c.args.log.now contents) list old)) same (c.evict.ensures.any_moment list ready quiet)
 
 pub returns-then-not-is_full-clause-rings_moment : goal.returns-then-not-is_full-clause-rings_moment
-returns-then-not-is_full-clause-rings_moment g c list ready quiet rings = stays_rings _ (g.S.Site.state c.args.site.now) quiet rings
+returns-then-not-is_full-clause-rings_moment g c newest list ready quiet rings = stays_rings newest _ (g.S.Site.state c.args.site.now) quiet rings
 
 pub returns-then-not-is_full-clause-leaves : goal.returns-then-not-is_full-clause-leaves
 returns-then-not-is_full-clause-leaves g c list ready = same_pages c.args.self.now c.args.log.now _ _ list (g.S.Site.state c.args.site.now) c.requires.sizes ready

@@ -11,8 +11,9 @@ use Rattle.log_store.specs.Held.{HasBlocks, LeavesLog}
 use Rattle.image_changes.specs.Reached.{LeavesFront}
 use Rattle.page_store.specs.Ahead.{AreSealed, LeavesSealed, sealed_end, forces}
 use Rattle.image_changes.specs.Changes.{Reaches, Change}
-use Rattle.image_meaning.specs.Beside.{AreRingsSound}
+use Rattle.image_meaning.specs.Beside.{AreRingsSoundUnder}
 use Rattle.page_store.specs.Leaves.{AreReady, LeavesPages, LeavesRings, Gives}
+use Rattle.page_store.specs.Stopping.{IsLogAtEnd}
 use Rattle.second_chance.specs.Queue.{Queue}
 use Rattle.page_store.proofs.Rings.{sealing_keeps, pushing_keeps, rings_front}
 use Rattle.page_store.proofs.PushLaws.{kept_where, rings_kept, own_sealing, force_leaves, force_sealed, between, Pushed, pushed, pushed_now, pushed_pages, push_leaves, pushed_sealed, reached_all, clean_given_same, gives_since, ok_then, ok_four, fits_behind, log_fits, log_found, log_units_same}
@@ -178,7 +179,7 @@ returns-in-Ok-clause-sealed g c list ready sealed logged =
     (c.push_group.ensures.gives ready.pages.groups b.fits b.holds b.clean)
 
 pub returns-in-Ok-clause-rings : goal.returns-in-Ok-clause-rings
-returns-in-Ok-clause-rings g c list ready rings sound =
+returns-in-Ok-clause-rings g c newest list ready rings sound =
     let old = g.S.Site.state c.args.site.now in
     let mid = g.S.Site.state c.force_for.new.site in
     let new = g.S.Site.state c.push_group.new.site in
@@ -188,11 +189,11 @@ returns-in-Ok-clause-rings g c list ready rings sound =
     let honest = ready.blocks.honest in
     let b = between store c.args.log.now c.force_for.new.log sealing list old mid ready (c.force_for.ensures.changes honest) c.force_for.ensures.goes
     (c.in-Ok.ensures.finds ready.blocks) (c.in-Ok.ensures.holds list ready.blocks ready.records) in
-    let first = c.rings_kept.ensures h (changes_if sealing list) old.image mid.image rings (sealing_keeps h sealing list)
+    let first = (c.rings_kept_under.ensures newest) h (changes_if sealing list) old.image mid.image rings (sealing_keeps h sealing list)
     (subst (λ (k : Geometry). Reaches k (changes_if sealing list) old.image mid.image) c.requires.sizes (c.in-Ok.ensures.reaches list ready.blocks ready.records)) in
     let has = c.push_group.ensures.frames in
-    ok_then c.push_group.result _ (AreRingsSound h new.image)
-    (λ reaches. c.rings_kept.ensures h _ mid.image new.image first
+    ok_then c.push_group.result _ (AreRingsSoundUnder newest h new.image)
+    (λ reaches. (c.rings_kept_under.ensures newest) h _ mid.image new.image first
     (pushing_keeps h (staged_pages store.flash) c.args.pages.now c.args.changed.now c.args.contents.now sound has.exist has.is_group) reaches)
     (c.push_group.ensures.reaches ready.pages.groups b.fits b.holds)
 
@@ -230,15 +231,15 @@ returns-in-Ok-clause-worn_at g c says =
     omega (arith, before, next, first, same)
 
 pub returns-in-Err-clause-rings_moment : goal.returns-in-Err-clause-rings_moment
-returns-in-Err-clause-rings_moment g c list ready quiet rings sound =
+returns-in-Err-clause-rings_moment g c newest list ready quiet rings sound =
     let old = g.S.Site.state c.args.site.now in
     let mid = g.S.Site.state c.force_for.new.site in
     let sealing : Bool = forces c.args.log.now c.args.contents.now in
-    rings_front c.rings_kept.ensures c.args.self.now.flash.geometry (changes_if sealing list) old mid rings (sealing_keeps c.args.self.now.flash.geometry sealing list)
+    rings_front newest (c.rings_kept_under.ensures newest) c.args.self.now.flash.geometry (changes_if sealing list) old mid rings (sealing_keeps c.args.self.now.flash.geometry sealing list)
     (subst (λ (h : Geometry). LeavesFront h (changes_if sealing list) old mid) c.requires.sizes (c.force_for.ensures.front list (log_fits c.args.log.now old quiet ready.blocks) ready.records quiet))
 
 pub returns-in-Ok-clause-rings_moment : goal.returns-in-Ok-clause-rings_moment
-returns-in-Ok-clause-rings_moment g c list ready quiet rings sound =
+returns-in-Ok-clause-rings_moment g c newest list ready quiet rings sound =
     let old = g.S.Site.state c.args.site.now in
     let mid = g.S.Site.state c.force_for.new.site in
     let new = g.S.Site.state c.push_group.new.site in
@@ -247,11 +248,11 @@ returns-in-Ok-clause-rings_moment g c list ready quiet rings sound =
     let honest = ready.blocks.honest in
     let b = between store c.args.log.now c.force_for.new.log sealing list old mid ready (c.force_for.ensures.changes honest) c.force_for.ensures.goes
     (c.in-Ok.ensures.finds ready.blocks) (c.in-Ok.ensures.holds list ready.blocks ready.records) in
-    let first = rings_front c.rings_kept.ensures store.flash.geometry (changes_if sealing list) old mid rings (sealing_keeps store.flash.geometry sealing list)
+    let first = rings_front newest (c.rings_kept_under.ensures newest) store.flash.geometry (changes_if sealing list) old mid rings (sealing_keeps store.flash.geometry sealing list)
     (subst (λ (h : Geometry). LeavesFront h (changes_if sealing list) old mid) c.requires.sizes (c.force_for.ensures.front list (log_fits c.args.log.now old quiet ready.blocks) ready.records quiet)) in
     let has = c.push_group.ensures.frames in
-    in_sequence old mid new (Leaves (LeavesRings store.flash.geometry)) first
-    (rings_front c.rings_kept.ensures store.flash.geometry _ mid new (holds_now old mid (LeavesRings store.flash.geometry) first)
+    in_sequence old mid new (Leaves (LeavesRings newest store.flash.geometry)) first
+    (rings_front newest (c.rings_kept_under.ensures newest) store.flash.geometry _ mid new (holds_now old mid (LeavesRings newest store.flash.geometry) first)
     (pushing_keeps store.flash.geometry (staged_pages store.flash) c.args.pages.now c.args.changed.now c.args.contents.now sound has.exist has.is_group)
     (c.push_group.ensures.front ready.pages.groups b.fits b.holds (c.in-Ok.ensures.quiet honest quiet)))
 
@@ -314,3 +315,7 @@ returns-in-Ok-clause-worn_end g c list ready =
     let b = between c.args.self.now c.args.log.now c.force_for.new.log sealing list (g.S.Site.state c.args.site.now) (g.S.Site.state c.force_for.new.site) ready (c.force_for.ensures.changes ready.blocks.honest) c.force_for.ensures.goes
     (c.in-Ok.ensures.finds ready.blocks) (c.in-Ok.ensures.holds list ready.blocks ready.records) in
     c.push_group.ensures.worn_end b.fits
+
+pub returns-in-Err-clause-worn_log_end : goal.returns-in-Err-clause-worn_log_end
+returns-in-Err-clause-worn_log_end g c list ready says =
+    subst (λ (h : Geometry). IsLogAtEnd h (g.S.Site.state c.force_for.new.site).image) c.requires.sizes (c.in-Err.ensures.worn_end ready.blocks says)

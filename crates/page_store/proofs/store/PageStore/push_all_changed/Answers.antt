@@ -1,32 +1,37 @@
-use Rattle.std.proofs.Common.{List, [], ◌≡◌, ℕ, Bool, ◌+◌, true, false, refl, sym, ap, subst, ◌∙◌, arith}
+use Rattle.std.proofs.Common.{List, [], ◌≡◌, ℕ, Bool, ◌+◌, true, false, refl, sym, ap, subst, ◌∙◌, arith, ◌≤◌, Err}
 use Rattle.std.specs.Prelude.{nat_lt, map, ◌||◌, if◌then◌else◌}
 use Rattle.std.proofs.lemmas.Bool.{true≢false}
 use Rattle.std.proofs.lemmas.Bool.Decides.{nat_tests}
 use Rattle.site.specs.declared.geometry.Geometry.{Geometry}
+use Rattle.site.specs.State.{snapshot_of}
 use Rattle.site.specs.Moments.{Leaves, LeavesOnly}
 use Rattle.site.specs.Laws.{in_sequence, holds_now, goes_in_sequence, goes_nowhere, stays_honest}
 use Rattle.second_chance.specs.Machine.{Rules, rules_of, Cache, push_changed, flushed, wants_flush}
 use Rattle.second_chance.specs.Laws.{changed_count}
 use Rattle.log_store.specs.LogList.{LogList, sealed_if}
 use Rattle.log_store.specs.Held.{has_tail}
-use Rattle.image_meaning.specs.Beside.{AreRingsSound}
+use Rattle.image_meaning.specs.Beside.{AreRingsSoundUnder}
 use Rattle.page_store.specs.declared.store.PageStore.{PageStore}
 use Rattle.page_store.specs.Held.{current}
-use Rattle.page_store.specs.Caching.{cache_of, rules as rules_for}
+use Rattle.page_store.specs.Caching.{next_group, cache_of, rules as rules_for}
 use Rattle.page_store.specs.Ahead.{IsAhead, AreSealed, LeavesSealed, forces, is_unsealed, end_now}
 use Rattle.page_store.specs.Leaves.{AreReady, LeavesPages, LeavesRings}
+use Rattle.page_store.specs.Stopping.{IsLogAtEnd}
 use Rattle.buffer_pool.specs.declared.frame.Frame.{Frame}
 use Rattle.page_store.specs.Flushing.{chosen, flushed_first, flushed_contents, changed_frames}
 use Rattle.page_store.proofs.Unsealed.{next_round, nothing_forced, risen_to, forced_by_first, or_first, or_second}
-use Rattle.page_store.proofs.Evictions.{stays_pages, stays_sealed}
+use Rattle.page_store.proofs.Evictions.{same_pages, stays_pages, stays_sealed}
 use Rattle.page_store.proofs.Bringing.{current_again}
-use Rattle.page_store.proofs.Rounds.{told_before, kept_block, no_tail, risen, sealed_again, and_left, not_forced, one_more_push}
+use Rattle.page_store.proofs.Numbers.{changed_next, flushed_next, flushed_more}
+use Rattle.page_store.proofs.Rounds.{told_before, kept_block, no_tail, risen, sealed_again, and_left, not_forced, one_more_pages, one_more_push}
 use Rattle.image_changes.specs.Changes.{Change, Reaches}
 use Rattle.image_changes.specs.Reached.{LeavesFront}
 use Rattle.page_store.specs.Changing.{standing, push_changes, flush_changes}
 use Rattle.page_store.proofs.Changing.{HasMade, standing_after, none_to_come, within_push, behind_push}
 use Rattle.page_store.proofs.Sealing.{none_front, reads_itself}
 use Rattle.page_store.proofs.Rings.{stays_rings}
+use Rattle.site.specs.declared.outside.Dev.TheVariants.{Flash}
+use Rattle.site.specs.declared.outside.Stop.TheVariants.{Worn}
 use Rattle.flash_cache.specs.Held.{IsWorn}
 use Rattle.page_store.proofs.store.PageStore.push_all_changed.Goals as goal
 
@@ -39,7 +44,7 @@ loop-self-init g c =
     record {
       moment = λ list ready quiet. stays_pages store log (current store site.image) (forces log (flushed_contents store)) list site c.requires.sizes ready quiet;
       ahead_moment = λ list ready quiet ahead. stays_sealed store.flash.geometry site quiet ahead.versions;
-      rings_moment = λ list ready quiet rings. stays_rings store.flash.geometry site quiet rings;
+      rings_moment = λ newest list ready quiet rings. stays_rings newest store.flash.geometry site quiet rings;
       stays_quiet = λ honest quiet. quiet;
       made = λ list ready quiet. subst (λ (b : Bool). HasMade store.flash.geometry (flush_changes log list store) site site (standing log (sealed_if b list) store) (changed_count (cache_of store).pool)) (sym none) (record {
         made = [];
@@ -50,6 +55,9 @@ loop-self-init g c =
         reaches = reads_itself store.flash.geometry site.image;
       });
       ready = λ list ready. subst (λ (b : Bool). AreReady store log (sealed_if b list) site) (sym none) ready;
+      leaves = λ list ready. same_pages store log (current store site.image) (forces log (flushed_contents store)) list site c.requires.sizes ready;
+      sealed = λ list ready ahead. ahead.versions;
+      rings = λ newest list ready rings. rings;
       current = λ list ready. record { each = λ page exists. refl };
       ahead = λ ahead. ahead;
       left = λ honest. refl;
@@ -65,9 +73,11 @@ loop-self-init g c =
       kept = refl;
       room = c.requires.room;
       end = refl;
+      grows = omega arith;
       rises = omega arith;
       goes = goes_nowhere site;
       reads = omega arith;
+      asked = omega arith;
       others = λ d ne. refl;
     }
 
@@ -94,17 +104,17 @@ returns-in-Err-clause-any_moment g c list ready quiet =
     (subst (λ (k : Geometry). LeavesOnly mid new (LeavesPages k (current store mid.image) forced list' mid)) inv.geometry (c.push_changed.ensures.any_moment list' there (inv.stays_quiet honest quiet)))
 
 pub returns-in-Err-clause-rings_moment : goal.returns-in-Err-clause-rings_moment
-returns-in-Err-clause-rings_moment g c list ready quiet rings =
+returns-in-Err-clause-rings_moment g c newest list ready quiet rings =
     let old = g.S.Site.state c.args.site.now in
     let mid = g.S.Site.state c.loop-self.site in
     let new = g.S.Site.state c.push_changed.new.site in
     let inv = c.loop-self.invariant in
     let h = c.args.self.now.flash.geometry in
-    let sound = inv.rings_moment list ready quiet rings in
-    in_sequence old mid new (Leaves (LeavesRings h)) sound
-    (subst (λ (k : Geometry). LeavesOnly mid new (LeavesRings k)) inv.geometry
-    (c.push_changed.ensures.rings_moment (sealed_if (nat_lt c.args.log.now.ring.hi c.loop-self.log.ring.hi) list) (inv.ready list ready) (inv.stays_quiet ready.blocks.honest quiet)
-    (subst (λ (k : Geometry). AreRingsSound k mid.image) (sym inv.geometry) (holds_now old mid (LeavesRings h) sound))))
+    let sound = inv.rings_moment newest list ready quiet rings in
+    in_sequence old mid new (Leaves (LeavesRings newest h)) sound
+    (subst (λ (k : Geometry). LeavesOnly mid new (LeavesRings newest k)) inv.geometry
+    (c.push_changed.ensures.rings_moment newest (sealed_if (nat_lt c.args.log.now.ring.hi c.loop-self.log.ring.hi) list) (inv.ready list ready) (inv.stays_quiet ready.blocks.honest quiet)
+    (subst (λ (k : Geometry). AreRingsSoundUnder newest k mid.image) (sym inv.geometry) (holds_now old mid (LeavesRings newest h) sound))))
 
 pub returns-in-Err-clause-ahead_moment : goal.returns-in-Err-clause-ahead_moment
 returns-in-Err-clause-ahead_moment g c list ready quiet ahead =
@@ -179,11 +189,11 @@ loop-self-preserved g c =
           let here : IsAhead log store mid.image = record { pool = inv.ahead ahead.pool; versions = subst (λ (k : Geometry). AreSealed k mid.image) (sym inv.geometry) (holds_now old mid (LeavesSealed h) sealed) } in
           in_sequence old mid new (Leaves (LeavesSealed h)) sealed
           (subst (λ (k : Geometry). LeavesOnly mid new (LeavesSealed k)) inv.geometry (c.push_changed.ensures.ahead_moment (sealed_if b list) (inv.ready list ready) (inv.stays_quiet ready.blocks.honest quiet) here));
-      rings_moment = λ list ready quiet rings.
-          let sound = inv.rings_moment list ready quiet rings in
-          in_sequence old mid new (Leaves (LeavesRings h)) sound
-          (subst (λ (k : Geometry). LeavesOnly mid new (LeavesRings k)) inv.geometry
-          (c.push_changed.ensures.rings_moment (sealed_if b list) (inv.ready list ready) (inv.stays_quiet ready.blocks.honest quiet) (subst (λ (k : Geometry). AreRingsSound k mid.image) (sym inv.geometry) (holds_now old mid (LeavesRings h) sound))));
+      rings_moment = λ newest list ready quiet rings.
+          let sound = inv.rings_moment newest list ready quiet rings in
+          in_sequence old mid new (Leaves (LeavesRings newest h)) sound
+          (subst (λ (k : Geometry). LeavesOnly mid new (LeavesRings newest k)) inv.geometry
+          (c.push_changed.ensures.rings_moment newest (sealed_if b list) (inv.ready list ready) (inv.stays_quiet ready.blocks.honest quiet) (subst (λ (k : Geometry). AreRingsSoundUnder newest k mid.image) (sym inv.geometry) (holds_now old mid (LeavesRings newest h) sound))));
       made = λ list ready quiet.
           let list' = sealed_if b list in
           let there = inv.ready list ready in
@@ -198,6 +208,18 @@ loop-self-preserved g c =
       ready = λ list ready.
           subst (λ (l : LogList). AreReady c.push_changed.new.self c.push_changed.new.log l new) (sealed_again list b forced once ∙ ap (λ (t : Bool). sealed_if t list) (sym now))
           (c.in_default.ensures.ready (sealed_if b list) (inv.ready list ready));
+      leaves = λ list ready.
+          let list' = sealed_if b list in
+          let had = λ (is : b ≡ true). inv.forced ∙ or_first b _ is in
+          let also = λ (is : forced ≡ true). inv.forced ∙ or_second b _ (forced_by_first (has_tail log) (is_unsealed (end_now log)) store.pool.frames is) in
+          one_more_pages h (current first old.image) (current store mid.image) (forces log0 (flushed_contents first)) b forced list old mid (snapshot_of new) had also once (inv.current list ready).each (inv.leaves list ready)
+          (subst (λ (k : Geometry). LeavesPages k (current store mid.image) forced list' mid (snapshot_of new)) inv.geometry (c.in_default.ensures.leaves list' (inv.ready list ready)));
+      sealed = λ list ready ahead.
+          let here : IsAhead log store mid.image = record { pool = inv.ahead ahead.pool; versions = subst (λ (k : Geometry). AreSealed k mid.image) (sym inv.geometry) (inv.sealed list ready ahead) } in
+          subst (λ (k : Geometry). AreSealed k new.image) inv.geometry (c.in_default.ensures.sealed (sealed_if b list) (inv.ready list ready) here);
+      rings = λ newest list ready rings.
+          let here = subst (λ (k : Geometry). AreRingsSoundUnder newest k mid.image) (sym inv.geometry) (inv.rings newest list ready rings) in
+          subst (λ (k : Geometry). AreRingsSoundUnder newest k new.image) inv.geometry (c.in_default.ensures.rings newest (sealed_if b list) (inv.ready list ready) here);
       current = λ list ready. current_again first store c.push_changed.new.self old.image mid.image new.image inv.geometry (inv.current list ready) (c.in_default.ensures.current (sealed_if b list) (inv.ready list ready));
       ahead = λ ahead. c.in_default.ensures.ahead (inv.ahead ahead);
       left = λ honest. c.push_changed.ensures.left (stays_honest old mid inv.goes honest) ∙ inv.left honest;
@@ -217,9 +239,11 @@ loop-self-preserved g c =
       kept = c.push_changed.ensures.kept ∙ inv.kept;
       room = c.in_default.ensures.room;
       end = c.in_default.ensures.end ∙ inv.end;
+      grows = omega (arith, inv.grows, c.in_default.ensures.grows);
       rises = omega (arith, inv.rises, c.push_changed.ensures.rises);
       goes = goes_in_sequence old mid new inv.goes c.push_changed.ensures.goes;
       reads = omega (arith, inv.reads, c.push_changed.ensures.reads, saves, count);
+      asked = (let one = ap next_group c.in_default.ensures.machine in let groups : 1 ≤ (rules_for store).groups = omega (arith, inv.going.flash.limits.groups) in let next = changed_next (rules_for store) (cache_of store) groups in omega (arith, inv.asked, c.push_changed.ensures.reads, one, next));
       others = λ d ne. c.push_changed.ensures.others d ne ∙ inv.others d ne;
     }
 
@@ -316,3 +340,44 @@ returns-in-Err-clause-worn_end g c list ready says =
     let inv = c.loop-self.invariant in
     subst (λ (h : Geometry). IsWorn h (g.S.Site.state c.push_changed.new.site).image) inv.geometry
     (c.in-Err.ensures.worn_end (sealed_if (nat_lt c.args.log.now.ring.hi c.loop-self.log.ring.hi) list) (inv.ready list ready) says)
+
+pub returns-in-Err-clause-asked : goal.returns-in-Err-clause-asked
+returns-in-Err-clause-asked g c =
+    let first = c.args.self.now in
+    let store = c.loop-self.self in
+    let inv = c.loop-self.invariant in
+    let wants : wants_flush (cache_of store) ≡ true = sym c.has_changed.ensures ∙ c.loop-self-test.true in
+    let some : 1 ≤ (rules_for first).groups = omega (arith, c.requires.going.flash.limits.groups) in
+    let more = flushed_more c.flushes_save_all.ensures.goes_on (rules_for first) (cache_of store) some wants in
+    let same = ap next_group inv.machine in
+    omega (arith, inv.asked, c.push_changed.ensures.reads, more, same)
+
+pub returns-clause-asked : goal.returns-clause-asked
+returns-clause-asked g c =
+    let first = c.args.self.now in
+    let store = c.loop-self.self in
+    let inv = c.loop-self.invariant in
+    let some : 1 ≤ (rules_for first).groups = omega (arith, c.requires.going.flash.limits.groups) in
+    let more = flushed_next (rules_for first) (cache_of store) some in
+    let same = ap next_group inv.machine in
+    omega (arith, inv.asked, more, same)
+
+pub returns-in-Err-clause-overflows : goal.returns-in-Err-clause-overflows
+returns-in-Err-clause-overflows g c is =
+    let first = c.args.self.now in
+    let store = c.loop-self.self in
+    let inv = c.loop-self.invariant in
+    let wants : wants_flush (cache_of store) ≡ true = sym c.has_changed.ensures ∙ c.loop-self-test.true in
+    let some : 1 ≤ (rules_for first).groups = omega (arith, c.requires.going.flash.limits.groups) in
+    let more = flushed_more c.flushes_save_all.ensures.goes_on (rules_for first) (cache_of store) some wants in
+    let same = ap next_group inv.machine in
+    let worn : c.in-Err.stop ≡ Worn Flash = cc in
+    let full = c.in-Err.ensures.worn_flash (ap Err worn) in
+    let next = inv.going.flash.next in
+    omega (arith, more, same, full, next)
+
+pub returns-in-Err-clause-worn_log_end : goal.returns-in-Err-clause-worn_log_end
+returns-in-Err-clause-worn_log_end g c list ready says =
+    let inv = c.loop-self.invariant in
+    subst (λ (h : Geometry). IsLogAtEnd h (g.S.Site.state c.push_changed.new.site).image) inv.geometry
+    (c.in-Err.ensures.worn_log_end (sealed_if (nat_lt c.args.log.now.ring.hi c.loop-self.log.ring.hi) list) (inv.ready list ready) says)

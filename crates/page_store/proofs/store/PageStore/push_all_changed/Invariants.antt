@@ -1,20 +1,21 @@
-use Rattle.std.proofs.Common.{IsTrue, ◌≡◌, ◌≢◌, ◌+◌, ◌*◌, ◌≤◌, true}
+use Rattle.std.proofs.Common.{IsTrue, ◌≡◌, ◌≢◌, ◌+◌, ◌*◌, ◌≤◌, true, Option}
 use Rattle.std.specs.Prelude.{◌||◌, ◌^◌}
 use Rattle.std.specs.Prelude.{nat_lt}
 use Rattle.site.specs.declared.outside.Dev.{Dev}
 use Rattle.site.specs.declared.outside.Dev.TheVariants.{Flash}
-use Rattle.site.specs.State.{reads_of, IsQuiet}
+use Rattle.site.specs.State.{reads_of, IsQuiet, snapshot_of}
 use Rattle.site.specs.Calls.{Goes}
 use Rattle.site.specs.Moments.{LeavesOnly}
 use Rattle.second_chance.specs.Machine.{flushed, wants_flush}
 use Rattle.second_chance.specs.Laws.{changed_count}
 use Rattle.log_store.specs.LogList.{LogList, sealed_if}
 use Rattle.log_store.specs.Held as log_held
-use Rattle.log_store.specs.Held.{has_tail, HasRoom}
-use Rattle.image_meaning.specs.Beside.{AreRingsSound}
+use Rattle.log_store.specs.Held.{has_tail, end_of, HasRoom}
+use Rattle.checkpoint.specs.declared.master.Master.{Master}
+use Rattle.image_meaning.specs.Beside.{AreRingsSoundUnder}
 use Rattle.page_store.specs.Held.{MayGoOn, current}
-use Rattle.page_store.specs.Caching.{cache_of, rules}
-use Rattle.page_store.specs.Ahead.{IsAhead, AreLogged, LeavesSealed, end_forced, forces}
+use Rattle.page_store.specs.Caching.{next_group, cache_of, rules}
+use Rattle.page_store.specs.Ahead.{IsAhead, AreLogged, AreSealed, LeavesSealed, end_forced, forces}
 use Rattle.page_store.specs.Flushing.{flushed_contents}
 use Rattle.page_store.specs.Leaves.{AreReady, LeavesPages, LeavesRings, KeepsCurrent}
 use Rattle.page_store.specs.Changing.{standing, flush_changes}
@@ -29,9 +30,12 @@ invariant-loop-self g l =
     record {
       moment : (list : LogList) → AreReady first l.fn.log list old → IsQuiet old → LeavesOnly old now (LeavesPages first.flash.geometry (current first old.image) (forces l.fn.log (flushed_contents first)) list old);
       ahead_moment : (list : LogList) → AreReady first l.fn.log list old → IsQuiet old → IsAhead l.fn.log first old.image → LeavesOnly old now (LeavesSealed first.flash.geometry);
-      rings_moment : (list : LogList) → AreReady first l.fn.log list old → IsQuiet old → AreRingsSound first.flash.geometry old.image → LeavesOnly old now (LeavesRings first.flash.geometry);
+      rings_moment : (newest : Option Master) (list : LogList) → AreReady first l.fn.log list old → IsQuiet old → AreRingsSoundUnder newest first.flash.geometry old.image → LeavesOnly old now (LeavesRings newest first.flash.geometry);
       made : (list : LogList) → AreReady first l.fn.log list old → IsQuiet old → HasMade first.flash.geometry (flush_changes l.fn.log list first) old now (standing l.log (sealed_if (nat_lt l.fn.log.ring.hi l.log.ring.hi) list) l.self) (changed_count (cache_of l.self).pool);
       ready : (list : LogList) → AreReady first l.fn.log list old → AreReady l.self l.log (sealed_if (nat_lt l.fn.log.ring.hi l.log.ring.hi) list) now;
+      leaves : (list : LogList) → AreReady first l.fn.log list old → LeavesPages first.flash.geometry (current first old.image) (forces l.fn.log (flushed_contents first)) list old (snapshot_of now);
+      sealed : (list : LogList) → AreReady first l.fn.log list old → IsAhead l.fn.log first old.image → AreSealed first.flash.geometry now.image;
+      rings : (newest : Option Master) (list : LogList) → AreReady first l.fn.log list old → AreRingsSoundUnder newest first.flash.geometry old.image → AreRingsSoundUnder newest first.flash.geometry now.image;
       current : (list : LogList) → AreReady first l.fn.log list old → KeepsCurrent first old.image l.self now.image;
       ahead : AreLogged (end_forced l.fn.log) first.pool.frames → AreLogged (end_forced l.log) l.self.pool.frames;
       stays_quiet : IsTrue old.honest → IsQuiet old → IsQuiet now;
@@ -48,9 +52,11 @@ invariant-loop-self g l =
       kept : l.log.kept ≡ l.fn.log.kept;
       room : has_tail l.log ≡ true → HasRoom l.log;
       end : end_forced l.log ≡ end_forced l.fn.log;
+      grows : end_of l.fn.log ≤ end_of l.log;
       rises : l.fn.log.ring.hi ≤ l.log.ring.hi;
       goes : Goes old now;
       reads : now.flash_reads + 8 * changed_count (cache_of l.self).pool ≤ old.flash_reads + 8 * changed_count (cache_of first).pool;
+      asked : now.flash_reads + 8 * next_group (cache_of first) ≤ old.flash_reads + 8 * next_group (cache_of l.self);
       others : (d : Dev) → d ≢ Flash → reads_of d now ≡ reads_of d old;
     }
 

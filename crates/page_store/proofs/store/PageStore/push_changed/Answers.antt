@@ -31,13 +31,13 @@ pub returns-in_err-contents-clause-ahead_moment : goal.returns-in_err-contents-c
 returns-in_err-contents-clause-ahead_moment g c list ready quiet ahead = stays_sealed _ (g.S.Site.state c.args.site.now) quiet ahead.versions
 
 pub returns-in_err-plan-clause-rings_moment : goal.returns-in_err-plan-clause-rings_moment
-returns-in_err-plan-clause-rings_moment g c list ready quiet rings = stays_rings _ (g.S.Site.state c.args.site.now) quiet rings
+returns-in_err-plan-clause-rings_moment g c newest list ready quiet rings = stays_rings newest _ (g.S.Site.state c.args.site.now) quiet rings
 
 pub returns-in_err-pages-clause-rings_moment : goal.returns-in_err-pages-clause-rings_moment
-returns-in_err-pages-clause-rings_moment g c list ready quiet rings = stays_rings _ (g.S.Site.state c.args.site.now) quiet rings
+returns-in_err-pages-clause-rings_moment g c newest list ready quiet rings = stays_rings newest _ (g.S.Site.state c.args.site.now) quiet rings
 
 pub returns-in_err-contents-clause-rings_moment : goal.returns-in_err-contents-clause-rings_moment
-returns-in_err-contents-clause-rings_moment g c list ready quiet rings = stays_rings _ (g.S.Site.state c.args.site.now) quiet rings
+returns-in_err-contents-clause-rings_moment g c newest list ready quiet rings = stays_rings newest _ (g.S.Site.state c.args.site.now) quiet rings
 
 pub returns-in_err-plan-clause-front_moment : goal.returns-in_err-plan-clause-front_moment
 returns-in_err-plan-clause-front_moment g c list ready quiet = none_front _ _ (g.S.Site.state c.args.site.now) quiet

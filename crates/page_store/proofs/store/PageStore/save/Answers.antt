@@ -3,6 +3,7 @@ use Rattle.std.specs.Prelude.{All, AllPairs, IsSome, if◌then◌else◌}
 use Rattle.std.specs.List.{AllByRecursion}
 use Rattle.std.proofs.lemmas.List.{length-map, length-take-le}
 use Rattle.site.specs.declared.geometry.Geometry.{Geometry}
+use Rattle.site.specs.State.{snapshot_of}
 use Rattle.site.specs.Moments.{LeavesOnly}
 use Rattle.slotted_page.specs.Layout.{IsSound}
 use Rattle.buffer_pool.specs.declared.frame.Frame.{Frame}
@@ -230,17 +231,17 @@ returns-in-Ok-clause-frames g c =
     ∙ ap (λ (l : List ℕ). cleared_all l frames) c.requires.pages
 
 pub returns-in-Err-clause-rings_moment : goal.returns-in-Err-clause-rings_moment
-returns-in-Err-clause-rings_moment g c list ready quiet rings =
+returns-in-Err-clause-rings_moment g c newest list ready quiet rings =
     let store = c.args.self.now in
     let frames = store.pool.frames in
-    c.push.ensures.rings_moment list ready quiet rings (chosen_contents IsSound frames c.args.pages.now c.args.contents.now c.requires.going.own.pool.distinct c.requires.pages c.requires.contents
+    c.push.ensures.rings_moment newest list ready quiet rings (chosen_contents IsSound frames c.args.pages.now c.args.contents.now c.requires.going.own.pool.distinct c.requires.pages c.requires.contents
     (all_weaker (IsPage store.flash.geometry.pages) (λ (f : Frame). IsSound f.content) (λ f p. p.sound) frames c.requires.going.own.pages))
 
 pub returns-in-Ok-clause-rings_moment : goal.returns-in-Ok-clause-rings_moment
-returns-in-Ok-clause-rings_moment g c list ready quiet rings =
+returns-in-Ok-clause-rings_moment g c newest list ready quiet rings =
     let store = c.args.self.now in
     let frames = store.pool.frames in
-    c.push.ensures.rings_moment list ready quiet rings (chosen_contents IsSound frames c.args.pages.now c.args.contents.now c.requires.going.own.pool.distinct c.requires.pages c.requires.contents
+    c.push.ensures.rings_moment newest list ready quiet rings (chosen_contents IsSound frames c.args.pages.now c.args.contents.now c.requires.going.own.pool.distinct c.requires.pages c.requires.contents
     (all_weaker (IsPage store.flash.geometry.pages) (λ (f : Frame). IsSound f.content) (λ f p. p.sound) frames c.requires.going.own.pages))
 
 pub returns-in-Err-clause-front_moment : goal.returns-in-Err-clause-front_moment
@@ -304,3 +305,32 @@ returns-in-Ok-clause-directory g c =
     let known = known_changed pages changed (length-take-le (length pages) (replicate 8 true) short) (all_true (length pages)) in
     ap (λ (s : PageStore). s.flash.directory) c.clear_all.ensures.cleared ∙ c.in-Ok.ensures.directory
     ∙ ap (λ (l : List Known). pushed_queue store.flash l) (known ∙ ap (map (λ page. known_of page true)) c.requires.pages ∙ known_pages (chosen frames))
+
+pub returns-in-Ok-clause-leaves : goal.returns-in-Ok-clause-leaves
+returns-in-Ok-clause-leaves g c list ready =
+    let store = c.args.self.now in
+    let log = c.args.log.now in
+    let pages = c.args.pages.now in
+    let contents = c.args.contents.now in
+    let frames = store.pool.frames in
+    let apart = c.requires.going.own.pool.distinct in
+    let changed : List Bool = take (length pages) (replicate 8 true) in
+    let short : length pages ≤ 8 = let count = ap length c.requires.pages in omega (arith, count, few_chosen frames, length-map (chosen frames) (λ (f : Frame). f.page)) in
+    let facts = has_chosen store pages changed contents apart c.requires.pages c.requires.contents (length-take-le (length pages) (replicate 8 true) short) (all_true (length pages)) in
+    let old = g.S.Site.state c.args.site.now in
+    let new = g.S.Site.state c.push.new.site in
+    subst (λ (l : List (List ℕ)). LeavesPages store.flash.geometry (current store old.image) (forces log l) list old (snapshot_of new)) facts.first
+    (c.in-Ok.ensures.leaves list (current store old.image) ready (facts.given old.image) (facts.clean old.image))
+
+pub returns-in-Ok-clause-sealed : goal.returns-in-Ok-clause-sealed
+returns-in-Ok-clause-sealed g c list ready ahead =
+    let end = end_forced c.args.log.now in
+    c.in-Ok.ensures.sealed list ready ahead.versions
+    (chosen_contents (IsLogged end) c.args.self.now.pool.frames c.args.pages.now c.args.contents.now c.requires.going.own.pool.distinct c.requires.pages c.requires.contents ahead.pool)
+
+pub returns-in-Ok-clause-rings : goal.returns-in-Ok-clause-rings
+returns-in-Ok-clause-rings g c newest list ready rings =
+    let store = c.args.self.now in
+    let frames = store.pool.frames in
+    c.in-Ok.ensures.rings newest list ready rings (chosen_contents IsSound frames c.args.pages.now c.args.contents.now c.requires.going.own.pool.distinct c.requires.pages c.requires.contents
+    (all_weaker (IsPage store.flash.geometry.pages) (λ (f : Frame). IsSound f.content) (λ f p. p.sound) frames c.requires.going.own.pages))

@@ -215,7 +215,7 @@ returns-clause-next g c =
     c.in_default.ensures.next ∙ ap {B = ℕ} (λ (contents : List (List ℕ)). if forces c.args.log.now contents then hi + 1 else hi) (pushed_same store page none)
 
 pub returns-then-is_some-clause-rings_moment : goal.returns-then-is_some-clause-rings_moment
-returns-then-is_some-clause-rings_moment g c list ready quiet rings = stays_rings _ (g.S.Site.state c.args.site.now) quiet rings
+returns-then-is_some-clause-rings_moment g c newest list ready quiet rings = stays_rings newest _ (g.S.Site.state c.args.site.now) quiet rings
 
 pub returns-then-is_some-clause-leaves : goal.returns-then-is_some-clause-leaves
 returns-then-is_some-clause-leaves g c list ready = same_pages c.args.self.now c.args.log.now _ _ list (g.S.Site.state c.args.site.now) c.requires.sizes ready

@@ -1,0 +1,63 @@
+use Rattle.std.proofs.Common.{Bool, sym, subst, ◌∙◌, arith}
+use Rattle.second_chance.specs.Machine.{rules_of}
+use Rattle.site.specs.declared.outside.Dev.TheVariants.{Disk}
+use Rattle.site.specs.declared.geometry.Geometry.{Geometry}
+use Rattle.image_changes.specs.Rings.{Masters, KeepsUnits, master_shape}
+use Rattle.log_store.specs.LogList.{LogList}
+use Rattle.page_store.specs.Ahead.{forces}
+use Rattle.page_store.specs.Flushing.{flushed_contents}
+use Rattle.image_meaning.specs.Meaning.{kept_by}
+use Rattle.redo_undo.specs.Holding.{HoldsIn, Holds}
+use Rattle.redo_undo.proofs.Touched.{forced_tail, leaves_table, touched_holds, ok_seven}
+use Rattle.redo_undo.proofs.Redoings.{ok_one_of}
+use Rattle.redo_undo.proofs.checkpointing.flush.Goals as goal
+
+pub returns-clause-any_moment : goal.returns-clause-any_moment
+returns-clause-any_moment g c newest records table commits h quiet =
+    let site = g.S.Site.state c.args.site.now in
+    let log = c.args.log.now in
+    let pages = c.args.pages.now in
+    let ready = h.log_holds.ready in
+    let list : LogList = record { first = kept_by newest; blocks = h.log_holds.blocks; tail = h.log_holds.tail } in
+    leaves_table c.log_laws.ensures c.page_laws.ensures log pages site newest records table commits h c.requires.going.pages_going.own (forces log (flushed_contents pages))
+    (forced_tail log (flushed_contents pages)) (g.S.Site.state c.flush_all.new.site)
+    (c.flush_all.ensures.any_moment list ready quiet) (c.flush_all.ensures.ahead_moment list ready quiet h.log_holds.ahead) (c.flush_all.ensures.rings_moment newest list ready quiet h.log_holds.rings)
+
+pub returns-clause-holds : goal.returns-clause-holds
+returns-clause-holds g c newest records table commits h =
+    let site = g.S.Site.state c.args.site.now in
+    let new = g.S.Site.state c.flush_all.new.site in
+    let log = c.args.log.now in
+    let pages = c.args.pages.now in
+    let ready = h.log_holds.ready in
+    let list : LogList = record { first = kept_by newest; blocks = h.log_holds.blocks; tail = h.log_holds.tail } in
+    let sealing : Bool = forces log (flushed_contents pages) in
+    ok_seven c.flush_all.result _ _ _ _ _ _ _ (Holds c.flush_all.new.log c.flush_all.new.self new newest records table commits)
+    (λ ready' kept are_ahead end are_sealed rings leaves. subst (λ (x : Geometry). HoldsIn x c.flush_all.new.log c.flush_all.new.self new newest records table commits) (sym c.flush_all.ensures.geometry)
+    (touched_holds c.log_laws.ensures c.page_laws.ensures log pages site newest records table commits h c.flush_all.new.log c.flush_all.new.self new (c.flush_all.ensures.log_geometry ∙ c.requires.going.sizes)
+    c.flush_all.ensures.kept kept are_ahead end are_sealed rings c.requires.going.log_going.high sealing (forced_tail log (flushed_contents pages)) ready' leaves))
+    (c.flush_all.ensures.ready list ready) (c.flush_all.ensures.current list ready) (c.flush_all.ensures.ahead list ready h.log_holds.ahead) c.flush_all.ensures.end
+    (c.flush_all.ensures.sealed list ready h.log_holds.ahead) (c.flush_all.ensures.rings newest list ready h.log_holds.rings) (c.flush_all.ensures.leaves list ready)
+
+pub returns-clause-masters : goal.returns-clause-masters
+returns-clause-masters g c newest records table commits h =
+    let ready = h.log_holds.ready in
+    ok_one_of c.flush_all.result _ (KeepsUnits master_shape (g.S.Site.state c.args.site.now).image (g.S.Site.state c.flush_all.new.site).image)
+    (λ leaves. leaves.rings Masters (λ same. cc) (λ same. cc)) (c.flush_all.ensures.leaves (record { first = kept_by newest; blocks = h.log_holds.blocks; tail = h.log_holds.tail }) ready)
+
+pub returns-clause-worn_end : goal.returns-clause-worn_end
+returns-clause-worn_end g c newest records table commits h = c.flush_all.ensures.worn_end (record { first = kept_by newest; blocks = h.log_holds.blocks; tail = h.log_holds.tail }) h.log_holds.ready
+
+pub returns-clause-quiet : goal.returns-clause-quiet
+returns-clause-quiet g c newest records table commits h quiet = c.flush_all.ensures.quiet (record { first = kept_by newest; blocks = h.log_holds.blocks; tail = h.log_holds.tail }) h.log_holds.ready quiet
+
+pub returns-clause-asks : goal.returns-clause-asks
+returns-clause-asks g c =
+    let asked = c.flush_all.ensures.asked in
+    let other = c.flush_all.ensures.others Disk (λ same. cc) in
+    record {
+      machine = c.flush_all.ensures.machine;
+      worn = c.flush_all.ensures.overflows;
+      reads = record { flash = omega (arith, asked); disk = omega (arith, other) };
+      rules_are = (λ i. rules_of (c.flush_all.ensures.size i) (c.flush_all.ensures.geometry i).groups);
+    }
