@@ -1,4 +1,5 @@
 -- A session's abort.
+use Rattle.checkpoint.specs.declared.master.Master.{Master}
 use Rattle.std.proofs.Common.{◌≡◌, ◌≢◌, ℕ, ◌+◌, ◌<◌, true≢false, false, List, length, Option, None, Some, ⊎_elim, refl, sym, ap, subst, ◌∙◌, arith, get_or-set_same, get_or-set_other, length-set, IsTrue}
 use Rattle.std.specs.Prelude.{slice_set, slice_index_or}
 use Rattle.std.proofs.lemmas.Option.{none-some, same_Some}
@@ -24,31 +25,31 @@ use Rattle.engine.proofs.Locks.{released}
 use Rattle.engine.proofs.Actives.{some_active}
 
 -- another session's transaction
-pub others_go_on : (txn : ℕ) (before now : List Entry) → ConcernsOnly txn before now → (a : Option Active) (o : Option Session) → ((entry : Active) → a ≡ Some entry → entry.begin ≢ txn) → SessionIs before a o → SessionIs now a o
-others_go_on txn before now concerns None None other is = tt
-others_go_on txn before now concerns None (Some session) other is = absurd is
-others_go_on txn before now concerns (Some entry) None other is = absurd is
-others_go_on txn before now concerns (Some entry) (Some session) other is = record {
+pub others_go_on : (newest : Option Master) (kept : ℕ) (txn : ℕ) (before now : List Entry) → ConcernsOnly newest txn before now → (a : Option Active) (o : Option Session) → ((entry : Active) → a ≡ Some entry → entry.begin ≢ txn) → SessionIs newest kept before a o → SessionIs newest kept now a o
+others_go_on newest kept txn before now concerns None None other is = tt
+others_go_on newest kept txn before now concerns None (Some session) other is = absurd is
+others_go_on newest kept txn before now concerns (Some entry) None other is = absurd is
+others_go_on newest kept txn before now concerns (Some entry) (Some session) other is = record {
   is_active = concerns.under_way entry.begin entry.last session.writes (other entry refl) is.is_active;
   born = is.born;
   count = is.count;
 }
 
 -- A session's transaction was undone, and the session ends.
-pub dropped : (records log : List Entry) (old new : List Active) (s : State) (n : ℕ) (entry : Active) → SessionsAre records old s → n < 8 → entry_of old n ≡ Some entry → ChangesOnly old new n None → entries.owed new + (entry.writes + 1) ≡ entries.owed old →
-    ConcernsOnly entry.begin records log → is_loser log entry.begin ≡ false → owed log + (entry.writes + 1) ≡ owed records → SessionsAre log new (with_session s n None)
-dropped records log old new s n entry are small at changes owes concerns closed less =
+pub dropped : (newest : Option Master) (records log : List Entry) (old new : List Active) (s : State) (n : ℕ) (entry : Active) → SessionsAre newest records old s → n < 8 → entry_of old n ≡ Some entry → ChangesOnly old new n None → entries.owed new + (entry.writes + 1) ≡ entries.owed old →
+    ConcernsOnly newest entry.begin records log → is_loser log entry.begin ≡ false → owed log + (entry.writes + 1) ≡ owed records → SessionsAre newest log new (with_session s n None)
+dropped newest records log old new s n entry are small at changes owes concerns closed less =
     let before = are.owes in
     let count = are.count in
     record {
       count = length-set s.sessions n None ∙ are.count;
       each = λ m. ⊎_elim
-          (λ (same : m ≡ n). subst (λ (k : ℕ). SessionIs log (entry_of new k) (slice_index_or (slice_set s.sessions n None) k None)) (sym same)
-          (subst (λ (a : Option Active). SessionIs log a (slice_index_or (slice_set s.sessions n None) n None)) (sym changes.own)
-          (subst (λ (o : Option Session). SessionIs log None o) (sym (get_or-set_same s.sessions n None None (omega (arith, small, count)))) tt)))
-          (λ differ. subst (λ (a : Option Active). SessionIs log a (slice_index_or (slice_set s.sessions n None) m None)) (sym (changes.others m differ))
-          (subst (λ (o : Option Session). SessionIs log (entry_of old m) o) (sym (get_or-set_other s.sessions n m None None differ))
-          (others_go_on entry.begin records log concerns (entry_of old m) (session_at s m) (λ other is same. differ (are.differ m n other entry is at same)) (are.each m))))
+          (λ (same : m ≡ n). subst (λ (k : ℕ). SessionIs newest s.kept log (entry_of new k) (slice_index_or (slice_set s.sessions n None) k None)) (sym same)
+          (subst (λ (a : Option Active). SessionIs newest s.kept log a (slice_index_or (slice_set s.sessions n None) n None)) (sym changes.own)
+          (subst (λ (o : Option Session). SessionIs newest s.kept log None o) (sym (get_or-set_same s.sessions n None None (omega (arith, small, count)))) tt)))
+          (λ differ. subst (λ (a : Option Active). SessionIs newest s.kept log a (slice_index_or (slice_set s.sessions n None) m None)) (sym (changes.others m differ))
+          (subst (λ (o : Option Session). SessionIs newest s.kept log (entry_of old m) o) (sym (get_or-set_other s.sessions n m None None differ))
+          (others_go_on newest s.kept entry.begin records log concerns (entry_of old m) (session_at s m) (λ other is same. differ (are.differ m n other entry is at same)) (are.each m))))
           (cases_eq m n);
       all = λ t is. ⊎_elim
           (λ (same : t ≡ entry.begin). absurd (true≢false (sym is ∙ ap (is_loser log) same ∙ closed)))
@@ -70,11 +71,11 @@ dropped records log old new s n entry are small at changes owes concerns closed 
 -- so many writes the session has
 pub count_is : (engine : Engine) (site : Site) (s : State) (entry : Active) (fits : Fits engine site s) → entry_of engine.active entry.session ≡ Some entry → length (writes_of (session_at s entry.session)) ≡ entry.writes
 count_is engine site s entry fits at =
-    let found = some_active fits.records engine.active s fits.sessions entry.session entry at in
+    let found = some_active fits.newest fits.records engine.active s fits.sessions entry.session entry at in
     ap (λ (o : Option Session). length (writes_of o)) found.is ∙ sym found.under_way.count
 
 pub aborted_fits : (engine mid last : Engine) (old new : Site) (s : State) (entry : Active) (fits : Fits engine old s) → IsTable engine.active → entry_of engine.active entry.session ≡ Some entry → IsTrue new.honest →
-    RollsBack mid.store new fits.records s.table s.commits entry.begin entry.writes →
+    RollsBack mid.store new fits.newest fits.records s.table s.commits entry.begin entry.writes →
     mid ≡ record engine { store = mid.store } → mid.store.made ≡ engine.store.made + (entry.writes + 1) →
     ReleasesAll mid.locks last.locks entry.session → ChangesOnly mid.active last.active entry.session None → entries.owed last.active + (entry.writes + 1) ≡ entries.owed mid.active →
     last.store ≡ mid.store → last.commits ≡ mid.commits → last.cap ≡ mid.cap →
@@ -86,18 +87,18 @@ aborted_fits engine mid last old new s entry fits table at honest back rest made
     let writes = count_is engine old s entry fits at in
     let begun = fits.counts.made in
     let made_last : last.store.made ≡ engine.store.made + (entry.writes + 1) = ap (λ (j : Store). j.made) store_is ∙ made in
-    let done : SessionsAre back.log last.active (with_session s n None) =
-    dropped fits.records back.log engine.active last.active s n entry fits.sessions small at
+    let done : SessionsAre fits.newest back.log last.active (with_session s n None) =
+    dropped fits.newest fits.records back.log engine.active last.active s n entry fits.sessions small at
     (subst (λ (a : List Active). ChangesOnly a last.active n None) (ap (λ (x : Engine). x.active) rest) changes) (owed_is ∙ ap (λ (x : Engine). entries.owed x.active) rest)
     back.concerns back.closed back.owes in
     record {
       honest = honest;
+      newest = fits.newest;
       records = back.log;
-      holds = subst (λ (j : Store). Holds j new back.log s.table s.commits) (sym store_is) back.holds;
+      holds = subst (λ (j : Store). Holds j new fits.newest back.log s.table s.commits) (sym store_is) back.holds;
       counts = record {
         commits = commits_is ∙ ap (λ (x : Engine). x.commits) rest ∙ fits.counts.commits;
         made = omega (arith, made_last, begun, writes);
-        kept = fits.counts.kept;
         cap = cap_is ∙ ap (λ (x : Engine). x.cap) rest ∙ fits.counts.cap;
       };
       sessions = record { count = done.count; each = done.each; all = done.all; owes = done.owes; differ = done.differ };

@@ -1,5 +1,6 @@
 -- The sessions of the model and the unfinished transactions of the log, one record further.
-use Rattle.std.proofs.Common.{◌≡◌, ◌≢◌, ◌⊎◌, ℕ, suc, ◌+◌, ◌<◌, false, List, [], ◌∷◌, ◌++◌, length, Option, None, Some, ⊎_elim, refl, sym, ap, subst, ◌∙◌, arith, get_or-set_same, get_or-set_other, length-set}
+use Rattle.checkpoint.specs.declared.master.Master.{Master}
+use Rattle.std.proofs.Common.{◌≡◌, ◌≢◌, ◌⊎◌, ℕ, suc, ◌+◌, ◌*◌, ◌≤◌, ◌<◌, false, List, [], ◌∷◌, ◌++◌, length, Option, None, Some, ⊎_elim, refl, sym, ap, subst, ◌∙◌, arith, get_or-set_same, get_or-set_other, length-set}
 use Rattle.std.specs.Prelude.{slice_set, slice_index_or, drop}
 use Rattle.std.proofs.lemmas.Option.{none-some, same_Some}
 use Rattle.std.proofs.lemmas.Bool.{ne_eqb, cases_eq}
@@ -14,46 +15,46 @@ use Rattle.log_laws.proofs.Owing.{owed_begin}
 use Rattle.txn_table.specs.declared.active.Active.{Active}
 use Rattle.txn_table.specs.Entries.{entry_of, ChangesOnly}
 use Rattle.txn_table.specs.Entries as entries
-use Rattle.image_meaning.specs.Meaning.{blank_master}
+use Rattle.image_meaning.specs.Meaning.{master_of}
 use Rattle.engine.specs.Fits.{IsUnderWay, SessionIs, SessionsAre}
 
 -- what is active in one is in the other
-pub none_active : (records : List Entry) (active : List Active) (s : State) → SessionsAre records active s → (n : ℕ) → entry_of active n ≡ None → session_at s n ≡ None
-none_active records active s are n none = by (entry_of active n) (session_at s n) none (are.each n)
+pub none_active : (newest : Option Master) (records : List Entry) (active : List Active) (s : State) → SessionsAre newest records active s → (n : ℕ) → entry_of active n ≡ None → session_at s n ≡ None
+none_active newest records active s are n none = by (entry_of active n) (session_at s n) none (are.each n)
   where
-    by : (a : Option Active) (o : Option Session) → a ≡ None → SessionIs records a o → o ≡ None
+    by : (a : Option Active) (o : Option Session) → a ≡ None → SessionIs newest s.kept records a o → o ≡ None
     by None None is both = refl
     by None (Some session) is both = absurd both
     by (Some entry) None is both = refl
     by (Some entry) (Some session) is both = absurd (none-some entry (sym is))
 
-pub record Finds (records : List Entry) (entry : Active) (o : Option Session) : Type 0 where
+pub record Finds (newest : Option Master) (kept : ℕ) (records : List Entry) (entry : Active) (o : Option Session) : Type 0 where
   pub session : Session
   pub is : o ≡ Some session
-  pub under_way : IsUnderWay records entry session
+  pub under_way : IsUnderWay newest kept records entry session
 
-pub some_active : (records : List Entry) (active : List Active) (s : State) → SessionsAre records active s → (n : ℕ) (own : Active) → entry_of active n ≡ Some own → Finds records own (session_at s n)
-some_active records active s are n own some = by (entry_of active n) (session_at s n) some (are.each n)
+pub some_active : (newest : Option Master) (records : List Entry) (active : List Active) (s : State) → SessionsAre newest records active s → (n : ℕ) (own : Active) → entry_of active n ≡ Some own → Finds newest s.kept records own (session_at s n)
+some_active newest records active s are n own some = by (entry_of active n) (session_at s n) some (are.each n)
   where
-    by : (a : Option Active) (o : Option Session) → a ≡ Some own → SessionIs records a o → Finds records own o
+    by : (a : Option Active) (o : Option Session) → a ≡ Some own → SessionIs newest s.kept records a o → Finds newest s.kept records own o
     by None o is both = absurd (none-some own is)
     by (Some entry) None is both = absurd both
-    by (Some entry) (Some session) is both = record { session = session; is = refl; under_way = subst (λ (e : Active). IsUnderWay records e session) (same_Some entry own is) both }
+    by (Some entry) (Some session) is both = record { session = session; is = refl; under_way = subst (λ (e : Active). IsUnderWay newest s.kept records e session) (same_Some entry own is) both }
 
 -- the record of another transaction
-pub others_stay : (records : List Entry) (e : Entry) (a : Option Active) (o : Option Session) → ((entry : Active) → a ≡ Some entry → is_of entry.begin e ≡ false) → SessionIs records a o → SessionIs (records ++ e ∷ []) a o
-others_stay records e None None other is = tt
-others_stay records e None (Some session) other is = absurd is
-others_stay records e (Some entry) None other is = absurd is
-others_stay records e (Some entry) (Some session) other is = record {
-  is_active = active_stays blank_master records e entry.begin entry.last session.writes is.is_active (other entry refl);
+pub others_stay : (newest : Option Master) (kept : ℕ) (records : List Entry) (e : Entry) (a : Option Active) (o : Option Session) → ((entry : Active) → a ≡ Some entry → is_of entry.begin e ≡ false) → SessionIs newest kept records a o → SessionIs newest kept (records ++ e ∷ []) a o
+others_stay newest kept records e None None other is = tt
+others_stay newest kept records e None (Some session) other is = absurd is
+others_stay newest kept records e (Some entry) None other is = absurd is
+others_stay newest kept records e (Some entry) (Some session) other is = record {
+  is_active = active_stays (master_of newest) records e entry.begin entry.last session.writes is.is_active (other entry refl);
   born = is.born;
   count = is.count;
 }
 
 -- a transaction that is under way isn't fresh
-pub not_fresh : (records : List Entry) (entry : Active) (session : Session) (lsn : ℕ) → IsUnderWay records entry session → IsFresh lsn records → entry.begin ≢ lsn
-not_fresh records entry session lsn under fresh same =
+pub not_fresh : (newest : Option Master) (kept : ℕ) (records : List Entry) (entry : Active) (session : Session) (lsn : ℕ) → IsUnderWay newest kept records entry session → IsFresh lsn records → entry.begin ≢ lsn
+not_fresh newest kept records entry session lsn under fresh same =
     let none : entries_of entry.begin records ≡ [] = ap (λ (t : ℕ). entries_of t records) same ∙ fresh_entries lsn records fresh in
     let some = under.is_active.chain.begins in
     let long : length (entries_of entry.begin records) ≡ suc (length (drop 1 (entries_of entry.begin records))) = ap length some in
@@ -61,27 +62,27 @@ not_fresh records entry session lsn under fresh same =
     omega (arith, long, short)
 
 -- a session begins
-pub begun : (records : List Entry) (old new : List Active) (s : State) (n lsn made : ℕ) (entry : Active) → SessionsAre records old s → n < 8 → entry_of old n ≡ None → ChangesOnly old new n (Some entry) → entries.owed new ≡ entries.owed old + 1 →
-    IsFresh lsn records → entry.begin ≡ lsn → entry.last ≡ lsn → entry.born ≡ s.made → entry.writes ≡ 0 →
-    SessionsAre (records ++ record { lsn = lsn; rec = Begin } ∷ []) new (making 1 (with_session s n (Some (record { born = s.made; writes = []; reads = [] }))))
-begun records old new s n lsn made entry are small none changes owes fresh begin last born writes =
+pub begun : (newest : Option Master) (records : List Entry) (old new : List Active) (s : State) (n lsn made : ℕ) (entry : Active) → SessionsAre newest records old s → n < 8 → entry_of old n ≡ None → ChangesOnly old new n (Some entry) → entries.owed new ≡ entries.owed old + 1 →
+    IsFresh lsn records → 512 * (master_of newest).redo ≤ lsn → entry.begin ≡ lsn → entry.last ≡ lsn → entry.born + s.kept ≡ s.made → entry.writes ≡ 0 →
+    SessionsAre newest (records ++ record { lsn = lsn; rec = Begin } ∷ []) new (making 1 (with_session s n (Some (record { born = s.made; writes = []; reads = [] }))))
+begun newest records old new s n lsn made entry are small none changes owes fresh late begin last born writes =
     let e : Entry = record { lsn = lsn; rec = Begin } in
     let session : Session = record { born = s.made; writes = []; reads = [] } in
     let count = are.count in
     record {
       count = length-set s.sessions n (Some session) ∙ are.count;
       each = λ m. ⊎_elim
-          (λ (same : m ≡ n). subst (λ (k : ℕ). SessionIs (records ++ e ∷ []) (entry_of new k) (slice_index_or (slice_set s.sessions n (Some session)) k None)) (sym same)
-          (subst (λ (a : Option Active). SessionIs (records ++ e ∷ []) a (slice_index_or (slice_set s.sessions n (Some session)) n None)) (sym changes.own)
-          (subst (λ (o : Option Session). SessionIs (records ++ e ∷ []) (Some entry) o) (sym (get_or-set_same s.sessions n (Some session) None (omega (arith, small, count))))
+          (λ (same : m ≡ n). subst (λ (k : ℕ). SessionIs newest s.kept (records ++ e ∷ []) (entry_of new k) (slice_index_or (slice_set s.sessions n (Some session)) k None)) (sym same)
+          (subst (λ (a : Option Active). SessionIs newest s.kept (records ++ e ∷ []) a (slice_index_or (slice_set s.sessions n (Some session)) n None)) (sym changes.own)
+          (subst (λ (o : Option Session). SessionIs newest s.kept (records ++ e ∷ []) (Some entry) o) (sym (get_or-set_same s.sessions n (Some session) None (omega (arith, small, count))))
           (record {
-            is_active = subst (λ (t : ℕ). IsActive blank_master (records ++ e ∷ []) t entry.last []) (sym begin) (subst (λ (l : ℕ). IsActive blank_master (records ++ e ∷ []) lsn l []) (sym last) (active_begun blank_master records lsn fresh (omega arith)));
+            is_active = subst (λ (t : ℕ). IsActive (master_of newest) (records ++ e ∷ []) t entry.last []) (sym begin) (subst (λ (l : ℕ). IsActive (master_of newest) (records ++ e ∷ []) lsn l []) (sym last) (active_begun (master_of newest) records lsn fresh late));
             born = born;
             count = writes;
           }))))
-          (λ differ. subst (λ (a : Option Active). SessionIs (records ++ e ∷ []) a (slice_index_or (slice_set s.sessions n (Some session)) m None)) (sym (changes.others m differ))
-          (subst (λ (o : Option Session). SessionIs (records ++ e ∷ []) (entry_of old m) o) (sym (get_or-set_other s.sessions n m (Some session) None differ))
-          (others_stay records e (entry_of old m) (session_at s m) (λ other is. ne_eqb lsn other.begin (λ same. other_begin m other is (sym same))) (are.each m))))
+          (λ differ. subst (λ (a : Option Active). SessionIs newest s.kept (records ++ e ∷ []) a (slice_index_or (slice_set s.sessions n (Some session)) m None)) (sym (changes.others m differ))
+          (subst (λ (o : Option Session). SessionIs newest s.kept (records ++ e ∷ []) (entry_of old m) o) (sym (get_or-set_other s.sessions n m (Some session) None differ))
+          (others_stay newest s.kept records e (entry_of old m) (session_at s m) (λ other is. ne_eqb lsn other.begin (λ same. other_begin m other is (sym same))) (are.each m))))
           (either m n);
       all = λ t is. ⊎_elim
           (λ (same : t ≡ lsn). (n, entry, changes.own, begin ∙ sym same))
@@ -104,7 +105,7 @@ begun records old new s n lsn made entry are small none changes owes fresh begin
     either a b = cases_eq a b
 
     other_begin : (m : ℕ) (other : Active) → entry_of old m ≡ Some other → other.begin ≢ lsn
-    other_begin m other is = let found = some_active records old s are m other is in not_fresh records other found.session lsn found.under_way fresh
+    other_begin m other is = let found = some_active newest records old s are m other is in not_fresh newest s.kept records other found.session lsn found.under_way fresh
 
     own_begin : (i : ℕ) (a : Active) → i ≡ n → entry_of new i ≡ Some a → a.begin ≡ lsn
     own_begin i a i_is at = ap (λ (x : Active). x.begin) (sym (same_Some entry a (sym changes.own ∙ ap (entry_of new) (sym i_is) ∙ at))) ∙ begin

@@ -143,9 +143,10 @@ change_stops reads {A} {B} a stop page old mid new before between now some never
 -- What is asked of each call.
 
 -- an error that says another cause isn't worn flash
-pub not_worn : (stop : Stop) → (stop ≡ Device Log) ⊎ (stop ≡ Foreign) → stop ≡ Worn Flash → ⊥
+pub not_worn : (stop : Stop) → (stop ≡ Device Log) ⊎ ((stop ≡ Worn Log) ⊎ (stop ≡ Foreign)) → stop ≡ Worn Flash → ⊥
 not_worn stop (inl is) worn = cc
-not_worn stop (inr is) worn = cc
+not_worn stop (inr (inl is)) worn = cc
+not_worn stop (inr (inr is)) worn = cc
 
 pub not_worn_by : (stop : Stop) → (stop ≡ Device Log) ⊎ (stop ≡ Worn Log) → stop ≡ Worn Flash → ⊥
 not_worn_by stop (inl is) worn = cc

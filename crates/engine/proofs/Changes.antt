@@ -1,4 +1,5 @@
 -- The sessions after an Update of one of them, and after the record that ends one.
+use Rattle.checkpoint.specs.declared.master.Master.{Master}
 use Rattle.std.proofs.Common.{◌≡◌, ◌≢◌, ℕ, ◌+◌, ◌*◌, ◌<◌, true, List, [], ◌∷◌, ◌++◌, Option, None, Some, ⊎_elim, true≢false, refl, sym, ap, subst, ◌∙◌, arith, get_or-set_same, get_or-set_other, length-set}
 use Rattle.std.specs.Prelude.{slice_set, slice_index_or, option_map}
 use Rattle.std.proofs.lemmas.List.{length-append}
@@ -14,20 +15,20 @@ use Rattle.log_laws.proofs.Owing.{owed_update, owed_closing}
 use Rattle.txn_table.specs.declared.active.Active.{Active}
 use Rattle.txn_table.specs.Entries.{entry_of, ChangesOnly, after_write}
 use Rattle.txn_table.specs.Entries as entries
-use Rattle.image_meaning.specs.Meaning.{blank_master}
+use Rattle.image_meaning.specs.Meaning.{master_of}
 use Rattle.engine.specs.Fits.{SessionIs, SessionsAre}
 use Rattle.engine.proofs.Actives.{some_active, others_stay}
 
 -- another session's transaction is another one
-other_txn : (records : List Entry) (active : List Active) (s : State) → SessionsAre records active s → (n m : ℕ) (own other : Active) → entry_of active n ≡ Some own → entry_of active m ≡ Some other → m ≢ n → own.begin ≢ other.begin
-other_txn records active s are n m own other at_n at_m ne same = ne (are.differ m n other own at_m at_n (sym same))
+other_txn : (newest : Option Master) (records : List Entry) (active : List Active) (s : State) → SessionsAre newest records active s → (n m : ℕ) (own other : Active) → entry_of active n ≡ Some own → entry_of active m ≡ Some other → m ≢ n → own.begin ≢ other.begin
+other_txn newest records active s are n m own other at_n at_m ne same = ne (are.differ m n other own at_m at_n (sym same))
 
 -- A session writes.
-pub wrote_more : (records : List Entry) (old new : List Active) (s : State) (n lsn page slot : ℕ) (entry : Active) (before after : Content) → SessionsAre records old s → n < 8 → entry_of old n ≡ Some entry → ChangesOnly old new n (Some (after_write entry lsn)) → entries.owed new ≡ entries.owed old + 1 →
-    SessionsAre (records ++ record { lsn = lsn; rec = Update entry.begin entry.last page slot before after } ∷ []) new (making 1 (with_session s n (option_map (having_written (32 * page + slot, after)) (session_at s n))))
-wrote_more records old new s n lsn page slot entry before after are small at changes owes =
+pub wrote_more : (newest : Option Master) (records : List Entry) (old new : List Active) (s : State) (n lsn page slot : ℕ) (entry : Active) (before after : Content) → SessionsAre newest records old s → n < 8 → entry_of old n ≡ Some entry → ChangesOnly old new n (Some (after_write entry lsn)) → entries.owed new ≡ entries.owed old + 1 →
+    SessionsAre newest (records ++ record { lsn = lsn; rec = Update entry.begin entry.last page slot before after } ∷ []) new (making 1 (with_session s n (option_map (having_written (32 * page + slot, after)) (session_at s n))))
+wrote_more newest records old new s n lsn page slot entry before after are small at changes owes =
     let e : Entry = record { lsn = lsn; rec = Update entry.begin entry.last page slot before after } in
-    let found = some_active records old s are n entry at in
+    let found = some_active newest records old s are n entry at in
     let session = found.session in
     let write : Write = (32 * page + slot, after) in
     let count = are.count in
@@ -38,17 +39,17 @@ wrote_more records old new s n lsn page slot entry before after are small at cha
     record {
       count = length-set s.sessions n now ∙ are.count;
       each = λ m. ⊎_elim
-          (λ (same : m ≡ n). subst (λ (k : ℕ). SessionIs (records ++ e ∷ []) (entry_of new k) (slice_index_or (slice_set s.sessions n now) k None)) (sym same)
-          (subst (λ (a : Option Active). SessionIs (records ++ e ∷ []) a (slice_index_or (slice_set s.sessions n now) n None)) (sym changes.own)
-          (subst (λ (o : Option Session). SessionIs (records ++ e ∷ []) (Some (after_write entry lsn)) o) (sym (get_or-set_same s.sessions n now None (omega (arith, small, count)) ∙ is_now))
+          (λ (same : m ≡ n). subst (λ (k : ℕ). SessionIs newest s.kept (records ++ e ∷ []) (entry_of new k) (slice_index_or (slice_set s.sessions n now) k None)) (sym same)
+          (subst (λ (a : Option Active). SessionIs newest s.kept (records ++ e ∷ []) a (slice_index_or (slice_set s.sessions n now) n None)) (sym changes.own)
+          (subst (λ (o : Option Session). SessionIs newest s.kept (records ++ e ∷ []) (Some (after_write entry lsn)) o) (sym (get_or-set_same s.sessions n now None (omega (arith, small, count)) ∙ is_now))
           (record {
-            is_active = active_writes blank_master records lsn entry.begin entry.last page slot session.writes before after under.is_active;
+            is_active = active_writes (master_of newest) records lsn entry.begin entry.last page slot session.writes before after under.is_active;
             born = under.born;
             count = omega (arith, many, length-append session.writes (write ∷ []));
           }))))
-          (λ differ. subst (λ (a : Option Active). SessionIs (records ++ e ∷ []) a (slice_index_or (slice_set s.sessions n now) m None)) (sym (changes.others m differ))
-          (subst (λ (o : Option Session). SessionIs (records ++ e ∷ []) (entry_of old m) o) (sym (get_or-set_other s.sessions n m now None differ))
-          (others_stay records e (entry_of old m) (session_at s m) (λ other is. ne_eqb entry.begin other.begin (other_txn records old s are n m entry other at is differ)) (are.each m))))
+          (λ differ. subst (λ (a : Option Active). SessionIs newest s.kept (records ++ e ∷ []) a (slice_index_or (slice_set s.sessions n now) m None)) (sym (changes.others m differ))
+          (subst (λ (o : Option Session). SessionIs newest s.kept (records ++ e ∷ []) (entry_of old m) o) (sym (get_or-set_other s.sessions n m now None differ))
+          (others_stay newest s.kept records e (entry_of old m) (session_at s m) (λ other is. ne_eqb entry.begin other.begin (other_txn newest records old s are n m entry other at is differ)) (are.each m))))
           (cases_eq m n);
       all = λ t is. ⊎_elim
           (λ (same : t ≡ entry.begin). (n, after_write entry lsn, changes.own, sym same))
@@ -69,27 +70,27 @@ wrote_more records old new s n lsn page slot entry before after are small at cha
     older t ne found = (found.0, found.1, changes.others found.0 (λ same. ne (sym found.3 ∙ ap (λ (x : Active). x.begin) (same_Some found.1 entry (sym found.2 ∙ ap (entry_of old) same ∙ at)))) ∙ found.2, found.3)
 
 -- A session that has never been undone ends.
-pub closed : (records : List Entry) (old new : List Active) (s : State) (n : ℕ) (entry : Active) (e : Entry) → SessionsAre records old s → n < 8 → entry_of old n ≡ Some entry → ChangesOnly old new n None → entries.owed new + (entry.writes + 1) ≡ entries.owed old →
-    is_closing e.rec ≡ true → txn_of e ≡ entry.begin → SessionsAre (records ++ e ∷ []) new (with_session s n None)
-closed records old new s n entry e are small at changes owes closing own =
-    let found = some_active records old s are n entry at in
+pub closed : (newest : Option Master) (records : List Entry) (old new : List Active) (s : State) (n : ℕ) (entry : Active) (e : Entry) → SessionsAre newest records old s → n < 8 → entry_of old n ≡ Some entry → ChangesOnly old new n None → entries.owed new + (entry.writes + 1) ≡ entries.owed old →
+    is_closing e.rec ≡ true → txn_of e ≡ entry.begin → SessionsAre newest (records ++ e ∷ []) new (with_session s n None)
+closed newest records old new s n entry e are small at changes owes closing own =
+    let found = some_active newest records old s are n entry at in
     let session = found.session in
     let under = found.under_way in
-    let active : IsActive blank_master records (txn_of e) entry.last session.writes = subst (λ (t : ℕ). IsActive blank_master records t entry.last session.writes) (sym own) under.is_active in
+    let active : IsActive (master_of newest) records (txn_of e) entry.last session.writes = subst (λ (t : ℕ). IsActive (master_of newest) records t entry.last session.writes) (sym own) under.is_active in
     let less = owed_closing records e closing active.lives.not_closed active.chain in
-    let part = active_owes blank_master records (txn_of e) entry.last session.writes active in
+    let part = active_owes (master_of newest) records (txn_of e) entry.last session.writes active in
     let many = under.count in
     let count = are.count in
     let before = are.owes in
     record {
       count = length-set s.sessions n None ∙ are.count;
       each = λ m. ⊎_elim
-          (λ (same : m ≡ n). subst (λ (k : ℕ). SessionIs (records ++ e ∷ []) (entry_of new k) (slice_index_or (slice_set s.sessions n None) k None)) (sym same)
-          (subst (λ (a : Option Active). SessionIs (records ++ e ∷ []) a (slice_index_or (slice_set s.sessions n None) n None)) (sym changes.own)
-          (subst (λ (o : Option Session). SessionIs (records ++ e ∷ []) None o) (sym (get_or-set_same s.sessions n None None (omega (arith, small, count)))) tt)))
-          (λ differ. subst (λ (a : Option Active). SessionIs (records ++ e ∷ []) a (slice_index_or (slice_set s.sessions n None) m None)) (sym (changes.others m differ))
-          (subst (λ (o : Option Session). SessionIs (records ++ e ∷ []) (entry_of old m) o) (sym (get_or-set_other s.sessions n m None None differ))
-          (others_stay records e (entry_of old m) (session_at s m) (λ other is. ne_eqb (txn_of e) other.begin (λ same. other_txn records old s are n m entry other at is differ (sym own ∙ same))) (are.each m))))
+          (λ (same : m ≡ n). subst (λ (k : ℕ). SessionIs newest s.kept (records ++ e ∷ []) (entry_of new k) (slice_index_or (slice_set s.sessions n None) k None)) (sym same)
+          (subst (λ (a : Option Active). SessionIs newest s.kept (records ++ e ∷ []) a (slice_index_or (slice_set s.sessions n None) n None)) (sym changes.own)
+          (subst (λ (o : Option Session). SessionIs newest s.kept (records ++ e ∷ []) None o) (sym (get_or-set_same s.sessions n None None (omega (arith, small, count)))) tt)))
+          (λ differ. subst (λ (a : Option Active). SessionIs newest s.kept (records ++ e ∷ []) a (slice_index_or (slice_set s.sessions n None) m None)) (sym (changes.others m differ))
+          (subst (λ (o : Option Session). SessionIs newest s.kept (records ++ e ∷ []) (entry_of old m) o) (sym (get_or-set_other s.sessions n m None None differ))
+          (others_stay newest s.kept records e (entry_of old m) (session_at s m) (λ other is. ne_eqb (txn_of e) other.begin (λ same. other_txn newest records old s are n m entry other at is differ (sym own ∙ same))) (are.each m))))
           (cases_eq m n);
       all = λ t is. ⊎_elim
           (λ (same : t ≡ txn_of e). absurd (true≢false (sym is ∙ ap (is_loser (records ++ e ∷ [])) same ∙ loser_is_closed records e closing)))

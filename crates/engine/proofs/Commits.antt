@@ -29,29 +29,29 @@ use Rattle.engine.proofs.Changes.{closed}
 use Rattle.engine.proofs.Actives.{some_active}
 
 -- a session's transaction may be committed
-pub may_commit : (engine : Engine) (site : Site) (s : State) (entry : Active) (fits : Fits engine site s) → entry_of engine.active entry.session ≡ Some entry → MayCommit fits.records entry.begin (engine.commits + 1) s.commits
+pub may_commit : (engine : Engine) (site : Site) (s : State) (entry : Active) (fits : Fits engine site s) → entry_of engine.active entry.session ≡ Some entry → MayCommit fits.newest fits.records entry.begin (engine.commits + 1) s.commits
 may_commit engine site s entry fits at =
-    let found = some_active fits.records engine.active s fits.sessions entry.session entry at in
+    let found = some_active fits.newest fits.records engine.active s fits.sessions entry.session entry at in
     record { begun = found.under_way.is_active.lives; chain = found.under_way.is_active.chain; number_is = ap (λ (n : ℕ). n + 1) fits.counts.commits }
 
 -- its writes are the session's
 pub writes_are : (engine : Engine) (site : Site) (s : State) (entry : Active) (fits : Fits engine site s) → entry_of engine.active entry.session ≡ Some entry → writes_in entry.begin fits.records ≡ writes_of (session_at s entry.session)
 writes_are engine site s entry fits at =
-    let found = some_active fits.records engine.active s fits.sessions entry.session entry at in
+    let found = some_active fits.newest fits.records engine.active s fits.sessions entry.session entry at in
     sym (ap writes_of found.is ∙ found.under_way.is_active.writes_are)
 
 pub commits_either : (engine : Engine) (old new : Site) (s : State) (entry : Active) (fits : Fits engine old s) → entry_of engine.active entry.session ≡ Some entry →
-    LeavesOnly old new (moments.LeavesEither (sizes_of engine.store) s.table (table_with s.table (writes_in entry.begin fits.records)) s.commits old.told) → LeavesOnly old new (LeavesEither (sizes_of engine.store) s (effect s (command.Commit entry.session)) old.told)
+    LeavesOnly old new (moments.LeavesEitherFor (sizes_of engine.store) s.table (table_with s.table (writes_in entry.begin fits.records)) s.commits old.told) → LeavesOnly old new (LeavesEither (sizes_of engine.store) s (effect s (command.Commit entry.session)) old.told)
 commits_either engine old new s entry fits at leaves =
     let g = sizes_of engine.store in
-    leaves_weaker old new (moments.LeavesEither g s.table (table_with s.table (writes_in entry.begin fits.records)) s.commits old.told) (LeavesEither g s (effect s (command.Commit entry.session)) old.told)
+    leaves_weaker old new (moments.LeavesEitherFor g s.table (table_with s.table (writes_in entry.begin fits.records)) s.commits old.told) (LeavesEither g s (effect s (command.Commit entry.session)) old.told)
     (λ snapshot q. record {
       told = q.told;
       stands = ⊎_elim (λ before. inl before) (λ after. inr (subst (λ (ws : List Write). Stands g snapshot.image (table_with s.table ws) (s.commits + 1)) (writes_are engine old s entry fits at) after)) q.stands;
     }) leaves
 
 pub committed_fits : (engine mid last : Engine) (old new : Site) (s : State) (entry : Active) (lsn : ℕ) (fits : Fits engine old s) → IsTable engine.active → entry_of engine.active entry.session ≡ Some entry → IsTrue new.honest →
-    Holds mid.store new (fits.records ++ record { lsn = lsn; rec = Commit entry.begin (engine.commits + 1) } ∷ []) (table_with s.table (writes_in entry.begin fits.records)) (s.commits + 1) →
+    Holds mid.store new fits.newest (fits.records ++ record { lsn = lsn; rec = Commit entry.begin (engine.commits + 1) } ∷ []) (table_with s.table (writes_in entry.begin fits.records)) (s.commits + 1) →
     mid ≡ record engine { store = mid.store; commits = mid.commits } → mid.commits ≡ engine.commits + 1 → mid.store.made ≡ engine.store.made + 1 →
     ReleasesAll mid.locks last.locks entry.session → ChangesOnly mid.active last.active entry.session None → entries.owed last.active + (entry.writes + 1) ≡ entries.owed mid.active →
     last.store ≡ mid.store → last.commits ≡ mid.commits → last.cap ≡ mid.cap →
@@ -61,18 +61,18 @@ committed_fits engine mid last old new s entry lsn fits table at honest holds re
     let e : Entry = record { lsn = lsn; rec = Commit entry.begin (engine.commits + 1) } in
     let small = (entry_is engine.active n entry table at).small in
     let count = fits.sessions.count in
-    let done : SessionsAre (fits.records ++ e ∷ []) last.active (with_session s n None) =
-    closed fits.records engine.active last.active s n entry e fits.sessions small at
+    let done : SessionsAre fits.newest (fits.records ++ e ∷ []) last.active (with_session s n None) =
+    closed fits.newest fits.records engine.active last.active s n entry e fits.sessions small at
     (subst (λ (a : List Active). ChangesOnly a last.active n None) (ap (λ (x : Engine). x.active) rest) changes) (owed ∙ ap (λ (x : Engine). entries.owed x.active) rest) refl refl in
     record {
       honest = honest;
+      newest = fits.newest;
       records = fits.records ++ e ∷ [];
-      holds = subst (λ (j : Store). Holds j new (fits.records ++ e ∷ []) (table_with s.table (writes_of (session_at s n))) (s.commits + 1)) (sym store_is)
-          (subst (λ (ws : List Write). Holds mid.store new (fits.records ++ e ∷ []) (table_with s.table ws) (s.commits + 1)) (writes_are engine old s entry fits at) holds);
+      holds = subst (λ (j : Store). Holds j new fits.newest (fits.records ++ e ∷ []) (table_with s.table (writes_of (session_at s n))) (s.commits + 1)) (sym store_is)
+          (subst (λ (ws : List Write). Holds mid.store new fits.newest (fits.records ++ e ∷ []) (table_with s.table ws) (s.commits + 1)) (writes_are engine old s entry fits at) holds);
       counts = record {
         commits = commits_is ∙ commits ∙ ap (λ (k : ℕ). k + 1) fits.counts.commits;
-        made = ap (λ (j : Store). j.made) store_is ∙ made ∙ ap (λ (k : ℕ). k + 1) fits.counts.made;
-        kept = fits.counts.kept;
+        made = let store_made = ap (λ (j : Store). j.made) store_is in let before = fits.counts.made in omega (arith, store_made, made, before);
         cap = cap_is ∙ ap (λ (x : Engine). x.cap) rest ∙ fits.counts.cap;
       };
       sessions = record { count = done.count; each = done.each; all = done.all; owes = done.owes; differ = done.differ };

@@ -1,10 +1,15 @@
 pub mod Aborts
 pub mod Actives
+pub mod Apart
 pub mod Changes
+pub mod Checkpoints
 pub mod Commits
+pub mod Firsts
+pub mod Keeping
 pub mod Locks
 pub mod Meanings
 pub mod Moments
+pub mod Namings
 pub mod Openings
 pub mod Owing
 pub mod Recovers

@@ -1,4 +1,5 @@
 -- What the database has in memory, in the model's words.
+use Rattle.checkpoint.specs.declared.master.Master.{Master}
 use Rattle.std.proofs.Common.{◌≡◌, ℕ, zero, suc, ◌*◌, ◌<◌, ◌≤◌, ◌==◌, Bool, true, false, not, ◌&&◌, ◌||◌, cond, List, [], ◌∷◌, length, find, Option, None, Some, ⊎_elim, true≢false, refl, sym, ap, subst, ◌∙◌, arith}
 use Rattle.std.specs.Prelude.{unwrap_or}
 use Rattle.std.specs.List.{list_any, range_with_len, AllByRecursion}
@@ -12,7 +13,10 @@ use Rattle.record_model.specs.State as model
 use Rattle.log_records.specs.Log.{Entry, is_closed, table_of, value_of}
 use Rattle.log_laws.specs.Follow.{IsActive, IsFree, IsFreeFor, IsUndoable, IsFresh, shown}
 use Rattle.log_laws.specs.Follow as follow
-use Rattle.log_laws.proofs.Tails.{tail_without_commit, whole_is_undoable, fresh_at_end}
+use Rattle.log_records.specs.Sound.{AreOrderly}
+use Rattle.log_laws.specs.Tail.{next_lsn, whole}
+use Rattle.log_laws.proofs.Orderly as orderly
+use Rattle.log_laws.proofs.Tails.{tail_without_commit, whole_is_undoable, whole_in_order}
 use Rattle.log_laws.proofs.Tables.{content_of_table}
 use Rattle.log_laws.proofs.Shown.{shown_is_seen, shown_is_value, writer_is_loser}
 use Rattle.log_store.specs.Held.{end_of}
@@ -20,7 +24,8 @@ use Rattle.lock_table.specs.declared.lock.Lock.{Lock}
 use Rattle.lock_table.specs.Locks as locks
 use Rattle.txn_table.specs.declared.active.Active.{Active}
 use Rattle.txn_table.specs.Entries.{IsTable, entry_of}
-use Rattle.image_meaning.specs.Meaning.{picture, versions_on, version_in}
+use Rattle.image_meaning.specs.Meaning.{picture_under, master_of, versions_on, version_in}
+use Rattle.image_meaning.proofs.Sames.{next_block_is}
 use Rattle.flash_cache.specs.Held.{version_on}
 use Rattle.engine.specs.declared.store.Store.{Store}
 use Rattle.engine.specs.declared.engine.Engine.{Engine}
@@ -43,17 +48,17 @@ busy_write_is held s are (Some own) number = λ i. find (λ n. not (own == n) &&
 -- The table.
 
 -- what is sealed and what isn't stand for the same table
-pub table_is : (store : Store) (site : Site) (records : List Entry) (table : List Content) (commits : ℕ) (h : Holds store site records table commits) → table ≡ table_of records (versions_on (sizes_of store) site.image)
-table_is store site records table commits h =
+pub table_is : (store : Store) (site : Site) (newest : Option Master) (records : List Entry) (table : List Content) (commits : ℕ) (h : Holds store site newest records table commits) → table ≡ table_of records (versions_on (sizes_of store) site.image)
+table_is store site newest records table commits h =
     let log = h.both.log_holds in
-    let p = picture (sizes_of store) site.image log.blocks in
+    let p = picture_under newest (sizes_of store) site.image log.blocks in
     log.runs_on.means.table_is ∙ sym (tail_without_commit p log.tail log.runs_on.carries log.runs_on.no_commit)
     ∙ ap (λ (l : List Entry). table_of l (versions_on (sizes_of store) site.image)) log.runs_on.records_are
 
-pub undoable : (store : Store) (site : Site) (records : List Entry) (table : List Content) (commits : ℕ) (h : Holds store site records table commits) → IsUndoable records
-undoable store site records table commits h =
+pub undoable : (store : Store) (site : Site) (newest : Option Master) (records : List Entry) (table : List Content) (commits : ℕ) (h : Holds store site newest records table commits) → IsUndoable records
+undoable store site newest records table commits h =
     let log = h.both.log_holds in
-    subst IsUndoable log.runs_on.records_are (whole_is_undoable (picture (sizes_of store) site.image log.blocks) log.tail log.runs_on.carries)
+    subst IsUndoable log.runs_on.records_are (whole_is_undoable (picture_under newest (sizes_of store) site.image log.blocks) log.tail log.runs_on.carries)
 
 -- each page has a version
 pub count_of_versions : (g : Geometry) (image : Image) → length (versions_on g image) ≡ g.pages
@@ -62,18 +67,36 @@ count_of_versions g image = length-map-range_with_len (λ number. version_in (ve
 pub same_size : (engine : Engine) (site : Site) (s : State) → Fits engine site s → length s.table ≡ 32 * (sizes_of engine.store).pages
 same_size engine site s fits =
     let versions = versions_on (sizes_of engine.store) site.image in
-    ap length (table_is engine.store site fits.records s.table s.commits fits.holds)
+    ap length (table_is engine.store site fits.newest fits.records s.table s.commits fits.holds)
     ∙ length-map-range_with_len (value_of fits.records versions) 0 (32 * length versions)
     ∙ ap (λ (n : ℕ). 32 * n) (count_of_versions (sizes_of engine.store) site.image)
 
--- a record behind the last one begins a new transaction
-pub fresh_behind : (store : Store) (site : Site) (records : List Entry) (table : List Content) (commits lsn : ℕ) (h : Holds store site records table commits) → end_of store.log ≤ lsn → IsFresh lsn records
-fresh_behind store site records table commits lsn h behind =
+-- the log's end is that of its records
+pub ends_behind : (store : Store) (site : Site) (newest : Option Master) (records : List Entry) (table : List Content) (commits lsn : ℕ) (h : Holds store site newest records table commits) → end_of store.log ≤ lsn →
+    let log = h.both.log_holds in let p = picture_under newest (sizes_of store) site.image log.blocks in (next_lsn p log.tail ≤ lsn) × (512 * p.hi ≤ lsn)
+ends_behind store site newest records table commits lsn h behind =
     let log = h.both.log_holds in
     let hi = log.ready.blocks.hi in
     let next = log.ready.records.blocks.next in
     let end = log.ready.records.tail.end in
-    subst (IsFresh lsn) log.runs_on.records_are (fresh_at_end (picture (sizes_of store) site.image log.blocks) log.tail lsn log.runs_on.carries refl (omega (arith, hi, next, end, behind)))
+    let last = next_block_is newest log.blocks in
+    (omega (arith, hi, next, end, behind, last), omega (arith, hi, next, behind, last))
+
+-- a record behind the last one begins a new transaction
+pub fresh_behind : (store : Store) (site : Site) (newest : Option Master) (records : List Entry) (table : List Content) (commits lsn : ℕ) (h : Holds store site newest records table commits) → end_of store.log ≤ lsn → IsFresh lsn records
+fresh_behind store site newest records table commits lsn h behind =
+    let log = h.both.log_holds in
+    let p = picture_under newest (sizes_of store) site.image log.blocks in
+    subst (IsFresh lsn) log.runs_on.records_are
+    (orderly.fresh_behind (512 * p.master.kept) (whole p log.tail) (next_lsn p log.tail) lsn (whole_in_order p log.tail log.runs_on.carries)
+    (subst AreOrderly (sym log.runs_on.records_are) h.orderly) (ends_behind store site newest records table commits lsn h behind).0)
+
+-- which redo doesn't leave out
+pub begins_late : (store : Store) (site : Site) (newest : Option Master) (records : List Entry) (table : List Content) (commits lsn : ℕ) (h : Holds store site newest records table commits) → end_of store.log ≤ lsn → 512 * (master_of newest).redo ≤ lsn
+begins_late store site newest records table commits lsn h behind =
+    let before = h.both.log_holds.runs_on.carries.sound.redo_before_end in
+    let last = (ends_behind store site newest records table commits lsn h behind).1 in
+    omega (arith, before, last)
 
 -- Who has written.
 
@@ -97,17 +120,17 @@ at_each P all (suc (suc (suc (suc (suc (suc (suc zero))))))) less = all.1.1.1.1.
 at_each P all (suc (suc (suc (suc (suc (suc (suc (suc more)))))))) less = absurd (omega (arith, less))
 
 -- an unfinished transaction that has written a number is a session's, which the model says has written it
-pub record IsWriter (records : List Entry) (active : List Active) (s : State) (t number : ℕ) : Type 0 where
+pub record IsWriter (newest : Option Master) (records : List Entry) (active : List Active) (s : State) (t number : ℕ) : Type 0 where
   pub session : ℕ
   pub entry : Active
   pub at : entry_of active session ≡ Some entry
   pub begin : entry.begin ≡ t
   pub has_written : model.has_written s session number ≡ true
 
-pub writer : (records : List Entry) (active : List Active) (s : State) → SessionsAre records active s → (t number : ℕ) → is_closed records t ≡ false → follow.has_written records t number ≡ true → IsWriter records active s t number
-writer records active s are t number lives written =
+pub writer : (newest : Option Master) (records : List Entry) (active : List Active) (s : State) → SessionsAre newest records active s → (t number : ℕ) → is_closed records t ≡ false → follow.has_written records t number ≡ true → IsWriter newest records active s t number
+writer newest records active s are t number lives written =
     let found = are.all t (writer_is_loser records t number lives written) in
-    let session = some_active records active s are found.0 found.1 found.2 in
+    let session = some_active newest records active s are found.0 found.1 found.2 in
     record {
       session = found.0;
       entry = found.1;
@@ -120,27 +143,27 @@ writer records active s are t number lives written =
           ∙ written;
     }
 
-small_session : (records : List Entry) (active : List Active) (s : State) → SessionsAre records active s → IsTable active → (n : ℕ) (own : Active) → entry_of active n ≡ Some own → n < 8
-small_session records active s are table n own is = (entry_is active n own table is).small
+small_session : (newest : Option Master) (records : List Entry) (active : List Active) (s : State) → SessionsAre newest records active s → IsTable active → (n : ℕ) (own : Active) → entry_of active n ≡ Some own → n < 8
+small_session newest records active s are table n own is = (entry_is active n own table is).small
 
 -- where no other session has written a number, no other unfinished transaction has
-pub free_for : (records : List Entry) (active : List Active) (s : State) → SessionsAre records active s → IsTable active → (n number : ℕ) (own : Active) → entry_of active n ≡ Some own → model.busy_read s (Some n) number ≡ None → IsFreeFor records own.begin number
-free_for records active s are table n number own at none t lives written =
-    let found = writer records active s are t number lives written in
-    let each = at_each (λ m. (not (n == m) && model.has_written s m number) ≡ false) (none_of (λ m. not (n == m) && model.has_written s m number) (range_with_len 0 8) none) found.session (small_session records active s are table found.session found.entry found.at) in
+pub free_for : (newest : Option Master) (records : List Entry) (active : List Active) (s : State) → SessionsAre newest records active s → IsTable active → (n number : ℕ) (own : Active) → entry_of active n ≡ Some own → model.busy_read s (Some n) number ≡ None → IsFreeFor records own.begin number
+free_for newest records active s are table n number own at none t lives written =
+    let found = writer newest records active s are t number lives written in
+    let each = at_each (λ m. (not (n == m) && model.has_written s m number) ≡ false) (none_of (λ m. not (n == m) && model.has_written s m number) (range_with_len 0 8) none) found.session (small_session newest records active s are table found.session found.entry found.at) in
     ⊎_elim
     (λ (same : n ≡ found.session). sym found.begin ∙ ap (λ (e : Active). e.begin) (same_Some found.entry own (sym found.at ∙ ap (entry_of active) (sym same) ∙ at)))
     (λ differ. absurd (true≢false (sym (and_from _ _ (ap not (ne_eqb n found.session differ)) found.has_written) ∙ each)))
     (cases_eq n found.session)
 
-pub free : (records : List Entry) (active : List Active) (s : State) → SessionsAre records active s → IsTable active → (number : ℕ) → model.busy_read s None number ≡ None → IsFree records number
-free records active s are table number none t lives = by (follow.has_written records t number) refl
+pub free : (newest : Option Master) (records : List Entry) (active : List Active) (s : State) → SessionsAre newest records active s → IsTable active → (number : ℕ) → model.busy_read s None number ≡ None → IsFree records number
+free newest records active s are table number none t lives = by (follow.has_written records t number) refl
   where
     by : (b : Bool) → follow.has_written records t number ≡ b → b ≡ false
     by false is = refl
     by true is =
-        let found = writer records active s are t number lives is in
-        let each = at_each (λ m. model.has_written s m number ≡ false) (none_of (λ m. model.has_written s m number) (range_with_len 0 8) none) found.session (small_session records active s are table found.session found.entry found.at) in
+        let found = writer newest records active s are t number lives is in
+        let each = at_each (λ m. model.has_written s m number ≡ false) (none_of (λ m. model.has_written s m number) (range_with_len 0 8) none) found.session (small_session newest records active s are table found.session found.entry found.at) in
         absurd (true≢false (sym found.has_written ∙ each))
 
 -- What a record has.
@@ -150,7 +173,7 @@ pub value_is : (engine : Engine) (site : Site) (s : State) (fits : Fits engine s
 value_is engine site s fits number less =
     let versions = versions_on (sizes_of engine.store) site.image in
     let count = count_of_versions (sizes_of engine.store) site.image in
-    ap (λ (t : List Content). content_at t number) (table_is engine.store site fits.records s.table s.commits fits.holds)
+    ap (λ (t : List Content). content_at t number) (table_is engine.store site fits.newest fits.records s.table s.commits fits.holds)
     ∙ content_of_table fits.records versions number (subst (λ (n : ℕ). number < 32 * n) (sym count) less)
 
 -- a session sees what is shown, where it may read it
@@ -158,16 +181,16 @@ pub seen_is : (engine : Engine) (site : Site) (s : State) (fits : Fits engine si
     seen s n number ≡ shown_in engine.store site fits.records number
 seen_is engine site s fits n number own table less at none =
     let versions = versions_on (sizes_of engine.store) site.image in
-    let session = some_active fits.records engine.active s fits.sessions n own at in
+    let session = some_active fits.newest fits.records engine.active s fits.sessions n own at in
     let under = session.under_way.is_active in
     ap (λ (o : Option Session). unwrap_or (last_write (writes_of o) number) (content_at s.table number)) session.is
     ∙ ap (λ (ws : List Write). unwrap_or (last_write ws number) (content_at s.table number)) under.writes_are
     ∙ ap (λ (x : Content). unwrap_or (last_write (follow.writes_in own.begin fits.records) number) x) (value_is engine site s fits number less)
-    ∙ sym (shown_is_seen fits.records versions own.begin number (undoable engine.store site fits.records s.table s.commits fits.holds) under.lives.not_closed (free_for fits.records engine.active s fits.sessions table n number own at none))
+    ∙ sym (shown_is_seen fits.records versions own.begin number (undoable engine.store site fits.newest fits.records s.table s.commits fits.holds) under.lives.not_closed (free_for fits.newest fits.records engine.active s fits.sessions table n number own at none))
 
 -- so does one outside sessions
 pub got_is : (engine : Engine) (site : Site) (s : State) (fits : Fits engine site s) (number : ℕ) → IsTable engine.active → number < 32 * (sizes_of engine.store).pages → model.busy_read s None number ≡ None →
     content_at s.table number ≡ shown_in engine.store site fits.records number
 got_is engine site s fits number table less none =
     value_is engine site s fits number less
-    ∙ sym (shown_is_value fits.records (versions_on (sizes_of engine.store) site.image) number (free fits.records engine.active s fits.sessions table number none))
+    ∙ sym (shown_is_value fits.records (versions_on (sizes_of engine.store) site.image) number (free fits.newest fits.records engine.active s fits.sessions table number none))

@@ -1,9 +1,9 @@
 -- Calls one after the other.
-use Rattle.std.proofs.Common.{◌≡◌, ℕ, List, sym, ap, subst}
+use Rattle.std.proofs.Common.{◌≡◌, ◌⊎◌, inl, inr, ℕ, List, sym, ap, subst}
 use Rattle.std.specs.Prelude.{Result, Ok, Err, OnOk, IsErrOf}
 use Rattle.site.specs.declared.outside.Dev.TheVariants.{Log}
 use Rattle.site.specs.declared.outside.Stop.{Stop}
-use Rattle.site.specs.declared.outside.Stop.TheVariants.{Device}
+use Rattle.site.specs.declared.outside.Stop.TheVariants.{Device, Worn}
 use Rattle.site.specs.declared.geometry.Geometry.{Geometry}
 use Rattle.site.specs.State.{State}
 use Rattle.site.specs.Moments.{Leaves, LeavesOnly}
@@ -20,15 +20,23 @@ and_then g g' old mid new table commits same first second =
     in_sequence old mid new (Leaves (LeavesTable g table commits old.told)) first
     (subst (λ (t : List ℕ). LeavesOnly mid new (LeavesTable g table commits t)) told (subst (λ (x : Geometry). LeavesOnly mid new (LeavesTable x table commits mid.told)) same second))
 
--- a failing log device is one of the causes
-pub log_stops : (stop : Stop) → stop ≡ Device Log → MayStop stop
-log_stops stop is = subst MayStop (sym is) tt
+-- a failing or worn log is one of the causes
+pub log_stops : (stop : Stop) → (stop ≡ Device Log) ⊎ (stop ≡ Worn Log) → MayStop stop
+log_stops stop (inl is) = subst MayStop (sym is) tt
+log_stops stop (inr is) = subst MayStop (sym is) tt
 
 -- what follows where a call succeeds
 pub where_ok : {T E : Type 0} (A B : Type 0) (result : Result T E) → OnOk result A → (A → B) → OnOk result B
 where_ok A B (Ok x) holds then = then holds
 where_ok A B (Err e) holds then = tt
 
+pub where_two : {T E : Type 0} (A B C : Type 0) (result : Result T E) → OnOk result A → OnOk result B → (A → B → C) → OnOk result C
+where_two A B C (Ok x) first second then = then first second
+where_two A B C (Err e) first second then = tt
+
 -- an error of a call is the one that is answered
 pub err_again : {T U : Type 0} (stop is : Stop) → IsErrOf {T = T} (Err stop) is → IsErrOf {T = U} (Err stop) is
 err_again stop is same = let equal : stop ≡ is = cc in ap Err equal
+
+pub stop_is : {U : Type 0} (stop is : Stop) → IsErrOf {T = U} (Err stop) is → stop ≡ is
+stop_is stop is same = cc

@@ -1,5 +1,5 @@
 -- What a restart finds on devices.
-use Rattle.std.proofs.Common.{◌≡◌, ℕ, zero, suc, ◌+◌, ◌-◌, ◌<◌, min, false, nat_lt, List, [], ◌∷◌, ◌++◌, length, map, take, Some, Result, Ok, Err, IsErrOf, refl, sym, ap, subst, ◌∙◌, arith}
+use Rattle.std.proofs.Common.{Option, ◌≡◌, ℕ, zero, suc, ◌+◌, ◌-◌, ◌<◌, min, false, nat_lt, List, [], ◌∷◌, ◌++◌, length, map, take, None, Some, Result, Ok, Err, IsErrOf, refl, sym, ap, subst, ◌∙◌, arith}
 use Rattle.std.specs.Prelude.{if◌then◌else◌, IfOk}
 use Rattle.std.specs.List.{AllByRecursion, slice_get}
 use Rattle.std.proofs.lemmas.Option.{none-some, same_Some}
@@ -12,7 +12,9 @@ use Rattle.site.specs.State.{State, Image, IsQuiet}
 use Rattle.site.specs.Calls.{Goes, IsUnchanged}
 use Rattle.site.specs.Moments.{Leaves, LeavesOnly, SameBut, ChangesOnly}
 use Rattle.site.specs.Laws.{no_call, unchanged_calm, stays_honest, quiet_leaves}
+use Rattle.sealed_ring.specs.declared.ring.Ring.{Ring}
 use Rattle.sealed_ring.specs.declared.slots.Shape.{Shape}
+use Rattle.sealed_ring.specs.Ready.{Finds}
 use Rattle.sealed_ring.specs.Ring.{IsRing, FitsIn, hi_of, live, units_from}
 use Rattle.image_changes.specs.Rings.{Masters, master_shape, group_shape, log_shape, units_on}
 use Rattle.record_model.specs.State.{Content}
@@ -27,15 +29,14 @@ use Rattle.frame_group.specs.Groups.{Frame, group, frames_in, IsGroup}
 use Rattle.frame_group.specs.Versions.{frames_of}
 use Rattle.flash_cache.specs.Held.{HasFrames, HasGroups}
 use Rattle.log_store.specs.declared.store.LogStore.{LogStore}
-use Rattle.log_store.specs.LogList.{LogList}
 use Rattle.log_store.specs.Held as log_held
 use Rattle.log_store.specs.Held.{has_tail}
 use Rattle.page_store.specs.declared.store.PageStore.{PageStore}
 use Rattle.page_store.specs.Held as page_held
 use Rattle.page_store.specs.Laws.{FitsBeside, GoesOnBeside}
-use Rattle.image_meaning.specs.Meaning.{IsUnused, IsFrameOf, AreGroups, IsSound, picture}
+use Rattle.image_meaning.specs.Meaning.{IsUnused, IsFrameOf, AreGroups, HasNewest, saved_by, kept_by, picture_under}
 use Rattle.redo_undo.specs.Holding as both
-use Rattle.engine.specs.Image.{Stands}
+use Rattle.engine.specs.Image.{IsSound, Stands}
 use Rattle.engine.specs.Leaves.{LeavesTable}
 use Rattle.engine.specs.Restarting.{IsReady}
 
@@ -100,11 +101,18 @@ has_groups g image is =
 no_units : (g : Geometry) (image : Image) → IsUnused g Masters image → (units_on master_shape image).live ≡ []
 no_units g image unused = ap (λ (hi : ℕ). live master_shape hi image.log) unused.none
 
-pub blank_there : (g : Geometry) (image : Image) (m : Master) → IsUnused g Masters image → HasMaster image m → m ≡ blank
-blank_there g image m unused has = subst (λ (units : List (List ℕ)). IsOf (newest_of units) m) (no_units g image unused) has
+-- where none stands, the blank one is read
+pub there_is_newest : (newest : Option Master) (g : Geometry) (image : Image) → HasNewest newest g image → HasMaster image (saved_by newest)
+there_is_newest None g image unused = subst (λ (units : List (List ℕ)). IsOf (newest_of units) blank) (sym (no_units g image unused)) refl
+there_is_newest (Some m) g image is = is.master
 
-pub there_is_blank : (g : Geometry) (image : Image) → IsUnused g Masters image → HasMaster image blank
-there_is_blank g image unused = subst (λ (units : List (List ℕ)). IsOf (newest_of units) blank) (sym (no_units g image unused)) refl
+pub masters_form : (newest : Option Master) (g : Geometry) (image : Image) → HasNewest newest g image → IsRing master_shape image.log
+masters_form None g image unused = unused.form
+masters_form (Some m) g image is = is.form
+
+pub kept_is : (newest : Option Master) → (saved_by newest).kept ≡ kept_by newest
+kept_is None = refl
+kept_is (Some m) = refl
 
 -- Calls that only read.
 
@@ -153,23 +161,29 @@ module _ (law : FitsBeside) (g : Geometry) (log : LogStore) (pages : PageStore) 
         hi = subst (λ (i : Image). log.ring.hi ≡ hi_of (log_shape log.geometry) i.log) (sym same) finds.hi;
       }
 
-  pub ready_now : (m : Master) (blocks : List (List LogRecord)) (table : List Content) (commits : ℕ) → pages.flash.geometry ≡ g → pages.pool.frames ≡ [] → m ≡ blank → page_held.Fits pages c → log_held.Finds log b →
-      log_held.Holds log b.image (record { first = 0; blocks = blocks; tail = [] }) → IsSound g a.image blocks → Means (picture g a.image blocks) table commits →
-      IsReady (record { log = log; pages = pages; master = m }) d blocks table commits
-  ready_now m blocks table commits sizes empty is fits finds holds sound means =
+  pub ready_now : (masters : Ring) (m : Master) (newest : Option Master) (blocks : List (List LogRecord)) (table : List Content) (commits : ℕ) → pages.flash.geometry ≡ g → pages.pool.frames ≡ [] → log.kept ≡ m.kept → m ≡ saved_by newest → page_held.Fits pages c → Finds masters d → log_held.Finds log b →
+      log_held.HasBlocks log.geometry (kept_by newest) blocks b.image → log_held.HasTail log.tail log.used [] → IsSound newest g a.image blocks → Means (picture_under newest g a.image blocks) table commits →
+      IsReady (record { log = log; pages = pages; masters = masters; master = m }) d newest blocks table commits
+  ready_now masters m newest blocks table commits sizes empty keeps is fits ring finds held tail sound means =
       let back : d.image ≡ b.image = same_third.image ∙ same_second.image in
       let all : d.image ≡ a.image = back ∙ same_first.image in
-      let list : LogList = record { first = 0; blocks = blocks; tail = [] } in
+      let kept : log.kept ≡ kept_by newest = keeps ∙ ap (λ (x : Master). x.kept) is ∙ kept_is newest in
       record {
         master = is;
+        masters = ring;
         opened_is = record {
+          kept = kept;
           ready = record {
             pages = law pages c d (only_read c d same_third) third fits;
             blocks = log_found finds;
-            records = subst (λ (i : Image). log_held.Holds log i list) (sym back) holds;
+            records = record {
+              kept = omega (arith, kept);
+              blocks = subst (λ (i : Image). log_held.HasBlocks log.geometry (kept_by newest) blocks i) (sym back) held;
+              tail = tail;
+            };
           };
-          sound = subst (λ (k : Geometry). IsSound k d.image blocks) (sym sizes) (subst (λ (i : Image). IsSound g i blocks) (sym all) sound);
-          means = subst (λ (k : Geometry). Means (picture k d.image blocks) table commits) (sym sizes) (subst (λ (i : Image). Means (picture g i blocks) table commits) (sym all) means);
+          sound = subst (λ (k : Geometry). IsSound newest k d.image blocks) (sym sizes) (subst (λ (i : Image). IsSound newest g i blocks) (sym all) sound);
+          means = subst (λ (k : Geometry). Means (picture_under newest k d.image blocks) table commits) (sym sizes) (subst (λ (i : Image). Means (picture_under newest g i blocks) table commits) (sym all) means);
           empty = empty;
         };
       }

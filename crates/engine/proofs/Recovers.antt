@@ -1,28 +1,35 @@
--- What redo and undo make of an opened log.
-use Rattle.std.proofs.Common.{◌≡◌, ℕ, cond, ◌+◌, ◌-◌, ◌*◌, ◌^◌, ◌≤◌, min, Bool, true, false, nat_lt, List, [], ◌∷◌, ◌++◌, length, refl, ap, ◌∙◌, arith}
+-- What redo, undo and a checkpoint make of an opened log.
+use Rattle.checkpoint.specs.declared.master.Master.{Master}
+use Rattle.checkpoint.specs.declared.pairs.Pair.{Pair}
+use Rattle.std.proofs.Common.{Option, Some, ◌≡◌, inr, ℕ, ◌+◌, ◌-◌, ◌*◌, ◌^◌, ◌≤◌, min, Bool, true, false, true≢false, nat_lt, List, [], length, refl, sym, ap, subst, ◌∙◌, arith}
 use Rattle.std.specs.Prelude.{if◌then◌else◌}
-use Rattle.std.proofs.lemmas.Bool.{le-leb}
 use Rattle.std.proofs.Math.Nat.{min-eq_left}
-use Rattle.std.proofs.lemmas.List.{length-append}
 use Rattle.site.specs.declared.geometry.Geometry.{Geometry}
 use Rattle.site.specs.State.{State, Image}
+use Rattle.sealed_ring.specs.declared.ring.Ring.{Ring}
+use Rattle.sealed_ring.specs.Ready.{Finds}
 use Rattle.record_model.specs.State.{Content}
 use Rattle.log_records.specs.declared.log_record.LogRecord.{LogRecord}
-use Rattle.log_records.specs.Log.{Entry, log_from}
+use Rattle.log_records.specs.Log.{Entry, is_loser}
 use Rattle.log_records.specs.Unfinished.{owed}
-use Rattle.log_records.specs.Sound.{Means, from_block, commit_numbers}
+use Rattle.log_records.specs.Sound.{commit_numbers, from_block}
 use Rattle.analysis.specs.declared.analysis.Analysis.{Analysis}
 use Rattle.analysis.specs.Open.{owed_for}
 use Rattle.analysis.specs.Table.{listed}
-use Rattle.analysis.specs.Read.{IsAnalysis}
+use Rattle.analysis.specs.Read.{IsTable, IsAnalysis}
+use Rattle.analysis.specs.Taken.{taken, TakenCommits}
 use Rattle.analysis.specs.Laws.{OneTable, TableOfUnfinished, OwedOfUnfinished}
 use Rattle.log_store.specs.declared.store.LogStore.{LogStore}
 use Rattle.log_store.specs.Held.{has_tail}
-use Rattle.image_meaning.specs.Meaning.{IsSound, picture, blank_master}
+use Rattle.image_meaning.specs.Meaning.{picture_under, next_block_under, master_of}
+use Rattle.image_meaning.proofs.Sames.{next_block_is}
+use Rattle.engine.specs.Image.{IsSound, log_under}
+use Rattle.page_store.specs.declared.store.PageStore.{PageStore}
 use Rattle.redo_undo.specs.Holding.{Holds, blocks_to}
-use Rattle.redo_undo.specs.UndoingAll.{UndoesAll}
+use Rattle.redo_undo.specs.Checkpointing.{MayBeMade}
 use Rattle.engine.specs.declared.restart.Opened.{Opened}
 use Rattle.engine.specs.declared.restart.Restarted.{Restarted}
+use Rattle.engine.specs.Holding.{HasCheckpoint}
 use Rattle.engine.specs.Restarting.{IsReady, RestartedAs}
 
 abbrev tail_blocks : Bool → ℕ
@@ -42,55 +49,69 @@ no_tail_still log log' empty same more = by (has_tail log') refl
         absurd (omega (arith, same, more, none, one))
 
 -- what analysis owes is what the records owe
-pub owed_found : OneTable → TableOfUnfinished → OwedOfUnfinished → (g : Geometry) (image : Image) (blocks : List (List LogRecord)) (found : Analysis) → IsSound g image blocks → IsAnalysis blank_master (log_from 0 blocks) found →
-    owed_for (listed found.table) ≡ owed (log_from 0 blocks)
-owed_found one unfinished all g image blocks found sound read =
-    let log = log_from 0 blocks in
-    ap owed_for (one [] log (listed found.table) _ read.table (unfinished [] log 0 (512 * length blocks) tt sound.records.in_order)) ∙ all [] log
-
--- all records stand from the first block on
-from_first : (log : List Entry) → from_block 0 log ≡ log
-from_first [] = refl
-from_first (e ∷ log) = ap (λ (b : Bool). cond b (e ∷ from_block 0 log) (from_block 0 log)) (le-leb 0 e.lsn (omega arith)) ∙ ap (λ (l : List Entry). e ∷ l) (from_first log)
-
--- the commits that an opened log stands for are counted, and each has a block
-pub record AreCounted (blocks : List (List LogRecord)) (commits : ℕ) : Type 0 where
-  pub number : commits ≡ length (commit_numbers (log_from 0 blocks))
-  pub few : commits ≤ length blocks
-
-pub counted : (g : Geometry) (image : Image) (blocks : List (List LogRecord)) (table : List Content) (commits : ℕ) → IsSound g image blocks → Means (picture g image blocks) table commits → AreCounted blocks commits
-counted g image blocks table commits sound means =
-    let all : length (commit_numbers (from_block 0 (log_from 0 blocks))) ≡ length (commit_numbers (log_from 0 blocks)) = ap (λ (l : List Entry). length (commit_numbers l)) (from_first (log_from 0 blocks)) in
-    let count : commits ≡ 0 + length (commit_numbers (from_block 0 (log_from 0 blocks))) = means.count_is in
-    let fit : 0 + length (commit_numbers (from_block 0 (log_from 0 blocks))) ≤ length blocks = sound.records.commits.fit in
-    record { number = omega (arith, count, all); few = omega (arith, count, fit) }
+pub owed_found : OneTable → TableOfUnfinished → OwedOfUnfinished → (newest : Option Master) (g : Geometry) (image : Image) (blocks : List (List LogRecord)) (found : Analysis) → IsSound newest g image blocks → IsTable [] (log_under newest blocks) (listed found.table) →
+    owed_for (listed found.table) ≡ owed (log_under newest blocks)
+owed_found one unfinished all newest g image blocks found sound read =
+    let log = log_under newest blocks in
+    let p = picture_under newest g image blocks in
+    ap owed_for (one [] log (listed found.table) _ read (unfinished [] log (512 * p.master.kept) (512 * p.hi) tt sound.records.in_order)) ∙ all [] log
 
 -- the blocks of an opened log are those of the ring
-pub as_many_blocks : (opened : Opened) (site : State) (blocks : List (List LogRecord)) (table : List Content) (commits : ℕ) → IsReady opened site blocks table commits → opened.log.ring.hi ≡ length blocks
-as_many_blocks opened site blocks table commits h = let hi = h.opened_is.ready.blocks.hi in let next = h.opened_is.ready.records.blocks.next in omega (arith, hi, next)
+pub next_of : (opened : Opened) (site : State) (newest : Option Master) (blocks : List (List LogRecord)) (table : List Content) (commits : ℕ) → IsReady opened site newest blocks table commits →
+    opened.log.ring.hi ≡ next_block_under newest blocks
+next_of opened site newest blocks table commits h =
+    let hi = h.opened_is.ready.blocks.hi in
+    let next = h.opened_is.ready.records.blocks.next in
+    let last = next_block_is newest blocks in
+    omega (arith, hi, next, last)
 
--- analysis counts the commits
-pub commits_found : (opened : Opened) (site : State) (blocks : List (List LogRecord)) (table : List Content) (commits : ℕ) (found : Analysis) → IsReady opened site blocks table commits → IsAnalysis blank_master (log_from 0 blocks) found →
-    opened.log.ring.hi ≤ 2 ^ 40 → found.commits ≡ commits
-commits_found opened site blocks table commits found h read bounded =
-    let are = counted opened.pages.flash.geometry site.image blocks table commits h.opened_is.sound h.opened_is.means in
-    let number = are.number in
-    let few = are.few in
-    let many = as_many_blocks opened site blocks table commits h in
-    let is : found.commits ≡ min (0 + length (commit_numbers (log_from 0 blocks))) (2 ^ 64 - 1) = read.commits in
-    let least : min (0 + length (commit_numbers (log_from 0 blocks))) (2 ^ 64 - 1) ≡ 0 + length (commit_numbers (log_from 0 blocks)) = min-eq_left (omega (arith, number, few, many, bounded)) in
-    omega (arith, is, least, number)
+-- the commits that it stands for are no more
+pub few_commits : (opened : Opened) (site : State) (newest : Option Master) (blocks : List (List LogRecord)) (table : List Content) (commits : ℕ) → IsReady opened site newest blocks table commits → commits ≤ opened.log.ring.hi
+few_commits opened site newest blocks table commits h =
+    let count = h.opened_is.means.count_is in
+    let fit = h.opened_is.sound.records.commits.fit in
+    let next = next_of opened site newest blocks table commits h in
+    omega (arith, count, fit, next)
 
--- what is left is what the records of before stood for
-pub restarted_as : (opened : Opened) (restarted : Restarted) (old mid new : State) (blocks : List (List LogRecord)) (table : List Content) (commits : ℕ) (log' : LogStore) →
-    (undone : UndoesAll log' restarted.store.pages mid (log_from 0 blocks) table commits) → Holds restarted.store.log restarted.store.pages new (log_from 0 blocks ++ undone.more) table commits →
-    restarted.store.made ≡ length (log_from 0 blocks) + owed (log_from 0 blocks) → restarted.commits ≡ commits → RestartedAs restarted new blocks table commits
-restarted_as opened restarted old mid new blocks table commits log' undone holds made are =
-    let count = undone.count in
-    record {
-      records = log_from 0 blocks ++ undone.more;
-      holds = record { both = holds; made = let all = length-append (log_from 0 blocks) undone.more in omega (arith, made, count, all) };
-      finished = undone.none;
-      made = made;
-      commits_are = are;
-    }
+-- so it is of a log and pages that hold together
+pub commits_fit : (log : LogStore) (pages : PageStore) (site : State) (newest : Option Master) (records : List Entry) (table : List Content) (commits : ℕ) → Holds log pages site newest records table commits → commits ≤ log.ring.hi
+commits_fit log pages site newest records table commits h =
+    let held = h.log_holds in
+    let count = held.runs_on.means.count_is in
+    let fit = held.runs_on.carries.sound.commits.fit in
+    let hi = held.ready.blocks.hi in
+    let next = held.ready.records.blocks.next in
+    let last = next_block_is newest held.blocks in
+    omega (arith, count, fit, hi, next, last)
+
+-- analysis counts them
+pub commits_found : TakenCommits → (opened : Opened) (site : State) (newest : Option Master) (blocks : List (List LogRecord)) (table : List Content) (commits : ℕ) (found : Analysis) → IsReady opened site newest blocks table commits →
+    IsAnalysis (master_of newest) (taken (picture_under newest opened.pages.flash.geometry site.image blocks)) found → opened.log.ring.hi ≤ 2 ^ 40 → found.commits ≡ commits
+commits_found law opened site newest blocks table commits found h read bounded =
+    let p = picture_under newest opened.pages.flash.geometry site.image blocks in
+    let few = few_commits opened site newest blocks table commits h in
+    let count = h.opened_is.means.count_is in
+    let all = law p h.opened_is.sound.records in
+    let is : found.commits ≡ min (p.master.commits + length (commit_numbers (taken p))) (2 ^ 64 - 1) = read.commits in
+    let least : min (p.master.commits + length (commit_numbers (taken p))) (2 ^ 64 - 1) ≡ p.master.commits + length (commit_numbers (taken p)) = min-eq_left (omega (arith, few, count, all, bounded)) in
+    omega (arith, is, least, count, all)
+
+-- where nothing is unfinished, a checkpoint that names no transaction may be made
+pub may_be_made : (masters : Ring) (site : State) (records : List Entry) (active : List Pair) → Finds masters site → ((t : ℕ) → is_loser records t ≡ false) → active ≡ [] → MayBeMade masters site records active
+may_be_made masters site records active ring none empty = subst (MayBeMade masters site records) (sym empty) (record {
+  ring = ring;
+  unfinished = record { each = tt; all = λ t loser. absurd (true≢false (sym loser ∙ none t)) };
+  orderly = inr refl;
+})
+
+-- what is left under it is what the records of before stood for, and no record counts
+pub restarted_as : (restarted : Restarted) (new : State) (records : List Entry) (table : List Content) (commits made : ℕ) → ((t : ℕ) → is_loser records t ≡ false) → HasCheckpoint restarted.store new records table commits [] →
+    restarted.store.made + made ≡ made → restarted.commits ≡ commits → RestartedAs restarted new table commits
+restarted_as restarted new records table commits made none checkpoint least are = record {
+  newest = Some checkpoint.master;
+  records = from_block checkpoint.master.kept records;
+  holds = checkpoint.holds;
+  finished = λ t. checkpoint.keeps.losers t ∙ none t;
+  made = omega (arith, least);
+  commits_are = are;
+}

@@ -1,4 +1,5 @@
 -- What the model answers, test by test.
+use Rattle.checkpoint.specs.declared.master.Master.{Master}
 use Rattle.std.proofs.Common.{◌≡◌, ℕ, ◌+◌, ◌*◌, ◌<◌, ◌≤◌, Bool, true, false, not, ◌&&◌, true≢false, List, [], ◌∷◌, length, sum_by, filter_map, Option, None, Some, refl, sym, ap, ◌∙◌, arith}
 use Rattle.std.specs.Prelude.{slice_index_or, nat_le, nat_lt, is_none, IsSome, if◌then◌else◌}
 use Rattle.std.specs.Option.{option_map_or}
@@ -60,11 +61,11 @@ total_is [] = refl
 total_is (None ∷ rest) = total_is rest ∙ sym (zero-add (total rest))
 total_is (Some session ∷ rest) = sum_by-cons (λ (x : Session). length x.writes + 1) session (filter_map (λ x. x) rest) ∙ ap (λ (n : ℕ). length session.writes + 1 + n) (total_is rest)
 
-each_owes : (records : List Entry) (a : Option Active) (o : Option Session) → SessionIs records a o → option_map_or owed_one a 0 ≡ owed_by o
-each_owes records None None is = refl
-each_owes records None (Some session) is = absurd is
-each_owes records (Some entry) None is = absurd is
-each_owes records (Some entry) (Some session) is = ap (λ (n : ℕ). n + 1) is.count
+each_owes : (newest : Option Master) (kept : ℕ) (records : List Entry) (a : Option Active) (o : Option Session) → SessionIs newest kept records a o → option_map_or owed_one a 0 ≡ owed_by o
+each_owes newest kept records None None is = refl
+each_owes newest kept records None (Some session) is = absurd is
+each_owes newest kept records (Some entry) None is = absurd is
+each_owes newest kept records (Some entry) (Some session) is = ap (λ (n : ℕ). n + 1) is.count
 
 -- the sums of eight
 of_eight : (xs : List (Option Session)) (f : ℕ → ℕ) → length xs ≡ 8 → ((n : ℕ) → f n ≡ owed_by (slice_index_or xs n None)) → sum_by f (range_with_len 0 8) ≡ total xs
@@ -75,7 +76,7 @@ of_eight _ f is says = absurd (omega (arith, is))
 pub owed_same : (engine : Engine) (site : Site) (s : State) → Fits engine site s → IsTable engine.active → entries.owed engine.active ≡ model.owed s
 owed_same engine site s fits table =
     owed_is engine.active table
-    ∙ of_eight s.sessions (owed_at engine.active) fits.sessions.count (λ n. each_owes fits.records (entry_of engine.active n) (session_at s n) (fits.sessions.each n))
+    ∙ of_eight s.sessions (owed_at engine.active) fits.sessions.count (λ n. each_owes fits.newest s.kept fits.records (entry_of engine.active n) (session_at s n) (fits.sessions.each n))
     ∙ sym (total_is s.sessions)
 
 -- the reply where there is no room
@@ -83,9 +84,8 @@ pub full_is : (engine : Engine) (site : Site) (s : State) (more : ℕ) (r : Repl
 full_is engine site s more r fits table is =
     let owed = owed_same engine site s fits table in
     let made = fits.counts.made in
-    let kept = fits.counts.kept in
     let cap = fits.counts.cap in
-    let used_is : engine.store.made ≡ used s = omega (arith, made, kept) in
+    let used_is : engine.store.made ≡ used s = omega (arith, made) in
     let less = is.no_room in
     (is.full_is ∙ (λ i. reply.Full (used_is i) (owed i) (cap i)), lt-ltb s.cap (used s + model.owed s + more) (omega (arith, less, owed, used_is, cap)))
 
@@ -93,9 +93,8 @@ pub has_room : (engine : Engine) (site : Site) (s : State) (more : ℕ) → Fits
 has_room engine site s more fits table room =
     let owed = owed_same engine site s fits table in
     let made = fits.counts.made in
-    let kept = fits.counts.kept in
     let cap = fits.counts.cap in
-    le-ltb s.cap (used s + model.owed s + more) (omega (arith, room, owed, made, kept, cap))
+    le-ltb s.cap (used s + model.owed s + more) (omega (arith, room, owed, made, cap))
 
 -- Tests that are passed, and that aren't.
 
@@ -132,12 +131,12 @@ has None some = absurd (true≢false (sym some))
 pub is_active : (engine : Engine) (site : Site) (s : State) (n : ℕ) → Fits engine site s → IsSome (entry_of engine.active n) → wants_active s n ≡ None
 is_active engine site s n fits some =
     let own = has (entry_of engine.active n) some in
-    let session = some_active fits.records engine.active s fits.sessions n own.own own.is in
+    let session = some_active fits.newest fits.records engine.active s fits.sessions n own.own own.is in
     wants_active_is s n session.session session.is
 
 -- a session that isn't active
 pub refused_session : (engine : Engine) (site : Site) (s : State) (command : Command) (n : ℕ) → Fits engine site s → entry_of engine.active n ≡ None → refusal s command ≡ wants_active s n →
     IsRefusedWith s command (reply.Refused BadSession)
 refused_session engine site s command n fits none test =
-    let idle : session_at s n ≡ None = none_active fits.records engine.active s fits.sessions n none in
+    let idle : session_at s n ≡ None = none_active fits.newest fits.records engine.active s fits.sessions n none in
     refused s command (reply.Refused BadSession) (test ∙ (λ i. refuse_if (is_none (idle i)) (reply.Refused BadSession)))

@@ -1,5 +1,6 @@
 -- A set: a transaction of one write, outside sessions.
-use Rattle.std.proofs.Common.{◌≡◌, ℕ, ◌+◌, ◌*◌, ◌/◌, ◌%◌, ◌<◌, ◌≤◌, ◌==◌, Bool, true, false, ◌||◌, cond, true≢false, List, [], ◌∷◌, ◌++◌, length, find, None, Some, inl, inr, ⊎_elim, refl, sym, ap, subst, ◌∙◌, arith, IsTrue}
+use Rattle.checkpoint.specs.declared.master.Master.{Master}
+use Rattle.std.proofs.Common.{Option, ◌≡◌, ℕ, ◌+◌, ◌*◌, ◌/◌, ◌%◌, ◌<◌, ◌≤◌, ◌==◌, Bool, true, false, ◌||◌, cond, true≢false, List, [], ◌∷◌, ◌++◌, length, find, None, Some, inl, inr, ⊎_elim, refl, sym, ap, subst, ◌∙◌, arith, IsTrue}
 use Rattle.std.specs.Prelude.{filter_map}
 use Rattle.std.specs.List.{AllByRecursion, list_any, range_with_len}
 use Rattle.std.proofs.Math.Nat.{div-add-mod}
@@ -26,7 +27,7 @@ use Rattle.log_store.specs.Held.{end_of}
 use Rattle.txn_table.specs.declared.active.Active.{Active}
 use Rattle.txn_table.specs.Entries.{IsTable, entry_of}
 use Rattle.txn_table.specs.Entries as entries
-use Rattle.image_meaning.specs.Meaning.{blank_master, versions_on}
+use Rattle.image_meaning.specs.Meaning.{master_of, versions_on}
 use Rattle.image_meaning.specs.Moments as moments
 use Rattle.redo_undo.specs.Holding.{blocks_to}
 use Rattle.redo_undo.specs.Committing.{MayCommit}
@@ -39,7 +40,7 @@ use Rattle.engine.specs.Leaves.{LeavesTable, LeavesEither}
 use Rattle.engine.specs.Rollback.{ConcernsOnly}
 use Rattle.engine.specs.OneWrite.{HasOneWrite}
 use Rattle.engine.specs.Fits.{Fits, SessionsAre, LocksAre}
-use Rattle.engine.proofs.Meanings.{busy_write_is, count_of_versions, free, fresh_behind, none_of}
+use Rattle.engine.proofs.Meanings.{busy_write_is, begins_late, count_of_versions, free, fresh_behind, none_of}
 use Rattle.engine.proofs.Actives.{some_active, not_fresh}
 use Rattle.engine.proofs.Aborts.{others_go_on}
 use Rattle.engine.proofs.Rollbacks.{concerns_more}
@@ -84,34 +85,34 @@ abbrev pub update_at : ℕ → ℕ → ℕ → Content → Content → Entry
 update_at txn lsn number before after = record { lsn = lsn; rec = update_by txn txn number before after }
 
 -- a new transaction's Begin may be logged where there is room for more
-pub may_begin : (engine : Engine) (old : Site) (s : State) (fits : Fits engine old s) (txn : ℕ) → end_of engine.store.log ≤ txn → engine.store.made + entries.owed engine.active + 2 ≤ engine.cap → blocks_to engine.store.log ≤ engine.store.made → engine.cap + 1 ≡ (sizes_of engine.store).blocks →
-    MayGrow engine.store old fits.records (begin_at txn)
+pub may_begin : (engine : Engine) (old : Site) (s : State) (fits : Fits engine old s) (txn : ℕ) → end_of engine.store.log ≤ txn → engine.store.made + entries.owed engine.active + 2 ≤ engine.cap → blocks_to engine.store.log ≤ engine.store.log.kept + engine.store.made → engine.cap + 1 ≡ (sizes_of engine.store).blocks →
+    MayGrow engine.store old fits.newest fits.records (begin_at txn)
 may_begin engine old s fits txn behind room blocks cap =
-    let fresh = fresh_behind engine.store old fits.records s.table s.commits txn fits.holds behind in
+    let fresh = fresh_behind engine.store old fits.newest fits.records s.table s.commits txn fits.holds behind in
     let owes = owed_begin fits.records txn fresh in
     let are = fits.sessions.owes in
     record {
-      follows = begin_follows blank_master (versions_on (sizes_of engine.store) old.image) fits.records txn fresh;
+      follows = begin_follows (master_of fits.newest) (versions_on (sizes_of engine.store) old.image) fits.records txn fresh;
       no_commit = refl;
       room = omega (arith, owes, are, room, blocks, cap);
     }
 
 module _ (engine : Engine) (old : Site) (s : State) (number : ℕ) (fits : Fits engine old s) (table : IsTable engine.active) (less : number < 32 * (sizes_of engine.store).pages)
-    (room : engine.store.made + entries.owed engine.active + 4 ≤ engine.cap) (blocks : blocks_to engine.store.log ≤ engine.store.made) (cap : engine.cap + 1 ≡ (sizes_of engine.store).blocks)
+    (room : engine.store.made + entries.owed engine.active + 4 ≤ engine.cap) (blocks : blocks_to engine.store.log ≤ engine.store.log.kept + engine.store.made) (cap : engine.cap + 1 ≡ (sizes_of engine.store).blocks)
     (unlocked : locks.busy_write engine.locks None number ≡ None) (txn : ℕ) (behind : end_of engine.store.log ≤ txn) where
   fresh : IsFresh txn fits.records
-  fresh = fresh_behind engine.store old fits.records s.table s.commits txn fits.holds behind
+  fresh = fresh_behind engine.store old fits.newest fits.records s.table s.commits txn fits.holds behind
 
-  begun : IsActive blank_master (fits.records ++ begin_at txn ∷ []) txn txn []
-  begun = active_begun blank_master fits.records txn fresh (omega arith)
+  begun : IsActive (master_of fits.newest) (fits.records ++ begin_at txn ∷ []) txn txn []
+  begun = active_begun (master_of fits.newest) fits.records txn fresh (begins_late engine.store old fits.newest fits.records s.table s.commits txn fits.holds behind)
 
   place : 32 * (number / 32) + number % 32 ≡ number
   place = div-add-mod number 32
 
   -- behind its Begin its Update may be logged
-  pub may_update : (store : Store) (site : Site) (lsn : ℕ) (after : Content) → sizes_of store ≡ sizes_of engine.store → blocks_to store.log ≤ blocks_to engine.store.log + 1 →
-      MayGrow store site (fits.records ++ begin_at txn ∷ []) (update_at txn lsn number (shown_in store site (fits.records ++ begin_at txn ∷ []) number) after)
-  may_update store site lsn after same more =
+  pub may_update : (store : Store) (site : Site) (lsn : ℕ) (after : Content) → sizes_of store ≡ sizes_of engine.store → store.log.kept ≡ engine.store.log.kept → blocks_to store.log ≤ blocks_to engine.store.log + 1 →
+      MayGrow store site fits.newest (fits.records ++ begin_at txn ∷ []) (update_at txn lsn number (shown_in store site (fits.records ++ begin_at txn ∷ []) number) after)
+  may_update store site lsn after same kept more =
       let log = fits.records ++ begin_at txn ∷ [] in
       let versions = versions_on (sizes_of store) site.image in
       let before : Content = shown log versions number in
@@ -120,20 +121,20 @@ module _ (engine : Engine) (old : Site) (s : State) (number : ℕ) (fits : Fits 
       let all = count_of_versions (sizes_of store) site.image in
       let pages = ap (λ (g : Geometry). g.pages) same in
       let within : 32 * (number / 32) + number % 32 < 32 * length versions = omega (arith, less, is, all, pages) in
-      let free_here : IsFreeFor log txn number = free_begun fits.records txn number (free fits.records engine.active s fits.sessions table number (unwritten s number (sym (busy_write_is engine.locks s fits.locks_are None number) ∙ unlocked))) in
+      let free_here : IsFreeFor log txn number = free_begun fits.records txn number (free fits.newest fits.records engine.active s fits.sessions table number (unwritten s number (sym (busy_write_is engine.locks s fits.locks_are None number) ∙ unlocked))) in
       let owes_begin = owed_begin fits.records txn fresh in
       let owes = owed_update log e refl begun.lives.not_closed begun.chain in
       let are = fits.sessions.owes in
       let count = ap (λ (g : Geometry). g.blocks) same in
       record {
-        follows = active_may_write blank_master versions log lsn txn txn (number / 32) (number % 32) [] before after begun within (subst (IsFreeFor log txn) (sym is) free_here) (ap (shown log versions) (sym is));
+        follows = active_may_write (master_of fits.newest) versions log lsn txn txn (number / 32) (number % 32) [] before after begun within (subst (IsFreeFor log txn) (sym is) free_here) (ap (shown log versions) (sym is));
         no_commit = refl;
-        room = omega (arith, owes, owes_begin, are, room, blocks, cap, more, count);
+        room = omega (arith, owes, owes_begin, are, room, blocks, cap, more, count, kept);
       }
 
   -- both are logged
   pub one_write : (store : Store) (site : Site) (lsn : ℕ) (before after : Content) →
-      Holds store site ((fits.records ++ begin_at txn ∷ []) ++ update_at txn lsn number before after ∷ []) s.table s.commits → HasOneWrite store site fits.records s.table s.commits txn number after
+      Holds store site fits.newest ((fits.records ++ begin_at txn ∷ []) ++ update_at txn lsn number before after ∷ []) s.table s.commits → HasOneWrite store site fits.newest fits.records s.table s.commits txn number after
   one_write store site lsn before after holds =
       let log = fits.records ++ begin_at txn ∷ [] in
       let e = update_at txn lsn number before after in
@@ -142,19 +143,19 @@ module _ (engine : Engine) (old : Site) (s : State) (number : ℕ) (fits : Fits 
       record {
         log = log ++ e ∷ [];
         fresh = fresh;
-        concerns = concerns_more txn fits.records log e refl (concerns_more txn fits.records fits.records (begin_at txn) refl (record { under_way = λ t last writes differ active. active; losers = λ t differ. refl }));
+        concerns = concerns_more fits.newest txn fits.records log e refl (concerns_more fits.newest txn fits.records fits.records (begin_at txn) refl (record { under_way = λ t last writes differ active. active; losers = λ t differ. refl }));
         holds = holds;
         last = lsn;
-        active = subst (λ (n : ℕ). IsActive blank_master (log ++ e ∷ []) txn lsn ((n, after) ∷ [])) place (active_writes blank_master log lsn txn txn (number / 32) (number % 32) [] before after begun);
+        active = subst (λ (n : ℕ). IsActive (master_of fits.newest) (log ++ e ∷ []) txn lsn ((n, after) ∷ [])) place (active_writes (master_of fits.newest) log lsn txn txn (number / 32) (number % 32) [] before after begun);
         owes = omega (arith, owes, owes_begin);
       }
 
 -- The sessions are as they were.
-pub unconcerned : (records log : List Entry) (active : List Active) (s : State) (txn : ℕ) → SessionsAre records active s → IsFresh txn records → ConcernsOnly txn records log → is_loser log txn ≡ false → owed log ≡ owed records → SessionsAre log active s
-unconcerned records log active s txn are fresh concerns closed same = record {
+pub unconcerned : (newest : Option Master) (records log : List Entry) (active : List Active) (s : State) (txn : ℕ) → SessionsAre newest records active s → IsFresh txn records → ConcernsOnly newest txn records log → is_loser log txn ≡ false → owed log ≡ owed records → SessionsAre newest log active s
+unconcerned newest records log active s txn are fresh concerns closed same = record {
   count = are.count;
-  each = λ m. others_go_on txn records log concerns (entry_of active m) (session_at s m)
-      (λ entry is. let found = some_active records active s are m entry is in not_fresh records entry found.session txn found.under_way fresh) (are.each m);
+  each = λ m. others_go_on newest s.kept txn records log concerns (entry_of active m) (session_at s m)
+      (λ entry is. let found = some_active newest records active s are m entry is in not_fresh newest s.kept records entry found.session txn found.under_way fresh) (are.each m);
   all = λ t is. ⊎_elim
       (λ (own : t ≡ txn). absurd (true≢false (sym is ∙ ap (is_loser log) own ∙ closed)))
       (λ differ. are.all t (sym (concerns.losers t differ) ∙ is))
@@ -164,8 +165,8 @@ unconcerned records log active s txn are fresh concerns closed same = record {
 }
 
 -- It may be committed.
-pub may_commit_one : (store : Store) (site : Site) (records : List Entry) (table : List Content) (commits txn number next : ℕ) (after : Content) (w : HasOneWrite store site records table commits txn number after) → next ≡ commits → MayCommit w.log txn (next + 1) commits
-may_commit_one store site records table commits txn number next after w is = record { begun = w.active.lives; chain = w.active.chain; number_is = ap (λ (n : ℕ). n + 1) is }
+pub may_commit_one : (store : Store) (site : Site) (newest : Option Master) (records : List Entry) (table : List Content) (commits txn number next : ℕ) (after : Content) (w : HasOneWrite store site newest records table commits txn number after) → next ≡ commits → MayCommit newest w.log txn (next + 1) commits
+may_commit_one store site newest records table commits txn number next after w is = record { begun = w.active.lives; chain = w.active.chain; number_is = ap (λ (n : ℕ). n + 1) is }
 
 -- a crash before it leaves the table of before
 pub set_before : (g : Geometry) (old new : Site) (s after : State) → LeavesOnly old new (LeavesTable g s.table s.commits old.told) → LeavesOnly old new (LeavesEither g s after old.told)
@@ -173,21 +174,21 @@ set_before g old new s after = leaves_weaker old new (LeavesTable g s.table s.co
 
 -- a crash meanwhile leaves the table of before or the one after
 pub set_either : (g g' : Geometry) (old mid new : Site) (s : State) (number : ℕ) (after : Content) (writes : List Write) → g' ≡ g → writes ≡ (number, after) ∷ [] →
-    LeavesOnly old mid (LeavesTable g s.table s.commits old.told) → LeavesOnly mid new (moments.LeavesEither g' s.table (table_with s.table writes) s.commits mid.told) → LeavesOnly old new (LeavesEither g s (making 3 (committed s ((number, after) ∷ []))) old.told)
+    LeavesOnly old mid (LeavesTable g s.table s.commits old.told) → LeavesOnly mid new (moments.LeavesEitherFor g' s.table (table_with s.table writes) s.commits mid.told) → LeavesOnly old new (LeavesEither g s (making 3 (committed s ((number, after) ∷ []))) old.told)
 set_either g g' old mid new s number after writes same are first second =
     let told : mid.told ≡ old.told = (holds_now old mid (LeavesTable g s.table s.commits old.told) first).told in
     let goal = LeavesEither g s (making 3 (committed s ((number, after) ∷ []))) old.told in
     in_sequence old mid new (Leaves goal)
     (set_before g old mid s (making 3 (committed s ((number, after) ∷ []))) first)
-    (leaves_weaker mid new (moments.LeavesEither g' s.table (table_with s.table writes) s.commits mid.told) goal (λ snapshot q. record {
+    (leaves_weaker mid new (moments.LeavesEitherFor g' s.table (table_with s.table writes) s.commits mid.told) goal (λ snapshot q. record {
       told = q.told ∙ told;
       stands = ⊎_elim (λ before. inl (subst (λ (x : Geometry). Stands x snapshot.image s.table s.commits) same before))
           (λ done. inr (subst (λ (x : Geometry). Stands x snapshot.image (table_with s.table ((number, after) ∷ [])) (s.commits + 1)) same (subst (λ (ws : List Write). Stands g' snapshot.image (table_with s.table ws) (s.commits + 1)) are done))) q.stands;
     }) second)
 
 -- It is committed.
-pub set_fits : (engine one last : Engine) (old between new : Site) (s : State) (number txn lsn : ℕ) (after : Content) (fits : Fits engine old s) (w : HasOneWrite one.store between fits.records s.table s.commits txn number after) → IsTrue new.honest →
-    Holds last.store new (w.log ++ record { lsn = lsn; rec = Commit txn (one.commits + 1) } ∷ []) (table_with s.table (writes_in txn w.log)) (s.commits + 1) →
+pub set_fits : (engine one last : Engine) (old between new : Site) (s : State) (number txn lsn : ℕ) (after : Content) (fits : Fits engine old s) (w : HasOneWrite one.store between fits.newest fits.records s.table s.commits txn number after) → IsTrue new.honest →
+    Holds last.store new fits.newest (w.log ++ record { lsn = lsn; rec = Commit txn (one.commits + 1) } ∷ []) (table_with s.table (writes_in txn w.log)) (s.commits + 1) →
     one ≡ record engine { store = one.store } → last ≡ record one { store = last.store; commits = last.commits } → last.commits ≡ one.commits + 1 →
     one.store.made ≡ engine.store.made + 2 → last.store.made ≡ one.store.made + 1 →
     Fits last new (making 3 (committed s ((number, after) ∷ [])))
@@ -195,21 +196,21 @@ set_fits engine one last old between new s number txn lsn after fits w honest ho
     let e : Entry = record { lsn = lsn; rec = Commit txn (one.commits + 1) } in
     let log = w.log ++ e ∷ [] in
     let begun = fits.counts.made in
-    let owes_two = active_owes blank_master w.log txn w.last ((number, after) ∷ []) w.active in
+    let owes_two = active_owes (master_of fits.newest) w.log txn w.last ((number, after) ∷ []) w.active in
     let owes = owed_closing w.log e refl w.active.lives.not_closed w.active.chain in
     let before = w.owes in
     let engine_is : last ≡ record engine { store = last.store; commits = last.commits } = rest_last ∙ ap (λ (x : Engine). record x { store = last.store; commits = last.commits }) rest_one in
-    let done = unconcerned fits.records log engine.active s txn fits.sessions w.fresh (concerns_more txn fits.records w.log e refl w.concerns) (loser_is_closed w.log e refl) (omega (arith, owes, owes_two, before)) in
-    let kept = subst (λ (a : List Active). SessionsAre log a s) (sym (ap (λ (x : Engine). x.active) engine_is)) done in
+    let done = unconcerned fits.newest fits.records log engine.active s txn fits.sessions w.fresh (concerns_more fits.newest txn fits.records w.log e refl w.concerns) (loser_is_closed w.log e refl) (omega (arith, owes, owes_two, before)) in
+    let kept = subst (λ (a : List Active). SessionsAre fits.newest log a s) (sym (ap (λ (x : Engine). x.active) engine_is)) done in
     let held = subst (λ (l : List Lock). LocksAre l s) (sym (ap (λ (x : Engine). x.locks) engine_is)) fits.locks_are in
     record {
       honest = honest;
+      newest = fits.newest;
       records = log;
-      holds = subst (λ (ws : List Write). Holds last.store new log (table_with s.table ws) (s.commits + 1)) (sym w.active.writes_are) holds;
+      holds = subst (λ (ws : List Write). Holds last.store new fits.newest log (table_with s.table ws) (s.commits + 1)) (sym w.active.writes_are) holds;
       counts = record {
         commits = commits ∙ ap (λ (n : ℕ). n + 1) (ap (λ (x : Engine). x.commits) rest_one ∙ fits.counts.commits);
         made = omega (arith, made_last, made_one, begun);
-        kept = fits.counts.kept;
         cap = ap (λ (x : Engine). x.cap) engine_is ∙ fits.counts.cap;
       };
       sessions = record { count = kept.count; each = kept.each; all = kept.all; owes = kept.owes; differ = kept.differ };

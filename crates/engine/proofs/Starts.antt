@@ -1,13 +1,9 @@
 -- A run begins: what a restart leaves, and nobody at work.
-use Rattle.std.proofs.Common.{◌≡◌, ℕ, zero, suc, ◌-◌, ◌==◌, true≢false, false, List, [], length, replicate, Option, None, refl, sym, ap, subst, ◌∙◌, IsTrue}
+use Rattle.checkpoint.specs.declared.master.Master.{Master}
+use Rattle.std.proofs.Common.{arith, ◌≡◌, ℕ, zero, suc, ◌-◌, ◌==◌, true≢false, false, List, [], length, replicate, Option, None, refl, sym, ap, subst, ◌∙◌, IsTrue}
 use Rattle.std.specs.Prelude.{slice_index_or}
 use Rattle.std.specs.List.{list_any}
 use Rattle.std.proofs.lemmas.Option.{none-some}
-use Rattle.site.specs.declared.outside.Dev.{Dev}
-use Rattle.site.specs.declared.outside.Dev.TheVariants.{Log, Flash, Disk}
-use Rattle.site.specs.declared.outside.Stop.{Stop}
-use Rattle.site.specs.declared.outside.Stop.TheVariants.{Worn}
-use Rattle.page_store.specs.Stopping.{MayStop}
 use Rattle.site.specs.declared.geometry.Geometry.{Geometry}
 use Rattle.site.specs.State.{State as Site, Image}
 use Rattle.record_model.specs.State.{Session, State, writes_of, reads_of}
@@ -37,10 +33,10 @@ nobody n sessions is = ap (λ (xs : List (Option Session)). slice_index_or xs n 
     all_none (suc len) (suc n) = all_none len n
 
 -- nothing is unfinished
-idle : (records : List Entry) (s : State) → ((t : ℕ) → is_loser records t ≡ false) → owed records ≡ 0 → s.sessions ≡ replicate 8 None → SessionsAre records [] s
-idle records s closed none is = record {
+idle : (newest : Option Master) (records : List Entry) (s : State) → ((t : ℕ) → is_loser records t ≡ false) → owed records ≡ 0 → s.sessions ≡ replicate 8 None → SessionsAre newest records [] s
+idle newest records s closed none is = record {
   count = ap length is;
-  each = λ n. subst (SessionIs records None) (sym (nobody n s.sessions is)) tt;
+  each = λ n. subst (SessionIs newest s.kept records None) (sym (nobody n s.sessions is)) tt;
   all = λ t loser. absurd (true≢false (sym loser ∙ closed t));
   owes = none;
   differ = λ n m a b at_n at_m same. absurd (none-some a at_n);
@@ -53,28 +49,27 @@ unlocked s is = record {
 }
 
 -- the database stands for the state that the run opens with
-pub started : OwedNone → (g : Geometry) (image : Image) (site : Site) (s : State) (restarted : Restarted) (engine : Engine) → IsTrue site.honest → (opening : Opens g image s) → RestartedAs restarted site opening.blocks s.table s.commits → restarted.blocks ≡ g.blocks →
+pub started : OwedNone → (g : Geometry) (image : Image) (site : Site) (s : State) (restarted : Restarted) (engine : Engine) → IsTrue site.honest → (opening : Opens g image s) → RestartedAs restarted site s.table s.commits → restarted.blocks ≡ g.blocks →
     engine.store ≡ restarted.store → engine.commits ≡ restarted.commits → engine.cap ≡ restarted.blocks - 1 → engine.active ≡ [] → engine.locks ≡ [] → Fits engine site s
 started law g image site s restarted engine honest opening done blocks store_is commits_is cap_is active_is locks_is =
     let sessions_are : s.sessions ≡ replicate 8 None = ap (λ (x : State). x.sessions) opening.state in
-    let sessions = subst (λ (a : List Active). SessionsAre done.records a s) (sym active_is) (idle done.records s done.finished (law done.records done.finished) sessions_are) in
+    let sessions = subst (λ (a : List Active). SessionsAre done.newest done.records a s) (sym active_is) (idle done.newest done.records s done.finished (law done.records done.finished) sessions_are) in
     let locks = subst (λ (l : List Lock). LocksAre l s) (sym locks_is) (unlocked s sessions_are) in
     record {
       honest = honest;
+      newest = done.newest;
       records = done.records;
-      holds = subst (λ (j : Store). Holds j site done.records s.table s.commits) (sym store_is) done.holds;
+      holds = subst (λ (j : Store). Holds j site done.newest done.records s.table s.commits) (sym store_is) done.holds;
       counts = record {
         commits = commits_is ∙ done.commits_are;
-        made = ap (λ (j : Store). j.made) store_is ∙ done.made ∙ sym (ap (λ (x : State). x.made) opening.state);
-        kept = ap (λ (x : State). x.kept) opening.state;
+        made =
+            let store_made = ap (λ (j : Store). j.made) store_is in
+            let all = done.made in
+            let made = ap (λ (x : State). x.made) opening.state in
+            let none : s.kept ≡ 0 = ap (λ (x : State). x.kept) opening.state in
+            omega (arith, store_made, all, made, none);
         cap = cap_is ∙ ap (λ (n : ℕ). n - 1) blocks ∙ sym (ap (λ (x : State). x.cap) opening.state);
       };
       sessions = sessions;
       locks_are = locks;
     }
-
--- where the log can't be worn, what is worn is the flash
-pub worn_flash : (stop : Stop) (d : Dev) → MayStop stop → stop ≡ Worn d → (stop ≡ Worn Log → ⊥) → d ≡ Flash
-worn_flash stop Log may is never = absurd (never is)
-worn_flash stop Flash may is never = refl
-worn_flash stop Disk may is never = absurd (subst MayStop is may)

@@ -1,4 +1,5 @@
 -- How many sessions are active.
+use Rattle.checkpoint.specs.declared.master.Master.{Master}
 use Rattle.std.proofs.Common.{◌≡◌, ℕ, ◌+◌, List, [], ◌∷◌, length, sum_by, filter_map, Option, None, Some, refl, sym, ◌∙◌, arith}
 use Rattle.std.specs.Prelude.{slice_index_or}
 use Rattle.std.specs.Option.{option_map_or}
@@ -30,11 +31,11 @@ length_is : (xs : List Active) → sum_by (λ entry. 1) xs ≡ length xs
 length_is [] = refl
 length_is (x ∷ xs) = let same = length_is xs in let first = sum_by-cons (λ (entry : Active). 1) x xs in omega (arith, same, first)
 
-each_one : (records : List Entry) (a : Option Active) (o : Option Session) → SessionIs records a o → option_map_or (λ (entry : Active). 1) a 0 ≡ one_of o
-each_one records None None is = refl
-each_one records None (Some session) is = absurd is
-each_one records (Some entry) None is = absurd is
-each_one records (Some entry) (Some session) is = refl
+each_one : (newest : Option Master) (kept : ℕ) (records : List Entry) (a : Option Active) (o : Option Session) → SessionIs newest kept records a o → option_map_or (λ (entry : Active). 1) a 0 ≡ one_of o
+each_one newest kept records None None is = refl
+each_one newest kept records None (Some session) is = absurd is
+each_one newest kept records (Some entry) None is = absurd is
+each_one newest kept records (Some entry) (Some session) is = refl
 
 of_eight : (xs : List (Option Session)) (f : ℕ → ℕ) → length xs ≡ 8 → ((n : ℕ) → f n ≡ one_of (slice_index_or xs n None)) → sum_by f (range_with_len 0 8) ≡ ones xs
 unfolding ones
@@ -45,5 +46,5 @@ pub active_same : (engine : Engine) (site : Site) (s : State) → Fits engine si
 active_same engine site s fits table =
     sym (length_is engine.active)
     ∙ sum-by_session (λ entry. 1) engine.active table
-    ∙ of_eight s.sessions (λ n. option_map_or (λ (entry : Active). 1) (entry_of engine.active n) 0) fits.sessions.count (λ n. each_one fits.records (entry_of engine.active n) (session_at s n) (fits.sessions.each n))
+    ∙ of_eight s.sessions (λ n. option_map_or (λ (entry : Active). 1) (entry_of engine.active n) 0) fits.sessions.count (λ n. each_one fits.newest s.kept fits.records (entry_of engine.active n) (session_at s n) (fits.sessions.each n))
     ∙ sym (ones_is s.sessions)

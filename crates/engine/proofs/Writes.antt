@@ -1,4 +1,5 @@
 -- A session's read, and its write.
+use Rattle.checkpoint.specs.declared.master.Master.{Master}
 use Rattle.std.proofs.Common.{◌≡◌, ℕ, ◌+◌, ◌*◌, ◌/◌, ◌%◌, ◌<◌, ◌≤◌, ◌&&◌, ◌||◌, ◌==◌, Bool, true, false, not, cond, ◌++◌, ◌∷◌, [], List, length, find, Option, None, Some, ⊎_elim, refl, sym, ap, subst, ◌∙◌, arith, IsTrue, get_or-set_same, get_or-set_other, length-set}
 use Rattle.std.specs.Prelude.{slice_set, slice_index_or, option_map}
 use Rattle.std.specs.List.{list_any, range_with_len}
@@ -20,7 +21,7 @@ use Rattle.txn_table.specs.declared.active.Active.{Active}
 use Rattle.txn_table.specs.Entries.{IsTable, entry_of, ChangesOnly, after_write}
 use Rattle.txn_table.specs.Entries as entries
 use Rattle.engine.specs.declared.engine.Engine.{Engine}
-use Rattle.image_meaning.specs.Meaning.{blank_master, versions_on}
+use Rattle.image_meaning.specs.Meaning.{master_of, versions_on}
 use Rattle.redo_undo.specs.Holding.{blocks_to}
 use Rattle.engine.specs.declared.store.Store.{Store}
 use Rattle.engine.specs.Going.{sizes_of}
@@ -143,48 +144,49 @@ may_read_too s n number = find_less (λ m. not (n == m) && model.has_written s m
 -- A write.
 
 pub may_write : (engine : Engine) (site : Site) (s : State) (fits : Fits engine site s) (entry : Active) (number lsn : ℕ) (after : Content) → IsTable engine.active → entry_of engine.active entry.session ≡ Some entry → number < 32 * (sizes_of engine.store).pages →
-    locks.busy_write engine.locks (Some entry.session) number ≡ None → engine.store.made + entries.owed engine.active + 2 ≤ engine.cap → blocks_to engine.store.log ≤ engine.store.made → engine.cap + 1 ≡ (sizes_of engine.store).blocks →
-    MayGrow engine.store site fits.records (record { lsn = lsn; rec = update_by entry.begin entry.last number (shown_in engine.store site fits.records number) after })
+    locks.busy_write engine.locks (Some entry.session) number ≡ None → engine.store.made + entries.owed engine.active + 2 ≤ engine.cap → blocks_to engine.store.log ≤ engine.store.log.kept + engine.store.made → engine.cap + 1 ≡ (sizes_of engine.store).blocks →
+    MayGrow engine.store site fits.newest fits.records (record { lsn = lsn; rec = update_by entry.begin entry.last number (shown_in engine.store site fits.records number) after })
 may_write engine site s fits entry number lsn after table at less free room blocks cap =
     let n = entry.session in
     let versions = versions_on (sizes_of engine.store) site.image in
     let before : Content = shown_in engine.store site fits.records number in
     let e : Entry = record { lsn = lsn; rec = update_by entry.begin entry.last number before after } in
-    let found = some_active fits.records engine.active s fits.sessions n entry at in
+    let found = some_active fits.newest fits.records engine.active s fits.sessions n entry at in
     let active = found.under_way.is_active in
     let none = may_read_too s n number (sym (busy_write_is engine.locks s fits.locks_are (Some n) number) ∙ free) in
-    let only : IsFreeFor fits.records entry.begin number = free_for fits.records engine.active s fits.sessions table n number entry at none in
+    let only : IsFreeFor fits.records entry.begin number = free_for fits.newest fits.records engine.active s fits.sessions table n number entry at none in
     let size = count_of_versions (sizes_of engine.store) site.image in
     let place = page_and_slot number in
     let owes = owed_update fits.records e refl active.lives.not_closed active.chain in
     let are = fits.sessions.owes in
     record {
-      follows = active_may_write blank_master versions fits.records lsn entry.begin entry.last (number / 32) (number % 32) found.session.writes before after active
+      follows = active_may_write (master_of fits.newest) versions fits.records lsn entry.begin entry.last (number / 32) (number % 32) found.session.writes before after active
           (omega (arith, place, less, size)) (subst (IsFreeFor fits.records entry.begin) (sym place) only) (ap (shown fits.records versions) (sym place));
       no_commit = refl;
       room = omega (arith, owes, are, room, blocks, cap);
     }
 
 pub write_fits : (engine last : Engine) (old new : Site) (s : State) (entry : Active) (number lsn : ℕ) (before after : Content) (fits : Fits engine old s) → IsTable engine.active → entry_of engine.active entry.session ≡ Some entry → IsTrue new.honest →
-    Holds last.store new (fits.records ++ record { lsn = lsn; rec = update_by entry.begin entry.last number before after } ∷ []) s.table s.commits →
+    Holds last.store new fits.newest (fits.records ++ record { lsn = lsn; rec = update_by entry.begin entry.last number before after } ∷ []) s.table s.commits →
     last.store.made ≡ engine.store.made + 1 → last.commits ≡ engine.commits → last.cap ≡ engine.cap →
     AddsLock engine.locks last.locks entry.session number true → ChangesOnly engine.active last.active entry.session (Some (after_write entry lsn)) → entries.owed last.active ≡ entries.owed engine.active + 1 →
     Fits last new (with_write s entry.session (number, after))
 write_fits engine last old new s entry number lsn before after fits table at honest holds made commits cap adds changes owes =
     let n = entry.session in
     let e : Entry = record { lsn = lsn; rec = update_by entry.begin entry.last number before after } in
-    let found = some_active fits.records engine.active s fits.sessions n entry at in
+    let found = some_active fits.newest fits.records engine.active s fits.sessions n entry at in
     let small = (entry_is engine.active n entry table at).small in
     let count = fits.sessions.count in
     let place = page_and_slot number in
-    let more : SessionsAre (fits.records ++ e ∷ []) last.active (with_write s n (number, after)) =
-    subst (λ (k : ℕ). SessionsAre (fits.records ++ e ∷ []) last.active (with_write s n (k, after))) place
-    (wrote_more fits.records engine.active last.active s n lsn (number / 32) (number % 32) entry before after fits.sessions small at changes owes) in
+    let more : SessionsAre fits.newest (fits.records ++ e ∷ []) last.active (with_write s n (number, after)) =
+    subst (λ (k : ℕ). SessionsAre fits.newest (fits.records ++ e ∷ []) last.active (with_write s n (k, after))) place
+    (wrote_more fits.newest fits.records engine.active last.active s n lsn (number / 32) (number % 32) entry before after fits.sessions small at changes owes) in
     record {
       honest = honest;
+      newest = fits.newest;
       records = fits.records ++ e ∷ [];
       holds = holds;
-      counts = record { commits = commits ∙ fits.counts.commits; made = made ∙ ap (λ (k : ℕ). k + 1) fits.counts.made; kept = fits.counts.kept; cap = cap ∙ fits.counts.cap };
+      counts = record { commits = commits ∙ fits.counts.commits; made = let before = fits.counts.made in omega (arith, made, before); cap = cap ∙ fits.counts.cap };
       sessions = more;
       locks_are = added_write engine.locks last.locks s n number after found.session (omega (arith, small, count)) found.is adds fits.locks_are;
     }
@@ -192,20 +194,20 @@ write_fits engine last old new s entry number lsn before after fits table at hon
 -- A read.
 
 -- what a session has read changes nothing of its transaction
-pub read_more : (records : List Entry) (active : List Active) (s : State) (n number : ℕ) (entry : Active) → SessionsAre records active s → n < 8 → entry_of active n ≡ Some entry → SessionsAre records active (with_read s n number)
-read_more records active s n number entry are small at =
-    let found = some_active records active s are n entry at in
+pub read_more : (newest : Option Master) (records : List Entry) (active : List Active) (s : State) (n number : ℕ) (entry : Active) → SessionsAre newest records active s → n < 8 → entry_of active n ≡ Some entry → SessionsAre newest records active (with_read s n number)
+read_more newest records active s n number entry are small at =
+    let found = some_active newest records active s are n entry at in
     let under = found.under_way in
     let count = are.count in
     let now : Option Session = option_map (having_read (number ∷ [])) (session_at s n) in
     record {
       count = length-set s.sessions n now ∙ are.count;
       each = λ m. ⊎_elim
-          (λ (same : m ≡ n). subst (λ (k : ℕ). SessionIs records (entry_of active k) (slice_index_or (slice_set s.sessions n now) k None)) (sym same)
-          (subst (λ (a : Option Active). SessionIs records a (slice_index_or (slice_set s.sessions n now) n None)) (sym at)
-          (subst (λ (o : Option Session). SessionIs records (Some entry) o) (sym (get_or-set_same s.sessions n now None (omega (arith, small, count)) ∙ ap (option_map (having_read (number ∷ []))) found.is))
+          (λ (same : m ≡ n). subst (λ (k : ℕ). SessionIs newest s.kept records (entry_of active k) (slice_index_or (slice_set s.sessions n now) k None)) (sym same)
+          (subst (λ (a : Option Active). SessionIs newest s.kept records a (slice_index_or (slice_set s.sessions n now) n None)) (sym at)
+          (subst (λ (o : Option Session). SessionIs newest s.kept records (Some entry) o) (sym (get_or-set_same s.sessions n now None (omega (arith, small, count)) ∙ ap (option_map (having_read (number ∷ []))) found.is))
           (record { is_active = under.is_active; born = under.born; count = under.count }))))
-          (λ differ. subst (λ (o : Option Session). SessionIs records (entry_of active m) o) (sym (get_or-set_other s.sessions n m now None differ)) (are.each m))
+          (λ differ. subst (λ (o : Option Session). SessionIs newest s.kept records (entry_of active m) o) (sym (get_or-set_other s.sessions n m now None differ)) (are.each m))
           (cases_eq m n);
       all = are.all;
       owes = are.owes;
@@ -213,12 +215,13 @@ read_more records active s n number entry are small at =
     }
 
 -- A page was touched.
-abbrev pub touched_fits : (engine : Engine) (store : Store) (old new : Site) (s : State) (fits : Fits engine old s) → IsTrue new.honest → Holds store new fits.records s.table s.commits → store.made ≡ engine.store.made → Fits (record engine { store = store }) new s
+abbrev pub touched_fits : (engine : Engine) (store : Store) (old new : Site) (s : State) (fits : Fits engine old s) → IsTrue new.honest → Holds store new fits.newest fits.records s.table s.commits → store.made ≡ engine.store.made → Fits (record engine { store = store }) new s
 touched_fits engine store old new s fits honest holds made = record {
   honest = honest;
+  newest = fits.newest;
   records = fits.records;
   holds = holds;
-  counts = record { commits = fits.counts.commits; made = made ∙ fits.counts.made; kept = fits.counts.kept; cap = fits.counts.cap };
+  counts = record { commits = fits.counts.commits; made = ap (λ (k : ℕ). k + s.kept) made ∙ fits.counts.made; cap = fits.counts.cap };
   sessions = fits.sessions;
   locks_are = fits.locks_are;
 }
@@ -226,14 +229,15 @@ touched_fits engine store old new s fits honest holds made = record {
 pub read_fits : (engine : Engine) (held : _) (site : Site) (s : State) (n number : ℕ) (entry : Active) (fits : Fits engine site s) → IsTable engine.active → entry_of engine.active n ≡ Some entry → AddsLock engine.locks held n number false →
     Fits (record engine { locks = held }) site (with_read s n number)
 read_fits engine held site s n number entry fits table at adds =
-    let found = some_active fits.records engine.active s fits.sessions n entry at in
+    let found = some_active fits.newest fits.records engine.active s fits.sessions n entry at in
     let small = (entry_is engine.active n entry table at).small in
     let count = fits.sessions.count in
     record {
       honest = fits.honest;
+      newest = fits.newest;
       records = fits.records;
       holds = fits.holds;
-      counts = record { commits = fits.counts.commits; made = fits.counts.made; kept = fits.counts.kept; cap = fits.counts.cap };
-      sessions = read_more fits.records engine.active s n number entry fits.sessions small at;
+      counts = record { commits = fits.counts.commits; made = fits.counts.made; cap = fits.counts.cap };
+      sessions = read_more fits.newest fits.records engine.active s n number entry fits.sessions small at;
       locks_are = added_read engine.locks held s n number found.session (omega (arith, small, count)) found.is adds fits.locks_are;
     }

@@ -1,7 +1,9 @@
 -- The database over every site.
-use Rattle.std.specs.Prelude.{◌≡◌, ℕ, ◌+◌, ◌^◌, ◌≤◌, ◌<◌, false, Some}
+use Rattle.std.specs.Prelude.{◌≡◌, ℕ, ◌+◌, ◌/◌, ◌^◌, ◌≤◌, ◌<◌, false, Some}
 use Rattle.site.specs.State.{State}
 use Rattle.site.specs.declared.geometry.Geometry.{Geometry}
+use Rattle.sealed_ring.specs.Ready.{IsUsable}
+use Rattle.image_changes.specs.Rings.{master_shape}
 use Rattle.log_store.specs.Held.{end_of}
 use Rattle.txn_table.specs.declared.active.Active.{Active}
 use Rattle.txn_table.specs.Entries.{IsTable, entry_of, owed}
@@ -14,13 +16,15 @@ use Rattle.engine.specs.declared.engine.Engine.{Engine}
 abbrev pub sizes_of : Store → Geometry
 sizes_of store = store.pages.flash.geometry
 
--- of every site: log and pages may go on, and no checkpoint was made
+-- of every site: log and pages may go on
 pub record MayWork (store : Store) (site : State) : Type 0 where
   pub both : both.MayGoOn store.log store.pages site
-  pub kept : store.log.kept ≡ 0
-  -- each block has a record
-  pub blocks : blocks_to store.log ≤ store.made
+  -- each kept block has a record that counts
+  pub blocks : blocks_to store.log ≤ store.log.kept + store.made
   pub bounded : store.made ≤ 2 ^ 40
+  -- the ring of master units lies on the log's device
+  pub masters : IsUsable store.masters site
+  pub shape : store.masters.shape ≡ master_shape
 
 -- of every site: the database may go on
 pub record MayGoOn (engine : Engine) (site : State) : Type 0 where
@@ -29,7 +33,11 @@ pub record MayGoOn (engine : Engine) (site : State) : Type 0 where
   pub cap : engine.cap + 1 ≡ (sizes_of engine.store).blocks
   pub table : IsTable engine.active
   -- there is room to undo all
-  pub room : blocks_to engine.store.log + owed engine.active ≤ engine.cap
+  pub room : blocks_to engine.store.log + owed engine.active ≤ engine.store.log.kept + engine.cap
+  -- from the block of a session's Begin on there are no more blocks than records that were made since
+  pub since : (n : ℕ) (entry : Active) → entry_of engine.active n ≡ Some entry → blocks_to engine.store.log + entry.born ≤ entry.begin / 512 + engine.store.made
   pub bounded : engine.store.made + owed engine.active ≤ 2 ^ 40
-  pub commits : engine.commits ≤ engine.store.made
-  pub lasts : (n : ℕ) (entry : Active) → entry_of engine.active n ≡ Some entry → entry.last < end_of engine.store.log
+  pub commits : engine.commits ≤ end_of engine.store.log
+  -- each session's records stand in the log, and no two sessions have one Begin
+  pub lasts : (n : ℕ) (entry : Active) → entry_of engine.active n ≡ Some entry → (entry.begin ≤ entry.last) × (entry.last < end_of engine.store.log)
+  pub differ : (n m : ℕ) (a b : Active) → entry_of engine.active n ≡ Some a → entry_of engine.active m ≡ Some b → a.begin ≡ b.begin → n ≡ m

@@ -1,25 +1,39 @@
 -- Log and pages of an honest site, as a list of records.
-use Rattle.std.specs.Prelude.{◌≡◌, ℕ, ◌/◌, ◌%◌, ◌<◌, List, length}
+use Rattle.std.specs.Prelude.{◌≡◌, ℕ, ◌/◌, ◌%◌, ◌<◌, List, length, Option, Some}
 use Rattle.site.specs.State.{State}
+use Rattle.sealed_ring.specs.Ready.{Finds}
 use Rattle.record_model.specs.State.{Content}
 use Rattle.log_records.specs.declared.log_record.LogRecord.{LogRecord}
 use Rattle.log_records.specs.declared.log_record.LogRecord.TheVariants.{Update}
 use Rattle.log_records.specs.Log.{Entry}
+use Rattle.log_records.specs.Sound.{AreOrderly, from_block}
 use Rattle.log_laws.specs.Follow.{shown}
 use Rattle.buffer_pool.specs.Frames.{front_of}
+use Rattle.checkpoint.specs.declared.master.Master.{Master}
+use Rattle.checkpoint.specs.declared.pairs.Pair.{Pair}
 use Rattle.image_meaning.specs.Meaning.{versions_on}
+use Rattle.redo_undo.specs.Checkpointing.{KeepUnfinished}
 use Rattle.redo_undo.specs.Holding as both
 use Rattle.engine.specs.declared.store.Store.{Store}
 
--- Of an honest site: log and pages hold these records together, what is sealed of them stands for this table after so many commits,
--- and they are counted.
-pub record Holds (store : Store) (site : State) (records : List Entry) (table : List Content) (commits : ℕ) : Type 0 where
-  pub both : both.Holds store.log store.pages site records table commits
-  pub made : store.made ≡ length records
+-- Of an honest site: under this newest master log and pages hold these records together, what is sealed of them stands for this table
+-- after so many commits, and they are in order. The ring of master units is the one that stands there.
+pub record Holds (store : Store) (site : State) (newest : Option Master) (records : List Entry) (table : List Content) (commits : ℕ) : Type 0 where
+  pub both : both.Holds store.log store.pages site newest records table commits
+  pub orderly : AreOrderly records
+  pub masters : Finds store.masters site
+
+-- A checkpoint was made that names these transactions: under its master log and pages hold the records from its oldest kept block on,
+-- and all records of unfinished transactions are among them.
+pub record HasCheckpoint (store : Store) (site : State) (records : List Entry) (table : List Content) (commits : ℕ) (active : List Pair) : Type 0 where
+  pub master : Master
+  pub named : master.active ≡ active
+  pub holds : Holds store site (Some master) (from_block master.kept records) table commits
+  pub keeps : KeepUnfinished records (from_block master.kept records)
 
 -- one more record may be appended
-abbrev pub MayGrow : Store → State → List Entry → Entry → Type 0
-MayGrow store site records e = both.MayGrow store.log store.pages site.image records e
+abbrev pub MayGrow : Store → State → Option Master → List Entry → Entry → Type 0
+MayGrow store site newest records e = both.MayGrow store.log store.pages site.image newest records e
 
 -- what was written to a record last, by whomever
 abbrev pub shown_in : Store → State → List Entry → ℕ → Content

@@ -12,7 +12,7 @@ use Rattle.engine.specs.Image.{Stands}
 
 -- nothing was told, and the devices stand for this table after so many commits
 abbrev pub LeavesTable : Geometry → List Content → ℕ → List ℕ → Snapshot → Type 0
-LeavesTable = moments.LeavesTable
+LeavesTable = moments.LeavesFor
 
 -- nothing was told, and the devices stand for the table before the command or after it
 pub record LeavesEither (g : Geometry) (before after : State) (so_far : List ℕ) (snapshot : Snapshot) : Type 0 where

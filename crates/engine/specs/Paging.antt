@@ -15,7 +15,7 @@ use Rattle.sealed_ring.specs.Ring.{hi_of}
 use Rattle.second_chance.specs.Machine.{Rules, Cache, after_works}
 use Rattle.page_store.specs.declared.store.PageStore.{PageStore}
 use Rattle.page_store.specs.Caching.{cache_of, rules}
-use Rattle.redo_undo.specs.Works.{redo_works, undo_works, next_group, Overflows, finds_in, misses_in}
+use Rattle.redo_undo.specs.Works.{redo_works, undo_works, checkpoint_works, next_group, Overflows, finds_in, misses_in}
 
 -- the queue on flash: the live groups, none of their frames referenced
 abbrev pub queue_on : Geometry → Image → Queue
@@ -27,9 +27,9 @@ queue_on g image =
 abbrev pub cache_on : Geometry → Image → Cache
 cache_on g image = record { pool = []; queue = queue_on g image }
 
--- a restart: redo, then undo
+-- a restart: redo, then undo, then a checkpoint
 abbrev pub restart_works : Picture → List CacheWork
-restart_works p = redo_works p ++ undo_works p.log
+restart_works p = redo_works p ++ undo_works p.log ++ checkpoint_works
 
 -- A call that opens pages asks for this work, beginning with a cache. At Ok the machine has done it. It answers that flash is worn only
 -- where the work overflows. Beside so many reads of flash that find the queue it reads no more pages than the work needs.

@@ -1,23 +1,24 @@
 -- What undoing a session's transaction leaves.
-use Rattle.std.specs.Prelude.{◌≡◌, ◌≢◌, ℕ, ◌+◌, false, List}
+use Rattle.std.specs.Prelude.{◌≡◌, ◌≢◌, ℕ, ◌+◌, false, List, Option}
 use Rattle.site.specs.State.{State}
 use Rattle.record_model.specs.State.{Content, Write}
 use Rattle.log_records.specs.Log.{Entry, is_loser}
 use Rattle.log_records.specs.Unfinished.{owed}
 use Rattle.log_laws.specs.Follow.{IsActive}
-use Rattle.image_meaning.specs.Meaning.{blank_master}
+use Rattle.checkpoint.specs.declared.master.Master.{Master}
+use Rattle.image_meaning.specs.Meaning.{master_of}
 use Rattle.engine.specs.declared.store.Store.{Store}
 use Rattle.engine.specs.Holding.{Holds}
 
 -- all other transactions are as they were
-pub record ConcernsOnly (txn : ℕ) (before now : List Entry) : Type 0 where
-  pub under_way : (t last : ℕ) (writes : List Write) → t ≢ txn → IsActive blank_master before t last writes → IsActive blank_master now t last writes
+pub record ConcernsOnly (newest : Option Master) (txn : ℕ) (before now : List Entry) : Type 0 where
+  pub under_way : (t last : ℕ) (writes : List Write) → t ≢ txn → IsActive (master_of newest) before t last writes → IsActive (master_of newest) now t last writes
   pub losers : (t : ℕ) → t ≢ txn → is_loser now t ≡ is_loser before t
 
 -- A transaction of so many writes is undone, and its End is logged. It owes nothing any more.
-pub record RollsBack (store : Store) (site : State) (records : List Entry) (table : List Content) (commits : ℕ) (txn writes : ℕ) : Type 0 where
+pub record RollsBack (store : Store) (site : State) (newest : Option Master) (records : List Entry) (table : List Content) (commits : ℕ) (txn writes : ℕ) : Type 0 where
   pub log : List Entry
-  pub concerns : ConcernsOnly txn records log
-  pub holds : Holds store site log table commits
+  pub concerns : ConcernsOnly newest txn records log
+  pub holds : Holds store site newest log table commits
   pub closed : is_loser log txn ≡ false
   pub owes : owed log + (writes + 1) ≡ owed records

@@ -1,5 +1,5 @@
 // The database.
-ghost use Rattle.std.specs.Prelude.{map, reverse, ◌≡◌, ◌≢◌, ◌⊎◌, ◌+◌, ◌*◌, ◌/◌, ◌^◌, ◌<◌, ◌≤◌, ◌↔◌, ℕ, List, [], ◌∷◌, ◌++◌, length, true, false, Some, None, option_map, IsTrue, IsSome, IfSome, IfNone, IfOk, IfErr, OnOk, OnErr, IsErrOf};
+ghost use Rattle.std.specs.Prelude.{Option, map, reverse, ◌≡◌, ◌≢◌, ◌⊎◌, ◌+◌, ◌*◌, ◌/◌, ◌^◌, ◌<◌, ◌≤◌, ◌↔◌, nat_le, if◌then◌else◌, ℕ, List, [], ◌∷◌, ◌++◌, length, true, false, Some, None, option_map, IsTrue, IsSome, IfSome, IfNone, IfOk, IfErr, OnOk, OnErr, IsErrOf};
 ghost use Rattle.std.specs.List.{range_with_len};
 ghost use Rattle.site.specs.declared.outside.Dev.{Dev};
 ghost use Rattle.site.specs.declared.outside.Stop.{Stop};
@@ -13,7 +13,7 @@ ghost use Rattle.record_model.specs.declared.words.Why.{Why};
 ghost use Rattle.record_model.specs.declared.words.Reply.{Reply};
 ghost use Rattle.record_model.specs.State.{State, Content, table_with, seen, content_at, writes_of, session_at};
 ghost use Rattle.byte_fields.specs.declared.TheConstants.{VALUE_MAX};
-ghost use Rattle.record_model.specs.Step.{found, step, effect, making, committed};
+ghost use Rattle.record_model.specs.Step.{found, step, effect, making, committed, makes_checkpoint};
 ghost use Rattle.log_records.specs.Spelling.{IsShort};
 ghost use Rattle.log_records.specs.declared.log_record.LogRecord.{LogRecord};
 ghost use Rattle.log_records.specs.Log.{Entry};
@@ -24,20 +24,21 @@ ghost use Rattle.log_store.specs.Held.{end_of};
 ghost use Rattle.flash_cache.specs.Held.{IsWorn};
 ghost use Rattle.page_store.specs.Stopping.{MayStop};
 ghost use Rattle.image_meaning.specs.Moments as moments;
-ghost use Rattle.redo_undo.specs.Holding.{blocks_to};
+ghost use Rattle.redo_undo.specs.Holding.{blocks_to, IsLogWorn};
 ghost use Rattle.redo_undo.specs.Committing.{MayCommit};
 ghost use Rattle.engine.specs.Going.{MayWork, MayGoOn, sizes_of};
 ghost use Rattle.engine.specs.Image.{IsSound, Stands, Opens};
 ghost use Rattle.engine.specs.Holding.{Holds, IsInFront, shown_in};
 ghost use Rattle.engine.specs.OneWrite.{HasOneWrite};
-ghost use Rattle.engine.specs.Fits.{Fits, run, with_write, with_read, with_reads, Refuses, Accepts, IsFull};
+ghost use Rattle.engine.specs.Fits.{Fits, run, run_now, checkpointed_if, with_write, with_read, with_reads, Refuses, Accepts, IsFull};
 ghost use Rattle.engine.specs.Leaves.{LeavesTable, LeavesEither, HasNoSizes, IsRefused};
 ghost use Rattle.engine.specs.Paging.{AsksFrom, cache_on, restart_works};
 ghost use Rattle.record_model.specs.Touches.{command_touches, read_touch, write_touch};
-ghost use Rattle.redo_undo.specs.Works.{Asks, Overflows, one_touch, one_change};
+ghost use Rattle.redo_undo.specs.Works.{Asks, Overflows, one_touch, one_change, checkpoint_works};
 ghost use Rattle.page_store.specs.Caching.{cache_of, rules};
 ghost use Rattle.second_chance.specs.Machine.{rules_of};
-ghost use Rattle.image_meaning.specs.Meaning.{picture};
+ghost use Rattle.checkpoint.specs.declared.master.Master.{Master};
+ghost use Rattle.image_meaning.specs.Meaning.{picture_under};
 ghost use Rattle.engine.specs.Listings.{listing_of};
 ghost use Rattle.engine.specs.Scans.{first_busy, items_seen};
 
@@ -50,7 +51,7 @@ use lock_table::LockTable;
 use log_laws::owed_none;
 use page_store::touch_then_change;
 use record_model::{Items, Octets, Reply, Stat, Why};
-use redo_undo::{changes_cost_a_touch, hold_together, works_add_up};
+use redo_undo::{changes_cost_a_touch, hold_together, sessions_outlive, works_add_up};
 use site::{Site, Stop};
 use std::alloc::Global;
 use txn_table::{Active, TxnTable};
@@ -72,8 +73,8 @@ pub struct Engine {
 }
 
 impl Engine {
-    /// Restart: reads the log, redoes what its pages lack, undoes what it leaves unfinished, and answers the database. It keeps so many
-    /// pages in memory, 1 to 4,096.
+    /// Restart: reads the log, redoes what its pages lack, undoes what it leaves unfinished, makes a checkpoint, and answers the database.
+    /// It keeps so many pages in memory, 1 to 4,096.
     pub fn start<S: Site>(alloc: Global, site: &mut S, pool: u32) -> Result<Engine, Stop>
         requires pool { (1 ≤ pool) × (pool ≤ 4096) }
 
@@ -96,9 +97,9 @@ impl Engine {
             → IfErr result (λ stop. ((d : Dev) → stop ≢ Stop.Device d) → IsQuiet (S.state site.new)) }
 
         ensures asks { IsTrue (S.state site.old).honest
-            → (g : Geometry) (blocks : List (List LogRecord)) → IsSound g (S.state site.old).image blocks
+            → (g : Geometry) (newest : Option Master) (blocks : List (List LogRecord)) → IsSound newest g (S.state site.old).image blocks
             → AsksFrom result (λ engine. engine.store.pages) (rules_of pool g.groups)
-            (restart_works (picture g (S.state site.old).image blocks)) (cache_on g (S.state site.old).image)
+            (restart_works (picture_under newest g (S.state site.old).image blocks)) (cache_on g (S.state site.old).image)
             (2 * g.groups) (S.state site.old) (S.state site.new) }
 
         // Of every site.
@@ -109,10 +110,12 @@ impl Engine {
         // When each answer comes.
         ensures device { (d : Dev) → IsErrOf result (Stop.Device d)
             → FaultRose d (S.state site.old) (S.state site.new) }
-        ensures worn_log { IsErrOf result (Stop.Worn Dev.Log) → ⊥ }
+        ensures worn_log { IsTrue (S.state site.old).honest → (g : Geometry) (table : List Content) (commits : ℕ)
+            → Stands g (S.state site.old).image table commits
+            → IsErrOf result (Stop.Worn Dev.Log) → IsLogWorn g (S.state site.new).image }
         ensures worn { IsTrue (S.state site.old).honest → (g : Geometry) (table : List Content) (commits : ℕ)
             → Stands g (S.state site.old).image table commits
-            → (d : Dev) → IsErrOf result (Stop.Worn d) → (d ≡ Dev.Flash) × IsWorn g (S.state site.new).image }
+            → IsErrOf result (Stop.Worn Dev.Flash) → IsWorn g (S.state site.new).image }
         ensures foreign { IsErrOf result Stop.Foreign → IsTrue (S.state site.old).honest
             → (g : Geometry) (table : List Content) (commits : ℕ)
             → Stands g (S.state site.old).image table commits → ⊥ }
@@ -201,6 +204,182 @@ impl Engine {
         number / SLOTS >= self.store.log.geometry().pages
     }
 
+    // Whether so many records count that a checkpoint is due.
+    fn is_due(&self) -> bool
+        ensures { result ≡ nat_le (self.now.cap / 2) self.now.store.made }
+    {
+        self.store.made >= self.cap / 2
+    }
+
+    // Whether a session's begin makes a checkpoint first: it may begin, but for the log's room, and a checkpoint is due.
+    fn wants_checkpoint_to_begin(&self, session: u32) -> bool
+        ensures { (s : State) (site : Site) → Fits self.now site s → result ≡ makes_checkpoint true s (Command.Begin session) }
+    {
+        if session >= SESSIONS {
+            return false;
+        }
+        if self.active.find(session).is_some() {
+            return false;
+        }
+        self.is_due()
+    }
+
+    /// Whether a set makes a checkpoint first: it isn't refused, but for the log's room, and a checkpoint is due.
+    pub fn wants_checkpoint_to_set(&self, number: u32, value: &Octets) -> bool
+        requires going { (site : Site) × MayGoOn self.now site }
+        ensures { (s : State) (site : Site) → Fits self.now site s → result ≡ makes_checkpoint true s (Command.Set number value.now) }
+    {
+        if self.lacks(number) {
+            return false;
+        }
+        if is_long(value) {
+            return false;
+        }
+        if self.write_busy(None, number).is_some() {
+            return false;
+        }
+        self.is_due()
+    }
+
+    // Makes a checkpoint: the active sessions' transactions are named, and the records that none of them needs count no more.
+    fn carry_out_checkpoint<S: Site>(&mut self, site: &mut S) -> Result<(), Stop>
+        requires going { MayGoOn self.old (S.state site.old) }
+
+        ensures after { (s : State) → Fits self.old (S.state site.old) s
+            → OnOk result (Fits self.new (S.state site.new) (checkpointed_if true s)) }
+        ensures any_moment { (s : State) → Fits self.old (S.state site.old) s
+            → IsQuiet (S.state site.old)
+            → LeavesOnly (S.state site.old) (S.state site.new)
+            (LeavesTable (sizes_of self.old.store) s.table s.commits (S.state site.old).told) }
+        ensures left { IsTrue (S.state site.old).honest
+            → (S.state site.new).left ≡ (S.state site.old).left }
+        ensures stays_quiet { IsTrue (S.state site.old).honest → IsQuiet (S.state site.old)
+            → OnOk result (IsQuiet (S.state site.new)) }
+        ensures quiet { (s : State) → Fits self.old (S.state site.old) s
+            → IsQuiet (S.state site.old)
+            → IfErr result (λ stop. ((d : Dev) → stop ≢ Stop.Device d) → IsQuiet (S.state site.new)) }
+
+        ensures going { OnOk result (MayGoOn self.new (S.state site.new)) }
+        ensures asks { Asks result checkpoint_works self.old.store.pages self.new.store.pages
+            (S.state site.old) (S.state site.new) }
+        ensures sizes { sizes_of self.new.store ≡ sizes_of self.old.store }
+        ensures goes { Goes (S.state site.old) (S.state site.new) }
+        ensures device { (d : Dev) → IsErrOf result (Stop.Device d)
+            → FaultRose d (S.state site.old) (S.state site.new) }
+        ensures worn_log { (s : State) → Fits self.old (S.state site.old) s → IsErrOf result (Stop.Worn Dev.Log)
+            → IsLogWorn (sizes_of self.old.store) (S.state site.new).image }
+        ensures worn { (s : State) → Fits self.old (S.state site.old) s → IsErrOf result (Stop.Worn Dev.Flash)
+            → IsWorn (sizes_of self.old.store) (S.state site.new).image }
+        ensures foreign { IfErr result (λ stop. stop ≢ Stop.Foreign) }
+        ensures stops { IfErr result (λ stop. MayStop stop) }
+    {
+        sessions_outlive();
+        let first = self.active.oldest_born().unwrap_or(self.store.made);
+        let named = sessions::named(&self.active);
+        match self.store.checkpoint(site, named, self.commits, first) {
+            Ok(()) => {
+                sessions::count_from(&mut self.active, first);
+                Ok(())
+            }
+            Err(stop) => Err(stop),
+        }
+    }
+
+    // Makes a checkpoint where one is wanted.
+    fn checkpoint_if<S: Site>(&mut self, site: &mut S, wanted: bool) -> Result<(), Stop>
+        requires going { MayGoOn self.old (S.state site.old) }
+
+        ensures after { (s : State) → Fits self.old (S.state site.old) s
+            → OnOk result (Fits self.new (S.state site.new) (checkpointed_if wanted s)) }
+        ensures any_moment { (s : State) → Fits self.old (S.state site.old) s
+            → IsQuiet (S.state site.old)
+            → LeavesOnly (S.state site.old) (S.state site.new)
+            (LeavesTable (sizes_of self.old.store) s.table s.commits (S.state site.old).told) }
+        ensures left { IsTrue (S.state site.old).honest
+            → (S.state site.new).left ≡ (S.state site.old).left }
+        ensures stays_quiet { IsTrue (S.state site.old).honest → IsQuiet (S.state site.old)
+            → OnOk result (IsQuiet (S.state site.new)) }
+        ensures quiet { (s : State) → Fits self.old (S.state site.old) s
+            → IsQuiet (S.state site.old)
+            → IfErr result (λ stop. ((d : Dev) → stop ≢ Stop.Device d) → IsQuiet (S.state site.new)) }
+
+        ensures going { OnOk result (MayGoOn self.new (S.state site.new)) }
+        ensures ended { OnErr result (self.new.ended ≡ true) }
+        ensures asks { Asks result (if wanted then checkpoint_works else []) self.old.store.pages self.new.store.pages
+            (S.state site.old) (S.state site.new) }
+        ensures sizes { sizes_of self.new.store ≡ sizes_of self.old.store }
+        ensures goes { Goes (S.state site.old) (S.state site.new) }
+        ensures device { (d : Dev) → IsErrOf result (Stop.Device d)
+            → FaultRose d (S.state site.old) (S.state site.new) }
+        ensures worn_log { (s : State) → Fits self.old (S.state site.old) s → IsErrOf result (Stop.Worn Dev.Log)
+            → IsLogWorn (sizes_of self.old.store) (S.state site.new).image }
+        ensures worn { (s : State) → Fits self.old (S.state site.old) s → IsErrOf result (Stop.Worn Dev.Flash)
+            → IsWorn (sizes_of self.old.store) (S.state site.new).image }
+        ensures foreign { IfErr result (λ stop. stop ≢ Stop.Foreign) }
+        ensures stops { IfErr result (λ stop. MayStop stop) }
+    {
+        hold_together();
+        if !wanted {
+            return Ok(());
+        }
+        match self.carry_out_checkpoint(site) {
+            Ok(()) => Ok(()),
+            Err(stop) => {
+                self.ended = true;
+                Err(stop)
+            }
+        }
+    }
+
+    /// A checkpoint: what is unsealed in the log is sealed, all changed pages are flushed to flash and none to disk, and a master is saved
+    /// that names the active sessions' transactions. Then the log may write over the blocks that none of them needs.
+    pub fn checkpoint<S: Site>(&mut self, site: &mut S) -> Result<Reply, Stop>
+        requires going { MayGoOn self.old (S.state site.old) }
+
+        // Of an honest site that the database fits.
+        ensures reply { (s : State) → Fits self.old (S.state site.old) s
+            → IfOk result (λ reply. reply ≡ (run s Command.Checkpoint).reply) }
+        ensures after { (s : State) → Fits self.old (S.state site.old) s
+            → OnOk result (Fits self.new (S.state site.new) (run s Command.Checkpoint).after) }
+        ensures any_moment { (s : State) → Fits self.old (S.state site.old) s
+            → IsQuiet (S.state site.old)
+            → LeavesOnly (S.state site.old) (S.state site.new)
+            (LeavesTable (sizes_of self.old.store) s.table s.commits (S.state site.old).told) }
+        ensures left { IsTrue (S.state site.old).honest
+            → (S.state site.new).left ≡ (S.state site.old).left }
+        ensures stays_quiet { IsTrue (S.state site.old).honest → IsQuiet (S.state site.old)
+            → OnOk result (IsQuiet (S.state site.new)) }
+        ensures quiet { (s : State) → Fits self.old (S.state site.old) s
+            → IsQuiet (S.state site.old)
+            → IfErr result (λ stop. ((d : Dev) → stop ≢ Stop.Device d) → IsQuiet (S.state site.new)) }
+        ensures asks { (s : State) → Fits self.old (S.state site.old) s
+            → Asks result (command_touches true s Command.Checkpoint) self.old.store.pages self.new.store.pages
+            (S.state site.old) (S.state site.new) }
+
+        // Of every site.
+        ensures going { OnOk result (MayGoOn self.new (S.state site.new)) }
+        ensures ended { OnErr result (self.new.ended ≡ true) }
+        ensures sizes { sizes_of self.new.store ≡ sizes_of self.old.store }
+        ensures goes { Goes (S.state site.old) (S.state site.new) }
+
+        // When each answer comes.
+        ensures device { (d : Dev) → IsErrOf result (Stop.Device d)
+            → FaultRose d (S.state site.old) (S.state site.new) }
+        ensures worn_log { (s : State) → Fits self.old (S.state site.old) s → IsErrOf result (Stop.Worn Dev.Log)
+            → IsLogWorn (sizes_of self.old.store) (S.state site.new).image }
+        ensures worn_flash { IsErrOf result (Stop.Worn Dev.Flash)
+            → Overflows (rules self.old.store.pages) checkpoint_works (cache_of self.old.store.pages) }
+        ensures worn { (s : State) → Fits self.old (S.state site.old) s → IsErrOf result (Stop.Worn Dev.Flash)
+            → IsWorn (sizes_of self.old.store) (S.state site.new).image }
+        ensures foreign { IfErr result (λ stop. stop ≢ Stop.Foreign) }
+        ensures stops { IfErr result (λ stop. MayStop stop) }
+    {
+        match self.checkpoint_if(site, true) {
+            Ok(()) => Ok(Reply::Checked),
+            Err(stop) => Err(stop),
+        }
+    }
+
     // Why a session can't begin, if it can't.
     fn begin_refusal(&self, session: u32) -> Option<Reply>
         requires bounded { self.now.store.made + owed self.now.active ≤ 2 ^ 40 }
@@ -222,15 +401,15 @@ impl Engine {
         None
     }
 
-    /// A session begins.
-    pub fn begin<S: Site>(&mut self, site: &mut S, session: u32) -> Result<Reply, Stop>
+    // A session begins, where no checkpoint comes first.
+    fn begin_now<S: Site>(&mut self, site: &mut S, session: u32) -> Result<Reply, Stop>
         requires going { MayGoOn self.old (S.state site.old) }
 
         // Of an honest site that the database fits.
         ensures reply { (s : State) → Fits self.old (S.state site.old) s
-            → IfOk result (λ reply. reply ≡ (run s (Command.Begin session)).reply) }
+            → IfOk result (λ reply. reply ≡ (run_now s (Command.Begin session)).reply) }
         ensures after { (s : State) → Fits self.old (S.state site.old) s
-            → OnOk result (Fits self.new (S.state site.new) (run s (Command.Begin session)).after) }
+            → OnOk result (Fits self.new (S.state site.new) (run_now s (Command.Begin session)).after) }
         ensures any_moment { (s : State) → Fits self.old (S.state site.old) s
             → IsQuiet (S.state site.old)
             → LeavesOnly (S.state site.old) (S.state site.new)
@@ -255,7 +434,9 @@ impl Engine {
         // When each answer comes.
         ensures device { (d : Dev) → IsErrOf result (Stop.Device d)
             → FaultRose d (S.state site.old) (S.state site.new) }
-        ensures stops { IfErr result (λ stop. stop ≡ Stop.Device Dev.Log) }
+        ensures worn_log { (s : State) → Fits self.old (S.state site.old) s → IsErrOf result (Stop.Worn Dev.Log)
+            → IsLogWorn (sizes_of self.old.store) (S.state site.new).image }
+        ensures stops { IfErr result (λ stop. (stop ≡ Stop.Device Dev.Log) ⊎ (stop ≡ Stop.Worn Dev.Log)) }
     {
         hold_together();
         if let Some(refused) = self.begin_refusal(session) {
@@ -267,6 +448,56 @@ impl Engine {
                 self.ended = true;
                 Err(stop)
             }
+        }
+    }
+
+    /// A session begins. Where a checkpoint is due it comes first.
+    pub fn begin<S: Site>(&mut self, site: &mut S, session: u32) -> Result<Reply, Stop>
+        requires going { MayGoOn self.old (S.state site.old) }
+
+        // Of an honest site that the database fits.
+        ensures reply { (s : State) → Fits self.old (S.state site.old) s
+            → IfOk result (λ reply. reply ≡ (run s (Command.Begin session)).reply) }
+        ensures after { (s : State) → Fits self.old (S.state site.old) s
+            → OnOk result (Fits self.new (S.state site.new) (run s (Command.Begin session)).after) }
+        ensures any_moment { (s : State) → Fits self.old (S.state site.old) s
+            → IsQuiet (S.state site.old)
+            → LeavesOnly (S.state site.old) (S.state site.new)
+            (LeavesTable (sizes_of self.old.store) s.table s.commits (S.state site.old).told) }
+        ensures left { IsTrue (S.state site.old).honest
+            → (S.state site.new).left ≡ (S.state site.old).left }
+        ensures stays_quiet { IsTrue (S.state site.old).honest → IsQuiet (S.state site.old)
+            → OnOk result (IsQuiet (S.state site.new)) }
+        ensures quiet { (s : State) → Fits self.old (S.state site.old) s
+            → IsQuiet (S.state site.old)
+            → IfErr result (λ stop. ((d : Dev) → stop ≢ Stop.Device d) → IsQuiet (S.state site.new)) }
+        ensures asks { (s : State) → Fits self.old (S.state site.old) s
+            → Asks result (command_touches true s (Command.Begin session)) self.old.store.pages self.new.store.pages
+            (S.state site.old) (S.state site.new) }
+
+        // Of every site.
+        ensures going { OnOk result (MayGoOn self.new (S.state site.new)) }
+        ensures ended { OnErr result (self.new.ended ≡ true) }
+        ensures sizes { sizes_of self.new.store ≡ sizes_of self.old.store }
+        ensures goes { Goes (S.state site.old) (S.state site.new) }
+
+        // When each answer comes.
+        ensures device { (d : Dev) → IsErrOf result (Stop.Device d)
+            → FaultRose d (S.state site.old) (S.state site.new) }
+        ensures worn_log { (s : State) → Fits self.old (S.state site.old) s → IsErrOf result (Stop.Worn Dev.Log)
+            → IsLogWorn (sizes_of self.old.store) (S.state site.new).image }
+        ensures worn_flash { IsErrOf result (Stop.Worn Dev.Flash)
+            → Overflows (rules self.old.store.pages) checkpoint_works (cache_of self.old.store.pages) }
+        ensures worn { (s : State) → Fits self.old (S.state site.old) s → IsErrOf result (Stop.Worn Dev.Flash)
+            → IsWorn (sizes_of self.old.store) (S.state site.new).image }
+        ensures foreign { IfErr result (λ stop. stop ≢ Stop.Foreign) }
+        ensures stops { IfErr result (λ stop. MayStop stop) }
+    {
+        works_add_up();
+        let wanted = self.wants_checkpoint_to_begin(session);
+        match self.checkpoint_if(site, wanted) {
+            Ok(()) => self.begin_now(site, session),
+            Err(stop) => Err(stop),
         }
     }
 
@@ -299,7 +530,9 @@ impl Engine {
         ensures goes { Goes (S.state site.old) (S.state site.new) }
         ensures device { (d : Dev) → IsErrOf result (Stop.Device d)
             → FaultRose d (S.state site.old) (S.state site.new) }
-        ensures stops { IfErr result (λ stop. stop ≡ Stop.Device Dev.Log) }
+        ensures worn_log { (s : State) → Fits self.old (S.state site.old) s → IsErrOf result (Stop.Worn Dev.Log)
+            → IsLogWorn (sizes_of self.old.store) (S.state site.new).image }
+        ensures stops { IfErr result (λ stop. (stop ≡ Stop.Device Dev.Log) ⊎ (stop ≡ Stop.Worn Dev.Log)) }
     {
         let born = self.store.made;
         let begin = match self.store.begin(site) {
@@ -363,7 +596,7 @@ impl Engine {
             → IsQuiet (S.state site.old)
             → IfErr result (λ stop. ((d : Dev) → stop ≢ Stop.Device d) → IsQuiet (S.state site.new)) }
         ensures asks { (s : State) → Fits self.old (S.state site.old) s
-            → Asks result (command_touches false s (Command.Read session number)) self.old.store.pages self.new.store.pages
+            → Asks result (command_touches true s (Command.Read session number)) self.old.store.pages self.new.store.pages
             (S.state site.old) (S.state site.new) }
 
         // Of every site.
@@ -375,7 +608,8 @@ impl Engine {
         // When each answer comes.
         ensures device { (d : Dev) → IsErrOf result (Stop.Device d)
             → FaultRose d (S.state site.old) (S.state site.new) }
-        ensures worn_log { IsErrOf result (Stop.Worn Dev.Log) → ⊥ }
+        ensures worn_log { (s : State) → Fits self.old (S.state site.old) s → IsErrOf result (Stop.Worn Dev.Log)
+            → IsLogWorn (sizes_of self.old.store) (S.state site.new).image }
         ensures worn_flash { IsErrOf result (Stop.Worn Dev.Flash)
             → Overflows (rules self.old.store.pages) (one_touch (number / 32)) (cache_of self.old.store.pages) }
         ensures worn { (s : State) → Fits self.old (S.state site.old) s → IsErrOf result (Stop.Worn Dev.Flash)
@@ -431,11 +665,13 @@ impl Engine {
             (S.state site.old) (S.state site.new) }
         ensures locks { OnOk result (AddsLock self.old.locks self.new.locks session number false) }
         ensures active { self.new.active ≡ self.old.active }
+        ensures kept { self.new.store.log.kept ≡ self.old.store.log.kept }
         ensures sizes { sizes_of self.new.store ≡ sizes_of self.old.store }
         ensures goes { Goes (S.state site.old) (S.state site.new) }
         ensures device { (d : Dev) → IsErrOf result (Stop.Device d)
             → FaultRose d (S.state site.old) (S.state site.new) }
-        ensures worn_log { IsErrOf result (Stop.Worn Dev.Log) → ⊥ }
+        ensures worn_log { (s : State) → Fits self.old (S.state site.old) s → IsErrOf result (Stop.Worn Dev.Log)
+            → IsLogWorn (sizes_of self.old.store) (S.state site.new).image }
         ensures worn { (s : State) → Fits self.old (S.state site.old) s → IsErrOf result (Stop.Worn Dev.Flash)
             → IsWorn (sizes_of self.old.store) (S.state site.new).image }
         ensures foreign { IsErrOf result Stop.Foreign → (s : State)
@@ -506,7 +742,7 @@ impl Engine {
             → IsQuiet (S.state site.old)
             → IfErr result (λ stop. ((d : Dev) → stop ≢ Stop.Device d) → IsQuiet (S.state site.new)) }
         ensures asks { (s : State) → Fits self.old (S.state site.old) s
-            → Asks result (command_touches false s (Command.Scan session number count)) self.old.store.pages self.new.store.pages
+            → Asks result (command_touches true s (Command.Scan session number count)) self.old.store.pages self.new.store.pages
             (S.state site.old) (S.state site.new) }
 
         // Of every site.
@@ -518,7 +754,8 @@ impl Engine {
         // When each answer comes.
         ensures device { (d : Dev) → IsErrOf result (Stop.Device d)
             → FaultRose d (S.state site.old) (S.state site.new) }
-        ensures worn_log { IsErrOf result (Stop.Worn Dev.Log) → ⊥ }
+        ensures worn_log { (s : State) → Fits self.old (S.state site.old) s → IsErrOf result (Stop.Worn Dev.Log)
+            → IsLogWorn (sizes_of self.old.store) (S.state site.new).image }
         ensures worn_flash { IsErrOf result (Stop.Worn Dev.Flash)
             → Overflows (rules self.old.store.pages) (map read_touch (range_with_len number count)) (cache_of self.old.store.pages) }
         ensures worn { (s : State) → Fits self.old (S.state site.old) s → IsErrOf result (Stop.Worn Dev.Flash)
@@ -578,7 +815,8 @@ impl Engine {
         ensures goes { Goes (S.state site.old) (S.state site.new) }
         ensures device { (d : Dev) → IsErrOf result (Stop.Device d)
             → FaultRose d (S.state site.old) (S.state site.new) }
-        ensures worn_log { IsErrOf result (Stop.Worn Dev.Log) → ⊥ }
+        ensures worn_log { (s : State) → Fits self.old (S.state site.old) s → IsErrOf result (Stop.Worn Dev.Log)
+            → IsLogWorn (sizes_of self.old.store) (S.state site.new).image }
         ensures worn { (s : State) → Fits self.old (S.state site.old) s → IsErrOf result (Stop.Worn Dev.Flash)
             → IsWorn (sizes_of self.old.store) (S.state site.new).image }
         ensures foreign { IsErrOf result Stop.Foreign → (s : State)
@@ -638,7 +876,8 @@ impl Engine {
         ensures goes { Goes (S.state site.old) (S.state site.new) }
         ensures device { (d : Dev) → IsErrOf result (Stop.Device d)
             → FaultRose d (S.state site.old) (S.state site.new) }
-        ensures worn_log { IsErrOf result (Stop.Worn Dev.Log) → ⊥ }
+        ensures worn_log { (s : State) → Fits self.old (S.state site.old) s → IsErrOf result (Stop.Worn Dev.Log)
+            → IsLogWorn (sizes_of self.old.store) (S.state site.new).image }
         ensures worn { (s : State) → Fits self.old (S.state site.old) s → IsErrOf result (Stop.Worn Dev.Flash)
             → IsWorn (sizes_of self.old.store) (S.state site.new).image }
         ensures foreign { IsErrOf result Stop.Foreign → (s : State)
@@ -735,7 +974,7 @@ impl Engine {
             → IsQuiet (S.state site.old)
             → IfErr result (λ stop. ((d : Dev) → stop ≢ Stop.Device d) → IsQuiet (S.state site.new)) }
         ensures asks { (s : State) → Fits self.old (S.state site.old) s
-            → Asks result (command_touches false s (Command.Write session number value.now)) self.old.store.pages self.new.store.pages
+            → Asks result (command_touches true s (Command.Write session number value.now)) self.old.store.pages self.new.store.pages
             (S.state site.old) (S.state site.new) }
 
         // Of every site.
@@ -747,7 +986,8 @@ impl Engine {
         // When each answer comes.
         ensures device { (d : Dev) → IsErrOf result (Stop.Device d)
             → FaultRose d (S.state site.old) (S.state site.new) }
-        ensures worn_log { IsErrOf result (Stop.Worn Dev.Log) → ⊥ }
+        ensures worn_log { (s : State) → Fits self.old (S.state site.old) s → IsErrOf result (Stop.Worn Dev.Log)
+            → IsLogWorn (sizes_of self.old.store) (S.state site.new).image }
         ensures worn_flash { IsErrOf result (Stop.Worn Dev.Flash)
             → Overflows (rules self.old.store.pages) (one_change (number / 32)) (cache_of self.old.store.pages) }
         ensures worn { (s : State) → Fits self.old (S.state site.old) s → IsErrOf result (Stop.Worn Dev.Flash)
@@ -818,7 +1058,7 @@ impl Engine {
             → IsQuiet (S.state site.old)
             → IfErr result (λ stop. ((d : Dev) → stop ≢ Stop.Device d) → IsQuiet (S.state site.new)) }
         ensures asks { (s : State) → Fits self.old (S.state site.old) s
-            → Asks result (command_touches false s (Command.Erase session number)) self.old.store.pages self.new.store.pages
+            → Asks result (command_touches true s (Command.Erase session number)) self.old.store.pages self.new.store.pages
             (S.state site.old) (S.state site.new) }
 
         // Of every site.
@@ -830,7 +1070,8 @@ impl Engine {
         // When each answer comes.
         ensures device { (d : Dev) → IsErrOf result (Stop.Device d)
             → FaultRose d (S.state site.old) (S.state site.new) }
-        ensures worn_log { IsErrOf result (Stop.Worn Dev.Log) → ⊥ }
+        ensures worn_log { (s : State) → Fits self.old (S.state site.old) s → IsErrOf result (Stop.Worn Dev.Log)
+            → IsLogWorn (sizes_of self.old.store) (S.state site.new).image }
         ensures worn_flash { IsErrOf result (Stop.Worn Dev.Flash)
             → Overflows (rules self.old.store.pages) (one_change (number / 32)) (cache_of self.old.store.pages) }
         ensures worn { (s : State) → Fits self.old (S.state site.old) s → IsErrOf result (Stop.Worn Dev.Flash)
@@ -893,7 +1134,7 @@ impl Engine {
             → IsQuiet (S.state site.old)
             → IfErr result (λ stop. ((d : Dev) → stop ≢ Stop.Device d) → IsQuiet (S.state site.new)) }
         ensures asks { (s : State) → Fits self.old (S.state site.old) s
-            → Asks result (command_touches false s (Command.Get number)) self.old.store.pages self.new.store.pages
+            → Asks result (command_touches true s (Command.Get number)) self.old.store.pages self.new.store.pages
             (S.state site.old) (S.state site.new) }
 
         // Of every site.
@@ -905,7 +1146,8 @@ impl Engine {
         // When each answer comes.
         ensures device { (d : Dev) → IsErrOf result (Stop.Device d)
             → FaultRose d (S.state site.old) (S.state site.new) }
-        ensures worn_log { IsErrOf result (Stop.Worn Dev.Log) → ⊥ }
+        ensures worn_log { (s : State) → Fits self.old (S.state site.old) s → IsErrOf result (Stop.Worn Dev.Log)
+            → IsLogWorn (sizes_of self.old.store) (S.state site.new).image }
         ensures worn_flash { IsErrOf result (Stop.Worn Dev.Flash)
             → Overflows (rules self.old.store.pages) (one_touch (number / 32)) (cache_of self.old.store.pages) }
         ensures worn { (s : State) → Fits self.old (S.state site.old) s → IsErrOf result (Stop.Worn Dev.Flash)
@@ -956,7 +1198,8 @@ impl Engine {
         ensures goes { Goes (S.state site.old) (S.state site.new) }
         ensures device { (d : Dev) → IsErrOf result (Stop.Device d)
             → FaultRose d (S.state site.old) (S.state site.new) }
-        ensures worn_log { IsErrOf result (Stop.Worn Dev.Log) → ⊥ }
+        ensures worn_log { (s : State) → Fits self.old (S.state site.old) s → IsErrOf result (Stop.Worn Dev.Log)
+            → IsLogWorn (sizes_of self.old.store) (S.state site.new).image }
         ensures worn { (s : State) → Fits self.old (S.state site.old) s → IsErrOf result (Stop.Worn Dev.Flash)
             → IsWorn (sizes_of self.old.store) (S.state site.new).image }
         ensures foreign { IsErrOf result Stop.Foreign → (s : State)
@@ -972,29 +1215,29 @@ impl Engine {
     // Commits a transaction.
     fn seal_commit<S: Site>(&mut self, site: &mut S, txn: u64) -> Result<Reply, Stop>
         requires going { MayWork self.old.store (S.state site.old) }
-        requires room { blocks_to self.old.store.log + 1 < (sizes_of self.old.store).blocks }
+        requires room { blocks_to self.old.store.log + 1 < self.old.store.log.kept + (sizes_of self.old.store).blocks }
         requires few { self.old.store.made < 2 ^ 40 }
-        requires commits { self.old.commits ≤ self.old.store.made }
+        requires commits { self.old.commits ≤ end_of self.old.store.log }
 
         // Of an honest site whose log and pages hold these records.
-        ensures holds { (records : List Entry) (table : List Content) (commits : ℕ)
-            → Holds self.old.store (S.state site.old) records table commits
-            → MayCommit records txn (self.old.commits + 1) commits
-            → OnOk result ((lsn : ℕ) × Holds self.new.store (S.state site.new)
+        ensures holds { (newest : Option Master) (records : List Entry) (table : List Content) (commits : ℕ)
+            → Holds self.old.store (S.state site.old) newest records table commits
+            → MayCommit newest records txn (self.old.commits + 1) commits
+            → OnOk result ((lsn : ℕ) × Holds self.new.store (S.state site.new) newest
             (records ++ record { lsn = lsn; rec = LogRecord.Commit txn (self.old.commits + 1) } ∷ [])
             (table_with table (writes_in txn records)) (commits + 1)) }
-        ensures any_moment { (records : List Entry) (table : List Content) (commits : ℕ)
-            → Holds self.old.store (S.state site.old) records table commits
-            → MayCommit records txn (self.old.commits + 1) commits
+        ensures any_moment { (newest : Option Master) (records : List Entry) (table : List Content) (commits : ℕ)
+            → Holds self.old.store (S.state site.old) newest records table commits
+            → MayCommit newest records txn (self.old.commits + 1) commits
             → IsQuiet (S.state site.old)
             → LeavesOnly (S.state site.old) (S.state site.new)
-            (moments.LeavesEither (sizes_of self.old.store) table (table_with table (writes_in txn records)) commits (S.state site.old).told) }
+            (moments.LeavesEitherFor (sizes_of self.old.store) table (table_with table (writes_in txn records)) commits (S.state site.old).told) }
         ensures left { IsTrue (S.state site.old).honest
             → (S.state site.new).left ≡ (S.state site.old).left }
         ensures stays_quiet { IsTrue (S.state site.old).honest → IsQuiet (S.state site.old)
             → OnOk result (IsQuiet (S.state site.new)) }
-        ensures quiet { (records : List Entry) (table : List Content) (commits : ℕ)
-            → Holds self.old.store (S.state site.old) records table commits
+        ensures quiet { (newest : Option Master) (records : List Entry) (table : List Content) (commits : ℕ)
+            → Holds self.old.store (S.state site.old) newest records table commits
             → IsQuiet (S.state site.old)
             → IfErr result (λ stop. ((d : Dev) → stop ≢ Stop.Device d) → IsQuiet (S.state site.new)) }
 
@@ -1005,14 +1248,18 @@ impl Engine {
         ensures going { OnOk result (MayWork self.new.store (S.state site.new)) }
         ensures made { OnOk result (self.new.store.made ≡ self.old.store.made + 1) }
         ensures blocks { OnOk result (blocks_to self.new.store.log ≤ blocks_to self.old.store.log + 1) }
-        ensures rises { OnOk result (end_of self.old.store.log ≤ end_of self.new.store.log) }
+        ensures rises { OnOk result (end_of self.old.store.log < end_of self.new.store.log) }
         ensures asks { Asks result ([]) self.old.store.pages self.new.store.pages
             (S.state site.old) (S.state site.new) }
+        ensures kept { self.new.store.log.kept ≡ self.old.store.log.kept }
         ensures sizes { sizes_of self.new.store ≡ sizes_of self.old.store }
         ensures goes { Goes (S.state site.old) (S.state site.new) }
         ensures device { (d : Dev) → IsErrOf result (Stop.Device d)
             → FaultRose d (S.state site.old) (S.state site.new) }
-        ensures stops { IfErr result (λ stop. stop ≡ Stop.Device Dev.Log) }
+        ensures worn_log { (newest : Option Master) (records : List Entry) (table : List Content) (commits : ℕ)
+            → Holds self.old.store (S.state site.old) newest records table commits
+            → IsErrOf result (Stop.Worn Dev.Log) → IsLogWorn (sizes_of self.old.store) (S.state site.new).image }
+        ensures stops { IfErr result (λ stop. (stop ≡ Stop.Device Dev.Log) ⊎ (stop ≡ Stop.Worn Dev.Log)) }
     {
         let number = self.commits + 1;
         match self.store.commit(site, txn, number) {
@@ -1039,7 +1286,7 @@ impl Engine {
 
         // Of an honest site that the database fits.
         ensures logged { (s : State) (fits : Fits self.old (S.state site.old) s)
-            → IfOk result (λ txn. HasOneWrite self.new.store (S.state site.new)
+            → IfOk result (λ txn. HasOneWrite self.new.store (S.state site.new) fits.newest
             fits.records s.table s.commits txn number after.now) }
         ensures any_moment { (s : State) → Fits self.old (S.state site.old) s
             → IsQuiet (S.state site.old)
@@ -1061,11 +1308,13 @@ impl Engine {
         ensures rises { OnOk result (end_of self.old.store.log ≤ end_of self.new.store.log) }
         ensures asks { Asks result (one_change (number / 32)) self.old.store.pages self.new.store.pages
             (S.state site.old) (S.state site.new) }
+        ensures kept { self.new.store.log.kept ≡ self.old.store.log.kept }
         ensures sizes { sizes_of self.new.store ≡ sizes_of self.old.store }
         ensures goes { Goes (S.state site.old) (S.state site.new) }
         ensures device { (d : Dev) → IsErrOf result (Stop.Device d)
             → FaultRose d (S.state site.old) (S.state site.new) }
-        ensures worn_log { IsErrOf result (Stop.Worn Dev.Log) → ⊥ }
+        ensures worn_log { (s : State) → Fits self.old (S.state site.old) s → IsErrOf result (Stop.Worn Dev.Log)
+            → IsLogWorn (sizes_of self.old.store) (S.state site.new).image }
         ensures worn { (s : State) → Fits self.old (S.state site.old) s → IsErrOf result (Stop.Worn Dev.Flash)
             → IsWorn (sizes_of self.old.store) (S.state site.new).image }
         ensures foreign { IsErrOf result Stop.Foreign → (s : State)
@@ -1125,7 +1374,8 @@ impl Engine {
         ensures goes { Goes (S.state site.old) (S.state site.new) }
         ensures device { (d : Dev) → IsErrOf result (Stop.Device d)
             → FaultRose d (S.state site.old) (S.state site.new) }
-        ensures worn_log { IsErrOf result (Stop.Worn Dev.Log) → ⊥ }
+        ensures worn_log { (s : State) → Fits self.old (S.state site.old) s → IsErrOf result (Stop.Worn Dev.Log)
+            → IsLogWorn (sizes_of self.old.store) (S.state site.new).image }
         ensures worn { (s : State) → Fits self.old (S.state site.old) s → IsErrOf result (Stop.Worn Dev.Flash)
             → IsWorn (sizes_of self.old.store) (S.state site.new).image }
         ensures foreign { IsErrOf result Stop.Foreign → (s : State)
@@ -1170,19 +1420,19 @@ impl Engine {
         None
     }
 
-    /// Sets a record: a transaction of one write, outside sessions.
-    pub fn set<S: Site>(&mut self, site: &mut S, number: u32, value: &Octets) -> Result<Reply, Stop>
+    // Sets a record: a transaction of one write, outside sessions, where no checkpoint comes first.
+    fn set_now<S: Site>(&mut self, site: &mut S, number: u32, value: &Octets) -> Result<Reply, Stop>
         requires going { MayGoOn self.old (S.state site.old) }
 
         // Of an honest site that the database fits.
         ensures reply { (s : State) → Fits self.old (S.state site.old) s
-            → IfOk result (λ reply. reply ≡ (run s (Command.Set number value.now)).reply) }
+            → IfOk result (λ reply. reply ≡ (run_now s (Command.Set number value.now)).reply) }
         ensures after { (s : State) → Fits self.old (S.state site.old) s
-            → OnOk result (Fits self.new (S.state site.new) (run s (Command.Set number value.now)).after) }
+            → OnOk result (Fits self.new (S.state site.new) (run_now s (Command.Set number value.now)).after) }
         ensures any_moment { (s : State) → Fits self.old (S.state site.old) s
             → IsQuiet (S.state site.old)
             → LeavesOnly (S.state site.old) (S.state site.new)
-            (LeavesEither (sizes_of self.old.store) s (run s (Command.Set number value.now)).after (S.state site.old).told) }
+            (LeavesEither (sizes_of self.old.store) s (run_now s (Command.Set number value.now)).after (S.state site.old).told) }
         ensures left { IsTrue (S.state site.old).honest
             → (S.state site.new).left ≡ (S.state site.old).left }
         ensures stays_quiet { IsTrue (S.state site.old).honest → IsQuiet (S.state site.old)
@@ -1203,7 +1453,8 @@ impl Engine {
         // When each answer comes.
         ensures device { (d : Dev) → IsErrOf result (Stop.Device d)
             → FaultRose d (S.state site.old) (S.state site.new) }
-        ensures worn_log { IsErrOf result (Stop.Worn Dev.Log) → ⊥ }
+        ensures worn_log { (s : State) → Fits self.old (S.state site.old) s → IsErrOf result (Stop.Worn Dev.Log)
+            → IsLogWorn (sizes_of self.old.store) (S.state site.new).image }
         ensures worn_flash { IsErrOf result (Stop.Worn Dev.Flash)
             → Overflows (rules self.old.store.pages) (one_change (number / 32)) (cache_of self.old.store.pages) }
         ensures worn { (s : State) → Fits self.old (S.state site.old) s → IsErrOf result (Stop.Worn Dev.Flash)
@@ -1223,6 +1474,58 @@ impl Engine {
                 self.ended = true;
                 Err(stop)
             }
+        }
+    }
+
+    /// Sets a record: a transaction of one write, outside sessions. Where a checkpoint is due it comes first.
+    pub fn set<S: Site>(&mut self, site: &mut S, number: u32, value: &Octets) -> Result<Reply, Stop>
+        requires going { MayGoOn self.old (S.state site.old) }
+
+        // Of an honest site that the database fits.
+        ensures reply { (s : State) → Fits self.old (S.state site.old) s
+            → IfOk result (λ reply. reply ≡ (run s (Command.Set number value.now)).reply) }
+        ensures after { (s : State) → Fits self.old (S.state site.old) s
+            → OnOk result (Fits self.new (S.state site.new) (run s (Command.Set number value.now)).after) }
+        ensures any_moment { (s : State) → Fits self.old (S.state site.old) s
+            → IsQuiet (S.state site.old)
+            → LeavesOnly (S.state site.old) (S.state site.new)
+            (LeavesEither (sizes_of self.old.store) s (run s (Command.Set number value.now)).after (S.state site.old).told) }
+        ensures left { IsTrue (S.state site.old).honest
+            → (S.state site.new).left ≡ (S.state site.old).left }
+        ensures stays_quiet { IsTrue (S.state site.old).honest → IsQuiet (S.state site.old)
+            → OnOk result (IsQuiet (S.state site.new)) }
+        ensures quiet { (s : State) → Fits self.old (S.state site.old) s
+            → IsQuiet (S.state site.old)
+            → IfErr result (λ stop. ((d : Dev) → stop ≢ Stop.Device d) → IsQuiet (S.state site.new)) }
+        ensures asks { (s : State) → Fits self.old (S.state site.old) s
+            → Asks result (command_touches true s (Command.Set number value.now)) self.old.store.pages self.new.store.pages
+            (S.state site.old) (S.state site.new) }
+
+        // Of every site.
+        ensures going { OnOk result (MayGoOn self.new (S.state site.new)) }
+        ensures ended { OnErr result (self.new.ended ≡ true) }
+        ensures sizes { sizes_of self.new.store ≡ sizes_of self.old.store }
+        ensures goes { Goes (S.state site.old) (S.state site.new) }
+
+        // When each answer comes.
+        ensures device { (d : Dev) → IsErrOf result (Stop.Device d)
+            → FaultRose d (S.state site.old) (S.state site.new) }
+        ensures worn_log { (s : State) → Fits self.old (S.state site.old) s → IsErrOf result (Stop.Worn Dev.Log)
+            → IsLogWorn (sizes_of self.old.store) (S.state site.new).image }
+        ensures worn_flash { IsErrOf result (Stop.Worn Dev.Flash)
+            → Overflows (rules self.old.store.pages) (one_change (number / 32)) (cache_of self.old.store.pages)
+            ⊎ Overflows (rules self.old.store.pages) (checkpoint_works ++ one_change (number / 32)) (cache_of self.old.store.pages) }
+        ensures worn { (s : State) → Fits self.old (S.state site.old) s → IsErrOf result (Stop.Worn Dev.Flash)
+            → IsWorn (sizes_of self.old.store) (S.state site.new).image }
+        ensures foreign { IsErrOf result Stop.Foreign → (s : State)
+            → Fits self.old (S.state site.old) s → ⊥ }
+        ensures stops { IfErr result (λ stop. MayStop stop) }
+    {
+        works_add_up();
+        let wanted = self.wants_checkpoint_to_set(number, value);
+        match self.checkpoint_if(site, wanted) {
+            Ok(()) => self.set_now(site, number, value),
+            Err(stop) => Err(stop),
         }
     }
 
@@ -1254,7 +1557,9 @@ impl Engine {
         ensures goes { Goes (S.state site.old) (S.state site.new) }
         ensures device { (d : Dev) → IsErrOf result (Stop.Device d)
             → FaultRose d (S.state site.old) (S.state site.new) }
-        ensures stops { IfErr result (λ stop. stop ≡ Stop.Device Dev.Log) }
+        ensures worn_log { (s : State) → Fits self.old (S.state site.old) s → IsErrOf result (Stop.Worn Dev.Log)
+            → IsLogWorn (sizes_of self.old.store) (S.state site.new).image }
+        ensures stops { IfErr result (λ stop. (stop ≡ Stop.Device Dev.Log) ⊎ (stop ≡ Stop.Worn Dev.Log)) }
     {
         match self.seal_commit(site, entry.begin) {
             Ok(reply) => {
@@ -1287,7 +1592,7 @@ impl Engine {
             → IsQuiet (S.state site.old)
             → IfErr result (λ stop. ((d : Dev) → stop ≢ Stop.Device d) → IsQuiet (S.state site.new)) }
         ensures asks { (s : State) → Fits self.old (S.state site.old) s
-            → Asks result (command_touches false s (Command.Commit session)) self.old.store.pages self.new.store.pages
+            → Asks result (command_touches true s (Command.Commit session)) self.old.store.pages self.new.store.pages
             (S.state site.old) (S.state site.new) }
 
         // Of every site.
@@ -1299,7 +1604,9 @@ impl Engine {
         // When each answer comes.
         ensures device { (d : Dev) → IsErrOf result (Stop.Device d)
             → FaultRose d (S.state site.old) (S.state site.new) }
-        ensures stops { IfErr result (λ stop. stop ≡ Stop.Device Dev.Log) }
+        ensures worn_log { (s : State) → Fits self.old (S.state site.old) s → IsErrOf result (Stop.Worn Dev.Log)
+            → IsLogWorn (sizes_of self.old.store) (S.state site.new).image }
+        ensures stops { IfErr result (λ stop. (stop ≡ Stop.Device Dev.Log) ⊎ (stop ≡ Stop.Worn Dev.Log)) }
     {
         hold_together();
         let Some(entry) = self.active.find(session) else {
@@ -1342,7 +1649,8 @@ impl Engine {
         ensures goes { Goes (S.state site.old) (S.state site.new) }
         ensures device { (d : Dev) → IsErrOf result (Stop.Device d)
             → FaultRose d (S.state site.old) (S.state site.new) }
-        ensures worn_log { IsErrOf result (Stop.Worn Dev.Log) → ⊥ }
+        ensures worn_log { (s : State) → Fits self.old (S.state site.old) s → IsErrOf result (Stop.Worn Dev.Log)
+            → IsLogWorn (sizes_of self.old.store) (S.state site.new).image }
         ensures worn { (s : State) → Fits self.old (S.state site.old) s → IsErrOf result (Stop.Worn Dev.Flash)
             → IsWorn (sizes_of self.old.store) (S.state site.new).image }
         ensures foreign { IsErrOf result Stop.Foreign → (s : State)
@@ -1381,7 +1689,7 @@ impl Engine {
             → IsQuiet (S.state site.old)
             → IfErr result (λ stop. ((d : Dev) → stop ≢ Stop.Device d) → IsQuiet (S.state site.new)) }
         ensures asks { (s : State) → Fits self.old (S.state site.old) s
-            → Asks result (command_touches false s (Command.Abort session)) self.old.store.pages self.new.store.pages
+            → Asks result (command_touches true s (Command.Abort session)) self.old.store.pages self.new.store.pages
             (S.state site.old) (S.state site.new) }
 
         // Of every site.
@@ -1393,7 +1701,8 @@ impl Engine {
         // When each answer comes.
         ensures device { (d : Dev) → IsErrOf result (Stop.Device d)
             → FaultRose d (S.state site.old) (S.state site.new) }
-        ensures worn_log { IsErrOf result (Stop.Worn Dev.Log) → ⊥ }
+        ensures worn_log { (s : State) → Fits self.old (S.state site.old) s → IsErrOf result (Stop.Worn Dev.Log)
+            → IsLogWorn (sizes_of self.old.store) (S.state site.new).image }
         ensures worn { (s : State) → Fits self.old (S.state site.old) s → IsErrOf result (Stop.Worn Dev.Flash)
             → IsWorn (sizes_of self.old.store) (S.state site.new).image }
         ensures foreign { IsErrOf result Stop.Foreign → (s : State)
@@ -1417,7 +1726,7 @@ impl Engine {
     pub fn cache(&self) -> Result<Reply, Stop>
         requires going { (site : Site) × MayGoOn self.now site }
         ensures listing { IfOk result (λ reply. reply ≡ Reply.Listing (listing_of self.now)) }
-        ensures model { (s : State) → IfOk result (λ reply. step false s Command.Cache (listing_of self.now) ≡ record { after = s; reply = reply }) }
+        ensures model { (s : State) → IfOk result (λ reply. step true s Command.Cache (listing_of self.now) ≡ record { after = s; reply = reply }) }
         ensures stops { IfErr result (λ stop. stop ≡ Stop.Memory) }
     {
         match self.store.pages.listing() {

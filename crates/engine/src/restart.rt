@@ -1,5 +1,5 @@
-// Restart: the pages get what they lack of the log, and what it leaves unfinished is undone.
-ghost use Rattle.std.specs.Prelude.{◌*◌, ◌≡◌, ◌≢◌, ◌⊎◌, ◌+◌, ◌^◌, ◌<◌, ◌≤◌, ℕ, List, [], take, IsTrue, IfOk, IfErr, OnOk, IsErrOf};
+// Restart: the pages get what they lack of the log, what it leaves unfinished is undone, and a checkpoint is made.
+ghost use Rattle.std.specs.Prelude.{Option, ◌*◌, ◌≡◌, ◌≢◌, ◌⊎◌, ◌+◌, ◌^◌, ◌<◌, ◌≤◌, ℕ, List, [], take, IsTrue, IfOk, IfErr, OnOk, IsErrOf};
 ghost use Rattle.site.specs.declared.outside.Dev.{Dev};
 ghost use Rattle.site.specs.declared.outside.Stop.{Stop};
 ghost use Rattle.site.specs.declared.geometry.Geometry.{Geometry};
@@ -9,16 +9,18 @@ ghost use Rattle.site.specs.Calls.{Goes, IsUnchanged, FaultRose};
 ghost use Rattle.site.specs.Moments.{LeavesOnly};
 ghost use Rattle.record_model.specs.State.{Content};
 ghost use Rattle.log_records.specs.declared.log_record.LogRecord.{LogRecord};
-ghost use Rattle.log_records.specs.Log.{log_from};
 ghost use Rattle.log_records.specs.Sound.{Means};
+ghost use Rattle.log_store.specs.Held.{end_of};
+ghost use Rattle.log_store.specs.Held as log_held;
+ghost use Rattle.checkpoint.specs.declared.master.Master.{Master};
 ghost use Rattle.checkpoint.specs.Actives.{Ascend};
 ghost use Rattle.analysis.specs.Open.{owed_for};
 ghost use Rattle.analysis.specs.Table.{listed};
 ghost use Rattle.analysis.specs.Read as analysis;
 ghost use Rattle.flash_cache.specs.Held.{IsWorn};
 ghost use Rattle.page_store.specs.Stopping.{MayStop};
-ghost use Rattle.image_meaning.specs.Meaning.{picture};
-ghost use Rattle.redo_undo.specs.Holding.{blocks_to};
+ghost use Rattle.image_meaning.specs.Meaning.{picture_under};
+ghost use Rattle.redo_undo.specs.Holding.{blocks_to, IsLogWorn};
 ghost use Rattle.engine.specs.Going.{MayWork, sizes_of};
 ghost use Rattle.engine.specs.Image.{IsSound, Stands};
 ghost use Rattle.engine.specs.Leaves.{HasNoSizes, IsRefused, LeavesTable};
@@ -28,19 +30,21 @@ ghost use Rattle.page_store.specs.Caching.{cache_of, rules};
 ghost use Rattle.second_chance.specs.Machine.{rules_of};
 
 use crate::store::Store;
-use analysis::{Analysis, table_of_records};
-use checkpoint::{Master, newest};
+use analysis::{Analysis, losers_are_taken, table_of_records};
+use checkpoint::{Master, Pairs, newest, one_master};
 use log_store::LogStore;
 use page_store::{PageStore, stays_beside};
-use redo_undo::{force, redo, undo_all, works_add_up};
+use redo_undo::{redo, undo_all, works_add_up};
+use sealed_ring::Ring;
 use site::{Dev, Geometry, Site, Stop};
 use std::alloc::Global;
 
-/// Log and pages of devices, and their newest master.
+/// Log and pages of devices, the ring of master units, and the newest master.
 #[derive(Drop)]
 pub struct Opened {
     pub log: LogStore,
     pub pages: PageStore,
+    pub masters: Ring,
     pub master: Master,
 }
 
@@ -70,6 +74,24 @@ fn geometry_of<S: Site>(site: &S) -> Result<Geometry, Stop>
     }
 }
 
+// The log keeps the blocks from this one on. Where that is no live one and not the next one, it answers Foreign.
+fn keep_from(log: &mut LogStore, block: u64) -> Result<(), Stop>
+    requires bounded { log.old.ring.hi ≤ 2 ^ 40 }
+    ensures keeps { OnOk result (log.new ≡ record log.old { kept = block }) }
+    ensures going { (site : State) → log_held.MayGoOn log.old site → OnOk result (log_held.MayGoOn log.new site) }
+    ensures live { log.old.kept ≤ block → block ≤ log.old.ring.hi → IfErr result (λ stop. ⊥) }
+    ensures stops { IfErr result (λ stop. stop ≡ Stop.Foreign) }
+{
+    if block < log.kept() {
+        return Err(Stop::Foreign);
+    }
+    if block > log.sealed_end() / 512 {
+        return Err(Stop::Foreign);
+    }
+    log.keep(block);
+    Ok(())
+}
+
 // Finds the log's blocks, the queue on flash, and the newest master.
 fn open<S: Site>(
     alloc: Global,
@@ -83,17 +105,17 @@ fn open<S: Site>(
 
     // Of an honest site that stands for a table after so many commits.
     ensures ready { IsTrue (S.state site.old).honest
-        → (blocks : List (List LogRecord)) (table : List Content) (commits : ℕ)
-        → IsSound geometry.now (S.state site.old).image blocks
-        → Means (picture geometry.now (S.state site.old).image blocks) table commits
-        → IfOk result (λ opened. IsReady opened (S.state site.new) blocks table commits) }
+        → (newest : Option Master) (blocks : List (List LogRecord)) (table : List Content) (commits : ℕ)
+        → IsSound newest geometry.now (S.state site.old).image blocks
+        → Means (picture_under newest geometry.now (S.state site.old).image blocks) table commits
+        → IfOk result (λ opened. IsReady opened (S.state site.new) newest blocks table commits) }
     ensures readable { IsTrue (S.state site.old).honest
-        → (blocks : List (List LogRecord)) → IsSound geometry.now (S.state site.old).image blocks
+        → (newest : Option Master) (blocks : List (List LogRecord)) → IsSound newest geometry.now (S.state site.old).image blocks
         → IsErrOf result Stop.Foreign → ⊥ }
     ensures same { IsTrue (S.state site.old).honest
         → IsUnchanged (S.state site.old) (S.state site.new) }
     ensures cache { IsTrue (S.state site.old).honest
-        → (blocks : List (List LogRecord)) → IsSound geometry.now (S.state site.old).image blocks
+        → (newest : Option Master) (blocks : List (List LogRecord)) → IsSound newest geometry.now (S.state site.old).image blocks
         → IfOk result (λ opened. cache_of opened.pages ≡ cache_on geometry.now (S.state site.old).image) }
 
     // Of every site.
@@ -112,19 +134,25 @@ fn open<S: Site>(
     ensures stops { IfErr result (λ stop. MayStop stop) }
 {
     stays_beside();
-    let log = match LogStore::start(site, geometry) {
+    one_master();
+    let mut log = match LogStore::start(site, geometry) {
         Ok(log) => log,
         Err(stop) => return Err(stop),
     };
-    if log.kept() > 0 {
-        return Err(Stop::Foreign);
-    }
     let pages = match PageStore::start(alloc, site, geometry, pool) {
         Ok(pages) => pages,
         Err(stop) => return Err(stop),
     };
     match newest(site) {
-        Ok((_, master)) => Ok(Opened { log, pages, master }),
+        Ok((masters, master)) => match keep_from(&mut log, master.kept) {
+            Ok(()) => Ok(Opened {
+                log,
+                pages,
+                masters,
+                master,
+            }),
+            Err(stop) => Err(stop),
+        },
         Err(stop) => Err(stop),
     }
 }
@@ -142,43 +170,44 @@ fn owed(found: &Analysis) -> u64
     sum
 }
 
-// Redoes what the pages lack, and undoes all that is unfinished.
+// Redoes what the pages lack, undoes all that is unfinished, and makes a checkpoint.
 fn recover<S: Site>(alloc: Global, site: &mut S, opened: Opened) -> Result<Restarted, Stop>
     requires may { MayRecover opened (S.state site.old) }
     requires empty { opened.log.used ≡ 2 }
 
     // Of an honest site that stands for a table after so many commits.
-    ensures recovers { (blocks : List (List LogRecord)) (table : List Content) (commits : ℕ)
-        → IsReady opened (S.state site.old) blocks table commits
-        → IfOk result (λ restarted. RestartedAs restarted (S.state site.new) blocks table commits) }
-    ensures any_moment { (blocks : List (List LogRecord)) (table : List Content) (commits : ℕ)
-        → IsReady opened (S.state site.old) blocks table commits
+    ensures recovers { (newest : Option Master) (blocks : List (List LogRecord)) (table : List Content) (commits : ℕ)
+        → IsReady opened (S.state site.old) newest blocks table commits
+        → IfOk result (λ restarted. RestartedAs restarted (S.state site.new) table commits) }
+    ensures any_moment { (newest : Option Master) (blocks : List (List LogRecord)) (table : List Content) (commits : ℕ)
+        → IsReady opened (S.state site.old) newest blocks table commits
         → IsQuiet (S.state site.old)
         → LeavesOnly (S.state site.old) (S.state site.new)
         (LeavesTable opened.pages.flash.geometry table commits (S.state site.old).told) }
-    ensures readable { (blocks : List (List LogRecord)) (table : List Content) (commits : ℕ)
-        → IsReady opened (S.state site.old) blocks table commits
+    ensures readable { (newest : Option Master) (blocks : List (List LogRecord)) (table : List Content) (commits : ℕ)
+        → IsReady opened (S.state site.old) newest blocks table commits
         → IsErrOf result Stop.Foreign → ⊥ }
-    ensures quiet { (blocks : List (List LogRecord)) (table : List Content) (commits : ℕ)
-        → IsReady opened (S.state site.old) blocks table commits
+    ensures quiet { (newest : Option Master) (blocks : List (List LogRecord)) (table : List Content) (commits : ℕ)
+        → IsReady opened (S.state site.old) newest blocks table commits
         → IsQuiet (S.state site.old)
         → IfErr result (λ stop. ((d : Dev) → stop ≢ Stop.Device d) → IsQuiet (S.state site.new)) }
     ensures left { IsTrue (S.state site.old).honest
         → (S.state site.new).left ≡ (S.state site.old).left }
     ensures stays_quiet { IsTrue (S.state site.old).honest → IsQuiet (S.state site.old)
         → OnOk result (IsQuiet (S.state site.new)) }
-    ensures asks { (blocks : List (List LogRecord)) (table : List Content) (commits : ℕ)
-        → IsReady opened (S.state site.old) blocks table commits
+    ensures asks { (newest : Option Master) (blocks : List (List LogRecord)) (table : List Content) (commits : ℕ)
+        → IsReady opened (S.state site.old) newest blocks table commits
         → AsksFrom result (λ restarted. restarted.store.pages) (rules opened.pages)
-        (restart_works (picture opened.pages.flash.geometry (S.state site.old).image blocks)) (cache_of opened.pages)
+        (restart_works (picture_under newest opened.pages.flash.geometry (S.state site.old).image blocks)) (cache_of opened.pages)
         0 (S.state site.old) (S.state site.new) }
 
     // Of every site.
     ensures going { IfOk result (λ restarted. MayWork restarted.store (S.state site.new)) }
     ensures blocks { IfOk result (λ restarted. restarted.blocks
         ≡ (sizes_of restarted.store).blocks) }
-    ensures room { IfOk result (λ restarted. blocks_to restarted.store.log < restarted.blocks) }
-    ensures commits { IfOk result (λ restarted. restarted.commits ≤ restarted.store.made) }
+    ensures room { IfOk result (λ restarted. blocks_to restarted.store.log
+        < restarted.store.log.kept + restarted.blocks) }
+    ensures commits { IfOk result (λ restarted. restarted.commits ≤ end_of restarted.store.log) }
     ensures sizes { IfOk result (λ restarted. sizes_of restarted.store ≡ opened.pages.flash.geometry) }
     ensures pool { IfOk result (λ restarted. restarted.store.pages.pool.size ≡ opened.pages.pool.size) }
     ensures goes { Goes (S.state site.old) (S.state site.new) }
@@ -186,18 +215,23 @@ fn recover<S: Site>(alloc: Global, site: &mut S, opened: Opened) -> Result<Resta
     // When each answer comes.
     ensures device { (d : Dev) → IsErrOf result (Stop.Device d)
         → FaultRose d (S.state site.old) (S.state site.new) }
-    ensures worn_log { IsErrOf result (Stop.Worn Dev.Log) → ⊥ }
-    ensures worn { (blocks : List (List LogRecord)) (table : List Content) (commits : ℕ)
-        → IsReady opened (S.state site.old) blocks table commits
+    ensures worn_log { (newest : Option Master) (blocks : List (List LogRecord)) (table : List Content) (commits : ℕ)
+        → IsReady opened (S.state site.old) newest blocks table commits
+        → IsErrOf result (Stop.Worn Dev.Log)
+        → IsLogWorn opened.pages.flash.geometry (S.state site.new).image }
+    ensures worn { (newest : Option Master) (blocks : List (List LogRecord)) (table : List Content) (commits : ℕ)
+        → IsReady opened (S.state site.old) newest blocks table commits
         → IsErrOf result (Stop.Worn Dev.Flash)
         → IsWorn opened.pages.flash.geometry (S.state site.new).image }
     ensures stops { IfErr result (λ stop. MayStop stop) }
 {
     table_of_records();
+    losers_are_taken();
     works_add_up();
     let Opened {
         mut log,
         mut pages,
+        masters,
         master,
     } = opened;
     let redone = match redo(alloc, site, &mut log, &mut pages, &master) {
@@ -207,41 +241,45 @@ fn recover<S: Site>(alloc: Global, site: &mut S, opened: Opened) -> Result<Resta
     let (mut found, records) = (redone.found, redone.records);
     let owed = owed(&found);
     let blocks = log.geometry().blocks;
-    if log.sealed_end() / 512 + owed >= blocks as u64 {
+    if log.sealed_end() / 512 + owed >= log.kept() + blocks as u64 {
         return Err(Stop::Foreign);
     }
     match undo_all(site, &mut log, &mut pages, &mut found) {
         Ok(()) => {}
         Err(stop) => return Err(stop),
     }
-    match force(site, &mut log) {
-        Ok(()) => {}
-        Err(stop) => return Err(stop),
-    }
-    let made = records + owed;
     let commits = found.commits();
-    if commits > made {
+    if commits > log.sealed_end() {
         return Err(Stop::Foreign);
     }
-    let store = Store { log, pages, made };
-    Ok(Restarted {
-        blocks,
-        store,
-        commits,
-    })
+    let made = records + owed;
+    let mut store = Store {
+        log,
+        pages,
+        masters,
+        made,
+    };
+    match store.checkpoint(site, Pairs::new(), commits, made) {
+        Ok(()) => Ok(Restarted {
+            blocks,
+            store,
+            commits,
+        }),
+        Err(stop) => Err(stop),
+    }
 }
 
-/// Opens the devices, redoes what their pages lack, and undoes all transactions that the log leaves unfinished. Devices without sizes are
-/// Foreign.
+/// Opens the devices, redoes what their pages lack, undoes all transactions that the log leaves unfinished, and makes a checkpoint: then
+/// the log keeps nothing. Devices without sizes are Foreign.
 pub fn restart<S: Site>(alloc: Global, site: &mut S, pool: u32) -> Result<Restarted, Stop>
     requires pool { (1 ≤ pool) × (pool ≤ 4096) }
 
     // Of an honest site that stands for a table after so many commits.
     ensures opens { IsTrue (S.state site.old).honest
-        → (g : Geometry) (blocks : List (List LogRecord)) (table : List Content) (commits : ℕ)
-        → IsSound g (S.state site.old).image blocks
-        → Means (picture g (S.state site.old).image blocks) table commits
-        → IfOk result (λ restarted. RestartedAs restarted (S.state site.new) blocks table commits × (sizes_of restarted.store ≡ g)) }
+        → (g : Geometry) (newest : Option Master) (blocks : List (List LogRecord)) (table : List Content) (commits : ℕ)
+        → IsSound newest g (S.state site.old).image blocks
+        → Means (picture_under newest g (S.state site.old).image blocks) table commits
+        → IfOk result (λ restarted. RestartedAs restarted (S.state site.new) table commits × (sizes_of restarted.store ≡ g)) }
     ensures any_moment { IsTrue (S.state site.old).honest → IsQuiet (S.state site.old)
         → (g : Geometry) (table : List Content) (commits : ℕ)
         → Stands g (S.state site.old).image table commits
@@ -261,24 +299,27 @@ pub fn restart<S: Site>(alloc: Global, site: &mut S, pool: u32) -> Result<Restar
         → OnOk result (IsQuiet (S.state site.new)) }
 
     ensures asks { IsTrue (S.state site.old).honest
-        → (g : Geometry) (blocks : List (List LogRecord)) → IsSound g (S.state site.old).image blocks
+        → (g : Geometry) (newest : Option Master) (blocks : List (List LogRecord)) → IsSound newest g (S.state site.old).image blocks
         → AsksFrom result (λ restarted. restarted.store.pages) (rules_of pool g.groups)
-        (restart_works (picture g (S.state site.old).image blocks)) (cache_on g (S.state site.old).image)
+        (restart_works (picture_under newest g (S.state site.old).image blocks)) (cache_on g (S.state site.old).image)
         (2 * g.groups) (S.state site.old) (S.state site.new) }
 
     // Of every site.
     ensures going { IfOk result (λ restarted. MayWork restarted.store (S.state site.new)) }
     ensures blocks { IfOk result (λ restarted. restarted.blocks
         ≡ (sizes_of restarted.store).blocks) }
-    ensures room { IfOk result (λ restarted. blocks_to restarted.store.log < restarted.blocks) }
-    ensures commits { IfOk result (λ restarted. restarted.commits ≤ restarted.store.made) }
+    ensures room { IfOk result (λ restarted. blocks_to restarted.store.log
+        < restarted.store.log.kept + restarted.blocks) }
+    ensures commits { IfOk result (λ restarted. restarted.commits ≤ end_of restarted.store.log) }
     ensures pool { IfOk result (λ restarted. restarted.store.pages.pool.size ≡ pool) }
     ensures goes { Goes (S.state site.old) (S.state site.new) }
 
     // When each answer comes.
     ensures device { (d : Dev) → IsErrOf result (Stop.Device d)
         → FaultRose d (S.state site.old) (S.state site.new) }
-    ensures worn_log { IsErrOf result (Stop.Worn Dev.Log) → ⊥ }
+    ensures worn_log { IsTrue (S.state site.old).honest → (g : Geometry) (table : List Content) (commits : ℕ)
+        → Stands g (S.state site.old).image table commits
+        → IsErrOf result (Stop.Worn Dev.Log) → IsLogWorn g (S.state site.new).image }
     ensures worn { IsTrue (S.state site.old).honest → (g : Geometry) (table : List Content) (commits : ℕ)
         → Stands g (S.state site.old).image table commits
         → IsErrOf result (Stop.Worn Dev.Flash) → IsWorn g (S.state site.new).image }

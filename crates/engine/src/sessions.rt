@@ -1,8 +1,11 @@
 // How the table of active sessions changes, and with it what they owe the log.
-ghost use Rattle.std.specs.Prelude.{◌≡◌, ◌+◌, ◌^◌, ◌<◌, ◌≤◌, Some, None, IsSome, IsNone, option_map};
+ghost use Rattle.std.specs.Prelude.{◌≡◌, ◌+◌, ◌^◌, ◌<◌, ◌≤◌, ℕ, map, All, Some, None, IsSome, IsNone, option_map};
 ghost use Rattle.std.specs.Option.{ForSome};
-ghost use Rattle.txn_table.specs.Entries.{IsTable, entry_of, ChangesOnly, after_write, owed};
+ghost use Rattle.txn_table.specs.Entries.{IsTable, entry_of, ChangesOnly, after_write, counted_from, owed};
+ghost use Rattle.txn_table.specs.declared.active.Active.{Active};
+ghost use Rattle.checkpoint.specs.Actives.{Ascend};
 
+use checkpoint::Pairs;
 use txn_table::{Active, TxnTable};
 
 /// A session begins: it owes the record that ends it.
@@ -41,5 +44,30 @@ pub fn remove(active: &mut TxnTable, entry: Active)
 {
     let _before = active.len();
     active.remove(entry.session);
+    let _after = active.len();
+}
+
+/// The transactions of the active sessions, those that began first in front.
+pub fn named(active: &TxnTable) -> Pairs
+    requires differ { (n m : ℕ) (a b : Active) → entry_of active.now n ≡ Some a → entry_of active.now m ≡ Some b → a.begin ≡ b.begin → n ≡ m }
+    ensures named { result ≡ map (λ entry. record { begin = entry.begin; last = entry.last }) active.now }
+    ensures ascend { Ascend result }
+{
+    let mut named = Pairs::new();
+    for place in 0..active.len() {
+        let entry = active.at(place);
+        named.push(entry.begin, entry.last);
+    }
+    named
+}
+
+/// Records are counted from a later one: so many fewer were made before each session began.
+pub fn count_from(active: &mut TxnTable, first: u64)
+    requires born { All (λ entry. first ≤ entry.born) active.old }
+    ensures entries { (n : ℕ) → entry_of active.new n ≡ option_map (counted_from first) (entry_of active.old n) }
+    ensures owed { owed active.new ≡ owed active.old }
+    ensures table { IsTable active.new }
+{
+    active.count_from(first);
     let _after = active.len();
 }

@@ -1,5 +1,5 @@
 // Log and pages of a run: the records that it logs, and the pages that they change.
-ghost use Rattle.std.specs.Prelude.{map, reverse, ◌≡◌, ◌≢◌, ◌⊎◌, ◌+◌, ◌*◌, ◌/◌, ◌^◌, ◌<◌, ◌≤◌, ◌++◌, ◌∷◌, [], ℕ, List, length, IsTrue, IfOk, OnOk, IfErr, IsErrOf};
+ghost use Rattle.std.specs.Prelude.{Option, map, reverse, ◌≡◌, ◌≢◌, ◌⊎◌, ◌+◌, ◌*◌, ◌/◌, ◌^◌, ◌<◌, ◌≤◌, ◌++◌, ◌∷◌, [], ℕ, List, length, IsTrue, IfOk, OnOk, IfErr, IsErrOf};
 ghost use Rattle.site.specs.declared.outside.Dev.{Dev};
 ghost use Rattle.site.specs.declared.outside.Stop.{Stop};
 ghost use Rattle.site.specs.State.{State, IsQuiet};
@@ -15,37 +15,45 @@ ghost use Rattle.log_store.specs.Held.{end_of};
 ghost use Rattle.flash_cache.specs.Held.{IsWorn};
 ghost use Rattle.page_store.specs.Held.{IsStore};
 ghost use Rattle.page_store.specs.Stopping.{MayStop};
-ghost use Rattle.image_meaning.specs.Meaning.{blank_master};
-ghost use Rattle.image_meaning.specs.Moments.{LeavesEither};
-ghost use Rattle.redo_undo.specs.Holding.{blocks_to};
+ghost use Rattle.checkpoint.specs.declared.master.Master.{Master};
+ghost use Rattle.image_meaning.specs.Meaning.{master_of};
+ghost use Rattle.image_meaning.specs.Moments.{LeavesEitherFor};
+ghost use Rattle.redo_undo.specs.Holding.{blocks_to, IsLogWorn};
+ghost use Rattle.redo_undo.specs.Holding as both;
+ghost use Rattle.redo_undo.specs.Checkpointing.{MayBeMade, begins_of};
+ghost use Rattle.image_meaning.specs.Flushed.{first_block};
+ghost use Rattle.checkpoint.specs.Actives.{Ascend};
 ghost use Rattle.redo_undo.specs.Committing.{MayCommit};
 ghost use Rattle.engine.specs.Going.{MayWork, sizes_of};
-ghost use Rattle.engine.specs.Holding.{Holds, MayGrow, IsInFront, shown_in, update_by};
+ghost use Rattle.engine.specs.Holding.{Holds, HasCheckpoint, MayGrow, IsInFront, shown_in, update_by};
 ghost use Rattle.engine.specs.Rollback.{RollsBack};
 ghost use Rattle.engine.specs.Leaves.{LeavesTable};
 ghost use Rattle.record_model.specs.Touches.{write_touch};
-ghost use Rattle.redo_undo.specs.Works.{Asks, one_touch};
+ghost use Rattle.redo_undo.specs.Works.{Asks, one_touch, checkpoint_works};
 ghost use Rattle.page_store.specs.Caching.{cache_of, rules, with_change};
 ghost use Rattle.site.specs.Calls.{SameReads};
 
+use checkpoint::Pairs;
 use log_records::LogRecord;
 use log_store::LogStore;
 use page_store::PageStore;
 use record_model::Octets;
 use redo_undo::{
-    commit, hold_together, log_change, log_record, sessions_are_undone, touch, undo_one,
+    checkpoint, commit, hold_together, log_change, log_record, sessions_are_undone, touch, undo_one,
 };
+use sealed_ring::Ring;
 use site::{Site, Stop};
 use txn_table::Active;
 
 /// The number of a page's slots.
 pub const SLOTS: u32 = 32;
 
-/// Log and pages of a run. Every record counts, those that stood in the log when the run began among them.
+/// Log, pages and master units of a run, and how many of its records count: all that were made since those that a checkpoint let go.
 #[derive(Drop)]
 pub struct Store {
     pub log: LogStore,
     pub pages: PageStore,
+    pub masters: Ring,
     pub made: u64,
 }
 
@@ -76,16 +84,16 @@ impl Store {
     /// Logs the Begin of a transaction, and answers its LSN.
     pub fn begin<S: Site>(&mut self, site: &mut S) -> Result<u64, Stop>
         requires going { MayWork self.old (S.state site.old) }
-        requires room { blocks_to self.old.log + 1 < (sizes_of self.old).blocks }
+        requires room { blocks_to self.old.log + 1 < self.old.log.kept + (sizes_of self.old).blocks }
         requires few { self.old.made < 2 ^ 40 }
 
         // Of an honest site whose log and pages hold these records.
-        ensures holds { (records : List Entry) (table : List Content) (commits : ℕ)
-            → Holds self.old (S.state site.old) records table commits
-            → IfOk result (λ lsn. MayGrow self.old (S.state site.old) records (record { lsn = lsn; rec = LogRecord.Begin })
-            → Holds self.new (S.state site.new) (records ++ record { lsn = lsn; rec = LogRecord.Begin } ∷ []) table commits) }
-        ensures any_moment { (records : List Entry) (table : List Content) (commits : ℕ)
-            → Holds self.old (S.state site.old) records table commits
+        ensures holds { (newest : Option Master) (records : List Entry) (table : List Content) (commits : ℕ)
+            → Holds self.old (S.state site.old) newest records table commits
+            → IfOk result (λ lsn. MayGrow self.old (S.state site.old) newest records (record { lsn = lsn; rec = LogRecord.Begin })
+            → Holds self.new (S.state site.new) newest (records ++ record { lsn = lsn; rec = LogRecord.Begin } ∷ []) table commits) }
+        ensures any_moment { (newest : Option Master) (records : List Entry) (table : List Content) (commits : ℕ)
+            → Holds self.old (S.state site.old) newest records table commits
             → IsQuiet (S.state site.old)
             → LeavesOnly (S.state site.old) (S.state site.new)
             (LeavesTable (sizes_of self.old) table commits (S.state site.old).told) }
@@ -93,8 +101,8 @@ impl Store {
             → (S.state site.new).left ≡ (S.state site.old).left }
         ensures stays_quiet { IsTrue (S.state site.old).honest → IsQuiet (S.state site.old)
             → OnOk result (IsQuiet (S.state site.new)) }
-        ensures quiet { (records : List Entry) (table : List Content) (commits : ℕ)
-            → Holds self.old (S.state site.old) records table commits
+        ensures quiet { (newest : Option Master) (records : List Entry) (table : List Content) (commits : ℕ)
+            → Holds self.old (S.state site.old) newest records table commits
             → IsQuiet (S.state site.old)
             → IfErr result (λ stop. ((d : Dev) → stop ≢ Stop.Device d) → IsQuiet (S.state site.new)) }
 
@@ -103,8 +111,10 @@ impl Store {
         ensures made { OnOk result (self.new.made ≡ self.old.made + 1) }
         ensures blocks { OnOk result (blocks_to self.new.log ≤ blocks_to self.old.log + 1) }
         ensures rises { IfOk result (λ lsn. (end_of self.old.log ≤ lsn) × (lsn < end_of self.new.log)) }
+        ensures last_block { IfOk result (λ lsn. 512 * self.new.log.ring.hi ≤ lsn) }
         ensures asks { Asks result ([]) self.old.pages self.new.pages
             (S.state site.old) (S.state site.new) }
+        ensures kept { self.new.log.kept ≡ self.old.log.kept }
         ensures sizes { sizes_of self.new ≡ sizes_of self.old }
         ensures pages { self.new.pages ≡ self.old.pages }
         ensures goes { Goes (S.state site.old) (S.state site.new) }
@@ -112,7 +122,10 @@ impl Store {
         // When each answer comes.
         ensures device { (d : Dev) → IsErrOf result (Stop.Device d)
             → FaultRose d (S.state site.old) (S.state site.new) }
-        ensures stops { IfErr result (λ stop. stop ≡ Stop.Device Dev.Log) }
+        ensures worn_log { (newest : Option Master) (records : List Entry) (table : List Content) (commits : ℕ)
+            → Holds self.old (S.state site.old) newest records table commits
+            → IsErrOf result (Stop.Worn Dev.Log) → IsLogWorn (sizes_of self.old) (S.state site.new).image }
+        ensures stops { IfErr result (λ stop. (stop ≡ Stop.Device Dev.Log) ⊎ (stop ≡ Stop.Worn Dev.Log)) }
     {
         match log_record(site, &mut self.log, &LogRecord::Begin) {
             Ok(lsn) => {
@@ -129,23 +142,23 @@ impl Store {
         requires exists { number < 32 * (sizes_of self.old).pages }
 
         // Of an honest site whose log and pages hold these records.
-        ensures holds { (records : List Entry) (table : List Content) (commits : ℕ)
-            → Holds self.old (S.state site.old) records table commits
-            → OnOk result (Holds self.new (S.state site.new) records table commits) }
-        ensures any_moment { (records : List Entry) (table : List Content) (commits : ℕ)
-            → Holds self.old (S.state site.old) records table commits
+        ensures holds { (newest : Option Master) (records : List Entry) (table : List Content) (commits : ℕ)
+            → Holds self.old (S.state site.old) newest records table commits
+            → OnOk result (Holds self.new (S.state site.new) newest records table commits) }
+        ensures any_moment { (newest : Option Master) (records : List Entry) (table : List Content) (commits : ℕ)
+            → Holds self.old (S.state site.old) newest records table commits
             → IsQuiet (S.state site.old)
             → LeavesOnly (S.state site.old) (S.state site.new)
             (LeavesTable (sizes_of self.old) table commits (S.state site.old).told) }
-        ensures readable { (records : List Entry) (table : List Content) (commits : ℕ)
-            → Holds self.old (S.state site.old) records table commits
+        ensures readable { (newest : Option Master) (records : List Entry) (table : List Content) (commits : ℕ)
+            → Holds self.old (S.state site.old) newest records table commits
             → IsErrOf result Stop.Foreign → ⊥ }
         ensures left { IsTrue (S.state site.old).honest
             → (S.state site.new).left ≡ (S.state site.old).left }
         ensures stays_quiet { IsTrue (S.state site.old).honest → IsQuiet (S.state site.old)
             → OnOk result (IsQuiet (S.state site.new)) }
-        ensures quiet { (records : List Entry) (table : List Content) (commits : ℕ)
-            → Holds self.old (S.state site.old) records table commits
+        ensures quiet { (newest : Option Master) (records : List Entry) (table : List Content) (commits : ℕ)
+            → Holds self.old (S.state site.old) newest records table commits
             → IsQuiet (S.state site.old)
             → IfErr result (λ stop. ((d : Dev) → stop ≢ Stop.Device d) → IsQuiet (S.state site.new)) }
 
@@ -157,15 +170,18 @@ impl Store {
         ensures rises { OnOk result (end_of self.old.log ≤ end_of self.new.log) }
         ensures asks { Asks result (one_touch (number / 32)) self.old.pages self.new.pages
             (S.state site.old) (S.state site.new) }
+        ensures kept { self.new.log.kept ≡ self.old.log.kept }
         ensures sizes { sizes_of self.new ≡ sizes_of self.old }
         ensures goes { Goes (S.state site.old) (S.state site.new) }
 
         // When each answer comes.
         ensures device { (d : Dev) → IsErrOf result (Stop.Device d)
             → FaultRose d (S.state site.old) (S.state site.new) }
-        ensures worn_log { IsErrOf result (Stop.Worn Dev.Log) → ⊥ }
-        ensures worn { (records : List Entry) (table : List Content) (commits : ℕ)
-            → Holds self.old (S.state site.old) records table commits
+        ensures worn_log { (newest : Option Master) (records : List Entry) (table : List Content) (commits : ℕ)
+            → Holds self.old (S.state site.old) newest records table commits
+            → IsErrOf result (Stop.Worn Dev.Log) → IsLogWorn (sizes_of self.old) (S.state site.new).image }
+        ensures worn { (newest : Option Master) (records : List Entry) (table : List Content) (commits : ℕ)
+            → Holds self.old (S.state site.old) newest records table commits
             → IsErrOf result (Stop.Worn Dev.Flash) → IsWorn (sizes_of self.old) (S.state site.new).image }
         ensures stops { IfErr result (λ stop. MayStop stop) }
     {
@@ -176,8 +192,8 @@ impl Store {
     pub fn shown(&self, number: u32) -> Option<Octets>
         requires pages { IsStore self.now.pages }
         requires front { IsInFront self.now number }
-        ensures shown { (site : State) (records : List Entry) (table : List Content) (commits : ℕ)
-            → Holds self.now site records table commits → result ≡ shown_in self.now site records number }
+        ensures shown { (site : State) (newest : Option Master) (records : List Entry) (table : List Content) (commits : ℕ)
+            → Holds self.now site newest records table commits → result ≡ shown_in self.now site records number }
         ensures short { IsShort result }
     {
         hold_together();
@@ -200,33 +216,33 @@ impl Store {
         after: &Option<Octets>,
     ) -> Result<u64, Stop>
         requires going { MayWork self.old (S.state site.old) }
-        requires room { blocks_to self.old.log + 1 < (sizes_of self.old).blocks }
+        requires room { blocks_to self.old.log + 1 < self.old.log.kept + (sizes_of self.old).blocks }
         requires few { self.old.made < 2 ^ 40 }
         requires front { IsInFront self.old number }
         requires short { IsShort after.now }
 
         // Of an honest site whose log and pages hold these records.
-        ensures holds { (records : List Entry) (table : List Content) (commits : ℕ)
-            → Holds self.old (S.state site.old) records table commits
-            → IfOk result (λ lsn. MayGrow self.old (S.state site.old) records
+        ensures holds { (newest : Option Master) (records : List Entry) (table : List Content) (commits : ℕ)
+            → Holds self.old (S.state site.old) newest records table commits
+            → IfOk result (λ lsn. MayGrow self.old (S.state site.old) newest records
             (record { lsn = lsn; rec = update_by txn prev number (shown_in self.old (S.state site.old) records number) after.now })
-            → Holds self.new (S.state site.new) (records
+            → Holds self.new (S.state site.new) newest (records
             ++ record { lsn = lsn; rec = update_by txn prev number (shown_in self.old (S.state site.old) records number) after.now } ∷ [])
             table commits) }
-        ensures any_moment { (records : List Entry) (table : List Content) (commits : ℕ)
-            → Holds self.old (S.state site.old) records table commits
+        ensures any_moment { (newest : Option Master) (records : List Entry) (table : List Content) (commits : ℕ)
+            → Holds self.old (S.state site.old) newest records table commits
             → IsQuiet (S.state site.old)
             → LeavesOnly (S.state site.old) (S.state site.new)
             (LeavesTable (sizes_of self.old) table commits (S.state site.old).told) }
-        ensures readable { (records : List Entry) (table : List Content) (commits : ℕ)
-            → Holds self.old (S.state site.old) records table commits
+        ensures readable { (newest : Option Master) (records : List Entry) (table : List Content) (commits : ℕ)
+            → Holds self.old (S.state site.old) newest records table commits
             → IsErrOf result Stop.Foreign → ⊥ }
         ensures left { IsTrue (S.state site.old).honest
             → (S.state site.new).left ≡ (S.state site.old).left }
         ensures stays_quiet { IsTrue (S.state site.old).honest → IsQuiet (S.state site.old)
             → OnOk result (IsQuiet (S.state site.new)) }
-        ensures quiet { (records : List Entry) (table : List Content) (commits : ℕ)
-            → Holds self.old (S.state site.old) records table commits
+        ensures quiet { (newest : Option Master) (records : List Entry) (table : List Content) (commits : ℕ)
+            → Holds self.old (S.state site.old) newest records table commits
             → IsQuiet (S.state site.old)
             → IfErr result (λ stop. ((d : Dev) → stop ≢ Stop.Device d) → IsQuiet (S.state site.new)) }
 
@@ -238,13 +254,17 @@ impl Store {
         ensures machine { OnOk result (cache_of self.new.pages ≡ with_change (cache_of self.old.pages)) }
         ensures rules_stay { rules self.new.pages ≡ rules self.old.pages }
         ensures reads { SameReads (S.state site.old) (S.state site.new) }
+        ensures kept { self.new.log.kept ≡ self.old.log.kept }
         ensures sizes { sizes_of self.new ≡ sizes_of self.old }
         ensures goes { Goes (S.state site.old) (S.state site.new) }
 
         // When each answer comes.
         ensures device { (d : Dev) → IsErrOf result (Stop.Device d)
             → FaultRose d (S.state site.old) (S.state site.new) }
-        ensures stops { IfErr result (λ stop. (stop ≡ Stop.Device Dev.Log) ⊎ (stop ≡ Stop.Foreign)) }
+        ensures worn_log { (newest : Option Master) (records : List Entry) (table : List Content) (commits : ℕ)
+            → Holds self.old (S.state site.old) newest records table commits
+            → IsErrOf result (Stop.Worn Dev.Log) → IsLogWorn (sizes_of self.old) (S.state site.new).image }
+        ensures stops { IfErr result (λ stop. (stop ≡ Stop.Device Dev.Log) ⊎ ((stop ≡ Stop.Worn Dev.Log) ⊎ (stop ≡ Stop.Foreign))) }
     {
         let update = LogRecord::Update {
             txn,
@@ -266,28 +286,28 @@ impl Store {
     /// Logs the Commit of a transaction, and seals it: then the transaction is committed. Answers the Commit's LSN.
     pub fn commit<S: Site>(&mut self, site: &mut S, txn: u64, number: u64) -> Result<u64, Stop>
         requires going { MayWork self.old (S.state site.old) }
-        requires room { blocks_to self.old.log + 1 < (sizes_of self.old).blocks }
+        requires room { blocks_to self.old.log + 1 < self.old.log.kept + (sizes_of self.old).blocks }
         requires few { self.old.made < 2 ^ 40 }
 
         // Of an honest site whose log and pages hold these records.
-        ensures holds { (records : List Entry) (table : List Content) (commits : ℕ)
-            → Holds self.old (S.state site.old) records table commits
-            → MayCommit records txn number commits
-            → IfOk result (λ lsn. Holds self.new (S.state site.new)
+        ensures holds { (newest : Option Master) (records : List Entry) (table : List Content) (commits : ℕ)
+            → Holds self.old (S.state site.old) newest records table commits
+            → MayCommit newest records txn number commits
+            → IfOk result (λ lsn. Holds self.new (S.state site.new) newest
             (records ++ record { lsn = lsn; rec = LogRecord.Commit txn number } ∷ [])
             (table_with table (writes_in txn records)) (commits + 1)) }
-        ensures any_moment { (records : List Entry) (table : List Content) (commits : ℕ)
-            → Holds self.old (S.state site.old) records table commits
-            → MayCommit records txn number commits
+        ensures any_moment { (newest : Option Master) (records : List Entry) (table : List Content) (commits : ℕ)
+            → Holds self.old (S.state site.old) newest records table commits
+            → MayCommit newest records txn number commits
             → IsQuiet (S.state site.old)
             → LeavesOnly (S.state site.old) (S.state site.new)
-            (LeavesEither (sizes_of self.old) table (table_with table (writes_in txn records)) commits (S.state site.old).told) }
+            (LeavesEitherFor (sizes_of self.old) table (table_with table (writes_in txn records)) commits (S.state site.old).told) }
         ensures left { IsTrue (S.state site.old).honest
             → (S.state site.new).left ≡ (S.state site.old).left }
         ensures stays_quiet { IsTrue (S.state site.old).honest → IsQuiet (S.state site.old)
             → OnOk result (IsQuiet (S.state site.new)) }
-        ensures quiet { (records : List Entry) (table : List Content) (commits : ℕ)
-            → Holds self.old (S.state site.old) records table commits
+        ensures quiet { (newest : Option Master) (records : List Entry) (table : List Content) (commits : ℕ)
+            → Holds self.old (S.state site.old) newest records table commits
             → IsQuiet (S.state site.old)
             → IfErr result (λ stop. ((d : Dev) → stop ≢ Stop.Device d) → IsQuiet (S.state site.new)) }
 
@@ -298,13 +318,17 @@ impl Store {
         ensures rises { IfOk result (λ lsn. (end_of self.old.log ≤ lsn) × (lsn < end_of self.new.log)) }
         ensures asks { Asks result ([]) self.old.pages self.new.pages
             (S.state site.old) (S.state site.new) }
+        ensures kept { self.new.log.kept ≡ self.old.log.kept }
         ensures sizes { sizes_of self.new ≡ sizes_of self.old }
         ensures goes { Goes (S.state site.old) (S.state site.new) }
 
         // When each answer comes.
         ensures device { (d : Dev) → IsErrOf result (Stop.Device d)
             → FaultRose d (S.state site.old) (S.state site.new) }
-        ensures stops { IfErr result (λ stop. stop ≡ Stop.Device Dev.Log) }
+        ensures worn_log { (newest : Option Master) (records : List Entry) (table : List Content) (commits : ℕ)
+            → Holds self.old (S.state site.old) newest records table commits
+            → IsErrOf result (Stop.Worn Dev.Log) → IsLogWorn (sizes_of self.old) (S.state site.new).image }
+        ensures stops { IfErr result (λ stop. (stop ≡ Stop.Device Dev.Log) ⊎ (stop ≡ Stop.Worn Dev.Log)) }
     {
         match commit(site, &mut self.log, txn, number) {
             Ok(lsn) => {
@@ -324,34 +348,34 @@ impl Store {
         requires little { owed ≤ 2 ^ 40 }
 
         // Of an honest site whose log and pages hold these records.
-        ensures undone { (records : List Entry) (table : List Content) (commits : ℕ)
-            → Holds self.old (S.state site.old) records table commits
-            → (writes : List Write) → IsActive blank_master records entry.begin entry.last writes
+        ensures undone { (newest : Option Master) (records : List Entry) (table : List Content) (commits : ℕ)
+            → Holds self.old (S.state site.old) newest records table commits
+            → (writes : List Write) → IsActive (master_of newest) records entry.begin entry.last writes
             → length writes ≡ entry.writes
-            → OnOk result (RollsBack self.new (S.state site.new) records table commits entry.begin entry.writes) }
-        ensures any_moment { (records : List Entry) (table : List Content) (commits : ℕ)
-            → Holds self.old (S.state site.old) records table commits
-            → (writes : List Write) → IsActive blank_master records entry.begin entry.last writes
+            → OnOk result (RollsBack self.new (S.state site.new) newest records table commits entry.begin entry.writes) }
+        ensures any_moment { (newest : Option Master) (records : List Entry) (table : List Content) (commits : ℕ)
+            → Holds self.old (S.state site.old) newest records table commits
+            → (writes : List Write) → IsActive (master_of newest) records entry.begin entry.last writes
             → IsQuiet (S.state site.old)
             → LeavesOnly (S.state site.old) (S.state site.new)
             (LeavesTable (sizes_of self.old) table commits (S.state site.old).told) }
-        ensures readable { (records : List Entry) (table : List Content) (commits : ℕ)
-            → Holds self.old (S.state site.old) records table commits
-            → (writes : List Write) → IsActive blank_master records entry.begin entry.last writes
+        ensures readable { (newest : Option Master) (records : List Entry) (table : List Content) (commits : ℕ)
+            → Holds self.old (S.state site.old) newest records table commits
+            → (writes : List Write) → IsActive (master_of newest) records entry.begin entry.last writes
             → length writes ≡ entry.writes → unfinished.owed records ≡ owed + (entry.writes + 1)
             → IsErrOf result Stop.Foreign → ⊥ }
-        ensures asks { (records : List Entry) (table : List Content) (commits : ℕ)
-            → Holds self.old (S.state site.old) records table commits
-            → (writes : List Write) → IsActive blank_master records entry.begin entry.last writes
+        ensures asks { (newest : Option Master) (records : List Entry) (table : List Content) (commits : ℕ)
+            → Holds self.old (S.state site.old) newest records table commits
+            → (writes : List Write) → IsActive (master_of newest) records entry.begin entry.last writes
             → Asks result (map (λ write. write_touch write.0) (reverse writes)) self.old.pages self.new.pages
             (S.state site.old) (S.state site.new) }
         ensures left { IsTrue (S.state site.old).honest
             → (S.state site.new).left ≡ (S.state site.old).left }
         ensures stays_quiet { IsTrue (S.state site.old).honest → IsQuiet (S.state site.old)
             → OnOk result (IsQuiet (S.state site.new)) }
-        ensures quiet { (records : List Entry) (table : List Content) (commits : ℕ)
-            → Holds self.old (S.state site.old) records table commits
-            → (writes : List Write) → IsActive blank_master records entry.begin entry.last writes
+        ensures quiet { (newest : Option Master) (records : List Entry) (table : List Content) (commits : ℕ)
+            → Holds self.old (S.state site.old) newest records table commits
+            → (writes : List Write) → IsActive (master_of newest) records entry.begin entry.last writes
             → length writes ≡ entry.writes
             → IsQuiet (S.state site.old)
             → IfErr result (λ stop. ((d : Dev) → stop ≢ Stop.Device d) → IsQuiet (S.state site.new)) }
@@ -359,22 +383,28 @@ impl Store {
         // Of every site.
         ensures going { OnOk result (MayWork self.new (S.state site.new)) }
         ensures made { OnOk result (self.new.made ≡ self.old.made + (entry.writes + 1)) }
-        ensures room { OnOk result (blocks_to self.new.log + owed < (sizes_of self.new).blocks) }
+        ensures blocks { OnOk result (blocks_to self.new.log ≤ blocks_to self.old.log + (entry.writes + 1)) }
+        ensures room { OnOk result (blocks_to self.new.log + owed < self.new.log.kept + (sizes_of self.new).blocks) }
         ensures rises { OnOk result (end_of self.old.log ≤ end_of self.new.log) }
+        ensures kept { self.new.log.kept ≡ self.old.log.kept }
         ensures sizes { sizes_of self.new ≡ sizes_of self.old }
         ensures goes { Goes (S.state site.old) (S.state site.new) }
 
         // When each answer comes.
         ensures device { (d : Dev) → IsErrOf result (Stop.Device d)
             → FaultRose d (S.state site.old) (S.state site.new) }
-        ensures worn_log { IsErrOf result (Stop.Worn Dev.Log) → ⊥ }
-        ensures worn { (records : List Entry) (table : List Content) (commits : ℕ)
-            → Holds self.old (S.state site.old) records table commits
-            → (writes : List Write) → IsActive blank_master records entry.begin entry.last writes
+        ensures worn_log { (newest : Option Master) (records : List Entry) (table : List Content) (commits : ℕ)
+            → Holds self.old (S.state site.old) newest records table commits
+            → (writes : List Write) → IsActive (master_of newest) records entry.begin entry.last writes
+            → IsErrOf result (Stop.Worn Dev.Log) → IsLogWorn (sizes_of self.old) (S.state site.new).image }
+        ensures worn { (newest : Option Master) (records : List Entry) (table : List Content) (commits : ℕ)
+            → Holds self.old (S.state site.old) newest records table commits
+            → (writes : List Write) → IsActive (master_of newest) records entry.begin entry.last writes
             → IsErrOf result (Stop.Worn Dev.Flash) → IsWorn (sizes_of self.old) (S.state site.new).image }
         ensures stops { IfErr result (λ stop. MayStop stop) }
     {
         sessions_are_undone();
+        let before = self.blocks();
         match undo_one(
             site,
             &mut self.log,
@@ -387,12 +417,89 @@ impl Store {
         }
         self.made += entry.writes + 1;
         let blocks = self.blocks();
-        if blocks > self.made {
+        if blocks > before + entry.writes + 1 {
             return Err(Stop::Foreign);
         }
-        if blocks + owed >= self.log.geometry().blocks as u64 {
+        if blocks + owed >= self.log.kept() + self.log.geometry().blocks as u64 {
             return Err(Stop::Foreign);
         }
         Ok(())
+    }
+
+    /// A checkpoint that names these unfinished transactions: what is unsealed is sealed, the changed pages are flushed to flash, a master is
+    /// saved, and the log lets go of the blocks that nothing needs. The first so many records count no more.
+    pub fn checkpoint<S: Site>(
+        &mut self,
+        site: &mut S,
+        active: Pairs,
+        commits: u64,
+        first: u64,
+    ) -> Result<(), Stop>
+        requires going { MayWork self.old (S.state site.old) }
+        requires ascend { Ascend active }
+        requires first { first ≤ self.old.made }
+        // The blocks that are kept have records that go on counting.
+        requires begun { first_block (blocks_to self.old.log) (begins_of active) ≤ blocks_to self.old.log }
+        requires enough { blocks_to self.old.log + first ≤ first_block (blocks_to self.old.log) (begins_of active) + self.old.made }
+
+        // Of an honest site on which log and pages hold together, and of the unfinished transactions.
+        ensures checkpoint { (newest : Option Master) (records : List Entry) (table : List Content)
+            → both.Holds self.old.log self.old.pages (S.state site.old) newest records table commits
+            → MayBeMade self.old.masters (S.state site.old) records active
+            → OnOk result (HasCheckpoint self.new (S.state site.new) records table commits active) }
+        ensures any_moment { (newest : Option Master) (records : List Entry) (table : List Content)
+            → both.Holds self.old.log self.old.pages (S.state site.old) newest records table commits
+            → MayBeMade self.old.masters (S.state site.old) records active
+            → IsQuiet (S.state site.old)
+            → LeavesOnly (S.state site.old) (S.state site.new)
+            (LeavesTable (sizes_of self.old) table commits (S.state site.old).told) }
+        ensures left { IsTrue (S.state site.old).honest
+            → (S.state site.new).left ≡ (S.state site.old).left }
+        ensures stays_quiet { IsTrue (S.state site.old).honest → IsQuiet (S.state site.old)
+            → OnOk result (IsQuiet (S.state site.new)) }
+        ensures quiet { (newest : Option Master) (records : List Entry) (table : List Content)
+            → both.Holds self.old.log self.old.pages (S.state site.old) newest records table commits
+            → IsQuiet (S.state site.old)
+            → IfErr result (λ stop. ((d : Dev) → stop ≢ Stop.Device d) → IsQuiet (S.state site.new)) }
+
+        // Of every site.
+        ensures going { OnOk result (MayWork self.new (S.state site.new)) }
+        ensures made { OnOk result (self.new.made + first ≡ self.old.made) }
+        ensures blocks { OnOk result (blocks_to self.new.log ≡ blocks_to self.old.log) }
+        ensures end { OnOk result (end_of self.old.log ≤ end_of self.new.log) }
+        ensures asks { Asks result checkpoint_works self.old.pages self.new.pages
+            (S.state site.old) (S.state site.new) }
+        ensures kept { OnOk result (self.old.log.kept ≤ self.new.log.kept) }
+        ensures sizes { sizes_of self.new ≡ sizes_of self.old }
+        ensures goes { Goes (S.state site.old) (S.state site.new) }
+
+        // When each answer comes.
+        ensures device { (d : Dev) → IsErrOf result (Stop.Device d)
+            → FaultRose d (S.state site.old) (S.state site.new) }
+        ensures worn_log { (newest : Option Master) (records : List Entry) (table : List Content)
+            → both.Holds self.old.log self.old.pages (S.state site.old) newest records table commits
+            → MayBeMade self.old.masters (S.state site.old) records active
+            → IsErrOf result (Stop.Worn Dev.Log) → IsLogWorn (sizes_of self.old) (S.state site.new).image }
+        ensures worn { (newest : Option Master) (records : List Entry) (table : List Content)
+            → both.Holds self.old.log self.old.pages (S.state site.old) newest records table commits
+            → MayBeMade self.old.masters (S.state site.old) records active
+            → IsErrOf result (Stop.Worn Dev.Flash) → IsWorn (sizes_of self.old) (S.state site.new).image }
+        ensures stops { IfErr result (λ stop. MayStop stop) }
+        ensures foreign { IfErr result (λ stop. stop ≢ Stop.Foreign) }
+    {
+        match checkpoint(
+            site,
+            &mut self.log,
+            &mut self.pages,
+            &mut self.masters,
+            active,
+            commits,
+        ) {
+            Ok(_) => {
+                self.made -= first;
+                Ok(())
+            }
+            Err(stop) => Err(stop),
+        }
     }
 }

@@ -85,7 +85,7 @@ fn same(reply: &Reply, wanted: &Reply) -> bool {
     match (reply, wanted) {
         (Reply::Done, Reply::Done) => true,
         (Reply::Nothing, Reply::Nothing) => true,
-        (Reply::Aborted, Reply::Aborted) => true,
+        (Reply::Aborted, Reply::Aborted) | (Reply::Checked, Reply::Checked) => true,
         (Reply::Value(a), Reply::Value(b)) => a.as_slice() == b.as_slice(),
         (Reply::Committed(a), Reply::Committed(b)) => a == b,
         (Reply::Stat(a), Reply::Stat(b)) => a == b,
@@ -121,6 +121,7 @@ fn call(engine: &mut Engine, site: &mut MemSite, command: &Command) -> Result<Re
         Command::Abort { session } => engine.abort(site, *session),
         Command::Get { number } => engine.get(site, *number),
         Command::Set { number, value } => engine.set(site, *number, value),
+        Command::Checkpoint => engine.checkpoint(site),
         _ => Ok(engine.stat()),
     }
 }
@@ -239,7 +240,7 @@ fn undoing_has_room(rt: HostRuntime) -> Result<(), Fail> {
         (write(0, 1, 0xaa), full(7, 7)),
         (abort(0), Reply::Aborted),
         (Command::Stat, Reply::Stat(counts)),
-        (set(0, 0xaa), full(14, 0)),
+        (set(0, 0xaa), Reply::Committed(1)),
     ];
     let mut site = MemSite::new(rt.alloc(), &SMALL)?;
     assert_eq!(rt; run(rt.alloc(), &mut site, &script)?, script.len());
@@ -248,6 +249,13 @@ fn undoing_has_room(rt: HostRuntime) -> Result<(), Fail> {
 
 #[test]
 fn each_session_has_room_to_end(rt: HostRuntime) -> Result<(), Fail> {
+    let counts = Stat {
+        commits: 1,
+        used: 8,
+        owed: 7,
+        cap: 15,
+        active: 7,
+    };
     let script = [
         (begin(0), Reply::Done),
         (begin(1), Reply::Done),
@@ -258,7 +266,8 @@ fn each_session_has_room_to_end(rt: HostRuntime) -> Result<(), Fail> {
         (begin(6), Reply::Done),
         (begin(7), full(7, 7)),
         (commit(0), Reply::Committed(1)),
-        (begin(7), full(8, 6)),
+        (begin(7), Reply::Done),
+        (Command::Stat, Reply::Stat(counts)),
     ];
     let mut site = MemSite::new(rt.alloc(), &SMALL)?;
     assert_eq!(rt; run(rt.alloc(), &mut site, &script)?, script.len());
@@ -273,8 +282,8 @@ fn survives(alloc: Global, changes: u64, seed: u64) -> Result<Option<bool>, Stop
         (write(3, 5, 0x0a), Reply::Done),
         (write(3, 40, 0x0b), Reply::Done),
     ];
-    // A start on blank devices changes nothing, and the writes stay in memory, as both pages do.
-    site.fuse(changes);
+    // A start on blank devices saves a master, by five changes. The writes stay in memory, as both pages do.
+    site.fuse(changes + 5);
     let mut engine = Engine::start(alloc, &mut site, 2)?;
     if play(&mut engine, &mut site, &script)? < script.len() {
         return Ok(None);
@@ -333,6 +342,21 @@ fn half_done(alloc: Global) -> Result<MemSite, Stop> {
     Ok(site.crash(1))
 }
 
+// A session's first write stands before the newest checkpoint, its second one behind it, and the session never ends.
+fn half_done_over_a_checkpoint(alloc: Global) -> Result<MemSite, Stop> {
+    let mut site = MemSite::new(alloc, &STANDARD)?;
+    let script = [
+        (set(1, 0xcc), Reply::Committed(1)),
+        (begin(0), Reply::Done),
+        (write(0, 1, 0xaa), Reply::Done),
+        (Command::Checkpoint, Reply::Checked),
+        (write(0, 2, 0xbb), Reply::Done),
+        (set(5, 0x05), Reply::Committed(2)),
+    ];
+    let _played = run(alloc, &mut site, &script)?;
+    Ok(site.crash(1))
+}
+
 // Whether a run finds the table as it was before the session, and two commits.
 fn is_undone(alloc: Global, site: &mut MemSite) -> Result<bool, Stop> {
     let mut engine = Engine::start(alloc, site, 1)?;
@@ -364,11 +388,11 @@ fn what_is_not_committed_is_undone(rt: HostRuntime) -> Result<(), Fail> {
 #[test]
 fn a_stopped_restart_is_done_again(rt: HostRuntime) -> Result<(), Fail> {
     for seed in [0, 1, 2, 77] {
-        for changes in 0..6 {
+        for changes in 0..16 {
             let mut site = half_done(rt.alloc())?;
             site.fuse(changes);
             let started = Engine::start(rt.alloc(), &mut site, 1).is_ok();
-            assert_eq!(rt; started, changes >= 5);
+            assert_eq!(rt; started, changes >= 15);
             let mut site = site.crash(seed);
             site.fuse(changes);
             let _started = Engine::start(rt.alloc(), &mut site, 1).is_ok();
@@ -376,6 +400,40 @@ fn a_stopped_restart_is_done_again(rt: HostRuntime) -> Result<(), Fail> {
             assert!(rt; is_undone(rt.alloc(), &mut site)?);
         }
     }
+    Ok(())
+}
+
+#[test]
+fn a_stopped_restart_undoes_what_a_checkpoint_keeps(rt: HostRuntime) -> Result<(), Fail> {
+    for seed in [0, 1, 2, 77] {
+        for changes in 0..16 {
+            let mut site = half_done_over_a_checkpoint(rt.alloc())?;
+            site.fuse(changes);
+            let _started = Engine::start(rt.alloc(), &mut site, 1).is_ok();
+            let mut site = site.crash(seed);
+            assert!(rt; is_undone(rt.alloc(), &mut site)?);
+        }
+    }
+    Ok(())
+}
+
+#[test]
+fn a_small_log_is_written_over_again_and_again(rt: HostRuntime) -> Result<(), Fail> {
+    let mut site = MemSite::new(rt.alloc(), &SMALL)?;
+    let mut engine = Engine::start(rt.alloc(), &mut site, 1)?;
+    for commits in 0..100 {
+        let wanted = [(set(commits, 0xaa), Reply::Committed(commits as u64 + 1))];
+        assert_eq!(rt; play(&mut engine, &mut site, &wanted)?, 1);
+    }
+    let counts = Stat {
+        commits: 100,
+        used: 3,
+        owed: 0,
+        cap: 15,
+        active: 0,
+    };
+    let script = [(Command::Stat, Reply::Stat(counts)), (get(99), found(0xaa))];
+    assert_eq!(rt; play(&mut engine, &mut site, &script)?, 2);
     Ok(())
 }
 
@@ -431,7 +489,7 @@ fn half_done_at_length(alloc: Global) -> Result<MemSite, Stop> {
 fn is_undone_at_length(alloc: Global, site: &mut MemSite) -> Result<bool, Stop> {
     let counts = Stat {
         commits: 6,
-        used: 30,
+        used: 0,
         owed: 0,
         cap: 63,
         active: 0,
@@ -451,11 +509,11 @@ fn is_undone_at_length(alloc: Global, site: &mut MemSite) -> Result<bool, Stop> 
 #[test]
 fn a_stopped_restart_goes_on(rt: HostRuntime) -> Result<(), Fail> {
     for seed in [0, 1, 2, 77] {
-        for changes in 0..11 {
+        for changes in 0..21 {
             let mut site = half_done_at_length(rt.alloc())?;
             site.fuse(changes);
             let started = Engine::start(rt.alloc(), &mut site, 1).is_ok();
-            assert_eq!(rt; started, changes >= 10);
+            assert_eq!(rt; started, changes >= 20);
             let mut site = site.crash(seed);
             assert!(rt; is_undone_at_length(rt.alloc(), &mut site)?);
             let mut site = site.crash(seed);
@@ -468,7 +526,8 @@ fn a_stopped_restart_goes_on(rt: HostRuntime) -> Result<(), Fail> {
 #[test]
 fn a_fault_ends_the_database(rt: HostRuntime) -> Result<(), Fail> {
     let mut site = MemSite::new(rt.alloc(), &STANDARD)?;
-    site.fail(Call::Sync(Dev::Log), 1)?;
+    // The start syncs the log twice, for its master.
+    site.fail(Call::Sync(Dev::Log), 3)?;
     let mut engine = Engine::start(rt.alloc(), &mut site, 4096)?;
     assert_eq!(rt; engine.commits(), 0);
     let answer = engine.set(&mut site, 5, &octet(0x0a));

@@ -1,3 +1,4 @@
 pub mod BySession
 pub mod Changes
+pub mod Counting
 pub mod Places

@@ -1,5 +1,5 @@
 -- The table of active sessions, as a list of entries.
-use Rattle.std.specs.Prelude.{◌≡◌, ◌≢◌, ℕ, ◌+◌, ◌^◌, ◌<◌, ◌≤◌, ◌==◌, List, [], ◌∷◌, find, sum_by, All, Contains, Option, Some, None}
+use Rattle.std.specs.Prelude.{◌≡◌, ◌≢◌, ℕ, ◌+◌, ◌-◌, ◌^◌, ◌<◌, ◌≤◌, ◌==◌, List, [], ◌∷◌, find, sum_by, All, Contains, Option, Some, None}
 use Rattle.std.specs.List.{AllByRecursion}
 use Rattle.txn_table.specs.declared.active.Active.{Active}
 
@@ -22,6 +22,10 @@ pub record ChangesOnly (old new : List Active) (session : ℕ) (entry : Option A
 -- an entry after one more write, whose log record is at an LSN
 abbrev pub after_write : Active → ℕ → Active
 after_write entry lsn = record entry { last = lsn; writes = entry.writes + 1 }
+
+-- an entry where records are counted from a later one on
+abbrev pub counted_from : ℕ → Active → Active
+counted_from first entry = record entry { born = entry.born - first }
 
 -- the log records that the active sessions may still make: one for each of their writes, and one more for each of them
 abbrev pub owed : List Active → ℕ

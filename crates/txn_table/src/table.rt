@@ -1,7 +1,7 @@
-ghost use Rattle.std.specs.Prelude.{◌≡◌, ◌+◌, ◌^◌, ◌<◌, ◌≤◌, ◌==◌, [], Some, None, length, map, slice_get, AllPairs, IsSome, IsNone, option_map};
+ghost use Rattle.std.specs.Prelude.{◌≡◌, ◌+◌, ◌^◌, ◌<◌, ◌≤◌, ◌==◌, [], Some, None, length, map, slice_get, All, AllPairs, IsSome, IsNone, option_map};
 ghost use Rattle.std.specs.List.{position_or_len};
 ghost use Rattle.std.specs.Option.{ForSome};
-ghost use Rattle.txn_table.specs.Entries.{IsTable, entry_of, ChangesOnly, after_write, owed, IsLeast};
+ghost use Rattle.txn_table.specs.Entries.{IsTable, entry_of, ChangesOnly, after_write, counted_from, owed, IsLeast};
 
 use crate::active::Active;
 use arrayvec::ArrayVec;
@@ -108,6 +108,16 @@ impl TxnTable {
     {
         let place = place_of(&self.entries, session);
         self.entries.remove(place);
+    }
+
+    /// Records are counted from a later one: so many fewer were made before each session began.
+    pub fn count_from(&mut self, first: u64)
+        requires born { All (λ entry. first ≤ entry.born) self.old }
+        ensures entries { self.new ≡ map (counted_from first) self.old }
+    {
+        for place in 0..self.entries.len() {
+            self.entries[place].born -= first;
+        }
     }
 
     /// How many log records the active sessions may still make: if each of them is undone, one for each of its writes and

@@ -54,3 +54,17 @@ fn seven_sessions_owe_seven(rt: HostRuntime) {
     assert_eq!(rt; table.at(0).session, 1);
     assert_eq!(rt; table.at(6).session, 7);
 }
+
+// Two sessions begin after three and five log records. Once records are counted from the first of them on, they began after none and two.
+#[test]
+fn records_are_counted_from_the_oldest(rt: HostRuntime) {
+    let mut table = TxnTable::new();
+    table.add(begun(0, 3));
+    table.add(begun(1, 5));
+    if let Some(first) = table.oldest_born() {
+        table.count_from(first);
+    }
+    assert_eq!(rt; table.find(0).map(|entry| entry.born), Some(0));
+    assert_eq!(rt; table.find(1).map(|entry| entry.born), Some(2));
+    assert_eq!(rt; table.oldest_begin(), Some(1536));
+}

@@ -1,24 +1,40 @@
 use Rattle.site.specs.declared.outside.Dev.TheVariants.{Flash, Disk}
 use Rattle.site.specs.State.{Image}
 use Rattle.engine.specs.Paging.{cache_on}
-use Rattle.std.proofs.Common.{◌∙◌, sym, subst, arith, ap}
+use Rattle.std.proofs.Common.{◌≡◌, ◌∙◌, ◌-◌, ◌≤◌, List, [], Option, sym, subst, arith, ap}
+use Rattle.site.specs.declared.geometry.Geometry.{Geometry}
+use Rattle.checkpoint.specs.declared.master.Master.{Master}
+use Rattle.log_records.specs.declared.log_record.LogRecord.{LogRecord}
+use Rattle.log_store.specs.declared.store.LogStore.{LogStore}
+use Rattle.log_store.specs.Held as log_held
+use Rattle.sealed_ring.specs.Ring.{hi_of}
+use Rattle.image_changes.specs.Rings.{log_shape}
+use Rattle.engine.specs.Image.{IsSound}
 use Rattle.site.specs.Laws.{stays_honest}
 use Rattle.site.specs.declared.outside.Stop.TheVariants.{Foreign}
-use Rattle.image_meaning.specs.Meaning.{AreOctetsSound}
-use Rattle.checkpoint.specs.Newest.{blank}
-use Rattle.engine.proofs.Openings.{has_groups, groups_on, first_on, blank_there, there_is_blank, both_go_on, ready_now, err_again}
+use Rattle.image_meaning.specs.Meaning.{AreOctetsSoundUnder, kept_by, saved_by}
+use Rattle.engine.proofs.Openings.{has_groups, groups_on, first_on, there_is_newest, masters_form, kept_is, both_go_on, ready_now, err_again}
 use Rattle.engine.proofs.restart.open.Goals as goal
 
 pub returns-in-Err-start-clause-readable : goal.returns-in-Err-start-clause-readable
-returns-in-Err-start-clause-readable g c honest blocks sound is =
+returns-in-Err-start-clause-readable g c honest newest blocks sound is =
     let old = g.S.Site.state c.args.site.now in
     let mid = g.S.Site.state c.start.new.site in
     let k = c.args.geometry.now in
-    let there = subst (AreOctetsSound k) (sym (c.start.ensures.same honest).image) sound.octets in
+    let there = subst (AreOctetsSoundUnder newest k) (sym (c.start.ensures.same honest).image) sound.octets in
     c.in-Err-start.ensures.foreign (err_again c.in-Err-start.stop Foreign is) (stays_honest old mid c.start.ensures.goes honest) (first_on k mid.image) (groups_on k mid.image) (has_groups k mid.image there.groups)
 
-pub returns-in-Ok-newest-clause-ready : goal.returns-in-Ok-newest-clause-ready
-returns-in-Ok-newest-clause-ready g c honest blocks table commits sound means =
+-- the newest master's kept block is live or the next one
+kept_lives : (newest : Option Master) (k : Geometry) (image : Image) (blocks : List (List LogRecord)) (log : LogStore) (m : Master) → IsSound newest k image blocks → m ≡ saved_by newest → log.ring.hi ≡ hi_of (log_shape k) image.log →
+    log.kept ≡ log.ring.hi - (k.blocks - 1) → (log.kept ≤ m.kept) × (m.kept ≤ log.ring.hi)
+kept_lives newest k image blocks log m sound is hi kept =
+    let same : m.kept ≡ kept_by newest = ap (λ (x : Master). x.kept) is ∙ kept_is newest in
+    let next = sound.held.next in
+    let few = sound.held.few in
+    (omega (arith, same, next, few, hi, kept), omega (arith, same, next, hi))
+
+pub returns-in-Ok-keep_from-clause-ready : goal.returns-in-Ok-keep_from-clause-ready
+returns-in-Ok-keep_from-clause-ready g c honest newest blocks table commits sound means =
     let old = g.S.Site.state c.args.site.now in
     let mid = g.S.Site.state c.start.new.site in
     let found = g.S.Site.state c.start-2.new.site in
@@ -29,40 +45,68 @@ returns-in-Ok-newest-clause-ready g c honest blocks table commits sound means =
     let same_second = c.start-2.ensures.same honest_mid in
     let honest_found = stays_honest mid found c.start-2.ensures.goes honest_mid in
     let same_third = c.newest.ensures.same honest_found in
-    let there = subst (AreOctetsSound k) (sym same_first.image) sound.octets in
-    let there_found = subst (AreOctetsSound k) (sym same_second.image) there in
-    ready_now c.stays_beside.ensures.fits k c.in-Ok.log c.in-Ok-start.pages old mid found new c.start.ensures.goes same_first c.start-2.ensures.goes same_second c.newest.ensures.goes same_third
-    c.in-Ok-newest.master blocks table commits c.in-Ok-start.ensures.geometry c.in-Ok-start.ensures.empty (blank_there k found.image c.in-Ok-newest.master there_found.masters (c.in-Ok-newest.ensures.master honest_found))
+    let there = subst (AreOctetsSoundUnder newest k) (sym same_first.image) sound.octets in
+    let there_found = subst (AreOctetsSoundUnder newest k) (sym same_second.image) there in
+    let master = c.in-Ok-newest.master in
+    let is = c.one_master.ensures.newest found.image master (saved_by newest) (c.in-Ok-newest.ensures.master honest_found) (there_is_newest newest k found.image there_found.masters) in
+    let keeps = c.in-Ok-keep_from.ensures.keeps in
+    let finds = subst (λ (log : LogStore). log_held.Finds log mid) (sym keeps) (record { honest = (c.in-Ok.ensures.found honest sound.held.form).honest; form = (c.in-Ok.ensures.found honest sound.held.form).form; hi = (c.in-Ok.ensures.found honest sound.held.form).hi }) in
+    let held = c.in-Ok.ensures.holds honest (kept_by newest) blocks sound.held in
+    ready_now c.stays_beside.ensures.fits k c.keep_from.new.log c.in-Ok-start.pages old mid found new c.start.ensures.goes same_first c.start-2.ensures.goes same_second c.newest.ensures.goes same_third
+    c.in-Ok-newest.masters master newest blocks table commits c.in-Ok-start.ensures.geometry c.in-Ok-start.ensures.empty (ap (λ (log : LogStore). log.kept) keeps) is
     (c.in-Ok-start.ensures.fits honest_mid (first_on k mid.image) (groups_on k mid.image) (has_groups k mid.image there.groups) there.clean there.versions)
-    (c.in-Ok.ensures.found honest sound.held.form) (c.in-Ok.ensures.holds honest 0 blocks sound.held) sound means
+    (c.in-Ok-newest.ensures.found honest_found (masters_form newest k found.image there_found.masters)) finds
+    (subst (λ (log : LogStore). log_held.HasBlocks log.geometry (kept_by newest) blocks mid.image) (sym keeps) held.blocks)
+    (subst (λ (log : LogStore). log_held.HasTail log.tail log.used []) (sym keeps) held.tail) sound means
 
-pub returns-in-Ok-newest-clause-going : goal.returns-in-Ok-newest-clause-going
-returns-in-Ok-newest-clause-going g c = record {
-  going = both_go_on c.stays_beside.ensures.going c.in-Ok.log c.in-Ok-start.pages (g.S.Site.state c.start.new.site) (g.S.Site.state c.start-2.new.site) (g.S.Site.state c.newest.new.site) c.start-2.ensures.goes c.newest.ensures.goes
-      c.in-Ok.ensures.going c.in-Ok-start.ensures.going (c.in-Ok.ensures.geometry ∙ sym c.in-Ok-start.ensures.geometry) c.in-Ok.ensures.empty;
-  kept = let none = c.if-kept-gt0.false in let kept = c.kept.ensures in omega (arith, none, kept);
+pub returns-in-Ok-keep_from-clause-going : goal.returns-in-Ok-keep_from-clause-going
+returns-in-Ok-keep_from-clause-going g c = record {
+  going = both_go_on c.stays_beside.ensures.going c.keep_from.new.log c.in-Ok-start.pages (g.S.Site.state c.start.new.site) (g.S.Site.state c.start-2.new.site) (g.S.Site.state c.newest.new.site) c.start-2.ensures.goes c.newest.ensures.goes
+      (c.in-Ok-keep_from.ensures.going (g.S.Site.state c.start.new.site) c.in-Ok.ensures.going) c.in-Ok-start.ensures.going
+      (ap (λ (log : LogStore). log.geometry) c.in-Ok-keep_from.ensures.keeps ∙ c.in-Ok.ensures.geometry ∙ sym c.in-Ok-start.ensures.geometry) (ap (λ (log : LogStore). log.used) c.in-Ok-keep_from.ensures.keeps ∙ c.in-Ok.ensures.empty);
   ascend = c.in-Ok-newest.ensures.ascend;
   few = c.in-Ok-newest.ensures.few;
+  masters = c.in-Ok-newest.ensures.usable;
+  shape = c.in-Ok-newest.ensures.shape;
 }
 
+pub returns-in-Err-keep_from-clause-readable : goal.returns-in-Err-keep_from-clause-readable
+returns-in-Err-keep_from-clause-readable g c honest newest blocks sound is =
+    let old = g.S.Site.state c.args.site.now in
+    let mid = g.S.Site.state c.start.new.site in
+    let found = g.S.Site.state c.start-2.new.site in
+    let k = c.args.geometry.now in
+    let same_first = c.start.ensures.same honest in
+    let honest_mid = stays_honest old mid c.start.ensures.goes honest in
+    let honest_found = stays_honest mid found c.start-2.ensures.goes honest_mid in
+    let there = subst (AreOctetsSoundUnder newest k) (sym (c.start-2.ensures.same honest_mid).image) (subst (AreOctetsSoundUnder newest k) (sym same_first.image) sound.octets) in
+    let master = c.in-Ok-newest.master in
+    let master_is = c.one_master.ensures.newest found.image master (saved_by newest) (c.in-Ok-newest.ensures.master honest_found) (there_is_newest newest k found.image there.masters) in
+    let log = c.in-Ok.log in
+    let geometry = c.in-Ok.ensures.geometry in
+    let finds = c.in-Ok.ensures.found honest sound.held.form in
+    let hi : log.ring.hi ≡ hi_of (log_shape k) old.image.log = finds.hi ∙ ap (λ (x : Geometry). hi_of (log_shape x) mid.image.log) geometry ∙ ap (λ (i : Image). hi_of (log_shape k) i.log) same_first.image in
+    let lives = kept_lives newest k old.image blocks log master sound master_is hi c.in-Ok.ensures.kept in
+    c.in-Err-keep_from.ensures.live lives.0 lives.1
+
 pub returns-in-Err-newest-clause-readable : goal.returns-in-Err-newest-clause-readable
-returns-in-Err-newest-clause-readable g c honest blocks sound is =
+returns-in-Err-newest-clause-readable g c honest newest blocks sound is =
     let old = g.S.Site.state c.args.site.now in
     let mid = g.S.Site.state c.start.new.site in
     let found = g.S.Site.state c.start-2.new.site in
     let k = c.args.geometry.now in
     let honest_mid = stays_honest old mid c.start.ensures.goes honest in
     let honest_found = stays_honest mid found c.start-2.ensures.goes honest_mid in
-    let there = subst (AreOctetsSound k) (sym (c.start-2.ensures.same honest_mid).image) (subst (AreOctetsSound k) (sym (c.start.ensures.same honest).image) sound.octets) in
-    c.in-Err-newest.ensures.foreign (err_again c.in-Err-newest.stop Foreign is) honest_found there.masters.form blank (there_is_blank k found.image there.masters)
+    let there = subst (AreOctetsSoundUnder newest k) (sym (c.start-2.ensures.same honest_mid).image) (subst (AreOctetsSoundUnder newest k) (sym (c.start.ensures.same honest).image) sound.octets) in
+    c.in-Err-newest.ensures.foreign (err_again c.in-Err-newest.stop Foreign is) honest_found (masters_form newest k found.image there.masters) (saved_by newest) (there_is_newest newest k found.image there.masters)
 
-pub returns-in-Ok-newest-clause-cache : goal.returns-in-Ok-newest-clause-cache
-returns-in-Ok-newest-clause-cache g c honest blocks sound =
+pub returns-in-Ok-keep_from-clause-cache : goal.returns-in-Ok-keep_from-clause-cache
+returns-in-Ok-keep_from-clause-cache g c honest newest blocks sound =
     let old = g.S.Site.state c.args.site.now in
     let mid = g.S.Site.state c.start.new.site in
     let k = c.args.geometry.now in
     let same = (c.start.ensures.same honest).image in
-    let there = subst (AreOctetsSound k) (sym same) sound.octets in
+    let there = subst (AreOctetsSoundUnder newest k) (sym same) sound.octets in
     c.in-Ok-start.ensures.machine (stays_honest old mid c.start.ensures.goes honest) (first_on k mid.image) (groups_on k mid.image) (has_groups k mid.image there.groups) ∙ ap (λ (image : Image). cache_on k image) same
 
 pub returns-in-Err-clause-flash_reads : goal.returns-in-Err-clause-flash_reads
@@ -70,12 +114,6 @@ returns-in-Err-clause-flash_reads g c = let f = c.start.ensures.others Flash (λ
 
 pub returns-in-Err-clause-disk_reads : goal.returns-in-Err-clause-disk_reads
 returns-in-Err-clause-disk_reads g c = c.start.ensures.others Disk (λ e. cc)
-
-pub returns-then-kept-gt0-clause-flash_reads : goal.returns-then-kept-gt0-clause-flash_reads
-returns-then-kept-gt0-clause-flash_reads g c = let f = c.start.ensures.others Flash (λ e. cc) in omega (arith, f)
-
-pub returns-then-kept-gt0-clause-disk_reads : goal.returns-then-kept-gt0-clause-disk_reads
-returns-then-kept-gt0-clause-disk_reads g c = c.start.ensures.others Disk (λ e. cc)
 
 pub returns-in-Err-start-clause-flash_reads : goal.returns-in-Err-start-clause-flash_reads
 returns-in-Err-start-clause-flash_reads g c = let f = c.start.ensures.others Flash (λ e. cc) in let r = c.start-2.ensures.reads in omega (arith, f, r)
@@ -89,8 +127,14 @@ returns-in-Err-newest-clause-flash_reads g c = let f = c.start.ensures.others Fl
 pub returns-in-Err-newest-clause-disk_reads : goal.returns-in-Err-newest-clause-disk_reads
 returns-in-Err-newest-clause-disk_reads g c = c.newest.ensures.others Disk (λ e. cc) ∙ c.start-2.ensures.others Disk (λ e. cc) ∙ c.start.ensures.others Disk (λ e. cc)
 
-pub returns-in-Ok-newest-clause-flash_reads : goal.returns-in-Ok-newest-clause-flash_reads
-returns-in-Ok-newest-clause-flash_reads g c = let f = c.start.ensures.others Flash (λ e. cc) in let r = c.start-2.ensures.reads in let n = c.newest.ensures.others Flash (λ e. cc) in omega (arith, f, r, n)
+pub returns-in-Ok-keep_from-clause-flash_reads : goal.returns-in-Ok-keep_from-clause-flash_reads
+returns-in-Ok-keep_from-clause-flash_reads g c = let f = c.start.ensures.others Flash (λ e. cc) in let r = c.start-2.ensures.reads in let n = c.newest.ensures.others Flash (λ e. cc) in omega (arith, f, r, n)
 
-pub returns-in-Ok-newest-clause-disk_reads : goal.returns-in-Ok-newest-clause-disk_reads
-returns-in-Ok-newest-clause-disk_reads g c = c.newest.ensures.others Disk (λ e. cc) ∙ c.start-2.ensures.others Disk (λ e. cc) ∙ c.start.ensures.others Disk (λ e. cc)
+pub returns-in-Ok-keep_from-clause-disk_reads : goal.returns-in-Ok-keep_from-clause-disk_reads
+returns-in-Ok-keep_from-clause-disk_reads g c = c.newest.ensures.others Disk (λ e. cc) ∙ c.start-2.ensures.others Disk (λ e. cc) ∙ c.start.ensures.others Disk (λ e. cc)
+
+pub returns-in-Err-keep_from-clause-flash_reads : goal.returns-in-Err-keep_from-clause-flash_reads
+returns-in-Err-keep_from-clause-flash_reads g c = let f = c.start.ensures.others Flash (λ e. cc) in let r = c.start-2.ensures.reads in let n = c.newest.ensures.others Flash (λ e. cc) in omega (arith, f, r, n)
+
+pub returns-in-Err-keep_from-clause-disk_reads : goal.returns-in-Err-keep_from-clause-disk_reads
+returns-in-Err-keep_from-clause-disk_reads g c = c.newest.ensures.others Disk (λ e. cc) ∙ c.start-2.ensures.others Disk (λ e. cc) ∙ c.start.ensures.others Disk (λ e. cc)

@@ -9,7 +9,8 @@ use Rattle.site.specs.State.{IsQuiet}
 use Rattle.site.specs.declared.geometry.Geometry.{Geometry}
 use Rattle.log_records.specs.Sound.{Means, commit_count}
 use Rattle.flash_cache.specs.Held.{IsWorn}
-use Rattle.image_meaning.specs.Meaning.{picture}
+use Rattle.image_meaning.specs.Meaning.{picture_under}
+use Rattle.redo_undo.specs.Holding.{IsLogWorn}
 use Rattle.engine.specs.Going.{sizes_of}
 use Rattle.engine.specs.Image.{IsSound}
 use Rattle.engine.specs.Restarting.{IsReady, RestartedAs}
@@ -21,65 +22,75 @@ pub returns-in-Err-open-clause-any_moment : goal.returns-in-Err-open-clause-any_
 returns-in-Err-open-clause-any_moment g c honest quiet k table commits stands = stands_still k (g.S.Site.state c.args.site.now) (g.S.Site.state c.open.new.site) table commits quiet (c.open.ensures.same honest) stands
 
 pub returns-clause-opens : goal.returns-clause-opens
-returns-clause-opens g c honest k blocks table commits sound means =
+returns-clause-opens g c honest k newest blocks table commits sound means =
     let old = g.S.Site.state c.args.site.now in
     let mid = g.S.Site.state c.open.new.site in
     let new = g.S.Site.state c.recover.new.site in
     let same : c.in-Ok.geometry ≡ k = (c.in-Ok.ensures.found k sound.octets.limits sound.octets.lengths).1 in
-    let ready : IsReady c.in-Ok-open.opened mid blocks table commits = c.in-Ok-open.ensures.ready honest blocks table commits
-    (subst (λ (x : Geometry). IsSound x old.image blocks) (sym same) sound) (subst (λ (x : Geometry). Means (picture x old.image blocks) table commits) (sym same) means) in
-    if_ok_both c.recover.result (λ r. RestartedAs r new blocks table commits) (λ r. sizes_of r.store ≡ c.in-Ok-open.opened.pages.flash.geometry) (λ r. RestartedAs r new blocks table commits × (sizes_of r.store ≡ k))
-    (λ r done sizes. (done, sizes ∙ c.in-Ok-open.ensures.sizes ∙ same)) (c.recover.ensures.recovers blocks table commits ready) c.recover.ensures.sizes
+    let ready : IsReady c.in-Ok-open.opened mid newest blocks table commits = c.in-Ok-open.ensures.ready honest newest blocks table commits
+    (subst (λ (x : Geometry). IsSound newest x old.image blocks) (sym same) sound) (subst (λ (x : Geometry). Means (picture_under newest x old.image blocks) table commits) (sym same) means) in
+    if_ok_both c.recover.result (λ r. RestartedAs r new table commits) (λ r. sizes_of r.store ≡ c.in-Ok-open.opened.pages.flash.geometry) (λ r. RestartedAs r new table commits × (sizes_of r.store ≡ k))
+    (λ r done sizes. (done, sizes ∙ c.in-Ok-open.ensures.sizes ∙ same)) (c.recover.ensures.recovers newest blocks table commits ready) c.recover.ensures.sizes
 
 pub returns-clause-any_moment : goal.returns-clause-any_moment
 returns-clause-any_moment g c honest quiet k table commits stands =
     let old = g.S.Site.state c.args.site.now in
     let mid = g.S.Site.state c.open.new.site in
     let new = g.S.Site.state c.recover.new.site in
-    let same : c.in-Ok.geometry ≡ k = (c.in-Ok.ensures.found k stands.sound.octets.limits stands.sound.octets.lengths).1 in
-    let ready : IsReady c.in-Ok-open.opened mid stands.blocks table commits = c.in-Ok-open.ensures.ready honest stands.blocks table commits
-    (subst (λ (x : Geometry). IsSound x old.image stands.blocks) (sym same) stands.sound) (subst (λ (x : Geometry). Means (picture x old.image stands.blocks) table commits) (sym same) stands.means) in
+    let same : c.in-Ok.geometry ≡ k = (c.in-Ok.ensures.found k stands.stands.sound.octets.limits stands.stands.sound.octets.lengths).1 in
+    let ready : IsReady c.in-Ok-open.opened mid stands.newest stands.stands.blocks table commits = c.in-Ok-open.ensures.ready honest stands.newest stands.stands.blocks table commits
+    (subst (λ (x : Geometry). IsSound stands.newest x old.image stands.stands.blocks) (sym same) stands.stands.sound) (subst (λ (x : Geometry). Means (picture_under stands.newest x old.image stands.stands.blocks) table commits) (sym same) stands.stands.means) in
     let unchanged = c.open.ensures.same honest in
     let quiet_mid : IsQuiet mid = unchanged.loose ∙ quiet in
     and_then k c.in-Ok-open.opened.pages.flash.geometry old mid new table commits (c.in-Ok-open.ensures.sizes ∙ same) (stands_still k old mid table commits quiet unchanged stands)
-    (c.recover.ensures.any_moment stands.blocks table commits ready quiet_mid)
+    (c.recover.ensures.any_moment stands.newest stands.stands.blocks table commits ready quiet_mid)
 
 pub returns-clause-readable : goal.returns-clause-readable
 returns-clause-readable g c honest k table commits stands =
     let old = g.S.Site.state c.args.site.now in
     let mid = g.S.Site.state c.open.new.site in
     let new = g.S.Site.state c.recover.new.site in
-    let same : c.in-Ok.geometry ≡ k = (c.in-Ok.ensures.found k stands.sound.octets.limits stands.sound.octets.lengths).1 in
-    let ready : IsReady c.in-Ok-open.opened mid stands.blocks table commits = c.in-Ok-open.ensures.ready honest stands.blocks table commits
-    (subst (λ (x : Geometry). IsSound x old.image stands.blocks) (sym same) stands.sound) (subst (λ (x : Geometry). Means (picture x old.image stands.blocks) table commits) (sym same) stands.means) in
-    c.recover.ensures.readable stands.blocks table commits ready
+    let same : c.in-Ok.geometry ≡ k = (c.in-Ok.ensures.found k stands.stands.sound.octets.limits stands.stands.sound.octets.lengths).1 in
+    let ready : IsReady c.in-Ok-open.opened mid stands.newest stands.stands.blocks table commits = c.in-Ok-open.ensures.ready honest stands.newest stands.stands.blocks table commits
+    (subst (λ (x : Geometry). IsSound stands.newest x old.image stands.stands.blocks) (sym same) stands.stands.sound) (subst (λ (x : Geometry). Means (picture_under stands.newest x old.image stands.stands.blocks) table commits) (sym same) stands.stands.means) in
+    c.recover.ensures.readable stands.newest stands.stands.blocks table commits ready
 
 pub returns-clause-quiet : goal.returns-clause-quiet
 returns-clause-quiet g c honest quiet k table commits stands =
     let old = g.S.Site.state c.args.site.now in
     let mid = g.S.Site.state c.open.new.site in
     let new = g.S.Site.state c.recover.new.site in
-    let same : c.in-Ok.geometry ≡ k = (c.in-Ok.ensures.found k stands.sound.octets.limits stands.sound.octets.lengths).1 in
-    let ready : IsReady c.in-Ok-open.opened mid stands.blocks table commits = c.in-Ok-open.ensures.ready honest stands.blocks table commits
-    (subst (λ (x : Geometry). IsSound x old.image stands.blocks) (sym same) stands.sound) (subst (λ (x : Geometry). Means (picture x old.image stands.blocks) table commits) (sym same) stands.means) in
+    let same : c.in-Ok.geometry ≡ k = (c.in-Ok.ensures.found k stands.stands.sound.octets.limits stands.stands.sound.octets.lengths).1 in
+    let ready : IsReady c.in-Ok-open.opened mid stands.newest stands.stands.blocks table commits = c.in-Ok-open.ensures.ready honest stands.newest stands.stands.blocks table commits
+    (subst (λ (x : Geometry). IsSound stands.newest x old.image stands.stands.blocks) (sym same) stands.stands.sound) (subst (λ (x : Geometry). Means (picture_under stands.newest x old.image stands.stands.blocks) table commits) (sym same) stands.stands.means) in
     let quiet_mid : IsQuiet mid = (c.open.ensures.same honest).loose ∙ quiet in
-    c.recover.ensures.quiet stands.blocks table commits ready quiet_mid
+    c.recover.ensures.quiet stands.newest stands.stands.blocks table commits ready quiet_mid
 
 pub returns-clause-worn : goal.returns-clause-worn
 returns-clause-worn g c honest k table commits stands is =
     let old = g.S.Site.state c.args.site.now in
     let mid = g.S.Site.state c.open.new.site in
     let new = g.S.Site.state c.recover.new.site in
-    let same : c.in-Ok.geometry ≡ k = (c.in-Ok.ensures.found k stands.sound.octets.limits stands.sound.octets.lengths).1 in
-    let ready : IsReady c.in-Ok-open.opened mid stands.blocks table commits = c.in-Ok-open.ensures.ready honest stands.blocks table commits
-    (subst (λ (x : Geometry). IsSound x old.image stands.blocks) (sym same) stands.sound) (subst (λ (x : Geometry). Means (picture x old.image stands.blocks) table commits) (sym same) stands.means) in
-    subst (λ (x : Geometry). IsWorn x new.image) (c.in-Ok-open.ensures.sizes ∙ same) (c.recover.ensures.worn stands.blocks table commits ready is)
+    let same : c.in-Ok.geometry ≡ k = (c.in-Ok.ensures.found k stands.stands.sound.octets.limits stands.stands.sound.octets.lengths).1 in
+    let ready : IsReady c.in-Ok-open.opened mid stands.newest stands.stands.blocks table commits = c.in-Ok-open.ensures.ready honest stands.newest stands.stands.blocks table commits
+    (subst (λ (x : Geometry). IsSound stands.newest x old.image stands.stands.blocks) (sym same) stands.stands.sound) (subst (λ (x : Geometry). Means (picture_under stands.newest x old.image stands.stands.blocks) table commits) (sym same) stands.stands.means) in
+    subst (λ (x : Geometry). IsWorn x new.image) (c.in-Ok-open.ensures.sizes ∙ same) (c.recover.ensures.worn stands.newest stands.stands.blocks table commits ready is)
+
+pub returns-clause-worn_log : goal.returns-clause-worn_log
+returns-clause-worn_log g c honest k table commits stands is =
+    let old = g.S.Site.state c.args.site.now in
+    let mid = g.S.Site.state c.open.new.site in
+    let new = g.S.Site.state c.recover.new.site in
+    let same : c.in-Ok.geometry ≡ k = (c.in-Ok.ensures.found k stands.stands.sound.octets.limits stands.stands.sound.octets.lengths).1 in
+    let ready : IsReady c.in-Ok-open.opened mid stands.newest stands.stands.blocks table commits = c.in-Ok-open.ensures.ready honest stands.newest stands.stands.blocks table commits
+    (subst (λ (x : Geometry). IsSound stands.newest x old.image stands.stands.blocks) (sym same) stands.stands.sound) (subst (λ (x : Geometry). Means (picture_under stands.newest x old.image stands.stands.blocks) table commits) (sym same) stands.stands.means) in
+    subst (λ (x : Geometry). IsLogWorn x new.image) (c.in-Ok-open.ensures.sizes ∙ same) (c.recover.ensures.worn_log stands.newest stands.stands.blocks table commits ready is)
 
 pub returns-in-Err-clause-asks : goal.returns-in-Err-clause-asks
-returns-in-Err-clause-asks g c honest k blocks sound = absurd (c.in-Err.ensures.found k sound.octets.limits sound.octets.lengths).0
+returns-in-Err-clause-asks g c honest k newest blocks sound = absurd (c.in-Err.ensures.found k sound.octets.limits sound.octets.lengths).0
 
 pub returns-in-Err-open-clause-asks : goal.returns-in-Err-open-clause-asks
-returns-in-Err-open-clause-asks g c honest k blocks sound =
+returns-in-Err-open-clause-asks g c honest k newest blocks sound =
     let same : c.in-Ok.geometry ≡ k = (c.in-Ok.ensures.found k sound.octets.limits sound.octets.lengths).1 in
     let groups = ap (λ (x : Geometry). x.groups) same in
     let least = sound.octets.limits.groups in
@@ -87,19 +98,19 @@ returns-in-Err-open-clause-asks g c honest k blocks sound =
     not_found c.works_add_up.ensures.rise c.in-Err-open.stop _ (rules_of c.args.pool k.groups) _ _ (2 * k.groups) _ _ (omega (arith, least)) (λ is. c.in-Err-open.ensures.unworn Flash (err_again c.in-Err-open.stop (Worn Flash) is)) (omega (arith, flash, groups)) c.open.ensures.disk_reads
 
 pub returns-clause-asks : goal.returns-clause-asks
-returns-clause-asks g c honest k blocks sound =
+returns-clause-asks g c honest k newest blocks sound =
     let old = g.S.Site.state c.args.site.now in
     let mid = g.S.Site.state c.open.new.site in
     let new = g.S.Site.state c.recover.new.site in
     let same : c.in-Ok.geometry ≡ k = (c.in-Ok.ensures.found k sound.octets.limits sound.octets.lengths).1 in
     let groups = ap (λ (x : Geometry). x.groups) same in
     let flash = c.open.ensures.flash_reads in
-    let there = subst (λ (x : Geometry). IsSound x old.image blocks) (sym same) sound in
-    let p = picture k old.image blocks in
-    let means : Means (picture k old.image blocks) (table_of p.log p.pages) (commit_count p) = record { table_is = refl; count_is = refl } in
-    let ready : IsReady c.in-Ok-open.opened mid blocks (table_of p.log p.pages) (commit_count p) = c.in-Ok-open.ensures.ready honest blocks (table_of p.log p.pages) (commit_count p) there (subst (λ (x : Geometry). Means (picture x old.image blocks) (table_of p.log p.pages) (commit_count p)) (sym same) means) in
+    let there = subst (λ (x : Geometry). IsSound newest x old.image blocks) (sym same) sound in
+    let p = picture_under newest k old.image blocks in
+    let means : Means (picture_under newest k old.image blocks) (table_of p.log p.pages) (commit_count p) = record { table_is = refl; count_is = refl } in
+    let ready : IsReady c.in-Ok-open.opened mid newest blocks (table_of p.log p.pages) (commit_count p) = c.in-Ok-open.ensures.ready honest newest blocks (table_of p.log p.pages) (commit_count p) there (subst (λ (x : Geometry). Means (picture_under newest x old.image blocks) (table_of p.log p.pages) (commit_count p)) (sym same) means) in
     let sizes = c.in-Ok-open.ensures.sizes ∙ same in
     let unchanged = c.open.ensures.same honest in
     from_found _ _ _ (rules_of c.args.pool k.groups) _ (restart_works p) _ (cache_on k old.image) (2 * k.groups) old mid new
-    (λ i. rules_of (c.in-Ok-open.ensures.pool i) (sizes i).groups) (λ i. restart_works (picture (sizes i) (unchanged.image i) blocks)) (c.in-Ok-open.ensures.cache honest blocks there ∙ ap (λ (x : Geometry). cache_on x old.image) same)
-    (omega (arith, flash, groups)) c.open.ensures.disk_reads (c.recover.ensures.asks blocks (table_of p.log p.pages) (commit_count p) ready)
+    (λ i. rules_of (c.in-Ok-open.ensures.pool i) (sizes i).groups) (λ i. restart_works (picture_under newest (sizes i) (unchanged.image i) blocks)) (c.in-Ok-open.ensures.cache honest newest blocks there ∙ ap (λ (x : Geometry). cache_on x old.image) same)
+    (omega (arith, flash, groups)) c.open.ensures.disk_reads (c.recover.ensures.asks newest blocks (table_of p.log p.pages) (commit_count p) ready)

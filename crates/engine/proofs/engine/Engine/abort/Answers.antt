@@ -1,3 +1,4 @@
+use Rattle.image_meaning.proofs.Leaving.{under_leaves_for}
 use Rattle.record_model.specs.Touches.{record_touches}
 use Rattle.engine.proofs.Asking.{asks_same, asks_nothing}
 use Rattle.std.proofs.Common.{◌≡◌, ℕ, [], Some, refl, sym, ap, subst, ◌∙◌}
@@ -16,11 +17,11 @@ use Rattle.engine.proofs.engine.Engine.abort.Goals as goal
 
 runs : (engine : Engine) (site : Site) (s : State) (n : ℕ) (entry : Active) → Fits engine site s → entry_of engine.active n ≡ Some entry → IsCarriedOut s (Abort n)
 runs engine site s n entry fits at =
-    let found = some_active fits.records engine.active s fits.sessions n entry at in
+    let found = some_active fits.newest fits.records engine.active s fits.sessions n entry at in
     carried_out s (Abort n) (wants_active_is s n found.session found.is) refl
 
 pub returns-in_default-clause-any_moment : goal.returns-in_default-clause-any_moment
-returns-in_default-clause-any_moment g c s fits = c.hold_together.ensures.moment c.args.self.now.store.log c.args.self.now.store.pages (g.S.Site.state c.args.site.now) fits.records s.table s.commits c.requires.going.store.both.sizes fits.holds.both
+returns-in_default-clause-any_moment g c s fits = λ quiet. under_leaves_for fits.newest _ _ _ s.table s.commits _ (c.hold_together.ensures.moment c.args.self.now.store.log c.args.self.now.store.pages (g.S.Site.state c.args.site.now) fits.newest fits.records s.table s.commits c.requires.going.store.both.sizes fits.holds.both quiet)
 
 pub carry_out_abort-requires-clause-active : goal.carry_out_abort-requires-clause-active
 carry_out_abort-requires-clause-active g c =

@@ -1,29 +1,59 @@
-use Rattle.engine.proofs.Asking.{asks_same, asks_nothing}
-use Rattle.std.proofs.Common.{sym, ap, subst, ◌∙◌, [], refl}
-use Rattle.engine.specs.Fits.{Fits}
+use Rattle.std.proofs.Common.{◌≡◌, sym, subst}
+use Rattle.std.specs.Prelude.{OnOk, IfOk}
+use Rattle.site.specs.declared.geometry.Geometry.{Geometry}
 use Rattle.record_model.specs.Step.{Outcome}
+use Rattle.record_model.specs.declared.words.Command.TheVariants.{Begin}
+use Rattle.record_model.specs.declared.words.Reply.{Reply}
+use Rattle.redo_undo.specs.Holding.{IsLogWorn}
+use Rattle.engine.specs.Going.{sizes_of}
+use Rattle.engine.specs.Fits.{Fits, checkpointed_if}
+use Rattle.engine.proofs.Moments.{and_then, err_again}
+use Rattle.engine.proofs.Asking.{asks_same, asks_then, asks_stopped, has_group}
+use Rattle.engine.proofs.Firsts.{step_where, touches_where}
 use Rattle.engine.proofs.engine.Engine.begin.Goals as goal
-
-pub returns-in-Some-clause-reply : goal.returns-in-Some-clause-reply
-returns-in-Some-clause-reply g c s fits = sym (ap (λ (o : Outcome). o.reply) (c.in-Some.ensures.refused s (g.S.Site.state c.args.site.now) fits).0)
-
-pub returns-in-Some-clause-any_moment : goal.returns-in-Some-clause-any_moment
-returns-in-Some-clause-any_moment g c s fits = c.hold_together.ensures.moment c.args.self.now.store.log c.args.self.now.store.pages (g.S.Site.state c.args.site.now) fits.records s.table s.commits c.requires.going.store.both.sizes fits.holds.both
 
 pub returns-in-Ok-clause-reply : goal.returns-in-Ok-clause-reply
 returns-in-Ok-clause-reply g c s fits =
-    c.in-Ok.ensures.done ∙ sym (ap (λ (o : Outcome). o.reply) (c.in_default.ensures.accepted s (g.S.Site.state c.args.site.now) fits).0)
+    let known = c.wants_checkpoint_to_begin-wanted.ensures s (g.S.Site.state c.args.site.now) fits in
+    subst (λ (o : Outcome). IfOk c.begin_now.result (λ (r : Reply). r ≡ o.reply)) (sym (step_where s (Begin c.args.session) c.wants_checkpoint_to_begin-wanted.result known))
+    (c.begin_now.ensures.reply (checkpointed_if c.wants_checkpoint_to_begin-wanted.result s) (c.in-Ok.ensures.after s fits))
 
 pub returns-in-Ok-clause-after : goal.returns-in-Ok-clause-after
 returns-in-Ok-clause-after g c s fits =
-    subst (λ (o : Outcome). Fits c.carry_out_begin.new.self (g.S.Site.state c.carry_out_begin.new.site) o.after) (sym (c.in_default.ensures.accepted s (g.S.Site.state c.args.site.now) fits).0) (c.in-Ok.ensures.after s fits)
+    let known = c.wants_checkpoint_to_begin-wanted.ensures s (g.S.Site.state c.args.site.now) fits in
+    subst (λ (o : Outcome). OnOk c.begin_now.result (Fits c.begin_now.new.self (g.S.Site.state c.begin_now.new.site) o.after)) (sym (step_where s (Begin c.args.session) c.wants_checkpoint_to_begin-wanted.result known))
+    (c.begin_now.ensures.after (checkpointed_if c.wants_checkpoint_to_begin-wanted.result s) (c.in-Ok.ensures.after s fits))
 
-pub returns-in-Some-clause-asks : goal.returns-in-Some-clause-asks
-returns-in-Some-clause-asks g c s fits =
-    asks_same _ _ [] _ _ _ _ (c.in-Some.ensures.refused s (g.S.Site.state c.args.site.now) fits).1 (asks_nothing _ c.args.self.now.store.pages _ _ (λ dev. refl) (λ is. cc))
+pub returns-in-Ok-clause-any_moment : goal.returns-in-Ok-clause-any_moment
+returns-in-Ok-clause-any_moment g c s fits quiet =
+    and_then (sizes_of c.args.self.now.store) (sizes_of c.checkpoint_if.new.self.store) (g.S.Site.state c.args.site.now) (g.S.Site.state c.checkpoint_if.new.site) (g.S.Site.state c.begin_now.new.site) s.table s.commits c.checkpoint_if.ensures.sizes
+    (c.checkpoint_if.ensures.any_moment s fits quiet)
+    (c.begin_now.ensures.any_moment (checkpointed_if c.wants_checkpoint_to_begin-wanted.result s) (c.in-Ok.ensures.after s fits) (c.in-Ok.ensures.stays_quiet fits.honest quiet))
+
+pub returns-in-Ok-clause-quiet : goal.returns-in-Ok-clause-quiet
+returns-in-Ok-clause-quiet g c s fits quiet =
+    c.begin_now.ensures.quiet (checkpointed_if c.wants_checkpoint_to_begin-wanted.result s) (c.in-Ok.ensures.after s fits) (c.in-Ok.ensures.stays_quiet fits.honest quiet)
 
 pub returns-in-Ok-clause-asks : goal.returns-in-Ok-clause-asks
-returns-in-Ok-clause-asks g c s fits = asks_same _ _ _ _ _ _ _ (c.in_default.ensures.accepted s (g.S.Site.state c.args.site.now) fits).1 c.in-Ok.ensures.asks
+returns-in-Ok-clause-asks g c s fits =
+    let known = c.wants_checkpoint_to_begin-wanted.ensures s (g.S.Site.state c.args.site.now) fits in
+    asks_same _ _ _ _ _ _ _ (touches_where s (Begin c.args.session) c.wants_checkpoint_to_begin-wanted.result known)
+    (asks_then c.works_add_up.ensures.works c.works_add_up.ensures.reads c.in-Ok.field-0 _ _ _ _ _ _ _ _ _ c.in-Ok.ensures.asks
+    (c.begin_now.ensures.asks (checkpointed_if c.wants_checkpoint_to_begin-wanted.result s) (c.in-Ok.ensures.after s fits)))
 
 pub returns-in-Err-clause-asks : goal.returns-in-Err-clause-asks
-returns-in-Err-clause-asks g c s fits = asks_same _ _ _ _ _ _ _ (c.in_default.ensures.accepted s (g.S.Site.state c.args.site.now) fits).1 c.in-Err.ensures.asks
+returns-in-Err-clause-asks g c s fits =
+    let known = c.wants_checkpoint_to_begin-wanted.ensures s (g.S.Site.state c.args.site.now) fits in
+    asks_same _ _ _ _ _ _ _ (touches_where s (Begin c.args.session) c.wants_checkpoint_to_begin-wanted.result known)
+    (asks_stopped c.works_add_up.ensures.more c.works_add_up.ensures.overflow c.in-Err.stop _ _ _ _ _ _ (has_group c.requires.going) c.in-Err.ensures.asks)
+
+pub returns-in-Ok-clause-worn_log : goal.returns-in-Ok-clause-worn_log
+returns-in-Ok-clause-worn_log g c s fits is =
+    subst (λ (k : Geometry). IsLogWorn k (g.S.Site.state c.begin_now.new.site).image) c.checkpoint_if.ensures.sizes
+    (c.begin_now.ensures.worn_log (checkpointed_if c.wants_checkpoint_to_begin-wanted.result s) (c.in-Ok.ensures.after s fits) is)
+
+pub returns-in-Err-clause-worn_log : goal.returns-in-Err-clause-worn_log
+returns-in-Err-clause-worn_log g c s fits is = c.in-Err.ensures.worn_log s fits (err_again _ _ is)
+
+pub returns-in-Err-clause-worn : goal.returns-in-Err-clause-worn
+returns-in-Err-clause-worn g c s fits is = c.in-Err.ensures.worn s fits (err_again _ _ is)

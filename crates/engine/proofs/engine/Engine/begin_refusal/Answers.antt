@@ -22,7 +22,7 @@ pub returns-in-Some-clause-refused : goal.returns-in-Some-clause-refused
 returns-in-Some-clause-refused c s site fits =
     let engine = c.args.self.now in
     let n = c.args.session in
-    let none = none_active fits.records engine.active s fits.sessions n (search rules) in
+    let none = none_active fits.newest fits.records engine.active s fits.sessions n (search rules) in
     let is = full_is engine site s 2 c.in-Some.full fits c.find.ensures.table c.in-Some.ensures.full in
     let r = no_room s (Begin n) (free_session s n (search rules) none) is.1 in (r.0 ∙ ap (left s) (sym is.0), r.1)
 
@@ -30,5 +30,5 @@ pub returns-clause-accepted : goal.returns-clause-accepted
 returns-clause-accepted c s site fits =
     let engine = c.args.self.now in
     let n = c.args.session in
-    let none = none_active fits.records engine.active s fits.sessions n (search rules) in
+    let none = none_active fits.newest fits.records engine.active s fits.sessions n (search rules) in
     carried_out s (Begin n) (free_session s n (search rules) none) (has_room engine site s 2 fits c.find.ensures.table c.in_default.ensures.room)

@@ -22,42 +22,42 @@ returns-in-Ok-clause-after g c s fits =
     let old = g.S.Site.state c.args.site.now in
     let new = g.S.Site.state c.roll_back.new.site in
     let mid : Engine = record engine { store = c.roll_back.new.self } in
-    let found = some_active fits.records engine.active s fits.sessions c.args.entry.session c.args.entry c.requires.active in
+    let found = some_active fits.newest fits.records engine.active s fits.sessions c.args.entry.session c.args.entry c.requires.active in
     let count = sym found.under_way.count in
-    let back = c.in-Ok.ensures.undone fits.records s.table s.commits fits.holds found.session.writes found.under_way.is_active count in
+    let back = c.in-Ok.ensures.undone fits.newest fits.records s.table s.commits fits.holds found.session.writes found.under_way.is_active count in
     aborted_fits engine mid _ old new s c.args.entry fits c.requires.going.table c.requires.active (stays_honest old new c.roll_back.ensures.goes fits.honest) back
     refl c.in-Ok.ensures.made c.release.ensures c.remove.ensures.entry c.remove.ensures.owed refl refl refl
 
 pub returns-in-Ok-clause-any_moment : goal.returns-in-Ok-clause-any_moment
 returns-in-Ok-clause-any_moment g c s fits =
     let engine = c.args.self.now in
-    let found = some_active fits.records engine.active s fits.sessions c.args.entry.session c.args.entry c.requires.active in
+    let found = some_active fits.newest fits.records engine.active s fits.sessions c.args.entry.session c.args.entry c.requires.active in
     let count = sym found.under_way.count in
-    c.roll_back.ensures.any_moment fits.records s.table s.commits fits.holds found.session.writes found.under_way.is_active
+    c.roll_back.ensures.any_moment fits.newest fits.records s.table s.commits fits.holds found.session.writes found.under_way.is_active
 
 pub returns-in-Err-clause-any_moment : goal.returns-in-Err-clause-any_moment
 returns-in-Err-clause-any_moment g c s fits =
     let engine = c.args.self.now in
-    let found = some_active fits.records engine.active s fits.sessions c.args.entry.session c.args.entry c.requires.active in
+    let found = some_active fits.newest fits.records engine.active s fits.sessions c.args.entry.session c.args.entry c.requires.active in
     let count = sym found.under_way.count in
-    c.roll_back.ensures.any_moment fits.records s.table s.commits fits.holds found.session.writes found.under_way.is_active
+    c.roll_back.ensures.any_moment fits.newest fits.records s.table s.commits fits.holds found.session.writes found.under_way.is_active
 
 pub returns-in-Err-clause-quiet : goal.returns-in-Err-clause-quiet
 returns-in-Err-clause-quiet g c s fits =
     let engine = c.args.self.now in
-    let found = some_active fits.records engine.active s fits.sessions c.args.entry.session c.args.entry c.requires.active in
+    let found = some_active fits.newest fits.records engine.active s fits.sessions c.args.entry.session c.args.entry c.requires.active in
     let count = sym found.under_way.count in
-    c.in-Err.ensures.quiet fits.records s.table s.commits fits.holds found.session.writes found.under_way.is_active count
+    c.in-Err.ensures.quiet fits.newest fits.records s.table s.commits fits.holds found.session.writes found.under_way.is_active count
 
 pub returns-in-Err-clause-foreign : goal.returns-in-Err-clause-foreign
 returns-in-Err-clause-foreign g c is s fits =
     let engine = c.args.self.now in
-    let found = some_active fits.records engine.active s fits.sessions c.args.entry.session c.args.entry c.requires.active in
+    let found = some_active fits.newest fits.records engine.active s fits.sessions c.args.entry.session c.args.entry c.requires.active in
     let count = sym found.under_way.count in
     let part = owes engine.active c.args.entry.session c.args.entry c.requires.going.table c.requires.active in
     let are = fits.sessions.owes in
     let all = c.owed.ensures in
-    c.in-Err.ensures.readable fits.records s.table s.commits fits.holds found.session.writes found.under_way.is_active count (omega (arith, are, all, part)) (err_again _ _ is)
+    c.in-Err.ensures.readable fits.newest fits.records s.table s.commits fits.holds found.session.writes found.under_way.is_active count (omega (arith, are, all, part)) (err_again _ _ is)
 
 pub overflow_add-owed : goal.overflow_add-owed
 overflow_add-owed g c =
@@ -72,8 +72,8 @@ overflow_sub-owed g c =
 
 pub returns-in-Err-clause-worn : goal.returns-in-Err-clause-worn
 returns-in-Err-clause-worn g c s fits is =
-    let found = some_active fits.records c.args.self.now.active s fits.sessions c.args.entry.session c.args.entry c.requires.active in
-    c.in-Err.ensures.worn fits.records s.table s.commits fits.holds found.session.writes found.under_way.is_active (err_again _ _ is)
+    let found = some_active fits.newest fits.records c.args.self.now.active s fits.sessions c.args.entry.session c.args.entry c.requires.active in
+    c.in-Err.ensures.worn fits.newest fits.records s.table s.commits fits.holds found.session.writes found.under_way.is_active (err_again _ _ is)
 
 undone_by : Option Session → List CacheWork
 undone_by o = map (λ write. write_touch write.0) (reverse (writes_of o))
@@ -81,11 +81,16 @@ undone_by o = map (λ write. write_touch write.0) (reverse (writes_of o))
 pub returns-in-Err-clause-asks : goal.returns-in-Err-clause-asks
 unfolding undone_by
 returns-in-Err-clause-asks g c s fits =
-    let found = some_active fits.records c.args.self.now.active s fits.sessions c.args.entry.session c.args.entry c.requires.active in
-    asks_same _ _ (undone_by (Some found.session)) _ _ _ _ (ap undone_by found.is) (asks_err c.in-Err.stop (undone_by (Some found.session)) _ _ _ _ (c.in-Err.ensures.asks fits.records s.table s.commits fits.holds found.session.writes found.under_way.is_active))
+    let found = some_active fits.newest fits.records c.args.self.now.active s fits.sessions c.args.entry.session c.args.entry c.requires.active in
+    asks_same _ _ (undone_by (Some found.session)) _ _ _ _ (ap undone_by found.is) (asks_err c.in-Err.stop (undone_by (Some found.session)) _ _ _ _ (c.in-Err.ensures.asks fits.newest fits.records s.table s.commits fits.holds found.session.writes found.under_way.is_active))
 
 pub returns-in-Ok-clause-asks : goal.returns-in-Ok-clause-asks
 unfolding undone_by
 returns-in-Ok-clause-asks g c s fits =
-    let found = some_active fits.records c.args.self.now.active s fits.sessions c.args.entry.session c.args.entry c.requires.active in
-    asks_same _ _ (undone_by (Some found.session)) _ _ _ _ (ap undone_by found.is) (asks_ok c.in-Ok.field-0 _ (undone_by (Some found.session)) _ _ _ _ (c.in-Ok.ensures.asks fits.records s.table s.commits fits.holds found.session.writes found.under_way.is_active))
+    let found = some_active fits.newest fits.records c.args.self.now.active s fits.sessions c.args.entry.session c.args.entry c.requires.active in
+    asks_same _ _ (undone_by (Some found.session)) _ _ _ _ (ap undone_by found.is) (asks_ok c.in-Ok.field-0 _ (undone_by (Some found.session)) _ _ _ _ (c.in-Ok.ensures.asks fits.newest fits.records s.table s.commits fits.holds found.session.writes found.under_way.is_active))
+
+pub returns-in-Err-clause-worn_log : goal.returns-in-Err-clause-worn_log
+returns-in-Err-clause-worn_log g c s fits is =
+    let found = some_active fits.newest fits.records c.args.self.now.active s fits.sessions c.args.entry.session c.args.entry c.requires.active in
+    c.in-Err.ensures.worn_log fits.newest fits.records s.table s.commits fits.holds found.session.writes found.under_way.is_active (err_again _ _ is)

@@ -1,18 +1,19 @@
 use Rattle.engine.proofs.Asking.{asks_ok, asks_err}
-use Rattle.std.proofs.Common.{ℕ, ◌+◌, ◌++◌, ◌∷◌, [], None, refl, ap, ◌∙◌, arith}
+use Rattle.std.proofs.Common.{◌++◌, ◌∷◌, [], None, refl, arith}
 use Rattle.site.specs.Laws.{stays_honest}
 use Rattle.record_model.specs.State.{writes_of, reads_of}
-use Rattle.engine.proofs.Meanings.{fresh_behind}
+use Rattle.engine.proofs.Meanings.{begins_late, fresh_behind}
 use Rattle.engine.proofs.Settings.{begin_at, may_begin}
 use Rattle.engine.proofs.Actives.{begun, none_active}
 use Rattle.engine.proofs.Locks.{locks_stay, at_set}
+use Rattle.engine.proofs.Moments.{err_again}
 use Rattle.engine.proofs.engine.Engine.carry_out_begin.Goals as goal
 
 pub returns-in-Err-clause-any_moment : goal.returns-in-Err-clause-any_moment
-returns-in-Err-clause-any_moment g c s fits = c.begin.ensures.any_moment fits.records s.table s.commits fits.holds
+returns-in-Err-clause-any_moment g c s fits = c.begin.ensures.any_moment fits.newest fits.records s.table s.commits fits.holds
 
 pub returns-clause-any_moment : goal.returns-clause-any_moment
-returns-clause-any_moment g c s fits = c.begin.ensures.any_moment fits.records s.table s.commits fits.holds
+returns-clause-any_moment g c s fits = c.begin.ensures.any_moment fits.newest fits.records s.table s.commits fits.holds
 
 pub returns-clause-after : goal.returns-clause-after
 returns-clause-after g c s fits =
@@ -24,18 +25,20 @@ returns-clause-after g c s fits =
     let going = c.requires.going in
     let behind = c.in-Ok.ensures.rises.0 in
     let may = may_begin engine old s fits lsn behind c.requires.room going.store.blocks going.cap in
-    let fresh = fresh_behind engine.store old fits.records s.table s.commits lsn fits.holds behind in
-    let none = none_active fits.records engine.active s fits.sessions n c.requires.absent in
+    let fresh = fresh_behind engine.store old fits.newest fits.records s.table s.commits lsn fits.holds behind in
+    let late = begins_late engine.store old fits.newest fits.records s.table s.commits lsn fits.holds behind in
+    let none = none_active fits.newest fits.records engine.active s fits.sessions n c.requires.absent in
     let count = fits.sessions.count in
     let small = c.requires.session in
     let made = c.in-Ok.ensures.made in
     let more = c.add.ensures.owed in
     record {
       honest = stays_honest old new c.begin.ensures.goes fits.honest;
+      newest = fits.newest;
       records = fits.records ++ begin_at lsn ∷ [];
-      holds = c.in-Ok.ensures.holds fits.records s.table s.commits fits.holds may;
-      counts = record { commits = fits.counts.commits; made = made ∙ ap (λ (k : ℕ). k + 1) fits.counts.made; kept = fits.counts.kept; cap = fits.counts.cap };
-      sessions = begun fits.records engine.active c.add.new.active s n lsn engine.store.made _ fits.sessions small c.requires.absent c.add.ensures.entry (omega (arith, more)) fresh refl refl fits.counts.made refl;
+      holds = c.in-Ok.ensures.holds fits.newest fits.records s.table s.commits fits.holds may;
+      counts = record { commits = fits.counts.commits; made = let before = fits.counts.made in omega (arith, made, before); cap = fits.counts.cap };
+      sessions = begun fits.newest fits.records engine.active c.add.new.active s n lsn engine.store.made _ fits.sessions small c.requires.absent c.add.ensures.entry (omega (arith, more)) fresh late refl refl fits.counts.made refl;
       locks_are = locks_stay engine.locks s _ (at_set writes_of s.sessions n _ None (omega (arith, small, count)) none refl) (at_set reads_of s.sessions n _ None (omega (arith, small, count)) none refl) fits.locks_are;
     }
 
@@ -44,3 +47,9 @@ returns-in-Err-clause-asks g c = asks_err c.in-Err.stop [] _ _ _ _ c.in-Err.ensu
 
 pub returns-clause-asks : goal.returns-clause-asks
 returns-clause-asks g c = asks_ok c.in-Ok.begin _ [] _ _ _ _ c.in-Ok.ensures.asks
+
+pub returns-in-Err-clause-quiet : goal.returns-in-Err-clause-quiet
+returns-in-Err-clause-quiet g c s fits = c.in-Err.ensures.quiet fits.newest fits.records s.table s.commits fits.holds
+
+pub returns-in-Err-clause-worn_log : goal.returns-in-Err-clause-worn_log
+returns-in-Err-clause-worn_log g c s fits is = c.in-Err.ensures.worn_log fits.newest fits.records s.table s.commits fits.holds (err_again _ _ is)

@@ -3,6 +3,7 @@ use Rattle.std.proofs.Common.{refl, arith, []}
 use Rattle.site.specs.Laws.{stays_honest}
 use Rattle.engine.proofs.Owing.{owes}
 use Rattle.engine.proofs.Commits.{may_commit, commits_either, committed_fits}
+use Rattle.engine.proofs.Moments.{err_again}
 use Rattle.engine.proofs.engine.Engine.carry_out_commit.Goals as goal
 
 pub seal_commit-requires-clause-room : goal.seal_commit-requires-clause-room
@@ -21,19 +22,19 @@ seal_commit-requires-clause-few g c =
 pub returns-in-Err-clause-any_moment : goal.returns-in-Err-clause-any_moment
 returns-in-Err-clause-any_moment g c s fits quiet =
     commits_either c.args.self.now (g.S.Site.state c.args.site.now) (g.S.Site.state c.seal_commit.new.site) s c.args.entry fits c.requires.active
-    (c.seal_commit.ensures.any_moment fits.records s.table s.commits fits.holds (may_commit c.args.self.now (g.S.Site.state c.args.site.now) s c.args.entry fits c.requires.active) quiet)
+    (c.seal_commit.ensures.any_moment fits.newest fits.records s.table s.commits fits.holds (may_commit c.args.self.now (g.S.Site.state c.args.site.now) s c.args.entry fits c.requires.active) quiet)
 
 pub returns-in-Ok-clause-any_moment : goal.returns-in-Ok-clause-any_moment
 returns-in-Ok-clause-any_moment g c s fits quiet =
     commits_either c.args.self.now (g.S.Site.state c.args.site.now) (g.S.Site.state c.seal_commit.new.site) s c.args.entry fits c.requires.active
-    (c.seal_commit.ensures.any_moment fits.records s.table s.commits fits.holds (may_commit c.args.self.now (g.S.Site.state c.args.site.now) s c.args.entry fits c.requires.active) quiet)
+    (c.seal_commit.ensures.any_moment fits.newest fits.records s.table s.commits fits.holds (may_commit c.args.self.now (g.S.Site.state c.args.site.now) s c.args.entry fits c.requires.active) quiet)
 
 pub returns-in-Ok-clause-after : goal.returns-in-Ok-clause-after
 returns-in-Ok-clause-after g c s fits =
     let engine = c.args.self.now in
     let old = g.S.Site.state c.args.site.now in
     let new = g.S.Site.state c.seal_commit.new.site in
-    let sealed = c.in-Ok.ensures.holds fits.records s.table s.commits fits.holds (may_commit engine old s c.args.entry fits c.requires.active) in
+    let sealed = c.in-Ok.ensures.holds fits.newest fits.records s.table s.commits fits.holds (may_commit engine old s c.args.entry fits c.requires.active) in
     committed_fits engine c.seal_commit.new.self _ old new s c.args.entry sealed.0 fits c.requires.going.table c.requires.active (stays_honest old new c.seal_commit.ensures.goes fits.honest) sealed.1
     c.seal_commit.ensures.rest c.in-Ok.ensures.commits c.in-Ok.ensures.made c.release.ensures c.remove.ensures.entry c.remove.ensures.owed refl refl refl
 
@@ -42,3 +43,9 @@ returns-in-Err-clause-asks g c = asks_err c.in-Err.stop [] _ _ _ _ c.in-Err.ensu
 
 pub returns-in-Ok-clause-asks : goal.returns-in-Ok-clause-asks
 returns-in-Ok-clause-asks g c = asks_ok c.in-Ok.reply _ [] _ _ _ _ c.in-Ok.ensures.asks
+
+pub returns-in-Err-clause-quiet : goal.returns-in-Err-clause-quiet
+returns-in-Err-clause-quiet g c s fits = c.in-Err.ensures.quiet fits.newest fits.records s.table s.commits fits.holds
+
+pub returns-in-Err-clause-worn_log : goal.returns-in-Err-clause-worn_log
+returns-in-Err-clause-worn_log g c s fits is = c.in-Err.ensures.worn_log fits.newest fits.records s.table s.commits fits.holds (err_again _ _ is)

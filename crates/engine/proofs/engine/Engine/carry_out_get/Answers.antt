@@ -15,10 +15,10 @@ use Rattle.engine.proofs.Writes.{touched_fits}
 use Rattle.engine.proofs.engine.Engine.carry_out_get.Goals as goal
 
 pub returns-in-Ok-clause-any_moment : goal.returns-in-Ok-clause-any_moment
-returns-in-Ok-clause-any_moment g c s fits = c.touch.ensures.any_moment fits.records s.table s.commits fits.holds
+returns-in-Ok-clause-any_moment g c s fits = c.touch.ensures.any_moment fits.newest fits.records s.table s.commits fits.holds
 
 pub returns-in-Err-clause-any_moment : goal.returns-in-Err-clause-any_moment
-returns-in-Err-clause-any_moment g c s fits = c.touch.ensures.any_moment fits.records s.table s.commits fits.holds
+returns-in-Err-clause-any_moment g c s fits = c.touch.ensures.any_moment fits.newest fits.records s.table s.commits fits.holds
 
 pub returns-in-Ok-clause-reply : goal.returns-in-Ok-clause-reply
 returns-in-Ok-clause-reply g c s fits =
@@ -26,14 +26,14 @@ returns-in-Ok-clause-reply g c s fits =
     let old = g.S.Site.state c.args.site.now in
     let new = g.S.Site.state c.touch.new.site in
     let number = c.args.number in
-    let holds = c.in-Ok.ensures.holds fits.records s.table s.commits fits.holds in
+    let holds = c.in-Ok.ensures.holds fits.newest fits.records s.table s.commits fits.holds in
     let mid : Engine = record engine { store = c.touch.new.self } in
     let fits_mid : Fits mid new s = touched_fits engine c.touch.new.self old new s fits (stays_honest old new c.touch.ensures.goes fits.honest) holds c.touch.ensures.made in
     let same = ap (λ (x : Geometry). x.pages) c.touch.ensures.sizes in
     let some = c.requires.number in
     let less : number < 32 * (sizes_of c.touch.new.self).pages = omega (arith, same, some) in
     let free : model.busy_read s None number ≡ None = sym (busy_read_is engine.locks s fits.locks_are None number) ∙ c.requires.free in
-    c.found.ensures ∙ ap found (c.shown.ensures.shown new fits.records s.table s.commits holds ∙ sym (got_is mid new s fits_mid number c.requires.going.table less free))
+    c.found.ensures ∙ ap found (c.shown.ensures.shown new fits.newest fits.records s.table s.commits holds ∙ sym (got_is mid new s fits_mid number c.requires.going.table less free))
 
 pub returns-in-Ok-clause-after : goal.returns-in-Ok-clause-after
 returns-in-Ok-clause-after g c s fits =
@@ -41,7 +41,7 @@ returns-in-Ok-clause-after g c s fits =
     let old = g.S.Site.state c.args.site.now in
     let new = g.S.Site.state c.touch.new.site in
     let number = c.args.number in
-    let holds = c.in-Ok.ensures.holds fits.records s.table s.commits fits.holds in
+    let holds = c.in-Ok.ensures.holds fits.newest fits.records s.table s.commits fits.holds in
     let mid : Engine = record engine { store = c.touch.new.self } in
     let fits_mid : Fits mid new s = touched_fits engine c.touch.new.self old new s fits (stays_honest old new c.touch.ensures.goes fits.honest) holds c.touch.ensures.made in
     let same = ap (λ (x : Geometry). x.pages) c.touch.ensures.sizes in
@@ -50,16 +50,19 @@ returns-in-Ok-clause-after g c s fits =
     fits_mid
 
 pub returns-in-Err-clause-quiet : goal.returns-in-Err-clause-quiet
-returns-in-Err-clause-quiet g c s fits = c.in-Err.ensures.quiet fits.records s.table s.commits fits.holds
+returns-in-Err-clause-quiet g c s fits = c.in-Err.ensures.quiet fits.newest fits.records s.table s.commits fits.holds
 
 pub returns-in-Err-clause-foreign : goal.returns-in-Err-clause-foreign
-returns-in-Err-clause-foreign g c is s fits = c.in-Err.ensures.readable fits.records s.table s.commits fits.holds (err_again _ _ is)
+returns-in-Err-clause-foreign g c is s fits = c.in-Err.ensures.readable fits.newest fits.records s.table s.commits fits.holds (err_again _ _ is)
 
 pub returns-in-Err-clause-worn : goal.returns-in-Err-clause-worn
-returns-in-Err-clause-worn g c s fits is = c.in-Err.ensures.worn fits.records s.table s.commits fits.holds (err_again _ _ is)
+returns-in-Err-clause-worn g c s fits is = c.in-Err.ensures.worn fits.newest fits.records s.table s.commits fits.holds (err_again _ _ is)
 
 pub returns-in-Err-clause-asks : goal.returns-in-Err-clause-asks
 returns-in-Err-clause-asks g c = asks_err c.in-Err.stop (one_touch (c.args.number / 32)) _ _ _ _ c.in-Err.ensures.asks
 
 pub returns-in-Ok-clause-asks : goal.returns-in-Ok-clause-asks
 returns-in-Ok-clause-asks g c = asks_ok c.in-Ok.field-0 _ (one_touch (c.args.number / 32)) _ _ _ _ c.in-Ok.ensures.asks
+
+pub returns-in-Err-clause-worn_log : goal.returns-in-Err-clause-worn_log
+returns-in-Err-clause-worn_log g c s fits is = c.in-Err.ensures.worn_log fits.newest fits.records s.table s.commits fits.holds (err_again _ _ is)

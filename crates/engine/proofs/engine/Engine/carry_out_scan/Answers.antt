@@ -1,8 +1,10 @@
+use Rattle.image_meaning.proofs.Leaving.{under_leaves_for}
 use Rattle.std.proofs.Common.{map, ◌≡◌, ℕ, ◌+◌, refl, sym, ap, subst, ◌∙◌, arith, rules}
 use Rattle.std.specs.List.{range_with_len}
 use Rattle.site.specs.Laws.{goes_nowhere, goes_in_sequence, stays_honest}
 use Rattle.site.specs.declared.geometry.Geometry.{Geometry}
 use Rattle.flash_cache.specs.Held.{IsWorn}
+use Rattle.redo_undo.specs.Holding.{IsLogWorn}
 use Rattle.engine.specs.Going.{sizes_of}
 use Rattle.engine.specs.Fits.{Fits, with_reads}
 use Rattle.engine.specs.Scans.{items_seen}
@@ -21,13 +23,14 @@ loop-offset-init g c =
       active = refl;
       busy = λ r. refl;
       sizes = refl;
+      kept = refl;
       goes = goes_nowhere old;
       left = λ honest. refl;
       stays_quiet = λ honest quiet. quiet;
       fits = λ s fits. subst (Fits c.args.self.now old) (sym (reads_none s c.args.session)) fits;
       items = λ s fits. c.new-items.ensures;
       asks = no_asks c.args.self.now.store.pages old;
-      any_moment = λ s fits. c.hold_together.ensures.moment c.args.self.now.store.log c.args.self.now.store.pages old fits.records s.table s.commits c.requires.going.store.both.sizes fits.holds.both;
+      any_moment = λ s fits quiet. under_leaves_for fits.newest _ _ _ s.table s.commits _ (c.hold_together.ensures.moment c.args.self.now.store.log c.args.self.now.store.pages old fits.newest fits.records s.table s.commits c.requires.going.store.both.sizes fits.holds.both quiet);
     }
 
 pub carry_out_read-requires-clause-free : goal.carry_out_read-requires-clause-free
@@ -51,6 +54,12 @@ returns-in-Err-clause-worn g c s fits is =
     let inv = c.loop-offset.invariant in
     subst (λ (x : Geometry). IsWorn x (g.S.Site.state c.carry_out_read.new.site).image) inv.sizes
     (c.in-Err.ensures.worn (with_reads s c.args.session (range_with_len c.args.number c.loop-offset.offset)) (inv.fits s fits) (err_again _ _ is))
+
+pub returns-in-Err-clause-worn_log : goal.returns-in-Err-clause-worn_log
+returns-in-Err-clause-worn_log g c s fits is =
+    let inv = c.loop-offset.invariant in
+    subst (λ (x : Geometry). IsLogWorn x (g.S.Site.state c.carry_out_read.new.site).image) inv.sizes
+    (c.in-Err.ensures.worn_log (with_reads s c.args.session (range_with_len c.args.number c.loop-offset.offset)) (inv.fits s fits) (err_again _ _ is))
 
 pub returns-in-Err-clause-foreign : goal.returns-in-Err-clause-foreign
 returns-in-Err-clause-foreign g c is s fits =
@@ -77,6 +86,7 @@ loop-offset-preserved g c =
       going = c.in-Ok.ensures.going;
       active = read.active ∙ inv.active;
       busy = λ r. still_busy c.loop-offset.self.locks c.carry_out_read.new.self.locks c.args.session (number + offset) c.in-Ok.ensures.locks c.args.session r ∙ inv.busy r;
+      kept = read.kept ∙ inv.kept;
       sizes = read.sizes ∙ inv.sizes;
       goes = goes_in_sequence old mid new inv.goes read.goes;
       left = λ honest. read.left (stays_honest old mid inv.goes honest) ∙ inv.left honest;

@@ -22,6 +22,7 @@ invariant-loop-offset g l =
       going : MayGoOn l.self now;
       active : l.self.active ≡ l.fn.self.active;
       busy : (r : ℕ) → busy_read l.self.locks (Some l.session) r ≡ busy_read l.fn.self.locks (Some l.session) r;
+      kept : l.self.store.log.kept ≡ l.fn.self.store.log.kept;
       sizes : sizes_of l.self.store ≡ sizes_of l.fn.self.store;
       goes : Goes old now;
       left : IsTrue old.honest → now.left ≡ old.left;

@@ -9,6 +9,8 @@ use Rattle.engine.specs.declared.engine.Engine.{Engine}
 use Rattle.engine.specs.Going.{sizes_of}
 use Rattle.engine.proofs.Moments.{err_again}
 use Rattle.engine.proofs.Settings.{may_commit_one, set_before, set_either, set_fits}
+use Rattle.redo_undo.specs.Holding.{IsLogWorn}
+use Rattle.engine.proofs.Apart.{AreApart}
 use Rattle.engine.proofs.engine.Engine.carry_out_set.Goals as goal
 
 pub returns-in-Err-clause-any_moment : goal.returns-in-Err-clause-any_moment
@@ -24,9 +26,9 @@ returns-in-Ok-seal_commit-clause-any_moment g c s fits quiet =
     let new = g.S.Site.state c.seal_commit.new.site in
     let w = c.in-Ok.ensures.logged s fits in
     let commits = ap (λ (x : Engine). x.commits) c.log_set.ensures.rest ∙ fits.counts.commits in
-    let may = may_commit_one one.store between fits.records s.table s.commits c.in-Ok.txn c.args.number one.commits c.args.after.now w commits in
+    let may = may_commit_one one.store between fits.newest fits.records s.table s.commits c.in-Ok.txn c.args.number one.commits c.args.after.now w commits in
     set_either (sizes_of engine.store) (sizes_of one.store) old between new s c.args.number c.args.after.now (writes_in c.in-Ok.txn w.log) c.log_set.ensures.sizes (sym w.active.writes_are)
-    (c.log_set.ensures.any_moment s fits quiet) (c.seal_commit.ensures.any_moment w.log s.table s.commits w.holds may (c.in-Ok.ensures.stays_quiet fits.honest quiet))
+    (c.log_set.ensures.any_moment s fits quiet) (c.seal_commit.ensures.any_moment fits.newest w.log s.table s.commits w.holds may (c.in-Ok.ensures.stays_quiet fits.honest quiet))
 
 pub returns-in-Err-seal_commit-clause-any_moment : goal.returns-in-Err-seal_commit-clause-any_moment
 returns-in-Err-seal_commit-clause-any_moment g c s fits quiet =
@@ -37,9 +39,9 @@ returns-in-Err-seal_commit-clause-any_moment g c s fits quiet =
     let new = g.S.Site.state c.seal_commit.new.site in
     let w = c.in-Ok.ensures.logged s fits in
     let commits = ap (λ (x : Engine). x.commits) c.log_set.ensures.rest ∙ fits.counts.commits in
-    let may = may_commit_one one.store between fits.records s.table s.commits c.in-Ok.txn c.args.number one.commits c.args.after.now w commits in
+    let may = may_commit_one one.store between fits.newest fits.records s.table s.commits c.in-Ok.txn c.args.number one.commits c.args.after.now w commits in
     set_either (sizes_of engine.store) (sizes_of one.store) old between new s c.args.number c.args.after.now (writes_in c.in-Ok.txn w.log) c.log_set.ensures.sizes (sym w.active.writes_are)
-    (c.log_set.ensures.any_moment s fits quiet) (c.seal_commit.ensures.any_moment w.log s.table s.commits w.holds may (c.in-Ok.ensures.stays_quiet fits.honest quiet))
+    (c.log_set.ensures.any_moment s fits quiet) (c.seal_commit.ensures.any_moment fits.newest w.log s.table s.commits w.holds may (c.in-Ok.ensures.stays_quiet fits.honest quiet))
 
 pub returns-in-Ok-seal_commit-clause-after : goal.returns-in-Ok-seal_commit-clause-after
 returns-in-Ok-seal_commit-clause-after g c s fits =
@@ -50,13 +52,13 @@ returns-in-Ok-seal_commit-clause-after g c s fits =
     let new = g.S.Site.state c.seal_commit.new.site in
     let w = c.in-Ok.ensures.logged s fits in
     let commits = ap (λ (x : Engine). x.commits) c.log_set.ensures.rest ∙ fits.counts.commits in
-    let may = may_commit_one one.store between fits.records s.table s.commits c.in-Ok.txn c.args.number one.commits c.args.after.now w commits in
-    let sealed = c.in-Ok-seal_commit.ensures.holds w.log s.table s.commits w.holds may in
+    let may = may_commit_one one.store between fits.newest fits.records s.table s.commits c.in-Ok.txn c.args.number one.commits c.args.after.now w commits in
+    let sealed = c.in-Ok-seal_commit.ensures.holds fits.newest w.log s.table s.commits w.holds may in
     set_fits engine one c.seal_commit.new.self old between new s c.args.number c.in-Ok.txn sealed.0 c.args.after.now fits w (stays_honest old new (goes_in_sequence old between new c.log_set.ensures.goes c.seal_commit.ensures.goes) fits.honest) sealed.1
     c.log_set.ensures.rest c.seal_commit.ensures.rest c.in-Ok-seal_commit.ensures.commits c.in-Ok.ensures.made c.in-Ok-seal_commit.ensures.made
 
 pub returns-in-Err-seal_commit-clause-quiet : goal.returns-in-Err-seal_commit-clause-quiet
-returns-in-Err-seal_commit-clause-quiet g c s fits quiet = c.in-Err-seal_commit.ensures.quiet (c.in-Ok.ensures.logged s fits).log s.table s.commits (c.in-Ok.ensures.logged s fits).holds (c.in-Ok.ensures.stays_quiet fits.honest quiet)
+returns-in-Err-seal_commit-clause-quiet g c s fits quiet = c.in-Err-seal_commit.ensures.quiet fits.newest (c.in-Ok.ensures.logged s fits).log s.table s.commits (c.in-Ok.ensures.logged s fits).holds (c.in-Ok.ensures.stays_quiet fits.honest quiet)
 
 pub returns-in-Err-seal_commit-clause-device : goal.returns-in-Err-seal_commit-clause-device
 returns-in-Err-seal_commit-clause-device g c d is =
@@ -79,6 +81,8 @@ returns-in-Ok-seal_commit-clause-going g c =
     let commits = ap (λ (x : Engine). x.commits) c.log_set.ensures.rest in
     let commits_then = c.in-Ok-seal_commit.ensures.commits in
     let commits_before = going.commits in
+    let kept = c.log_set.ensures.kept in
+    let kept_then = c.seal_commit.ensures.kept in
     let below = going.store.blocks in
     let cap = going.cap in
     let few = going.store.both.pages_going.flash.limits.few_blocks in
@@ -88,10 +92,12 @@ returns-in-Ok-seal_commit-clause-going g c =
       going = ap (λ (x : Engine). x.ended) engine_is ∙ going.going;
       cap = ap (λ (n : ℕ). n + 1) cap_is ∙ cap ∙ ap (λ (x : Geometry). x.blocks) (sym (c.seal_commit.ensures.sizes ∙ c.log_set.ensures.sizes));
       table = subst IsTable (sym (ap (λ (x : Engine). x.active) engine_is)) going.table;
-      room = omega (arith, blocks, blocks_then, owed_is, cap_is, room, below);
+      room = omega (arith, blocks, blocks_then, owed_is, cap_is, room, below, kept, kept_then);
+      since = λ m other at. let before = going.since m other (sym (ap (λ (x : Engine). entry_of x.active m) engine_is) ∙ at) in omega (arith, before, blocks, blocks_then, made, made_then);
       bounded = omega (arith, made, made_then, owed_is, room, cap, few);
-      commits = omega (arith, commits, commits_then, commits_before, made, made_then);
-      lasts = λ m other at. let before = going.lasts m other (sym (ap (λ (x : Engine). entry_of x.active m) engine_is) ∙ at) in omega (arith, before, rises, rises_then);
+      commits = omega (arith, commits, commits_then, commits_before, rises, rises_then);
+      lasts = λ m other at. let before = going.lasts m other (sym (ap (λ (x : Engine). entry_of x.active m) engine_is) ∙ at) in (before.0, omega (arith, before.1, rises, rises_then));
+      differ = subst AreApart (sym (ap (λ (x : Engine). x.active) engine_is)) going.differ;
     }
 
 pub returns-in-Err-clause-foreign : goal.returns-in-Err-clause-foreign
@@ -108,3 +114,12 @@ returns-in-Err-seal_commit-clause-asks g c = asks_then c.works_add_up.ensures.wo
 
 pub returns-in-Ok-seal_commit-clause-asks : goal.returns-in-Ok-seal_commit-clause-asks
 returns-in-Ok-seal_commit-clause-asks g c = asks_then c.works_add_up.ensures.works c.works_add_up.ensures.reads c.in-Ok.txn _ (one_change (c.args.number / 32)) [] _ _ _ _ _ _ c.in-Ok.ensures.asks c.in-Ok-seal_commit.ensures.asks
+
+pub returns-in-Err-clause-worn_log : goal.returns-in-Err-clause-worn_log
+returns-in-Err-clause-worn_log g c s fits is = c.in-Err.ensures.worn_log s fits (err_again _ _ is)
+
+pub returns-in-Err-seal_commit-clause-worn_log : goal.returns-in-Err-seal_commit-clause-worn_log
+returns-in-Err-seal_commit-clause-worn_log g c s fits is =
+    let w = c.in-Ok.ensures.logged s fits in
+    subst (λ (k : Geometry). IsLogWorn k (g.S.Site.state c.seal_commit.new.site).image) c.log_set.ensures.sizes
+    (c.in-Err-seal_commit.ensures.worn_log fits.newest w.log s.table s.commits w.holds (err_again _ _ is))

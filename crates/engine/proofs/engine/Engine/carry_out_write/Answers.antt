@@ -1,6 +1,6 @@
 use Rattle.site.specs.declared.outside.Stop.TheVariants.{Memory}
 use Rattle.engine.proofs.Asking.{touch_stops, change_asks, change_stops, has_group, not_worn}
-use Rattle.std.proofs.Common.{◌≡◌, ◌*◌, ◌<◌, ⊎_elim, refl, sym, ap, subst, ◌∙◌, arith, ◌/◌}
+use Rattle.std.proofs.Common.{◌≡◌, ◌+◌, ◌*◌, ◌<◌, ◌≤◌, ⊎_elim, refl, sym, ap, subst, ◌∙◌, arith, ◌/◌}
 use Rattle.std.proofs.lemmas.Option.{same_Some}
 use Rattle.std.proofs.lemmas.Bool.{cases_eq}
 use Rattle.log_store.specs.Held.{end_of}
@@ -12,28 +12,30 @@ use Rattle.engine.specs.declared.engine.Engine.{Engine}
 use Rattle.engine.specs.Going.{sizes_of}
 use Rattle.engine.specs.Holding.{shown_in}
 use Rattle.engine.specs.Fits.{Fits}
+use Rattle.redo_undo.specs.Holding.{blocks_to, IsLogWorn}
 use Rattle.engine.proofs.Moments.{and_then, err_again}
 use Rattle.engine.proofs.Owing.{entry_is, owes}
 use Rattle.engine.proofs.Writes.{touched_fits, may_write, write_fits}
+use Rattle.engine.proofs.Apart.{below_wrote, apart_wrote}
 use Rattle.engine.proofs.engine.Engine.carry_out_write.Goals as goal
 
 pub add-requires : goal.add-requires
 add-requires g c = (entry_is c.args.self.now.active c.args.entry.session c.args.entry c.requires.going.table c.requires.active).small
 
 pub returns-in-Err-clause-any_moment : goal.returns-in-Err-clause-any_moment
-returns-in-Err-clause-any_moment g c s fits = c.touch.ensures.any_moment fits.records s.table s.commits fits.holds
+returns-in-Err-clause-any_moment g c s fits = c.touch.ensures.any_moment fits.newest fits.records s.table s.commits fits.holds
 
 pub returns-in-Err-add-clause-any_moment : goal.returns-in-Err-add-clause-any_moment
-returns-in-Err-add-clause-any_moment g c s fits = c.touch.ensures.any_moment fits.records s.table s.commits fits.holds
+returns-in-Err-add-clause-any_moment g c s fits = c.touch.ensures.any_moment fits.newest fits.records s.table s.commits fits.holds
 
 pub returns-in-Err-add-clause-quiet : goal.returns-in-Err-add-clause-quiet
 returns-in-Err-add-clause-quiet g c s fits quiet = λ other. c.in-Ok.ensures.stays_quiet fits.honest quiet
 
 pub returns-in-Err-update-clause-quiet : goal.returns-in-Err-update-clause-quiet
-returns-in-Err-update-clause-quiet g c s fits quiet = c.in-Err-update.ensures.quiet fits.records s.table s.commits (c.in-Ok.ensures.holds fits.records s.table s.commits fits.holds) (c.in-Ok.ensures.stays_quiet fits.honest quiet)
+returns-in-Err-update-clause-quiet g c s fits quiet = c.in-Err-update.ensures.quiet fits.newest fits.records s.table s.commits (c.in-Ok.ensures.holds fits.newest fits.records s.table s.commits fits.holds) (c.in-Ok.ensures.stays_quiet fits.honest quiet)
 
 pub returns-in-Err-update-clause-foreign : goal.returns-in-Err-update-clause-foreign
-returns-in-Err-update-clause-foreign g c is s fits = c.in-Err-update.ensures.readable fits.records s.table s.commits (c.in-Ok.ensures.holds fits.records s.table s.commits fits.holds) (err_again _ _ is)
+returns-in-Err-update-clause-foreign g c is s fits = c.in-Err-update.ensures.readable fits.newest fits.records s.table s.commits (c.in-Ok.ensures.holds fits.newest fits.records s.table s.commits fits.holds) (err_again _ _ is)
 
 pub returns-in-Err-update-clause-device : goal.returns-in-Err-update-clause-device
 returns-in-Err-update-clause-device g c d is =
@@ -42,14 +44,14 @@ returns-in-Err-update-clause-device g c d is =
 pub returns-in-Err-update-clause-any_moment : goal.returns-in-Err-update-clause-any_moment
 returns-in-Err-update-clause-any_moment g c s fits quiet =
     and_then (sizes_of c.args.self.now.store) (sizes_of c.touch.new.self) (g.S.Site.state c.args.site.now) (g.S.Site.state c.touch.new.site) (g.S.Site.state c.update.new.site) s.table s.commits c.touch.ensures.sizes
-    (c.touch.ensures.any_moment fits.records s.table s.commits fits.holds quiet)
-    (c.update.ensures.any_moment fits.records s.table s.commits (c.in-Ok.ensures.holds fits.records s.table s.commits fits.holds) (c.in-Ok.ensures.stays_quiet fits.honest quiet))
+    (c.touch.ensures.any_moment fits.newest fits.records s.table s.commits fits.holds quiet)
+    (c.update.ensures.any_moment fits.newest fits.records s.table s.commits (c.in-Ok.ensures.holds fits.newest fits.records s.table s.commits fits.holds) (c.in-Ok.ensures.stays_quiet fits.honest quiet))
 
 pub returns-in-Ok-update-clause-any_moment : goal.returns-in-Ok-update-clause-any_moment
 returns-in-Ok-update-clause-any_moment g c s fits quiet =
     and_then (sizes_of c.args.self.now.store) (sizes_of c.touch.new.self) (g.S.Site.state c.args.site.now) (g.S.Site.state c.touch.new.site) (g.S.Site.state c.update.new.site) s.table s.commits c.touch.ensures.sizes
-    (c.touch.ensures.any_moment fits.records s.table s.commits fits.holds quiet)
-    (c.update.ensures.any_moment fits.records s.table s.commits (c.in-Ok.ensures.holds fits.records s.table s.commits fits.holds) (c.in-Ok.ensures.stays_quiet fits.honest quiet))
+    (c.touch.ensures.any_moment fits.newest fits.records s.table s.commits fits.holds quiet)
+    (c.update.ensures.any_moment fits.newest fits.records s.table s.commits (c.in-Ok.ensures.holds fits.newest fits.records s.table s.commits fits.holds) (c.in-Ok.ensures.stays_quiet fits.honest quiet))
 
 pub returns-in-Ok-update-clause-after : goal.returns-in-Ok-update-clause-after
 returns-in-Ok-update-clause-after g c s fits =
@@ -57,7 +59,7 @@ returns-in-Ok-update-clause-after g c s fits =
     let old = g.S.Site.state c.args.site.now in
     let new = g.S.Site.state c.touch.new.site in
     let number = c.args.number in
-    let holds = c.in-Ok.ensures.holds fits.records s.table s.commits fits.holds in
+    let holds = c.in-Ok.ensures.holds fits.newest fits.records s.table s.commits fits.holds in
     let mid : Engine = record engine { store = c.touch.new.self } in
     let fits_mid : Fits mid new s = touched_fits engine c.touch.new.self old new s fits (stays_honest old new c.touch.ensures.goes fits.honest) holds c.touch.ensures.made in
     let same = ap (λ (x : Geometry). x.pages) c.touch.ensures.sizes in
@@ -74,10 +76,10 @@ returns-in-Ok-update-clause-after g c s fits =
     let count = ap (λ (x : Geometry). x.blocks) c.touch.ensures.sizes in
     let cap = going.cap in
     let room = c.requires.room in
-    let may = may_write mid new s fits_mid entry number lsn after going.table c.requires.active less c.requires.free (omega (arith, made, room)) (omega (arith, blocks, few, made)) (omega (arith, cap, count)) in
+    let may = may_write mid new s fits_mid entry number lsn after going.table c.requires.active less c.requires.free (omega (arith, made, room)) (let kept = c.touch.ensures.kept in omega (arith, blocks, few, made, kept)) (omega (arith, cap, count)) in
     write_fits mid _ new last s entry number lsn (shown_in c.touch.new.self new fits.records number) after fits_mid going.table c.requires.active
     (stays_honest old last (goes_in_sequence old new last c.touch.ensures.goes c.update.ensures.goes) fits.honest)
-    (c.in-Ok-update.ensures.holds fits.records s.table s.commits holds may)
+    (c.in-Ok-update.ensures.holds fits.newest fits.records s.table s.commits holds may)
     c.in-Ok-update.ensures.made refl refl c.in-Ok-add.ensures.ok c.wrote.ensures.entry c.wrote.ensures.owed
 
 pub wrote-requires-clause-room : goal.wrote-requires-clause-room
@@ -89,10 +91,10 @@ wrote-requires-clause-room g c =
     omega (arith, part, room, cap, few)
 
 pub returns-in-Err-clause-quiet : goal.returns-in-Err-clause-quiet
-returns-in-Err-clause-quiet g c s fits = c.in-Err.ensures.quiet fits.records s.table s.commits fits.holds
+returns-in-Err-clause-quiet g c s fits = c.in-Err.ensures.quiet fits.newest fits.records s.table s.commits fits.holds
 
 pub returns-in-Err-clause-foreign : goal.returns-in-Err-clause-foreign
-returns-in-Err-clause-foreign g c is s fits = c.in-Err.ensures.readable fits.records s.table s.commits fits.holds (err_again _ _ is)
+returns-in-Err-clause-foreign g c is s fits = c.in-Err.ensures.readable fits.newest fits.records s.table s.commits fits.holds (err_again _ _ is)
 
 pub returns-in-Ok-update-clause-going : goal.returns-in-Ok-update-clause-going
 returns-in-Ok-update-clause-going g c =
@@ -111,22 +113,29 @@ returns-in-Ok-update-clause-going g c =
     let cap = going.cap in
     let few = going.store.both.pages_going.flash.limits.few_blocks in
     let commits = going.commits in
+    let kept_before = c.touch.ensures.kept in
+    let kept = c.update.ensures.kept in
     record {
       store = c.in-Ok-update.ensures.going;
       going = going.going;
       cap = cap ∙ ap (λ (x : Geometry). x.blocks) (sym (c.update.ensures.sizes ∙ c.touch.ensures.sizes));
       table = c.wrote.ensures.table;
-      room = omega (arith, blocks, same, owed_is, room, below);
-      bounded = omega (arith, made, made_before, owed_is, room, cap, few);
-      commits = omega (arith, made, made_before, commits);
-      lasts = λ m other at. ⊎_elim
-          (λ (equal : m ≡ n). let is = same_Some _ other (sym changes.own ∙ ap (entry_of c.wrote.new.active) (sym equal) ∙ at) in subst (λ (x : Active). x.last < end_of c.update.new.self.log) is rises.1)
-          (λ differ. let before = going.lasts m other (sym (changes.others m differ) ∙ at) in omega (arith, before, touched, rises.0, rises.1))
+      room = omega (arith, blocks, same, owed_is, room, below, kept, kept_before);
+      since = λ m other at. ⊎_elim
+          (λ (equal : m ≡ n).
+          let is = same_Some _ other (sym changes.own ∙ ap (entry_of c.wrote.new.active) (sym equal) ∙ at) in
+          let before = going.since n c.args.entry c.requires.active in
+          subst (λ (x : Active). blocks_to c.update.new.self.log + x.born ≤ x.begin / 512 + c.update.new.self.made) is (omega (arith, before, blocks, same, made, made_before)))
+          (λ differ. let before = going.since m other (sym (changes.others m differ) ∙ at) in omega (arith, before, blocks, same, made, made_before))
           (cases_eq m n);
+      bounded = omega (arith, made, made_before, owed_is, room, cap, few);
+      commits = let later = rises.0 in let last = rises.1 in omega (arith, touched, later, last, commits);
+      lasts = below_wrote c.args.self.now.active c.wrote.new.active n (end_of c.args.self.now.store.log) (end_of c.update.new.self.log) _ c.args.entry going.lasts c.requires.active changes (omega (arith, touched, rises.0)) rises.1;
+      differ = apart_wrote c.args.self.now.active c.wrote.new.active n _ c.args.entry going.differ c.requires.active changes;
     }
 
 pub returns-in-Err-clause-worn : goal.returns-in-Err-clause-worn
-returns-in-Err-clause-worn g c s fits is = c.in-Err.ensures.worn fits.records s.table s.commits fits.holds (err_again _ _ is)
+returns-in-Err-clause-worn g c s fits is = c.in-Err.ensures.worn fits.newest fits.records s.table s.commits fits.holds (err_again _ _ is)
 
 pub returns-in-Err-clause-asks : goal.returns-in-Err-clause-asks
 returns-in-Err-clause-asks g c = touch_stops c.changes_cost_a_touch.ensures.reads c.changes_cost_a_touch.ensures.overflow c.in-Err.stop (c.args.number / 32) _ _ _ _ (has_group c.requires.going) c.in-Err.ensures.asks
@@ -143,3 +152,11 @@ returns-in-Err-update-clause-asks g c =
 pub returns-in-Ok-update-clause-asks : goal.returns-in-Ok-update-clause-asks
 returns-in-Ok-update-clause-asks g c =
     change_asks c.touch_then_change.ensures c.changes_cost_a_touch.ensures.reads c.in-Ok.field-0 _ (c.args.number / 32) _ _ _ _ _ _ (has_group c.requires.going) c.update.ensures.reads c.in-Ok-update.ensures.machine c.update.ensures.rules_stay c.in-Ok.ensures.asks
+
+pub returns-in-Err-clause-worn_log : goal.returns-in-Err-clause-worn_log
+returns-in-Err-clause-worn_log g c s fits is = c.in-Err.ensures.worn_log fits.newest fits.records s.table s.commits fits.holds (err_again _ _ is)
+
+pub returns-in-Err-update-clause-worn_log : goal.returns-in-Err-update-clause-worn_log
+returns-in-Err-update-clause-worn_log g c s fits is =
+    subst (λ (k : Geometry). IsLogWorn k (g.S.Site.state c.update.new.site).image) c.touch.ensures.sizes
+    (c.in-Err-update.ensures.worn_log fits.newest fits.records s.table s.commits (c.in-Ok.ensures.holds fits.newest fits.records s.table s.commits fits.holds) (err_again _ _ is))

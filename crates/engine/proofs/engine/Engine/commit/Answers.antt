@@ -1,3 +1,4 @@
+use Rattle.image_meaning.proofs.Leaving.{under_leaves_for}
 use Rattle.engine.proofs.Asking.{asks_same, asks_nothing}
 use Rattle.std.proofs.Common.{◌≡◌, ℕ, [], Some, inl, refl, sym, ap, subst, ◌∙◌}
 use Rattle.site.specs.Moments.{LeavesOnly}
@@ -19,7 +20,7 @@ use Rattle.engine.proofs.engine.Engine.commit.Goals as goal
 
 runs : (engine : Engine) (site : Site) (s : State) (n : ℕ) (entry : Active) → Fits engine site s → entry_of engine.active n ≡ Some entry → IsCarriedOut s (Commit n)
 runs engine site s n entry fits at =
-    let found = some_active fits.records engine.active s fits.sessions n entry at in
+    let found = some_active fits.newest fits.records engine.active s fits.sessions n entry at in
     carried_out s (Commit n) (wants_active_is s n found.session found.is) refl
 
 pub returns-in_default-clause-any_moment : goal.returns-in_default-clause-any_moment
@@ -27,7 +28,7 @@ returns-in_default-clause-any_moment g c s fits quiet =
     let old = g.S.Site.state c.args.site.now in
     let g0 = (sizes_of c.args.self.now.store) in
     leaves_weaker old old (LeavesTable g0 s.table s.commits old.told) (LeavesEither g0 s _ old.told) (λ snapshot q. record { told = q.told; stands = inl q.stands })
-    (c.hold_together.ensures.moment c.args.self.now.store.log c.args.self.now.store.pages old fits.records s.table s.commits c.requires.going.store.both.sizes fits.holds.both quiet)
+    (under_leaves_for fits.newest _ _ _ s.table s.commits _ (c.hold_together.ensures.moment c.args.self.now.store.log c.args.self.now.store.pages old fits.newest fits.records s.table s.commits c.requires.going.store.both.sizes fits.holds.both quiet))
 
 pub carry_out_commit-requires-clause-active : goal.carry_out_commit-requires-clause-active
 carry_out_commit-requires-clause-active g c =

@@ -1,3 +1,4 @@
+use Rattle.image_meaning.proofs.Leaving.{under_leaves_for}
 use Rattle.engine.proofs.Moments.{err_again}
 use Rattle.engine.proofs.Asking.{asks_same, asks_nothing}
 use Rattle.std.proofs.Common.{ℕ, None, Some, sym, ap, subst, ◌∙◌, [], refl}
@@ -12,7 +13,7 @@ pub returns-in-Some-clause-reply : goal.returns-in-Some-clause-reply
 returns-in-Some-clause-reply g c s fits = sym (ap (λ (o : Outcome). o.reply) (c.in-Some.ensures.refused s (g.S.Site.state c.args.site.now) fits).0)
 
 pub returns-in-Some-clause-any_moment : goal.returns-in-Some-clause-any_moment
-returns-in-Some-clause-any_moment g c s fits = c.hold_together.ensures.moment c.args.self.now.store.log c.args.self.now.store.pages (g.S.Site.state c.args.site.now) fits.records s.table s.commits c.requires.going.store.both.sizes fits.holds.both
+returns-in-Some-clause-any_moment g c s fits = λ quiet. under_leaves_for fits.newest _ _ _ s.table s.commits _ (c.hold_together.ensures.moment c.args.self.now.store.log c.args.self.now.store.pages (g.S.Site.state c.args.site.now) fits.newest fits.records s.table s.commits c.requires.going.store.both.sizes fits.holds.both quiet)
 
 pub carry_out_write-requires-clause-active : goal.carry_out_write-requires-clause-active
 carry_out_write-requires-clause-active g c =

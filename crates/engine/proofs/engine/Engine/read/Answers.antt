@@ -1,3 +1,4 @@
+use Rattle.image_meaning.proofs.Leaving.{under_leaves_for}
 use Rattle.engine.proofs.Moments.{err_again}
 use Rattle.engine.proofs.Asking.{asks_same, asks_nothing, asks_ok, asks_err}
 use Rattle.std.proofs.Common.{sym, ap, subst, ◌∙◌, [], refl}
@@ -9,7 +10,7 @@ pub returns-in-Some-clause-reply : goal.returns-in-Some-clause-reply
 returns-in-Some-clause-reply g c s fits = sym (ap (λ (o : Outcome). o.reply) (c.in-Some.ensures.refused s (g.S.Site.state c.args.site.now) fits).0)
 
 pub returns-in-Some-clause-any_moment : goal.returns-in-Some-clause-any_moment
-returns-in-Some-clause-any_moment g c s fits = c.hold_together.ensures.moment c.args.self.now.store.log c.args.self.now.store.pages (g.S.Site.state c.args.site.now) fits.records s.table s.commits c.requires.going.store.both.sizes fits.holds.both
+returns-in-Some-clause-any_moment g c s fits = λ quiet. under_leaves_for fits.newest _ _ _ s.table s.commits _ (c.hold_together.ensures.moment c.args.self.now.store.log c.args.self.now.store.pages (g.S.Site.state c.args.site.now) fits.newest fits.records s.table s.commits c.requires.going.store.both.sizes fits.holds.both quiet)
 
 pub returns-in-Ok-clause-reply : goal.returns-in-Ok-clause-reply
 returns-in-Ok-clause-reply g c s fits =
@@ -37,3 +38,6 @@ returns-in-Err-clause-foreign g c is s fits = c.in-Err.ensures.foreign (err_agai
 
 pub returns-in-Err-clause-worn_flash : goal.returns-in-Err-clause-worn_flash
 returns-in-Err-clause-worn_flash g c is = c.in-Err.ensures.asks.worn (err_again _ _ is)
+
+pub returns-in-Err-clause-worn_log : goal.returns-in-Err-clause-worn_log
+returns-in-Err-clause-worn_log g c s fits is = c.in-Err.ensures.worn_log s fits (err_again _ _ is)

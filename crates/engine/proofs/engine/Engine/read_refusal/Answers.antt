@@ -1,6 +1,8 @@
 use Rattle.std.proofs.Common.{◌≡◌, ◌∙◌, [], ◌∷◌, None, Some, refl, sym, ap, rules}
-use Rattle.std.specs.Prelude.{option_map}
-use Rattle.record_model.specs.Step.{first_refusal, may_read}
+use Rattle.std.specs.Prelude.{is_none, option_map}
+use Rattle.record_model.specs.Step.{first_refusal, may_read, refuse_if, wants_record}
+use Rattle.record_model.specs.declared.words.Why.TheVariants.{BadSession}
+use Rattle.engine.proofs.Actives.{none_active}
 use Rattle.record_model.specs.declared.words.Command.TheVariants.{Read}
 use Rattle.record_model.specs.declared.words.Reply.TheVariants as reply
 use Rattle.engine.proofs.Replies.{refused, carried_out, has_record, lacks_record, is_active, has}
@@ -39,3 +41,10 @@ returns-clause-accepted c s site fits =
     let there = has_record engine site s number fits (search rules) in
     let free : may_read s (Some n) number ≡ None = ap (option_map reply.Busy) (sym (busy_read_is engine.locks s fits.locks_are (Some n) number)) ∙ sym c.read_busy.ensures ∙ c.in_default.is in
     carried_out s (Read n number) (λ i. first_refusal (active i ∷ there i ∷ free i ∷ [])) refl
+
+pub returns-then-is_none-clause-refused : goal.returns-then-is_none-clause-refused
+returns-then-is_none-clause-refused c s site fits =
+    let engine = c.args.self.now in
+    let n = c.args.session in
+    let idle = none_active fits.newest fits.records engine.active s fits.sessions n (search rules) in
+    refused s (Read n c.args.number) _ (λ i. first_refusal (refuse_if (is_none (idle i)) (reply.Refused BadSession) ∷ wants_record s c.args.number ∷ may_read s (Some n) c.args.number ∷ []))

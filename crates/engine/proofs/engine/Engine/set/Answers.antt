@@ -1,60 +1,83 @@
-use Rattle.engine.proofs.Moments.{err_again}
-use Rattle.engine.proofs.Asking.{asks_same, asks_nothing}
-use Rattle.std.proofs.Common.{◌∷◌, [], inl, sym, ap, subst, ◌∙◌, refl}
-use Rattle.site.specs.Moments.{LeavesOnly}
-use Rattle.site.specs.Laws.{leaves_weaker}
-use Rattle.record_model.specs.State.{Content}
-use Rattle.record_model.specs.Step.{Outcome, making, committed}
+use Rattle.std.proofs.Common.{◌≡◌, ◌/◌, inr, refl, sym, subst}
+use Rattle.std.specs.Prelude.{OnOk, IfOk}
+use Rattle.site.specs.declared.geometry.Geometry.{Geometry}
+use Rattle.record_model.specs.Step.{Outcome}
+use Rattle.record_model.specs.declared.words.Command.TheVariants.{Set}
+use Rattle.record_model.specs.declared.words.Reply.{Reply}
+use Rattle.redo_undo.specs.Holding.{IsLogWorn}
 use Rattle.engine.specs.Going.{sizes_of}
-use Rattle.engine.specs.Fits.{Fits}
-use Rattle.engine.specs.Leaves.{LeavesTable, LeavesEither}
+use Rattle.engine.specs.Fits.{Fits, checkpointed_if}
+use Rattle.engine.proofs.Moments.{err_again}
+use Rattle.engine.proofs.Asking.{asks_same, asks_then, asks_stopped, has_group}
+use Rattle.engine.proofs.Firsts.{step_where, touches_where, overflows_before, either_then}
+use Rattle.engine.proofs.Settings.{set_before}
+use Rattle.flash_cache.specs.Held.{IsWorn}
+use Rattle.page_store.specs.Caching.{cache_of, rules}
+use Rattle.redo_undo.specs.Works.{one_change}
 use Rattle.engine.proofs.engine.Engine.set.Goals as goal
 
-pub returns-in-Some-clause-reply : goal.returns-in-Some-clause-reply
-returns-in-Some-clause-reply g c s fits = sym (ap (λ (o : Outcome). o.reply) (c.in-Some.ensures.refused s (g.S.Site.state c.args.site.now) fits).0)
+pub returns-in-Ok-clause-reply : goal.returns-in-Ok-clause-reply
+returns-in-Ok-clause-reply g c s fits =
+    let known = c.wants_checkpoint_to_set-wanted.ensures s (g.S.Site.state c.args.site.now) fits in
+    subst (λ (o : Outcome). IfOk c.set_now.result (λ (r : Reply). r ≡ o.reply)) (sym (step_where s (Set c.args.number c.args.value.now) c.wants_checkpoint_to_set-wanted.result known))
+    (c.set_now.ensures.reply (checkpointed_if c.wants_checkpoint_to_set-wanted.result s) (c.in-Ok.ensures.after s fits))
 
-pub returns-in-Some-clause-any_moment : goal.returns-in-Some-clause-any_moment
-returns-in-Some-clause-any_moment g c s fits quiet =
-    let old = g.S.Site.state c.args.site.now in
-    let geometry = (sizes_of c.args.self.now.store) in
-    leaves_weaker old old (LeavesTable geometry s.table s.commits old.told) (LeavesEither geometry s _ old.told) (λ snapshot q. record { told = q.told; stands = inl q.stands })
-    (c.hold_together.ensures.moment c.args.self.now.store.log c.args.self.now.store.pages old fits.records s.table s.commits c.requires.going.store.both.sizes fits.holds.both quiet)
+pub returns-in-Ok-clause-after : goal.returns-in-Ok-clause-after
+returns-in-Ok-clause-after g c s fits =
+    let known = c.wants_checkpoint_to_set-wanted.ensures s (g.S.Site.state c.args.site.now) fits in
+    subst (λ (o : Outcome). OnOk c.set_now.result (Fits c.set_now.new.self (g.S.Site.state c.set_now.new.site) o.after)) (sym (step_where s (Set c.args.number c.args.value.now) c.wants_checkpoint_to_set-wanted.result known))
+    (c.set_now.ensures.after (checkpointed_if c.wants_checkpoint_to_set-wanted.result s) (c.in-Ok.ensures.after s fits))
+
+pub returns-in-Ok-clause-quiet : goal.returns-in-Ok-clause-quiet
+returns-in-Ok-clause-quiet g c s fits quiet =
+    c.set_now.ensures.quiet (checkpointed_if c.wants_checkpoint_to_set-wanted.result s) (c.in-Ok.ensures.after s fits) (c.in-Ok.ensures.stays_quiet fits.honest quiet)
+
+pub returns-in-Ok-clause-asks : goal.returns-in-Ok-clause-asks
+returns-in-Ok-clause-asks g c s fits =
+    let known = c.wants_checkpoint_to_set-wanted.ensures s (g.S.Site.state c.args.site.now) fits in
+    asks_same _ _ _ _ _ _ _ (touches_where s (Set c.args.number c.args.value.now) c.wants_checkpoint_to_set-wanted.result known)
+    (asks_then c.works_add_up.ensures.works c.works_add_up.ensures.reads c.in-Ok.field-0 _ _ _ _ _ _ _ _ _ c.in-Ok.ensures.asks
+    (c.set_now.ensures.asks (checkpointed_if c.wants_checkpoint_to_set-wanted.result s) (c.in-Ok.ensures.after s fits)))
+
+pub returns-in-Err-clause-asks : goal.returns-in-Err-clause-asks
+returns-in-Err-clause-asks g c s fits =
+    let known = c.wants_checkpoint_to_set-wanted.ensures s (g.S.Site.state c.args.site.now) fits in
+    asks_same _ _ _ _ _ _ _ (touches_where s (Set c.args.number c.args.value.now) c.wants_checkpoint_to_set-wanted.result known)
+    (asks_stopped c.works_add_up.ensures.more c.works_add_up.ensures.overflow c.in-Err.stop _ _ _ _ _ _ (has_group c.requires.going) c.in-Err.ensures.asks)
+
+pub returns-in-Ok-clause-worn_log : goal.returns-in-Ok-clause-worn_log
+returns-in-Ok-clause-worn_log g c s fits is =
+    subst (λ (k : Geometry). IsLogWorn k (g.S.Site.state c.set_now.new.site).image) c.checkpoint_if.ensures.sizes
+    (c.set_now.ensures.worn_log (checkpointed_if c.wants_checkpoint_to_set-wanted.result s) (c.in-Ok.ensures.after s fits) is)
+
+pub returns-in-Err-clause-worn_log : goal.returns-in-Err-clause-worn_log
+returns-in-Err-clause-worn_log g c s fits is = c.in-Err.ensures.worn_log s fits (err_again _ _ is)
+
+pub returns-in-Err-clause-worn : goal.returns-in-Err-clause-worn
+returns-in-Err-clause-worn g c s fits is = c.in-Err.ensures.worn s fits (err_again _ _ is)
 
 pub returns-in-Ok-clause-any_moment : goal.returns-in-Ok-clause-any_moment
 returns-in-Ok-clause-any_moment g c s fits quiet =
     let old = g.S.Site.state c.args.site.now in
-    let new = g.S.Site.state c.carry_out_set.new.site in
-    let geometry = (sizes_of c.args.self.now.store) in
-    subst (λ (o : Outcome). LeavesOnly old new (LeavesEither geometry s o.after old.told)) (sym (c.in_default.ensures.accepted s old fits).0)
-    (subst (λ (after : Content). LeavesOnly old new (LeavesEither geometry s (making 3 (committed s ((c.args.number, after) ∷ []))) old.told)) c.value_of-after.ensures (c.carry_out_set.ensures.any_moment s fits quiet))
+    let mid = g.S.Site.state c.checkpoint_if.new.site in
+    let new = g.S.Site.state c.set_now.new.site in
+    let known = c.wants_checkpoint_to_set-wanted.ensures s old fits in
+    either_then (sizes_of c.args.self.now.store) (sizes_of c.checkpoint_if.new.self.store) old mid new s (checkpointed_if c.wants_checkpoint_to_set-wanted.result s) _ _ c.checkpoint_if.ensures.sizes refl refl
+    (sym (step_where s (Set c.args.number c.args.value.now) c.wants_checkpoint_to_set-wanted.result known)) (c.checkpoint_if.ensures.any_moment s fits quiet)
+    (c.set_now.ensures.any_moment (checkpointed_if c.wants_checkpoint_to_set-wanted.result s) (c.in-Ok.ensures.after s fits) (c.in-Ok.ensures.stays_quiet fits.honest quiet))
 
 pub returns-in-Err-clause-any_moment : goal.returns-in-Err-clause-any_moment
 returns-in-Err-clause-any_moment g c s fits quiet =
-    let old = g.S.Site.state c.args.site.now in
-    let new = g.S.Site.state c.carry_out_set.new.site in
-    let geometry = (sizes_of c.args.self.now.store) in
-    subst (λ (o : Outcome). LeavesOnly old new (LeavesEither geometry s o.after old.told)) (sym (c.in_default.ensures.accepted s old fits).0)
-    (subst (λ (after : Content). LeavesOnly old new (LeavesEither geometry s (making 3 (committed s ((c.args.number, after) ∷ []))) old.told)) c.value_of-after.ensures (c.carry_out_set.ensures.any_moment s fits quiet))
+    set_before (sizes_of c.args.self.now.store) (g.S.Site.state c.args.site.now) (g.S.Site.state c.checkpoint_if.new.site) s _ (c.checkpoint_if.ensures.any_moment s fits quiet)
 
-pub returns-in-Ok-clause-reply : goal.returns-in-Ok-clause-reply
-returns-in-Ok-clause-reply g c s fits =
-    c.in-Ok.ensures.done s fits ∙ sym (ap (λ (o : Outcome). o.reply) (c.in_default.ensures.accepted s (g.S.Site.state c.args.site.now) fits).0)
-
-pub returns-in-Ok-clause-after : goal.returns-in-Ok-clause-after
-returns-in-Ok-clause-after g c s fits =
-    let new = g.S.Site.state c.carry_out_set.new.site in
-    subst (λ (o : Outcome). Fits c.carry_out_set.new.self new o.after) (sym (c.in_default.ensures.accepted s (g.S.Site.state c.args.site.now) fits).0)
-    (subst (λ (after : Content). Fits c.carry_out_set.new.self new (making 3 (committed s ((c.args.number, after) ∷ [])))) c.value_of-after.ensures (c.in-Ok.ensures.after s fits))
-
-pub returns-in-Some-clause-asks : goal.returns-in-Some-clause-asks
-returns-in-Some-clause-asks g c s fits =
-    asks_same _ _ [] _ _ _ _ (c.in-Some.ensures.refused s (g.S.Site.state c.args.site.now) fits).1 (asks_nothing _ c.args.self.now.store.pages _ _ (λ dev. refl) (λ is. cc))
-
-pub returns-in-Ok-clause-asks : goal.returns-in-Ok-clause-asks
-returns-in-Ok-clause-asks g c s fits = asks_same _ _ _ _ _ _ _ (c.in_default.ensures.accepted s (g.S.Site.state c.args.site.now) fits).1 c.in-Ok.ensures.asks
-
-pub returns-in-Err-clause-asks : goal.returns-in-Err-clause-asks
-returns-in-Err-clause-asks g c s fits = asks_same _ _ _ _ _ _ _ (c.in_default.ensures.accepted s (g.S.Site.state c.args.site.now) fits).1 c.in-Err.ensures.asks
+pub returns-in-Ok-clause-worn : goal.returns-in-Ok-clause-worn
+returns-in-Ok-clause-worn g c s fits is =
+    subst (λ (k : Geometry). IsWorn k (g.S.Site.state c.set_now.new.site).image) c.checkpoint_if.ensures.sizes
+    (c.set_now.ensures.worn (checkpointed_if c.wants_checkpoint_to_set-wanted.result s) (c.in-Ok.ensures.after s fits) is)
 
 pub returns-in-Err-clause-worn_flash : goal.returns-in-Err-clause-worn_flash
-returns-in-Err-clause-worn_flash g c is = c.in-Err.ensures.asks.worn (err_again _ _ is)
+returns-in-Err-clause-worn_flash g c is =
+    inr (overflows_before c.works_add_up.ensures.overflow c.wants_checkpoint_to_set-wanted.result (rules c.args.self.now.store.pages) (one_change (c.args.number / 32)) (cache_of c.args.self.now.store.pages) (has_group c.requires.going) (c.in-Err.ensures.asks.worn (err_again _ _ is)))
+
+pub returns-in-Ok-clause-foreign : goal.returns-in-Ok-clause-foreign
+returns-in-Ok-clause-foreign g c is s fits = c.set_now.ensures.foreign is (checkpointed_if c.wants_checkpoint_to_set-wanted.result s) (c.in-Ok.ensures.after s fits)

@@ -69,5 +69,5 @@ returns-clause-accepted c s site fits =
 
 pub returns-then-is_none-clause-refused : goal.returns-then-is_none-clause-refused
 returns-then-is_none-clause-refused c s site fits =
-    let idle = none_active fits.records c.args.self.now.active s fits.sessions c.args.session (search rules) in
+    let idle = none_active fits.newest fits.records c.args.self.now.active s fits.sessions c.args.session (search rules) in
     refused s (Write c.args.session c.args.number c.args.value.now) (reply.Refused BadSession) (λ i. first_refusal (refuse_if (is_none (idle i)) (reply.Refused BadSession) ∷ wants_record s c.args.number ∷ wants_short c.args.value.now ∷ may_write s (Some c.args.session) c.args.number ∷ []))

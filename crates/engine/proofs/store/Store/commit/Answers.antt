@@ -1,30 +1,37 @@
+use Rattle.std.proofs.Common.{◌≡◌, ap, subst, Err}
+use Rattle.site.specs.declared.geometry.Geometry.{Geometry}
+use Rattle.site.specs.declared.outside.Dev.TheVariants.{Log}
+use Rattle.site.specs.declared.outside.Stop.TheVariants.{Worn}
+use Rattle.redo_undo.specs.Holding.{IsLogWorn}
+use Rattle.redo_undo.proofs.Saved.{finds_kept}
+use Rattle.image_meaning.proofs.Leaving.{under_leaves_either_for}
 use Rattle.engine.proofs.Asking.{asks_nothing, not_worn_flash}
-use Rattle.std.proofs.Common.{◌∷◌, [], arith}
-use Rattle.std.proofs.lemmas.List.{length-append}
-use Rattle.log_records.specs.Log.{Entry}
-use Rattle.log_records.specs.declared.log_record.LogRecord.TheVariants.{Commit}
 use Rattle.engine.proofs.store.Store.commit.Goals as goal
 
 pub returns-in-Ok-clause-holds : goal.returns-in-Ok-clause-holds
-returns-in-Ok-clause-holds g c records table commits h may =
-    let e : Entry = record { lsn = c.in-Ok.lsn; rec = Commit c.args.txn c.args.number } in
-    let before = h.made in
+returns-in-Ok-clause-holds g c newest records table commits h may =
     record {
-      both = c.in-Ok.ensures.holds c.args.self.now.pages records table commits c.requires.going.both.sizes h.both may;
-      made = omega (arith, before, length-append records (e ∷ []));
+      both = c.in-Ok.ensures.holds c.args.self.now.pages newest records table commits c.requires.going.both.sizes h.both may;
+      orderly = c.in-Ok.ensures.orderly c.args.self.now.pages newest records table commits c.requires.going.both.sizes h.both may h.orderly;
+      masters = finds_kept c.args.self.now.masters (g.S.Site.state c.args.site.now) (g.S.Site.state c.commit.new.site) c.requires.going.shape (c.in-Ok.ensures.masters c.args.self.now.pages newest records table commits c.requires.going.both.sizes h.both) h.masters;
     }
 
 pub returns-in-Ok-clause-any_moment : goal.returns-in-Ok-clause-any_moment
-returns-in-Ok-clause-any_moment g c records table commits h may = c.commit.ensures.any_moment c.args.self.now.pages records table commits c.requires.going.both h.both may
+returns-in-Ok-clause-any_moment g c newest records table commits h may = λ quiet. under_leaves_either_for newest _ _ _ table _ commits _ (c.commit.ensures.any_moment c.args.self.now.pages newest records table commits c.requires.going.both h.both may quiet)
 
 pub returns-in-Err-clause-any_moment : goal.returns-in-Err-clause-any_moment
-returns-in-Err-clause-any_moment g c records table commits h may = c.commit.ensures.any_moment c.args.self.now.pages records table commits c.requires.going.both h.both may
+returns-in-Err-clause-any_moment g c newest records table commits h may = λ quiet. under_leaves_either_for newest _ _ _ table _ commits _ (c.commit.ensures.any_moment c.args.self.now.pages newest records table commits c.requires.going.both h.both may quiet)
 
 pub returns-in-Err-clause-quiet : goal.returns-in-Err-clause-quiet
-returns-in-Err-clause-quiet g c records table commits h = c.in-Err.ensures.quiet c.args.self.now.pages records table commits c.requires.going.both.sizes h.both
+returns-in-Err-clause-quiet g c newest records table commits h = c.in-Err.ensures.quiet c.args.self.now.pages newest records table commits c.requires.going.both.sizes h.both
 
 pub returns-in-Ok-clause-asks : goal.returns-in-Ok-clause-asks
 returns-in-Ok-clause-asks g c = asks_nothing _ c.args.self.now.pages _ _ c.commit.ensures.reads (λ is. cc)
 
 pub returns-in-Err-clause-asks : goal.returns-in-Err-clause-asks
 returns-in-Err-clause-asks g c = asks_nothing _ c.args.self.now.pages _ _ c.commit.ensures.reads (not_worn_flash c.in-Err.stop c.in-Err.ensures.stops)
+
+pub returns-in-Err-clause-worn_log : goal.returns-in-Err-clause-worn_log
+returns-in-Err-clause-worn_log g c newest records table commits h is =
+    let same : c.in-Err.stop ≡ Worn Log = cc in
+    subst (λ (x : Geometry). IsLogWorn x (g.S.Site.state c.commit.new.site).image) c.requires.going.both.sizes (c.in-Err.ensures.worn_log_end c.args.self.now.pages newest records table commits c.requires.going.both.sizes h.both (ap Err same))

@@ -1,0 +1,115 @@
+-- A command before which a checkpoint is made.
+use Rattle.std.proofs.Common.{inl, inr, ⊎_elim, ◌≤◌, subst, ◌≡◌, ℕ, ◌/◌, ◌&&◌, not, Bool, true, false, List, [], ◌∷◌, ◌++◌, Option, None, Some, refl, sym, ap, ◌∙◌, arith}
+use Rattle.std.specs.Prelude.{IsSome, is_none, nat_le, if◌then◌else◌}
+use Rattle.record_model.specs.declared.words.Command.{Command}
+use Rattle.record_model.specs.declared.words.Command.TheVariants.{Begin, Read, Abort}
+use Rattle.record_model.specs.declared.words.Reply.{Reply}
+use Rattle.record_model.specs.State.{Content, State, used, kept_by_checkpoint, is_due}
+use Rattle.record_model.specs.Step.{Outcome, refusal, outcome, step, carried_out, lacks_room, asks_for_checkpoint, makes_checkpoint, is_accepted}
+use Rattle.record_model.specs.Touches.{CacheWork, flush, command_touches, record_touches}
+use Rattle.second_chance.specs.Machine.{Rules, Cache}
+use Rattle.redo_undo.specs.Works.{checkpoint_works, Overflows, OverflowsWithMore}
+use Rattle.site.specs.declared.geometry.Geometry.{Geometry}
+use Rattle.site.specs.State.{State as Site}
+use Rattle.site.specs.Moments.{Leaves, LeavesOnly}
+use Rattle.site.specs.Laws.{in_sequence, holds_now, leaves_weaker}
+use Rattle.engine.specs.Image.{Stands}
+use Rattle.engine.specs.Leaves.{LeavesTable, LeavesEither}
+use Rattle.engine.proofs.Settings.{set_before}
+use Rattle.engine.specs.declared.engine.Engine.{Engine}
+use Rattle.engine.specs.Fits.{Fits, checkpointed_if}
+
+abbrev with_kept : State → ℕ → State
+with_kept s k = record s { kept = k }
+
+-- neither tests nor touches look at what is kept
+same_refusal : (s : State) (k : ℕ) (command : Command) → refusal (with_kept s k) command ≡ refusal s command
+same_refusal s k (Begin n) = refl
+same_refusal s k _ = refl
+
+same_touches : (s : State) (k : ℕ) (command : Command) → record_touches (with_kept s k) command ≡ record_touches s command
+same_touches s k (Read n number) = refl
+same_touches s k (Abort n) = refl
+same_touches s k _ = refl
+
+abbrev kept_if : State → Bool → ℕ
+kept_if s b = if b then kept_by_checkpoint s else s.kept
+
+-- a command answers, and leaves, what it does where its checkpoint was made before
+pub step_is : (s : State) (command : Command) → step true s command [] ≡ step false (checkpointed_if (makes_checkpoint true s command) s) command []
+step_is s command =
+    by (asks_for_checkpoint s command) (refusal s command) refl
+    ∙ ap (outcome false (with_kept s (kept_if s (makes_checkpoint true s command))) command []) (sym (same_refusal s (kept_if s (makes_checkpoint true s command)) command))
+  where
+    by : (b : Bool) (o : Option Reply) → asks_for_checkpoint s command ≡ b → outcome true s command [] o ≡ outcome false (with_kept s (kept_if s (asks_for_checkpoint s command && is_none o))) command [] o
+    by true (Some r) is = ap (λ (a : Bool). outcome false (with_kept s (kept_if s (a && false))) command [] (Some r)) (sym is)
+    by false (Some r) is = ap (λ (a : Bool). outcome false (with_kept s (kept_if s (a && false))) command [] (Some r)) (sym is)
+    by true None is = ap (λ (a : Bool). carried_out (with_kept s (kept_if s a)) command []) is ∙ ap (λ (a : Bool). carried_out (with_kept s (kept_if s (a && true))) command []) (sym is)
+    by false None is = ap (λ (a : Bool). carried_out (with_kept s (kept_if s a)) command []) is ∙ ap (λ (a : Bool). carried_out (with_kept s (kept_if s (a && true))) command []) (sym is)
+
+-- it asks for the flush of that checkpoint, and then for what it asks for behind it
+pub touches_are : (s : State) (command : Command) → command_touches true s command ≡ (if makes_checkpoint true s command then checkpoint_works else []) ++ command_touches false (checkpointed_if (makes_checkpoint true s command) s) command
+touches_are s command =
+    ap (λ (a : Bool). first ++ (if a then record_touches s command else [])) (by (asks_for_checkpoint s command) (refusal s command) refl ∙ ap (λ (o : Option Reply). is_none o && not (lacks_room (with_kept s (kept_if s (makes_checkpoint true s command))) command)) (sym (same_refusal s (kept_if s (makes_checkpoint true s command)) command)))
+    ∙ ap (λ (ts : List CacheWork). first ++ (if is_accepted false (with_kept s (kept_if s (makes_checkpoint true s command))) command then ts else [])) (sym (same_touches s (kept_if s (makes_checkpoint true s command)) command))
+  where
+    first : List CacheWork
+    first = if makes_checkpoint true s command then flush ∷ [] else []
+
+    by : (b : Bool) (o : Option Reply) → asks_for_checkpoint s command ≡ b → (is_none o && not (lacks_room (with_kept s (kept_if s (asks_for_checkpoint s command))) command)) ≡ (is_none o && not (lacks_room (with_kept s (kept_if s (asks_for_checkpoint s command && is_none o))) command))
+    by b (Some r) is = refl
+    by true None is = ap (λ (a : Bool). not (lacks_room (with_kept s (kept_if s a)) command)) is ∙ ap (λ (a : Bool). not (lacks_room (with_kept s (kept_if s (a && true))) command)) (sym is)
+    by false None is = ap (λ (a : Bool). not (lacks_room (with_kept s (kept_if s a)) command)) is ∙ ap (λ (a : Bool). not (lacks_room (with_kept s (kept_if s (a && true))) command)) (sym is)
+
+-- When one is made.
+
+and_false : (b : Bool) → (b && false) ≡ false
+and_false true = refl
+and_false false = refl
+
+and_true : (b : Bool) → (b && true) ≡ b
+and_true true = refl
+and_true false = refl
+
+pub none_made : (s : State) (command : Command) (r : Reply) → refusal s command ≡ Some r → makes_checkpoint true s command ≡ false
+none_made s command r is = ap (λ (o : Option Reply). asks_for_checkpoint s command && is_none o) is ∙ and_false (asks_for_checkpoint s command)
+
+pub made_as_asked : (s : State) (command : Command) → refusal s command ≡ None → makes_checkpoint true s command ≡ asks_for_checkpoint s command
+made_as_asked s command is = ap (λ (o : Option Reply). asks_for_checkpoint s command && is_none o) is ∙ and_true (asks_for_checkpoint s command)
+
+pub some_reply : (o : Option Reply) → IsSome o → (r : Reply) × (o ≡ Some r)
+some_reply None some = cc
+some_reply (Some r) some = (r, refl)
+
+pub due_is : (engine : Engine) (site : Site) (s : State) → Fits engine site s → nat_le (engine.cap / 2) engine.store.made ≡ is_due s
+due_is engine site s fits =
+    let made = fits.counts.made in
+    let used_is : engine.store.made ≡ used s = omega (arith, made) in
+    λ i. nat_le (fits.counts.cap i / 2) (used_is i)
+
+-- where it is known whether one is made
+
+pub step_where : (s : State) (command : Command) (wanted : Bool) → wanted ≡ makes_checkpoint true s command → step true s command [] ≡ step false (checkpointed_if wanted s) command []
+step_where s command wanted is = step_is s command ∙ ap (λ (b : Bool). step false (checkpointed_if b s) command []) (sym is)
+
+pub touches_where : (s : State) (command : Command) (wanted : Bool) → wanted ≡ makes_checkpoint true s command → command_touches true s command ≡ (if wanted then checkpoint_works else []) ++ command_touches false (checkpointed_if wanted s) command
+touches_where s command wanted is = touches_are s command ∙ ap (λ (b : Bool). (if b then checkpoint_works else []) ++ command_touches false (checkpointed_if b s) command) (sym is)
+
+-- the cache overflows where the first part of some work makes it overflow
+pub overflows_before : OverflowsWithMore → (wanted : Bool) (r : Rules) (later : List CacheWork) (c : Cache) → 1 ≤ r.groups → Overflows r (if wanted then checkpoint_works else []) c → Overflows r (checkpoint_works ++ later) c
+overflows_before over true r later c some is = over r checkpoint_works later c some is
+overflows_before over false r later c some is = over r [] (checkpoint_works ++ later) c some is
+
+-- a crash meanwhile leaves the table of before or the one after, where a checkpoint was made before
+pub either_then : (g g' : Geometry) (old mid new : Site) (s s' : State) (o o' : Outcome) → g' ≡ g → s'.table ≡ s.table → s'.commits ≡ s.commits → o' ≡ o →
+    LeavesOnly old mid (LeavesTable g s.table s.commits old.told) → LeavesOnly mid new (LeavesEither g' s' o'.after mid.told) → LeavesOnly old new (LeavesEither g s o.after old.told)
+either_then g g' old mid new s s' o o' same table commits is first second =
+    let told : mid.told ≡ old.told = (holds_now old mid (LeavesTable g s.table s.commits old.told) first).told in
+    in_sequence old mid new (Leaves (LeavesEither g s o.after old.told)) (set_before g old mid s o.after first)
+    (leaves_weaker mid new (LeavesEither g' s' o'.after mid.told) (LeavesEither g s o.after old.told) (λ snapshot q. record {
+      told = q.told ∙ told;
+      stands = ⊎_elim
+          (λ before. inl (subst (λ (x : Geometry). Stands x snapshot.image s.table s.commits) same (subst (λ (n : ℕ). Stands g' snapshot.image s.table n) commits (subst (λ (t : List Content). Stands g' snapshot.image t s'.commits) table before))))
+          (λ done. inr (subst (λ (x : Geometry). Stands x snapshot.image o.after.table o.after.commits) same (subst (λ (x : Outcome). Stands g' snapshot.image x.after.table x.after.commits) is done)))
+          q.stands;
+    }) second)

@@ -1,0 +1,61 @@
+use Rattle.image_meaning.proofs.Leaving.{under_leaves_for}
+use Rattle.engine.proofs.Moments.{err_again}
+use Rattle.engine.proofs.Asking.{asks_same, asks_nothing}
+use Rattle.std.proofs.Common.{◌∷◌, [], inl, sym, ap, subst, ◌∙◌, refl}
+use Rattle.site.specs.Moments.{LeavesOnly}
+use Rattle.site.specs.Laws.{leaves_weaker}
+use Rattle.record_model.specs.State.{Content}
+use Rattle.record_model.specs.Step.{Outcome, making, committed}
+use Rattle.engine.specs.Going.{sizes_of}
+use Rattle.engine.specs.Fits.{Fits}
+use Rattle.engine.specs.Leaves.{LeavesTable, LeavesEither}
+use Rattle.engine.proofs.engine.Engine.set_now.Goals as goal
+
+pub returns-in-Some-clause-reply : goal.returns-in-Some-clause-reply
+returns-in-Some-clause-reply g c s fits = sym (ap (λ (o : Outcome). o.reply) (c.in-Some.ensures.refused s (g.S.Site.state c.args.site.now) fits).0)
+
+pub returns-in-Some-clause-any_moment : goal.returns-in-Some-clause-any_moment
+returns-in-Some-clause-any_moment g c s fits quiet =
+    let old = g.S.Site.state c.args.site.now in
+    let geometry = (sizes_of c.args.self.now.store) in
+    leaves_weaker old old (LeavesTable geometry s.table s.commits old.told) (LeavesEither geometry s _ old.told) (λ snapshot q. record { told = q.told; stands = inl q.stands })
+    (under_leaves_for fits.newest _ _ _ s.table s.commits _ (c.hold_together.ensures.moment c.args.self.now.store.log c.args.self.now.store.pages old fits.newest fits.records s.table s.commits c.requires.going.store.both.sizes fits.holds.both quiet))
+
+pub returns-in-Ok-clause-any_moment : goal.returns-in-Ok-clause-any_moment
+returns-in-Ok-clause-any_moment g c s fits quiet =
+    let old = g.S.Site.state c.args.site.now in
+    let new = g.S.Site.state c.carry_out_set.new.site in
+    let geometry = (sizes_of c.args.self.now.store) in
+    subst (λ (o : Outcome). LeavesOnly old new (LeavesEither geometry s o.after old.told)) (sym (c.in_default.ensures.accepted s old fits).0)
+    (subst (λ (after : Content). LeavesOnly old new (LeavesEither geometry s (making 3 (committed s ((c.args.number, after) ∷ []))) old.told)) c.value_of-after.ensures (c.carry_out_set.ensures.any_moment s fits quiet))
+
+pub returns-in-Err-clause-any_moment : goal.returns-in-Err-clause-any_moment
+returns-in-Err-clause-any_moment g c s fits quiet =
+    let old = g.S.Site.state c.args.site.now in
+    let new = g.S.Site.state c.carry_out_set.new.site in
+    let geometry = (sizes_of c.args.self.now.store) in
+    subst (λ (o : Outcome). LeavesOnly old new (LeavesEither geometry s o.after old.told)) (sym (c.in_default.ensures.accepted s old fits).0)
+    (subst (λ (after : Content). LeavesOnly old new (LeavesEither geometry s (making 3 (committed s ((c.args.number, after) ∷ []))) old.told)) c.value_of-after.ensures (c.carry_out_set.ensures.any_moment s fits quiet))
+
+pub returns-in-Ok-clause-reply : goal.returns-in-Ok-clause-reply
+returns-in-Ok-clause-reply g c s fits =
+    c.in-Ok.ensures.done s fits ∙ sym (ap (λ (o : Outcome). o.reply) (c.in_default.ensures.accepted s (g.S.Site.state c.args.site.now) fits).0)
+
+pub returns-in-Ok-clause-after : goal.returns-in-Ok-clause-after
+returns-in-Ok-clause-after g c s fits =
+    let new = g.S.Site.state c.carry_out_set.new.site in
+    subst (λ (o : Outcome). Fits c.carry_out_set.new.self new o.after) (sym (c.in_default.ensures.accepted s (g.S.Site.state c.args.site.now) fits).0)
+    (subst (λ (after : Content). Fits c.carry_out_set.new.self new (making 3 (committed s ((c.args.number, after) ∷ [])))) c.value_of-after.ensures (c.in-Ok.ensures.after s fits))
+
+pub returns-in-Some-clause-asks : goal.returns-in-Some-clause-asks
+returns-in-Some-clause-asks g c s fits =
+    asks_same _ _ [] _ _ _ _ (c.in-Some.ensures.refused s (g.S.Site.state c.args.site.now) fits).1 (asks_nothing _ c.args.self.now.store.pages _ _ (λ dev. refl) (λ is. cc))
+
+pub returns-in-Ok-clause-asks : goal.returns-in-Ok-clause-asks
+returns-in-Ok-clause-asks g c s fits = asks_same _ _ _ _ _ _ _ (c.in_default.ensures.accepted s (g.S.Site.state c.args.site.now) fits).1 c.in-Ok.ensures.asks
+
+pub returns-in-Err-clause-asks : goal.returns-in-Err-clause-asks
+returns-in-Err-clause-asks g c s fits = asks_same _ _ _ _ _ _ _ (c.in_default.ensures.accepted s (g.S.Site.state c.args.site.now) fits).1 c.in-Err.ensures.asks
+
+pub returns-in-Err-clause-worn_flash : goal.returns-in-Err-clause-worn_flash
+returns-in-Err-clause-worn_flash g c is = c.in-Err.ensures.asks.worn (err_again _ _ is)
