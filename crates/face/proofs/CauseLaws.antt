@@ -1,31 +1,42 @@
 -- When each status comes.
-use Rattle.std.proofs.Common.{◌≡◌, inl, inr, IsTrue, ℕ, length, refl, sym, ap, subst, arith}
+use Rattle.std.proofs.Common.{◌≡◌, inl, inr, ◌⊎◌, IsTrue, ℕ, length, refl, sym, ap, subst, arith}
+use Rattle.site.specs.declared.outside.Dev.{Dev}
+use Rattle.site.specs.declared.outside.Dev.TheVariants.{Log, Flash, Disk}
 use Rattle.site.specs.declared.outside.Stop.TheVariants.{Device, Memory, Worn, Foreign}
 use Rattle.site.specs.State.{State, faults_of}
 use Rattle.site.specs.Calls.{Goes}
 use Rattle.site.specs.Laws.{rose_then}
 use Rattle.site.specs.Telling.{SameDevices}
 use Rattle.flash_cache.specs.Held.{IsWorn}
+use Rattle.redo_undo.specs.Holding.{IsLogWorn}
 use Rattle.face.specs.declared.halt.Halt.{Halt}
 use Rattle.face.specs.declared.halt.Halt.TheVariants as halt
 use Rattle.face.specs.Texts.{status_of}
-use Rattle.face.specs.Causes.{HasCause, HasCauses}
+use Rattle.face.specs.Causes.{HasCause, HasCauses, IsWornOut}
 
 -- a cause holds still when a line was told
 pub cause_then : (h : Halt) (a b c : State) → HasCause h a b → Goes b c → (IsTrue a.honest → SameDevices b c) → HasCause h a c
 cause_then (halt.Stop (Device dev)) a b c cause goes same = rose_then (faults_of dev a) (faults_of dev b) (faults_of dev c) cause (goes.faults dev)
 cause_then (halt.Stop Memory) a b c cause goes same = cause
-cause_then (halt.Stop (Worn dev)) a b c cause goes same = (cause.0, λ honest g table commits stands. subst (IsWorn g) (sym (same honest).image) (cause.1 honest g table commits stands))
+cause_then (halt.Stop (Worn Log)) a b c cause goes same = λ honest g table commits stands. subst (IsLogWorn g) (sym (same honest).image) (cause honest g table commits stands)
+cause_then (halt.Stop (Worn Flash)) a b c cause goes same = λ honest g table commits stands. subst (IsWorn g) (sym (same honest).image) (cause honest g table commits stands)
+cause_then (halt.Stop (Worn Disk)) a b c cause goes same = absurd cause
 cause_then (halt.Stop Foreign) a b c cause goes same = cause
 cause_then halt.Input a b c cause goes same = rose_then a.input_faults b.input_faults c.input_faults cause goes.input_faults
 cause_then halt.Output a b c cause goes same = rose_then a.output_faults b.output_faults c.output_faults cause goes.output_faults
 cause_then halt.Limit a b c cause goes same = λ honest. let over = cause honest in let left = ap length (same honest).left in omega (arith, over, left)
 
+-- flash is worn, or the log
+worn_causes : (dev : Dev) (a b : State) → IsWornOut dev a b → IsWornOut Flash a b ⊎ IsWornOut Log a b
+worn_causes Flash a b cause = inl cause
+worn_causes Log a b cause = inr cause
+worn_causes Disk a b cause = absurd cause
+
 -- by the status
 pub status_causes : (h : Halt) (status : ℕ) (a b : State) → status ≡ status_of h → HasCause h a b → HasCauses status a b
 status_causes (halt.Stop (Device dev)) status a b is cause = record { device = λ e. (dev, cause); input = λ e. absurd (omega (arith, is, e)); output = λ e. absurd (omega (arith, is, e)); limit = λ e. absurd (omega (arith, is, e)); worn = λ e. absurd (omega (arith, is, e)); foreign = λ e. absurd (omega (arith, is, e)); others = inr (inl is) }
 status_causes (halt.Stop Memory) status a b is cause = record { device = λ e. absurd (omega (arith, is, e)); input = λ e. absurd (omega (arith, is, e)); output = λ e. absurd (omega (arith, is, e)); limit = λ e. absurd (omega (arith, is, e)); worn = λ e. absurd (omega (arith, is, e)); foreign = λ e. absurd (omega (arith, is, e)); others = inr (inr (inl is)) }
-status_causes (halt.Stop (Worn dev)) status a b is cause = record { device = λ e. absurd (omega (arith, is, e)); input = λ e. absurd (omega (arith, is, e)); output = λ e. absurd (omega (arith, is, e)); limit = λ e. absurd (omega (arith, is, e)); worn = λ e. cause.1; foreign = λ e. absurd (omega (arith, is, e)); others = inr (inr (inr (inr (inr (inr (inl is)))))) }
+status_causes (halt.Stop (Worn dev)) status a b is cause = record { device = λ e. absurd (omega (arith, is, e)); input = λ e. absurd (omega (arith, is, e)); output = λ e. absurd (omega (arith, is, e)); limit = λ e. absurd (omega (arith, is, e)); worn = λ e. worn_causes dev a b cause; foreign = λ e. absurd (omega (arith, is, e)); others = inr (inr (inr (inr (inr (inr (inl is)))))) }
 status_causes (halt.Stop Foreign) status a b is cause = record { device = λ e. absurd (omega (arith, is, e)); input = λ e. absurd (omega (arith, is, e)); output = λ e. absurd (omega (arith, is, e)); limit = λ e. absurd (omega (arith, is, e)); worn = λ e. absurd (omega (arith, is, e)); foreign = λ e. cause; others = inr (inr (inr (inr (inr (inr (inr is)))))) }
 status_causes halt.Input status a b is cause = record { device = λ e. absurd (omega (arith, is, e)); input = λ e. cause; output = λ e. absurd (omega (arith, is, e)); limit = λ e. absurd (omega (arith, is, e)); worn = λ e. absurd (omega (arith, is, e)); foreign = λ e. absurd (omega (arith, is, e)); others = inr (inr (inr (inl is))) }
 status_causes halt.Output status a b is cause = record { device = λ e. absurd (omega (arith, is, e)); input = λ e. absurd (omega (arith, is, e)); output = λ e. cause; limit = λ e. absurd (omega (arith, is, e)); worn = λ e. absurd (omega (arith, is, e)); foreign = λ e. absurd (omega (arith, is, e)); others = inr (inr (inr (inr (inl is)))) }

@@ -20,10 +20,11 @@ use Rattle.clap.specs.declared.parser.matches.ArgMatches.TheViews.{out-ArgMatche
 use Rattle.clap.specs.declared.parser.matches.Found.{Found}
 use Rattle.clap.proofs.WalkLemmas.{first_value-rows}
 use Rattle.site.specs.declared.geometry.Geometry.{Geometry}
-use Rattle.face.specs.Words.{IsRun, IsNew, IsRight}
-use Rattle.face.specs.Program.{AreSizes, IsPool, IsReadFrom, program}
-use Rattle.face.proofs.WordLists.{second_word, four_words}
-use Rattle.face.proofs.ClapLaws.{differ, no_long, no_short, no_dashes}
+use Rattle.face.specs.declared.request.Load.{Load}
+use Rattle.face.specs.Words.{IsRun, IsNew, IsLoad, IsRight}
+use Rattle.face.specs.Program.{AreSizes, IsLoadOf, IsPool, IsReadFrom, program}
+use Rattle.face.proofs.WordLists.{first_word, second_word, four_words}
+use Rattle.face.proofs.ClapLaws.{named_load, named_new, named_run, differ, differ_load_new, differ_load_run, no_long, no_short, no_dashes}
 
 -- the words are `run` and a text, and the rows have it
 pub record IsRunLine (words : List Text) (rows : List Row) : Type 0 where
@@ -40,6 +41,16 @@ pub record IsNewLine (words : List Text) (rows : List Row) : Type 0 where
   pub pages_are : first_of (codes "pages") rows ≡ Some pages
   pub groups_are : first_of (codes "groups") rows ≡ Some groups
   pub blocks_are : first_of (codes "blocks") rows ≡ Some blocks
+
+-- the words are `load` and three texts, and the rows have them
+pub record IsLoadLine (words : List Text) (rows : List Row) : Type 0 where
+  pub count : Text
+  pub seed : Text
+  pub pool : Text
+  pub words_are : words ≡ codes "load" ∷ count ∷ seed ∷ pool ∷ []
+  pub count_is : first_of (codes "count") rows ≡ Some count
+  pub seed_is : first_of (codes "seed") rows ≡ Some seed
+  pub pool_is : first_of (codes "pool") rows ≡ Some pool
 
 neither : (a b : Bool) → (a || b) ≡ false → (a ≡ false) × (b ≡ false)
 neither true b e = let bad : true ≡ false = e in cc
@@ -63,10 +74,10 @@ dashes (x ∷ xs) e = no_dashes x xs e
 
 -- a first word that is no subcommand is refused
 module _ (w : Text) (rest : List Text) (plain : is_dashed w ≡ false) where
-  stray : bytes_eq (codes "new") w ≡ false → bytes_eq (codes "run") w ≡ false → fault_of program (w ∷ rest) ≡ [] → ⊥
+  stray : bytes_eq (codes "new") w ≡ false → bytes_eq (codes "run") w ≡ false → bytes_eq (codes "load") w ≡ false → fault_of program (w ∷ rest) ≡ [] → ⊥
   unfolding clap_on_literals
-  stray new_not run_not none =
-      let some : is_none (fault_of program (w ∷ rest)) ≡ false = rw (new_not, run_not, dashes w plain, long w plain, short w plain) refl in
+  stray new_not run_not load_not none =
+      let some : is_none (fault_of program (w ∷ rest)) ≡ false = rw (new_not, run_not, load_not, dashes w plain, long w plain, short w plain) refl in
       let bad : true ≡ false = sym (ap is_none none) ∙ some in
       cc
     where
@@ -109,6 +120,10 @@ stop_run rest = stop_at (codes "run") rest _ refl refl
 stop_new : (rest : List Text) → stop_after [] names (codes "new" ∷ rest) ≡ Some (codes "new", rest)
 unfolding clap_on_literals
 stop_new rest = stop_at (codes "new") rest _ refl refl
+
+stop_load : (rest : List Text) → stop_after [] names (codes "load" ∷ rest) ≡ Some (codes "load", rest)
+unfolding clap_on_literals
+stop_load rest = stop_at (codes "load") rest _ refl refl
 
 after : (a b : Kinds) → or_else a b ≡ [] → b ≡ []
 after [] b e = e
@@ -187,14 +202,65 @@ new_line (t ∷ u ∷ v ∷ w ∷ rest) rows plain none same =
     let s = neither (is_dashed w) (list_any is_dashed rest) r.1 in
     absurd (new_more t u v w rest p.0 q.0 r.0 s.0 (below (codes "new") (t ∷ u ∷ v ∷ w ∷ rest) (stop_new (t ∷ u ∷ v ∷ w ∷ rest)) none))
 
+-- what `load` takes
+load_none : fault_of program (codes "load" ∷ []) ≡ [] → ⊥
+unfolding clap_on_literals
+load_none none = let bad : true ≡ false = sym (ap is_none none) in cc
+
+load_one : (t : Text) → is_dashed t ≡ false → fault_of program (codes "load" ∷ t ∷ []) ≡ [] → ⊥
+unfolding clap_on_literals
+load_one t a none =
+    let some : is_none (fault_of program (codes "load" ∷ t ∷ [])) ≡ false = rw (dashes t a, long t a, short t a) refl in
+    let bad : true ≡ false = sym (ap is_none none) ∙ some in
+    cc
+
+load_two : (t u : Text) → is_dashed t ≡ false → is_dashed u ≡ false → fault_of program (codes "load" ∷ t ∷ u ∷ []) ≡ [] → ⊥
+unfolding clap_on_literals
+load_two t u a b none =
+    let some : is_none (fault_of program (codes "load" ∷ t ∷ u ∷ [])) ≡ false = rw (dashes t a, long t a, short t a, dashes u b, long u b, short u b) refl in
+    let bad : true ≡ false = sym (ap is_none none) ∙ some in
+    cc
+
+load_more : (t u v w : Text) (rest : List Text) → is_dashed t ≡ false → is_dashed u ≡ false → is_dashed v ≡ false → is_dashed w ≡ false → entered_fault (built program) (Some (codes "load", t ∷ u ∷ v ∷ w ∷ rest)) ≡ [] → ⊥
+unfolding clap_on_literals
+load_more t u v w rest a b c d none =
+    let some : is_none (entered_fault (built program) (Some (codes "load", t ∷ u ∷ v ∷ w ∷ rest))) ≡ false = rw (dashes t a, long t a, short t a, dashes u b, long u b, short u b, dashes v c, long v c, short v c, dashes w d, long w d, short w d) refl in
+    let bad : true ≡ false = sym (ap is_none none) ∙ some in
+    cc
+
+abbrev load_texts_in : Option (Text × List Row) → Option (Option Text × Option Text × Option Text)
+load_texts_in = option_map (λ p. (first_of (codes "count") p.1, first_of (codes "seed") p.1, first_of (codes "pool") p.1))
+
+load_three : (t u v : Text) → is_dashed t ≡ false → is_dashed u ≡ false → is_dashed v ≡ false → load_texts_in (subcommand_of program (codes "load" ∷ t ∷ u ∷ v ∷ [])) ≡ Some (Some t, Some u, Some v)
+unfolding clap_on_literals
+load_three t u v a b c = rw (dashes t a, long t a, short t a, dashes u b, long u b, short u b, dashes v c, long v c, short v c) refl
+
+load_line : (rest : List Text) (rows : List Row) → list_any is_dashed rest ≡ false → fault_of program (codes "load" ∷ rest) ≡ [] → subcommand_of program (codes "load" ∷ rest) ≡ Some (codes "load", rows) → IsLoadLine (codes "load" ∷ rest) rows
+load_line [] rows plain none same = absurd (load_none none)
+load_line (t ∷ []) rows plain none same = absurd (load_one t (neither _ _ plain).0 none)
+load_line (t ∷ u ∷ []) rows plain none same = absurd (load_two t u (neither _ _ plain).0 (neither _ _ (neither (is_dashed t) _ plain).1).0 none)
+load_line (t ∷ u ∷ v ∷ []) rows plain none same =
+    let p = neither (is_dashed t) (list_any is_dashed (u ∷ v ∷ [])) plain in
+    let q = neither (is_dashed u) (list_any is_dashed (v ∷ [])) p.1 in
+    let r = neither (is_dashed v) false q.1 in
+    let three = only _ _ (ap load_texts_in (sym same) ∙ load_three t u v p.0 q.0 r.0) in
+    record { count = t; seed = u; pool = v; words_are = refl; count_is = ap (λ x. x.0) three; seed_is = ap (λ x. x.1) three; pool_is = ap (λ x. x.2) three }
+load_line (t ∷ u ∷ v ∷ w ∷ rest) rows plain none same =
+    let p = neither (is_dashed t) (list_any is_dashed (u ∷ v ∷ w ∷ rest)) plain in
+    let q = neither (is_dashed u) (list_any is_dashed (v ∷ w ∷ rest)) p.1 in
+    let r = neither (is_dashed v) (list_any is_dashed (w ∷ rest)) q.1 in
+    let s = neither (is_dashed w) (list_any is_dashed rest) r.1 in
+    absurd (load_more t u v w rest p.0 q.0 r.0 s.0 (below (codes "load") (t ∷ u ∷ v ∷ w ∷ rest) (stop_load (t ∷ u ∷ v ∷ w ∷ rest)) none))
+
 -- the first word names a subcommand, and it is that one which is found
-names_one : (w : Text) (rest : List Text) → is_dashed w ≡ false → fault_of program (w ∷ rest) ≡ [] → (w ≡ codes "new") ⊎ (w ≡ codes "run")
-names_one w rest plain none = go (bytes_eq (codes "new") w) refl (bytes_eq (codes "run") w) refl
+names_one : (w : Text) (rest : List Text) → is_dashed w ≡ false → fault_of program (w ∷ rest) ≡ [] → (w ≡ codes "new") ⊎ ((w ≡ codes "run") ⊎ (w ≡ codes "load"))
+names_one w rest plain none = go (bytes_eq (codes "new") w) refl (bytes_eq (codes "run") w) refl (bytes_eq (codes "load") w) refl
   where
-    go : (a : Bool) → bytes_eq (codes "new") w ≡ a → (b : Bool) → bytes_eq (codes "run") w ≡ b → (w ≡ codes "new") ⊎ (w ≡ codes "run")
-    go true e b f = inl (sym ((bytes_eq-Decides (codes "new") w).0 e))
-    go false e true f = inr (sym ((bytes_eq-Decides (codes "run") w).0 f))
-    go false e false f = absurd (stray w rest plain e f none)
+    go : (a : Bool) → bytes_eq (codes "new") w ≡ a → (b : Bool) → bytes_eq (codes "run") w ≡ b → (c : Bool) → bytes_eq (codes "load") w ≡ c → (w ≡ codes "new") ⊎ ((w ≡ codes "run") ⊎ (w ≡ codes "load"))
+    go true e b f c h = inl (sym ((bytes_eq-Decides (codes "new") w).0 e))
+    go false e true f c h = inr (inl (sym ((bytes_eq-Decides (codes "run") w).0 f)))
+    go false e false f true h = inr (inr (sym ((bytes_eq-Decides (codes "load") w).0 h)))
+    go false e false f false h = absurd (stray w rest plain e f h none)
 
 abbrev name_in : Option (Text × List Row) → Option Text
 name_in = option_map (λ p. p.0)
@@ -207,6 +273,10 @@ new_found : (rest : List Text) → name_in (subcommand_of program (codes "new" �
 unfolding clap_on_literals
 new_found rest = ap (λ o. name_in (entered (built program) o)) (stop_new rest)
 
+load_found : (rest : List Text) → name_in (subcommand_of program (codes "load" ∷ rest)) ≡ Some (codes "load")
+unfolding clap_on_literals
+load_found rest = ap (λ o. name_in (entered (built program) o)) (stop_load rest)
+
 other_name : (found : Option (Text × List Row)) (name a : Text) (rows : List Row) → name_in found ≡ Some name → found ≡ Some (a, rows) → a ≡ name
 other_name found name a rows is same = only _ _ (sym (ap name_in same) ∙ is)
 
@@ -218,14 +288,27 @@ pub run_lines : (words : List Text) (rows : List Row) → list_any is_dashed wor
 run_lines [] rows plain none same = absurd (no_words _ rows same)
 run_lines (w ∷ rest) rows plain none same = ⊎_elim
     (λ e. absurd (differ (other_name _ (codes "new") (codes "run") rows (ap (λ (v : Text). name_in (subcommand_of program (v ∷ rest))) e ∙ new_found rest) same)))
+    (λ other. ⊎_elim
     (λ e. subst (λ (v : Text). IsRunLine (v ∷ rest) rows) (sym e) (run_line rest rows (neither (is_dashed w) _ plain).1 (ap (λ (v : Text). fault_of program (v ∷ rest)) (sym e) ∙ none) (ap (λ (v : Text). subcommand_of program (v ∷ rest)) (sym e) ∙ same)))
+    (λ e. absurd (differ_load_run (sym (other_name _ (codes "load") (codes "run") rows (ap (λ (v : Text). name_in (subcommand_of program (v ∷ rest))) e ∙ load_found rest) same)))) other)
     (names_one w rest (neither (is_dashed w) _ plain).0 none)
 
 pub new_lines : (words : List Text) (rows : List Row) → list_any is_dashed words ≡ false → fault_of program words ≡ [] → subcommand_of program words ≡ Some (codes "new", rows) → IsNewLine words rows
 new_lines [] rows plain none same = absurd (no_words _ rows same)
 new_lines (w ∷ rest) rows plain none same = ⊎_elim
     (λ e. subst (λ (v : Text). IsNewLine (v ∷ rest) rows) (sym e) (new_line rest rows (neither (is_dashed w) _ plain).1 (ap (λ (v : Text). fault_of program (v ∷ rest)) (sym e) ∙ none) (ap (λ (v : Text). subcommand_of program (v ∷ rest)) (sym e) ∙ same)))
+    (λ other. ⊎_elim
     (λ e. absurd (differ (sym (other_name _ (codes "run") (codes "new") rows (ap (λ (v : Text). name_in (subcommand_of program (v ∷ rest))) e ∙ run_found rest) same))))
+    (λ e. absurd (differ_load_new (sym (other_name _ (codes "load") (codes "new") rows (ap (λ (v : Text). name_in (subcommand_of program (v ∷ rest))) e ∙ load_found rest) same)))) other)
+    (names_one w rest (neither (is_dashed w) _ plain).0 none)
+
+pub load_lines : (words : List Text) (rows : List Row) → list_any is_dashed words ≡ false → fault_of program words ≡ [] → subcommand_of program words ≡ Some (codes "load", rows) → IsLoadLine words rows
+load_lines [] rows plain none same = absurd (no_words _ rows same)
+load_lines (w ∷ rest) rows plain none same = ⊎_elim
+    (λ e. absurd (differ_load_new (other_name _ (codes "new") (codes "load") rows (ap (λ (v : Text). name_in (subcommand_of program (v ∷ rest))) e ∙ new_found rest) same)))
+    (λ other. ⊎_elim
+    (λ e. absurd (differ_load_run (other_name _ (codes "run") (codes "load") rows (ap (λ (v : Text). name_in (subcommand_of program (v ∷ rest))) e ∙ run_found rest) same)))
+    (λ e. subst (λ (v : Text). IsLoadLine (v ∷ rest) rows) (sym e) (load_line rest rows (neither (is_dashed w) _ plain).1 (ap (λ (v : Text). fault_of program (v ∷ rest)) (sym e) ∙ none) (ap (λ (v : Text). subcommand_of program (v ∷ rest)) (sym e) ∙ same))) other)
     (names_one w rest (neither (is_dashed w) _ plain).0 none)
 
 -- what was read
@@ -261,7 +344,11 @@ module _ (words : List Text) (m : ArgMatches) (found : Found) (read : IsReadFrom
       from = run.1.from;
       to = run.1.to;
     })
-    run_wrong none (inr new) =
+    run_wrong none (inr (inr load)) =
+        let two : length words ≡ 2 = ap length run_read.words_are in
+        let four : length words ≡ 4 = ap length load.1.words_are in
+        absurd (omega (arith, two, four))
+    run_wrong none (inr (inl new)) =
         let two : length words ≡ 2 = ap length run_read.words_are in
         let four : length words ≡ 4 = ap length new.1.words_are in
         absurd (omega (arith, two, four))
@@ -278,7 +365,8 @@ module _ (words : List Text) (m : ArgMatches) (found : Found) (read : IsReadFrom
         record { words_are = new_read.words_are ∙ (λ i. codes "new" ∷ pages i ∷ groups i ∷ blocks i ∷ []); limits = s.limits }
 
     pub new_wrong : ((g : Geometry) → AreSizes found g → ⊥) → IsRight words → ⊥
-    new_wrong none (inr new) =
+    new_wrong none (inr (inr load)) = absurd (differ_load_new (first_word _ _ _ _ (sym load.1.words_are ∙ new_read.words_are)))
+    new_wrong none (inr (inl new)) =
         let same = four_words _ _ _ _ _ _ _ _ (sym new_read.words_are ∙ new.1.words_are) in
         none new.0 (record {
           pages = first_value-rows found (codes "pages") ∙ new_read.pages_are ∙ ap (λ (t : Text). Some t) same.second;
@@ -290,3 +378,35 @@ module _ (words : List Text) (m : ArgMatches) (found : Found) (read : IsReadFrom
         let four : length words ≡ 4 = ap length new_read.words_are in
         let two : length words ≡ 2 = ap length run.1.words_are in
         absurd (omega (arith, two, four))
+
+  module _ (is : subcommand_name_of m ≡ Some (codes "load")) where
+    load_read : IsLoadLine words (rows_of found)
+    load_read = load_lines words (rows_of found) read.plain read.faultless (its (codes "load") is)
+
+    pub load_right : (load : Load) → IsLoadOf found load → IsLoad words load
+    load_right load l =
+        let count = text_is (codes "count") load_read.count (decimal load.count) load_read.count_is l.count in
+        let seed = text_is (codes "seed") load_read.seed (decimal load.seed) load_read.seed_is l.seed in
+        let pool = text_is (codes "pool") load_read.pool (decimal load.pool) load_read.pool_is l.pool in
+        record { words_are = load_read.words_are ∙ (λ i. codes "load" ∷ count i ∷ seed i ∷ pool i ∷ []); limits = l.limits }
+
+    pub load_wrong : ((load : Load) → IsLoadOf found load → ⊥) → IsRight words → ⊥
+    load_wrong none (inr (inr load)) =
+        let same = four_words _ _ _ _ _ _ _ _ (sym load_read.words_are ∙ load.1.words_are) in
+        none load.0 (record {
+          count = first_value-rows found (codes "count") ∙ load_read.count_is ∙ ap (λ (t : Text). Some t) same.second;
+          seed = first_value-rows found (codes "seed") ∙ load_read.seed_is ∙ ap (λ (t : Text). Some t) same.third;
+          pool = first_value-rows found (codes "pool") ∙ load_read.pool_is ∙ ap (λ (t : Text). Some t) same.fourth;
+          limits = load.1.limits;
+        })
+    load_wrong none (inr (inl new)) = absurd (differ_load_new (first_word _ _ _ _ (sym load_read.words_are ∙ new.1.words_are)))
+    load_wrong none (inl run) =
+        let four : length words ≡ 4 = ap length load_read.words_are in
+        let two : length words ≡ 2 = ap length run.1.words_are in
+        absurd (omega (arith, two, four))
+
+-- right words name a subcommand
+pub right_named : (words : List Text) (m : ArgMatches) → IsReadFrom words m → IsRight words → (subcommand_name_of m ≡ Some (codes "run")) ⊎ ((subcommand_name_of m ≡ Some (codes "new")) ⊎ (subcommand_name_of m ≡ Some (codes "load")))
+right_named words m read (inl run) = inl (sym (has_name m) ∙ ap name_in (read.rows ∙ ap (subcommand_of program) run.1.words_are) ∙ named_run (decimal run.0))
+right_named words m read (inr (inl new)) = inr (inl (sym (has_name m) ∙ ap name_in (read.rows ∙ ap (subcommand_of program) new.1.words_are) ∙ named_new (decimal new.0.pages) (decimal new.0.groups) (decimal new.0.blocks)))
+right_named words m read (inr (inr load)) = inr (inr (sym (has_name m) ∙ ap name_in (read.rows ∙ ap (subcommand_of program) load.1.words_are) ∙ named_load (decimal load.0.count) (decimal load.0.seed) (decimal load.0.pool)))

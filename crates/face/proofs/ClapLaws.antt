@@ -15,7 +15,8 @@ use Rattle.std.specs.declared.string.String.{String}
 use Rattle.std.specs.declared.alloc.Global.{Global}
 use Rattle.std.specs.List.{list_any}
 use Rattle.std.specs.Str.Parse.{IsNumeral}
-use Rattle.face.specs.Words.{IsRight, HasDash, is_dashed, words_of}
+use Rattle.face.specs.Words.{HasLoadLimits, IsRight, HasDash, is_dashed, words_of}
+use Rattle.face.specs.declared.request.Load.{Load}
 use Rattle.face.specs.Program.{program}
 
 -- a word whose first octet is no dash is neither a long nor a short flag
@@ -60,6 +61,14 @@ pub taken_new : (x : ℕ) (xs : Text) (y : ℕ) (ys : Text) (z : ℕ) (zs : Text
 unfolding clap_on_literals
 taken_new x xs y ys z zs a b c = rw (no_dashes x xs a, no_long x xs a, no_short x xs a, no_dashes y ys b, no_long y ys b, no_short y ys b, no_dashes z zs c, no_long z zs c, no_short z zs c) refl
 
+pub named_load : (t u v : Text) → option_map (λ p. p.0) (subcommand_of program (codes "load" ∷ t ∷ u ∷ v ∷ [])) ≡ Some (codes "load")
+unfolding clap_on_literals
+named_load t u v = refl
+
+pub taken_load : (x : ℕ) (xs : Text) (y : ℕ) (ys : Text) (z : ℕ) (zs : Text) → (x == 45) ≡ false → (y == 45) ≡ false → (z == 45) ≡ false → takes program (codes "load" ∷ (x ∷ xs) ∷ (y ∷ ys) ∷ (z ∷ zs) ∷ []) ≡ true
+unfolding clap_on_literals
+taken_load x xs y ys z zs a b c = rw (no_dashes x xs a, no_long x xs a, no_short x xs a, no_dashes y ys b, no_long y ys b, no_short y ys b, no_dashes z zs c, no_long z zs c, no_short z zs c) refl
+
 -- a number in decimal has a first octet, and it is a digit
 record Begins (t : Text) : Type 0 where
   pub first : ℕ
@@ -85,10 +94,30 @@ new_taken t u v a b c =
     (λ i. takes program (codes "new" ∷ a.is i ∷ b.is i ∷ c.is i ∷ []))
     ∙ taken_new a.first a.rest b.first b.rest c.first c.rest a.no_dash b.no_dash c.no_dash
 
+load_taken : (t u v : Text) → Begins t → Begins u → Begins v → takes program (codes "load" ∷ t ∷ u ∷ v ∷ []) ≡ true
+load_taken t u v a b c =
+    (λ i. takes program (codes "load" ∷ a.is i ∷ b.is i ∷ c.is i ∷ []))
+    ∙ taken_load a.first a.rest b.first b.rest c.first c.rest a.no_dash b.no_dash c.no_dash
+
+-- the three numbers of a load begin with a digit
+record LoadBegins (load : Load) : Type 0 where
+  pub count : Begins (decimal load.count)
+  pub seed : Begins (decimal load.seed)
+  pub pool : Begins (decimal load.pool)
+
+load_begins : (load : Load) → HasLoadLimits load → LoadBegins load
+load_begins load limits =
+    let few = limits.few in
+    let most = limits.to in
+    record { count = begins load.count (omega (arith, few)); seed = begins load.seed limits.seed; pool = begins load.pool (omega (arith, most)) }
+
 -- `clap` takes all right words
 pub right_taken : (words : List Text) → IsRight words → takes program words ≡ true
 right_taken words (inl run) = let most = run.1.to in ap (takes program) run.1.words_are ∙ run_taken (decimal run.0) (begins run.0 (omega (arith, most)))
-right_taken words (inr new) =
+right_taken words (inr (inr load)) =
+    let b = load_begins load.0 load.1.limits in
+    ap (takes program) load.1.words_are ∙ load_taken (decimal load.0.count) (decimal load.0.seed) (decimal load.0.pool) b.count b.seed b.pool
+right_taken words (inr (inl new)) =
     let limits = new.1.limits in
     let pages = limits.few_pages in
     let groups = limits.few_groups in
@@ -103,11 +132,17 @@ run_undashed t e dash = let none : list_any is_dashed (codes "run" ∷ t ∷ [])
 new_undashed : (t u v : Text) → is_dashed t ≡ false → is_dashed u ≡ false → is_dashed v ≡ false → HasDash (codes "new" ∷ t ∷ u ∷ v ∷ []) → ⊥
 new_undashed t u v a b c dash = let none : list_any is_dashed (codes "new" ∷ t ∷ u ∷ v ∷ []) ≡ false = rw (a, b, c) refl in cc
 
+load_undashed : (t u v : Text) → is_dashed t ≡ false → is_dashed u ≡ false → is_dashed v ≡ false → HasDash (codes "load" ∷ t ∷ u ∷ v ∷ []) → ⊥
+load_undashed t u v a b c dash = let none : list_any is_dashed (codes "load" ∷ t ∷ u ∷ v ∷ []) ≡ false = rw (a, b, c) refl in cc
+
 pub right_undashed : (words : List Text) → IsRight words → HasDash words → ⊥
 right_undashed words (inl run) dash =
     let most = run.1.to in
     run_undashed (decimal run.0) (begins_undashed _ (begins run.0 (omega (arith, most)))) (subst HasDash run.1.words_are dash)
-right_undashed words (inr new) dash =
+right_undashed words (inr (inr load)) dash =
+    let b = load_begins load.0 load.1.limits in
+    load_undashed (decimal load.0.count) (decimal load.0.seed) (decimal load.0.pool) (begins_undashed _ b.count) (begins_undashed _ b.seed) (begins_undashed _ b.pool) (subst HasDash load.1.words_are dash)
+right_undashed words (inr (inl new)) dash =
     let limits = new.1.limits in
     let pages = limits.few_pages in
     let groups = limits.few_groups in
@@ -116,6 +151,12 @@ right_undashed words (inr new) dash =
 
 pub differ : codes "run" ≡ codes "new" → ⊥
 differ e = let bad : 114 ≡ 110 = ap (λ (l : Text). slice_index_or l 0 0) e in absurd (omega (arith, bad))
+
+pub differ_load_run : codes "load" ≡ codes "run" → ⊥
+differ_load_run e = let bad : 108 ≡ 114 = ap (λ (l : Text). slice_index_or l 0 0) e in absurd (omega (arith, bad))
+
+pub differ_load_new : codes "load" ≡ codes "new" → ⊥
+differ_load_new e = let bad : 108 ≡ 110 = ap (λ (l : Text). slice_index_or l 0 0) e in absurd (omega (arith, bad))
 
 any_of : {X Y : Type 0} (p : Y → Bool) (f : X → Y) (xs : List X) → list_any p (map f xs) ≡ list_any (λ x. p (f x)) xs
 any_of p f [] = refl

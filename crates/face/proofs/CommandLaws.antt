@@ -1,5 +1,5 @@
 -- Why a command and a restart fail.
-use Rattle.std.proofs.Common.{◌≡◌, ℕ, List, IsTrue, IfErr, IsErrOf, refl, sym, ap, subst}
+use Rattle.std.proofs.Common.{◌≡◌, ◌≢◌, ◌⊎◌, ⊎_elim, ℕ, List, IsTrue, IfErr, IsErrOf, refl, sym, ap, subst}
 use Rattle.std.specs.Prelude.{Result, Ok, Err}
 use Rattle.site.specs.declared.outside.Dev.{Dev}
 use Rattle.site.specs.declared.outside.Dev.TheVariants.{Log, Flash, Disk}
@@ -13,37 +13,49 @@ use Rattle.page_store.specs.Stopping.{MayStop}
 use Rattle.engine.specs.declared.engine.Engine.{Engine}
 use Rattle.engine.specs.Going.{sizes_of}
 use Rattle.flash_cache.specs.Held.{IsWorn}
+use Rattle.redo_undo.specs.Holding.{IsLogWorn}
 use Rattle.engine.specs.Image.{Stands}
 use Rattle.engine.specs.Fits.{Fits}
 use Rattle.face.specs.declared.halt.Halt.TheVariants as halt
-use Rattle.face.specs.Causes.{FailsBy, HasCause, IsForeign}
+use Rattle.face.specs.Causes.{FailsBy, HasCause, IsForeign, IsWornAt}
 
 -- why a command fails
 pub fails_by : {T : Type 0} (result : Result T Stop) (engine : Engine) (old new : Site) → IfErr result MayStop → ((d : Dev) → IsErrOf result (Device d) → FaultRose d old new)
-    → (IsErrOf result (Worn Log) → ⊥) → ((s : State) → Fits engine old s → IsErrOf result (Worn Flash) → IsWorn (sizes_of engine.store) new.image)
+    → ((s : State) → Fits engine old s → IsErrOf result (Worn Log) → IsLogWorn (sizes_of engine.store) new.image) → ((s : State) → Fits engine old s → IsErrOf result (Worn Flash) → IsWorn (sizes_of engine.store) new.image)
     → (IsErrOf result Foreign → (s : State) → Fits engine old s → ⊥) → IfErr result (λ stop. FailsBy stop engine old new)
 fails_by (Ok done) engine old new stops rose log flash foreign = tt
 fails_by (Err (Device dev)) engine old new stops rose log flash foreign = rose dev refl
 fails_by (Err Memory) engine old new stops rose log flash foreign = tt
-fails_by (Err (Worn Log)) engine old new stops rose log flash foreign = absurd (log refl)
-fails_by (Err (Worn Flash)) engine old new stops rose log flash foreign = (refl, λ s fits. flash s fits refl)
+fails_by (Err (Worn Log)) engine old new stops rose log flash foreign = λ s fits. log s fits refl
+fails_by (Err (Worn Flash)) engine old new stops rose log flash foreign = λ s fits. flash s fits refl
 fails_by (Err (Worn Disk)) engine old new stops rose log flash foreign = absurd stops
 fails_by (Err Foreign) engine old new stops rose log flash foreign = foreign refl
 
+-- no command that never answers so answers that the devices are foreign
+pub never_foreign : {T : Type 0} (result : Result T Stop) → IfErr result (λ stop. stop ≢ Foreign) → IsErrOf result Foreign → ⊥
+never_foreign (Ok done) other is = cc
+never_foreign {T} (Err stop) other is = other (same is)
+  where
+    same : IsErrOf {T = T} (Err stop) Foreign → stop ≡ Foreign
+    same is = cc
+
 -- a command that makes no call on pages
-pub log_fails : {T : Type 0} (result : Result T Stop) (engine : Engine) (old new : Site) → IfErr result (λ stop. stop ≡ Device Log) → ((d : Dev) → IsErrOf result (Device d) → FaultRose d old new)
-    → IfErr result (λ stop. FailsBy stop engine old new)
-log_fails (Ok done) engine old new stops rose = tt
-log_fails (Err stop) engine old new stops rose = subst (λ (x : Stop). FailsBy x engine old new) (sym stops) (rose Log (ap Err stops))
+pub log_fails : {T : Type 0} (result : Result T Stop) (engine : Engine) (old new : Site) → IfErr result (λ stop. (stop ≡ Device Log) ⊎ (stop ≡ Worn Log)) → ((d : Dev) → IsErrOf result (Device d) → FaultRose d old new)
+    → ((s : State) → Fits engine old s → IsErrOf result (Worn Log) → IsLogWorn (sizes_of engine.store) new.image) → IfErr result (λ stop. FailsBy stop engine old new)
+log_fails (Ok done) engine old new stops rose log = tt
+log_fails (Err stop) engine old new stops rose log =
+    ⊎_elim (λ device. subst (λ (x : Stop). FailsBy x engine old new) (sym device) (rose Log (ap Err device))) (λ worn. subst (λ (x : Stop). FailsBy x engine old new) (sym worn) (λ s fits. log s fits (ap Err worn))) stops
+
+-- a restart's rings stand at their ends
+abbrev pub WornBy : {T : Type 0} → Result T Stop → Dev → Site → Site → Type 0
+WornBy result dev old new = IsTrue old.honest → (g : Geometry) (table : List Content) (commits : ℕ) → Stands g old.image table commits → IsErrOf result (Worn dev) → IsWornAt dev g new.image
 
 -- why restart stops
 pub start_cause : {T : Type 0} (result : Result T Stop) (stop : Stop) (old new : Site) → result ≡ Err stop → MayStop stop → ((d : Dev) → IsErrOf result (Device d) → FaultRose d old new)
-    → (IsErrOf result Foreign → IsForeign old) → (IsErrOf result (Worn Log) → ⊥)
-    → (IsTrue old.honest → (g : Geometry) (table : List Content) (commits : ℕ) → Stands g old.image table commits → (d : Dev) → IsErrOf result (Worn d) → (d ≡ Flash) × IsWorn g new.image)
-    → HasCause (halt.Stop stop) old new
-start_cause result (Device dev) old new failed stops rose foreign log worn = rose dev failed
-start_cause result Memory old new failed stops rose foreign log worn = tt
-start_cause result (Worn Log) old new failed stops rose foreign log worn = absurd (log failed)
-start_cause result (Worn Flash) old new failed stops rose foreign log worn = (refl, λ honest g table commits stands. (worn honest g table commits stands Flash failed).1)
-start_cause result (Worn Disk) old new failed stops rose foreign log worn = absurd stops
-start_cause result Foreign old new failed stops rose foreign log worn = foreign failed
+    → (IsErrOf result Foreign → IsForeign old) → WornBy result Log old new → WornBy result Flash old new → HasCause (halt.Stop stop) old new
+start_cause result (Device dev) old new failed stops rose foreign log flash = rose dev failed
+start_cause result Memory old new failed stops rose foreign log flash = tt
+start_cause result (Worn Log) old new failed stops rose foreign log flash = λ honest g table commits stands. log honest g table commits stands failed
+start_cause result (Worn Flash) old new failed stops rose foreign log flash = λ honest g table commits stands. flash honest g table commits stands failed
+start_cause result (Worn Disk) old new failed stops rose foreign log flash = absurd stops
+start_cause result Foreign old new failed stops rose foreign log flash = foreign failed

@@ -5,8 +5,8 @@ use Rattle.std.specs.List.{AllByRecursion, list_any}
 use Rattle.std.proofs.lemmas.List.{append-nil, take_at, drop_at, take_all}
 use Rattle.site.specs.State.{State as Site}
 use Rattle.record_model.specs.Run.{Line, is_quit}
-use Rattle.face.specs.Grammar.{command_of}
 use Rattle.face.specs.declared.source.Source.{Source}
+use Rattle.shell_text.specs.Reading.{line_of}
 use Rattle.face.specs.Lines.{commands_of, up_to_quit, answered_of, limit, pending, to_hear, IsSource, HasEnded, total, AreLines, HearsLine}
 use Rattle.face.specs.Run.{HasHeard}
 use Rattle.shell_text.proofs.Lines.{lines_of-waits}
@@ -181,7 +181,7 @@ module _ (entry : List ℕ) (source : Source) (now : Site) (i : ℕ) (cut : Cut 
     whole = subst (λ (b : Bool). AreLines cut.octets cut.lines b) going cut.are
 
     no_line : commands_of false octets ≡ []
-    no_line = ap (map command_of) (lines_of-waits octets none)
+    no_line = ap (map line_of) (lines_of-waits octets none)
 
     -- the octets that were taken before it
     before : commands_of false (cut.octets ++ octets) ≡ cut.lines

@@ -11,6 +11,7 @@ use Rattle.engine.specs.Image.{Stands}
 use Rattle.engine.specs.Fits.{Fits}
 use Rattle.engine.specs.Going.{sizes_of}
 use Rattle.flash_cache.specs.Held.{IsWorn}
+use Rattle.redo_undo.specs.Holding.{IsLogWorn}
 use Rattle.record_model.specs.Run.{Line, is_quit}
 use Rattle.face.specs.declared.halt.Halt.{Halt}
 use Rattle.face.specs.declared.halt.Halt.TheVariants as halt
@@ -20,7 +21,7 @@ use Rattle.face.specs.declared.source.Heard.TheVariants as heard
 use Rattle.engine.specs.declared.engine.Engine.{Engine}
 use Rattle.face.specs.Causes.{HasCause, AnswerFailsBy}
 use Rattle.face.specs.Lines.{HasEnded, to_hear, total, IsSource, HearsLine, Hears, IsCutOff}
-use Rattle.site.specs.declared.outside.Dev.TheVariants.{Flash}
+use Rattle.site.specs.declared.outside.Dev.TheVariants.{Log, Flash, Disk}
 use Rattle.face.specs.Run.{Run, HasHeard, StopsTaking, Stops, Works, Outgrows, HasGroupsFor}
 use Rattle.face.specs.Going.{Going}
 use Rattle.face.proofs.Cuts.{Cut, has_heard_all, input_failed, over_limit, taken_by, heard_line, quit_is_last}
@@ -156,11 +157,11 @@ pub answer_cause : (h : Halt) (engine : Engine) (old mid new : Site) → AnswerF
     → (IsTrue old.honest → (g : Geometry) (table : List Content) (commits : ℕ) → Stands g old.image table commits → ((s : State) × Fits engine mid s) × (sizes_of engine.store ≡ g)) → HasCause h old new
 answer_cause (halt.Stop (Device dev)) engine old mid new fails goes fits = rose_since (faults_of dev old) (faults_of dev mid) (faults_of dev new) (goes.faults dev) fails
 answer_cause (halt.Stop Memory) engine old mid new fails goes fits = fails
-answer_cause (halt.Stop (Worn dev)) engine old mid new fails goes fits = (
-  fails.0,
-  λ honest g table commits stands.
-      let f = fits honest g table commits stands in subst (λ (x : Geometry). IsWorn x new.image) f.1 (fails.1 f.0.0 f.0.1),
-)
+answer_cause (halt.Stop (Worn Log)) engine old mid new fails goes fits = λ honest g table commits stands.
+    let f = fits honest g table commits stands in subst (λ (x : Geometry). IsLogWorn x new.image) f.1 (fails f.0.0 f.0.1)
+answer_cause (halt.Stop (Worn Flash)) engine old mid new fails goes fits = λ honest g table commits stands.
+    let f = fits honest g table commits stands in subst (λ (x : Geometry). IsWorn x new.image) f.1 (fails f.0.0 f.0.1)
+answer_cause (halt.Stop (Worn Disk)) engine old mid new fails goes fits = absurd fails
 answer_cause (halt.Stop Foreign) engine old mid new fails goes fits = λ honest g table commits stands. let f = fits honest g table commits stands in fails f.0.0 f.0.1
 answer_cause halt.Input engine old mid new fails goes fits = absurd fails
 answer_cause halt.Output engine old mid new fails goes fits = rose_since old.output_faults mid.output_faults new.output_faults goes.output_faults fails

@@ -16,16 +16,15 @@ use Rattle.face.specs.declared.halt.Halt.{Halt}
 use Rattle.face.specs.declared.halt.Halt.TheVariants as halt
 use Rattle.face.specs.Texts.{fault_line, status_of}
 use Rattle.engine.specs.Image.{Stands}
-use Rattle.site.specs.declared.outside.Dev.{Dev}
-use Rattle.site.specs.declared.outside.Dev.TheVariants.{Flash}
+use Rattle.site.specs.declared.outside.Dev.TheVariants.{Log, Flash, Disk}
+use Rattle.redo_undo.specs.Holding.{IsLogWorn}
 use Rattle.redo_undo.specs.Works.{OverflowsWithMore}
-use Rattle.face.specs.Causes.{HasCause, HasCauses, NoFaultRose, EndsInTime}
+use Rattle.face.specs.Causes.{HasCause, HasCauses, NoFaultRose, HasLogRoom, EndsInTime}
 use Rattle.face.specs.Lines.{commands_of, up_to_quit, answered_of, limit}
 use Rattle.face.specs.Run.{Run, told_after, StandsFor, StandsAt, StandsNear, IsAccounted, IsBetween, Begins, HasHeard, HasTakenAll, Stops, StopsTaking, Works}
 use Rattle.face.specs.Range.{run_of, run_text, StandsAfter, IsLeft, WearsOut, NeverWears}
 use Rattle.face.proofs.Pagings.{wears_out, never_wears, wears_out_all}
 use Rattle.face.specs.Headline.{IsGood, IsToldWhole, Headline}
-use Rattle.face.proofs.Built.{all_built}
 use Rattle.face.proofs.Fronts.{accounted, told_same, state_same, take_within, up_append, no_quits, first_commands}
 use Rattle.face.proofs.Meanings.{stands_by}
 use Rattle.face.proofs.Ranges.{IsFault, is_left, stands_after, all_among, all_text}
@@ -92,7 +91,7 @@ module _ (g : Geometry) (opening : State) (listings : List (List CacheLine)) (ol
 
   pub left_by : (new : Site) (fault : List ℕ) → IsFault fault → LeavesOnly old new (IsAccounted all heard old.told fault) → LeavesOnly old new (IsLeft taken old.told fault)
   left_by new fault is_fault moments =
-      leaves_weaker old new (IsAccounted all heard old.told fault) (IsLeft taken old.told fault) (λ s a. is_left taken (all_built ended octets) heard old.told fault s h.enough is_fault
+      leaves_weaker old new (IsAccounted all heard old.told fault) (IsLeft taken old.told fault) (λ s a. is_left taken heard old.told fault s h.enough is_fault
       (accounted all (commands_of ended octets) heard h.same old.told fault s a)) moments
 
   -- all lines that stand whole in the first octets were heard
@@ -113,7 +112,7 @@ module _ (g : Geometry) (opening : State) (listings : List (List CacheLine)) (ol
       let text : told_after all (heard + 1) ≡ run_text own =
       sym (told_same all lines heard same (heard + 1) (omega arith))
       ∙ ap (λ (n : ℕ). told_after own (n + 1)) (sym t.count)
-      ∙ all_text own (all_built false (take limit octets)) in
+      ∙ all_text own in
       record {
         rest = take more.0 fault;
         told = more.1 ∙ ap (λ (l : List ℕ). l ++ take more.0 fault) (t.told ∙ ap (λ (l : List ℕ). old.told ++ l) text) ∙ append_assoc old.told (run_text own) (take more.0 fault);
@@ -124,7 +123,7 @@ module _ (g : Geometry) (opening : State) (listings : List (List CacheLine)) (ol
 pub begins : (g : Geometry) (opening : State) (listings : List (List CacheLine)) (old : Site) → IsGood g opening old → Begins (run_of g opening true old.left listings) old
 begins g opening listings old good = record { honest = good.honest; quiet = good.quiet; opens = good.opens; lines = refl }
 
-not_zero : (h : Halt) → status_of h ≢ 0
+pub not_zero : (h : Halt) → status_of h ≢ 0
 not_zero (halt.Stop (Device dev)) e = omega (arith, e)
 not_zero (halt.Stop Memory) e = omega (arith, e)
 not_zero (halt.Stop (Worn dev)) e = omega (arith, e)
@@ -133,15 +132,17 @@ not_zero halt.Input e = omega (arith, e)
 not_zero halt.Output e = omega (arith, e)
 not_zero halt.Limit e = omega (arith, e)
 
--- with 8 it is flash that is worn
-worn_by : {T : Type 0} (h : Halt) (old new : Site) → HasCause h old new → status_of h ≡ 8 → IsErrOf {T = T} (Err h) (halt.Stop (Worn Flash))
-worn_by (halt.Stop (Device dev)) old new cause e = absurd (omega (arith, e))
-worn_by (halt.Stop Memory) old new cause e = absurd (omega (arith, e))
-worn_by (halt.Stop (Worn dev)) old new cause e = ap (λ (d : Dev). Err (halt.Stop (Worn d))) cause.0
-worn_by (halt.Stop Foreign) old new cause e = absurd (omega (arith, e))
-worn_by halt.Input old new cause e = absurd (omega (arith, e))
-worn_by halt.Output old new cause e = absurd (omega (arith, e))
-worn_by halt.Limit old new cause e = absurd (omega (arith, e))
+-- with 8 it is flash that is worn, or the log
+pub worn_by : {T : Type 0} (g : Geometry) (opening : State) (h : Halt) (old new : Site) → IsGood g opening old → HasCause h old new → status_of h ≡ 8 → IsErrOf {T = T} (Err h) (halt.Stop (Worn Flash)) ⊎ IsLogWorn g new.image
+worn_by g opening (halt.Stop (Device dev)) old new good cause e = absurd (omega (arith, e))
+worn_by g opening (halt.Stop Memory) old new good cause e = absurd (omega (arith, e))
+worn_by g opening (halt.Stop (Worn Flash)) old new good cause e = inl refl
+worn_by g opening (halt.Stop (Worn Log)) old new good cause e = inr (cause good.honest g opening.table opening.commits (stands_by g old.image opening good.opens))
+worn_by g opening (halt.Stop (Worn Disk)) old new good cause e = absurd cause
+worn_by g opening (halt.Stop Foreign) old new good cause e = absurd (omega (arith, e))
+worn_by g opening halt.Input old new good cause e = absurd (omega (arith, e))
+worn_by g opening halt.Output old new good cause e = absurd (omega (arith, e))
+worn_by g opening halt.Limit old new good cause e = absurd (omega (arith, e))
 
 module _ (more : OverflowsWithMore) (pool : ℕ) (g : Geometry) (opening : State) (listings : List (List CacheLine)) (old : Site) where
   abbrev run : Run
@@ -166,8 +167,8 @@ module _ (more : OverflowsWithMore) (pool : ℕ) (g : Geometry) (opening : State
   over_by halt.Input heard octets mid s e = absurd (omega (arith, e))
   over_by halt.Limit heard octets mid s e = (s.1, s.0.no_quit)
 
-  pub halted : {T : Type 0} (mid new : Site) (h : Halt) → Works {T = T} pool run old mid (Err h) → EachMoment mid new (TellsPart (fault_line h) mid) → new.left ≡ mid.left → new.loose ≡ mid.loose → HasCause h old new → (status : ℕ) → status ≡ status_of h → Headline pool g opening old new status
-  halted mid new h works tells left loose cause status is =
+  pub halted : {T : Type 0} (mid new : Site) (h : Halt) → IsGood g opening old → Works {T = T} pool run old mid (Err h) → EachMoment mid new (TellsPart (fault_line h) mid) → new.left ≡ mid.left → new.loose ≡ mid.loose → HasCause h old new → (status : ℕ) → status ≡ status_of h → Headline pool g opening old new status
+  halted mid new h good works tells left loose cause status is =
       let heard = works.has_heard in
       let now = tells.now.told 0 in
       record {
@@ -186,7 +187,8 @@ module _ (more : OverflowsWithMore) (pool : ℕ) (g : Geometry) (opening : State
             (taken_by h works.heard works.octets mid works.stops.1 (⊎_elim (λ e. inl (sym is ∙ e)) (λ e. inr (sym is ∙ e)) which))
             (now.0, sym (append-nil new.told) ∙ now.1);
         over = λ seven. over_by h works.heard works.octets mid works.stops.1 (sym is ∙ seven);
-        worn = λ eight. wears_out pool g opening listings old.image works.ended works.octets more run refl refl works.heard heard.same (works.worn (worn_by h old new cause (sym is ∙ eight)));
+        worn = λ eight. ⊎_elim (λ flash. inl (wears_out pool g opening listings old.image works.ended works.octets more run refl refl works.heard heard.same (works.worn flash))) (λ log. inr log)
+            (worn_by g opening h old new good cause (sym is ∙ eight));
         room = λ zero. absurd (not_zero h (sym is ∙ zero));
       }
 
@@ -197,7 +199,6 @@ module _ (more : OverflowsWithMore) (pool : ℕ) (g : Geometry) (opening : State
       let count = works.done.1 in
       let same = heard.same in
       let own = run_of g opening works.ended works.octets listings in
-      let built = all_built works.ended works.octets in
       record {
         octets = works.octets;
         ended = works.ended;
@@ -211,8 +212,8 @@ module _ (more : OverflowsWithMore) (pool : ℕ) (g : Geometry) (opening : State
         heard = λ zero. works.done.0;
         done = λ zero. record {
           told = works.done.3.told ∙ ap (λ (l : List ℕ). old.told ++ l)
-              (sym (told_same run lines works.heard same (works.heard + 1) (omega arith)) ∙ ap (λ (n : ℕ). told_after own (n + 1)) (sym count) ∙ all_text own built);
-          stands = subst (λ (n : ℕ). StandsAfter own n new.image) (all_among own built) (stands_after own built (length (up_to_quit lines)) new.image
+              (sym (told_same run lines works.heard same (works.heard + 1) (omega arith)) ∙ ap (λ (n : ℕ). told_after own (n + 1)) (sym count) ∙ all_text own);
+          stands = subst (λ (n : ℕ). StandsAfter own n new.image) (all_among own) (stands_after own (length (up_to_quit lines)) new.image
               (subst (λ (n : ℕ). StandsAt own n new.image) (sym count) (subst (λ (s : State). StandsFor g new.image s) (sym (state_same run lines works.heard same works.heard (omega arith))) works.done.3.stands)));
         };
         taking = λ which. ⊎_elim (λ e. absurd (omega (arith, e))) (λ e. absurd (omega (arith, e))) which;
@@ -235,13 +236,13 @@ not_over n left octets rest is (inr quit) many none = true_not_false (sym quit �
     same : take n left ≡ take n octets
     same = ap (take n) is ∙ front
 
--- where nothing fails, no ring that is appended to stands at its end, and the input ends in time
-pub complete : OverflowsWithMore → (pool : ℕ) (g : Geometry) (opening : State) (old new : Site) (status : ℕ) → IsGood g opening old → NoFaultRose old new → NeverWears pool (run_of g opening true old.left []) old.image → EndsInTime old → HasCauses status old new →
+-- where nothing fails, no ring stands at its end that is appended to, and the input ends in time
+pub complete : OverflowsWithMore → (pool : ℕ) (g : Geometry) (opening : State) (old new : Site) (status : ℕ) → IsGood g opening old → NoFaultRose old new → NeverWears pool (run_of g opening true old.left []) old.image → HasLogRoom g new → EndsInTime old → HasCauses status old new →
     Headline pool g opening old new status → (status ≡ 0) ⊎ (status ≡ 4)
-complete more pool g opening old new status good none room ends causes h =
+complete more pool g opening old new status good none room log_room ends causes h =
     ⊎_elim (λ e. inl e) (⊎_elim (λ e. let c = causes.device e in absurd (none.devices c.0 c.1)) (⊎_elim (λ e. inr e) (⊎_elim (λ e. absurd (none.input (causes.input e)))
     (⊎_elim (λ e. absurd (none.output (causes.output e))) (⊎_elim (λ e. absurd (in_time (h.over e)))
-    (⊎_elim (λ e. absurd (never (h.worn e))) (λ e. absurd (causes.foreign e good.honest g opening.table opening.commits stands)))))))) causes.others
+    (⊎_elim (λ e. absurd (⊎_elim never log_room (h.worn e))) (λ e. absurd (causes.foreign e good.honest g opening.table opening.commits stands)))))))) causes.others
   where
     stands : Stands g old.image opening.table opening.commits
     stands = stands_by g old.image opening good.opens
@@ -251,8 +252,9 @@ complete more pool g opening old new status good none room ends causes h =
 
     never : WearsOut pool (run_of g opening h.ended h.octets h.listings) old.image → ⊥
     never over =
+        let newest = good.opens.newest in
         let blocks = good.opens.blocks in
         let sound = good.opens.sound in
-        let all = wears_out_all pool g opening h.listings old.image h.ended h.octets more old.left new.left h.taken h.end over blocks sound in
-        let few = room blocks sound in
+        let all = wears_out_all pool g opening h.listings old.image h.ended h.octets more old.left new.left h.taken h.end over newest blocks sound in
+        let few = room newest blocks sound in
         omega (arith, all, few)

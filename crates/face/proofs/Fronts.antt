@@ -8,7 +8,7 @@ use Rattle.record_model.specs.declared.words.CacheLine.{CacheLine}
 use Rattle.record_model.specs.State.{State}
 use Rattle.record_model.specs.Run.{Line, is_quit, next_listing, later_listings}
 use Rattle.shell_text.specs.Runs.{lines_of, in_front}
-use Rattle.face.specs.Grammar.{command_of}
+use Rattle.shell_text.specs.Reading.{line_of}
 use Rattle.face.specs.Lines.{commands_of, up_to_quit}
 use Rattle.shell_text.specs.Texts.{open_text, reply_text}
 use Rattle.face.specs.Run.{Run, answered, step, after_lines, reply_texts, line_texts, text_at, told_after, state_at, StandsFor, IsPart, IsAccounted}
@@ -99,9 +99,9 @@ first_lines : (e : Bool) (a b : List ℕ) → (more : List (List ℕ)) × (lines
 first_lines e [] b = (lines_of e b, refl)
 first_lines e (x ∷ a) b = let rest = first_lines e a b in chosen_lines (x == 10) e x (lines_of false a) rest.0 (lines_of e (a ++ b)) rest.1
 
-map_append : (xs ys : List (List ℕ)) → map command_of (xs ++ ys) ≡ map command_of xs ++ map command_of ys
+map_append : (xs ys : List (List ℕ)) → map line_of (xs ++ ys) ≡ map line_of xs ++ map line_of ys
 map_append [] ys = refl
-map_append (x ∷ xs) ys = ap (λ (l : List Line). command_of x ∷ l) (map_append xs ys)
+map_append (x ∷ xs) ys = ap (λ (l : List Line). line_of x ∷ l) (map_append xs ys)
 
 pub first_commands : (e : Bool) (a b : List ℕ) → (more : List Line) × (commands_of e (a ++ b) ≡ commands_of false a ++ more)
-first_commands e a b = let lines = first_lines e a b in (map command_of lines.0, ap (map command_of) lines.1 ∙ map_append (lines_of false a) lines.0)
+first_commands e a b = let lines = first_lines e a b in (map line_of lines.0, ap (map line_of) lines.1 ∙ map_append (lines_of false a) lines.0)

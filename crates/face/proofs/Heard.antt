@@ -6,9 +6,8 @@ use Rattle.std.proofs.lemmas.List.{append-nil, take_more_set, length-take}
 use Rattle.std.proofs.lemmas.Bool.{lt-ltb, le-ltb, cases_lt}
 use Rattle.record_model.specs.Run.{Line}
 use Rattle.site.specs.State.{State}
-use Rattle.shell_text.specs.Reading.{command_in, words_of}
+use Rattle.shell_text.specs.Reading.{command_in, line_of, words_of}
 use Rattle.shell_text.proofs.Lines.{lines_of-newline, lines_of-end}
-use Rattle.face.specs.Grammar.{command_of, built}
 use Rattle.face.specs.declared.halt.Halt.{Halt}
 use Rattle.face.specs.declared.source.Source.{Source}
 use Rattle.face.specs.Lines.{IsSource, to_hear, pending, total, limit, commands_of, HearsOctet, HearsOnly, HearsLine, IsCutOff, CutsOff}
@@ -26,30 +25,30 @@ pub nothing_yet : (before line : List ℕ) → HeardSoFar before before line 0 0
 nothing_yet before line = record { octets = []; all = refl; none = tt; number = refl; count = refl; stands = λ few. refl }
 
 -- a line of more than 500 octets says nothing
-long_none : (line : List ℕ) → 500 < length line → command_of line ≡ None
-long_none line many = λ i. built (if lt-ltb 500 (length line) many i then None else command_in (words_of line))
+long_none : (line : List ℕ) → 500 < length line → line_of line ≡ None
+long_none line many = λ i. if lt-ltb 500 (length line) many i then None else command_in (words_of line)
 
 -- what a line says that was heard whole
-says : (before after line : List ℕ) (len heard : ℕ) (h : HeardSoFar before after line len heard) → (if nat_lt 500 len then None else command_of (take len line)) ≡ command_of h.octets
+says : (before after line : List ℕ) (len heard : ℕ) (h : HeardSoFar before after line len heard) → (if nat_lt 500 len then None else line_of (take len line)) ≡ line_of h.octets
 says before after line len heard h =
     let count = h.count in
-    ⊎_elim (λ many. (λ i. if lt-ltb 500 len (omega (arith, count, many)) i then None else command_of (take len line)) ∙ sym (long_none h.octets many))
-    (λ few. (λ i. if le-ltb 500 len (omega (arith, count, few)) i then None else command_of (h.stands few i))) (cases_lt 500 (length h.octets))
+    ⊎_elim (λ many. (λ i. if lt-ltb 500 len (omega (arith, count, many)) i then None else line_of (take len line)) ∙ sym (long_none h.octets many))
+    (λ few. (λ i. if le-ltb 500 len (omega (arith, count, few)) i then None else line_of (h.stands few i))) (cases_lt 500 (length h.octets))
 
 -- a line that ends in a newline
-pub line_heard : (before after line : List ℕ) (len heard : ℕ) (said : Line) (was ended : Bool) → HeardSoFar before (10 ∷ after) line len heard → was ≡ false → said ≡ (if nat_lt 500 len then None else command_of (take len line)) → HearsLine said was ended before after
+pub line_heard : (before after line : List ℕ) (len heard : ℕ) (said : Line) (was ended : Bool) → HeardSoFar before (10 ∷ after) line len heard → was ≡ false → said ≡ (if nat_lt 500 len then None else line_of (take len line)) → HearsLine said was ended before after
 line_heard before after line len heard said was ended h going is = record {
   octets = h.octets ++ 10 ∷ [];
   all = h.all ∙ sym (append_assoc h.octets (10 ∷ []) after);
   some = omega (arith, length-append h.octets (10 ∷ []));
   is_line = λ more e premise.
-      ap (commands_of e) (append_assoc h.octets (10 ∷ []) more) ∙ ap (map command_of) (lines_of-newline e h.octets more h.none)
+      ap (commands_of e) (append_assoc h.octets (10 ∷ []) more) ∙ ap (map line_of) (lines_of-newline e h.octets more h.none)
       ∙ ap (λ (c : Line). c ∷ commands_of e more) (sym (is ∙ says before (10 ∷ after) line len heard h));
   going = going;
 }
 
 -- a last line, which the end of the input ends
-pub last_heard : (before line : List ℕ) (len heard : ℕ) (said : Line) (was ended : Bool) (after : List ℕ) → HeardSoFar before [] line len heard → after ≡ [] → 0 < len → ended ≡ true → was ≡ false → said ≡ (if nat_lt 500 len then None else command_of (take len line)) → HearsLine said was ended before after
+pub last_heard : (before line : List ℕ) (len heard : ℕ) (said : Line) (was ended : Bool) (after : List ℕ) → HeardSoFar before [] line len heard → after ≡ [] → 0 < len → ended ≡ true → was ≡ false → said ≡ (if nat_lt 500 len then None else line_of (take len line)) → HearsLine said was ended before after
 last_heard before line len heard said was ended after h nothing some end going is = whole h.octets refl
   where
     whole : (xs : List ℕ) → xs ≡ h.octets → HearsLine said was ended before after
@@ -60,8 +59,8 @@ last_heard before line len heard said was ended after h nothing some end going i
       some = let one : length h.octets ≡ suc (length xs) = ap length (sym e) in omega (arith, one);
       is_line = λ more e' premise.
           let p = premise end in
-          (λ i. commands_of (p.1 i) (h.octets ++ p.0 i)) ∙ ap (commands_of true) (append-nil h.octets ∙ sym e) ∙ ap (map command_of) (lines_of-end x xs (subst (AllByRecursion (λ y. y ≢ 10)) (sym e) h.none))
-          ∙ ap (λ c. c ∷ []) (ap command_of e ∙ sym (is ∙ says before [] line len heard h)) ∙ (λ i. said ∷ sym (ap (commands_of e') (p.0)) i);
+          (λ i. commands_of (p.1 i) (h.octets ++ p.0 i)) ∙ ap (commands_of true) (append-nil h.octets ∙ sym e) ∙ ap (map line_of) (lines_of-end x xs (subst (AllByRecursion (λ y. y ≢ 10)) (sym e) h.none))
+          ∙ ap (λ c. c ∷ []) (ap line_of e ∙ sym (is ∙ says before [] line len heard h)) ∙ (λ i. said ∷ sym (ap (commands_of e') (p.0)) i);
       going = going;
     }
 

@@ -5,7 +5,7 @@ use Rattle.site.specs.declared.outside.Stop.{Stop}
 use Rattle.site.specs.declared.outside.Stop.TheVariants.{Memory}
 use Rattle.site.specs.State.{State as Site}
 use Rattle.record_model.specs.declared.words.Command.{Command}
-use Rattle.record_model.specs.declared.words.Command.TheVariants.{Cache, Checkpoint}
+use Rattle.record_model.specs.declared.words.Command.TheVariants.{Cache}
 use Rattle.record_model.specs.declared.words.Reply.{Reply}
 use Rattle.record_model.specs.declared.words.CacheLine.{CacheLine}
 use Rattle.record_model.specs.State.{State}
@@ -14,7 +14,6 @@ use Rattle.record_model.specs.Run.{Line, is_cache, next_listing, later_listings}
 use Rattle.engine.specs.declared.engine.Engine.{Engine}
 use Rattle.engine.specs.Listings.{listing_of}
 use Rattle.face.specs.Causes.{FailsBy}
-use Rattle.face.specs.Grammar.{IsBuilt, IsPlain}
 use Rattle.face.specs.Run.{Run, Begins, IsAsked, step, answered, listings_left, listing_at}
 use Rattle.face.specs.Going.{Going, IsUnderWay}
 use Rattle.face.proofs.Runs.{left_next}
@@ -26,14 +25,12 @@ cache_line None is = absurd (true≢false (sym is))
 cache_line (Some Cache) is = refl
 cache_line (Some other) is = absurd (true≢false (sym is))
 
-pub plain_line : (line : Line) → IsBuilt line → is_cache line ≡ false → IsPlain line
-plain_line None built not_cache = tt
-plain_line (Some Checkpoint) built not_cache = built
-plain_line (Some Cache) built not_cache = absurd (true≢false not_cache)
-plain_line (Some other) built not_cache = tt
+-- a command that doesn't is another one
+pub never_cache : (line : Line) (command : Command) → is_cache line ≡ false → line ≡ Some command → command ≡ Cache → ⊥
+never_cache line command not_cache says is = true≢false (sym (ap is_cache (says ∙ ap Some is)) ∙ not_cache)
 
 -- what the others are answered doesn't depend on it
-same_outcome : (s : State) (command : Command) (listing : List CacheLine) (o : Option Reply) → is_cache (Some command) ≡ false → outcome false s command listing o ≡ outcome false s command [] o
+same_outcome : (s : State) (command : Command) (listing : List CacheLine) (o : Option Reply) → is_cache (Some command) ≡ false → outcome true s command listing o ≡ outcome true s command [] o
 same_outcome s command listing (Some refused) not_cache = refl
 same_outcome s Cache listing None not_cache = absurd (true≢false not_cache)
 same_outcome s other listing None not_cache = refl

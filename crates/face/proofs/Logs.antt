@@ -1,12 +1,14 @@
 -- The database of a site of which only counts, told and heard octets change.
-use Rattle.std.proofs.Common.{◌≡◌, ℕ, ◌<◌, List, Some, false, sym, subst, ◌∙◌}
+use Rattle.std.proofs.Common.{◌≡◌, ℕ, ◌<◌, List, Option, Some, false, sym, subst, ◌∙◌}
 use Rattle.site.specs.declared.outside.Dev.TheVariants.{Log, Flash, Disk}
 use Rattle.site.specs.declared.geometry.Geometry.{Geometry}
 use Rattle.site.specs.Geometry.{HasLengths}
-use Rattle.site.specs.State.{State as Site, Image}
+use Rattle.site.specs.State.{State as Site, Image, content_of}
 use Rattle.site.specs.Calls.{Goes}
 use Rattle.site.specs.Laws.{stays_honest}
+use Rattle.sealed_ring.specs.declared.ring.Ring.{Ring}
 use Rattle.sealed_ring.specs.Ring.{FitsIn, IsRing, hi_of}
+use Rattle.sealed_ring.specs.Ready.{IsUsable, Finds}
 use Rattle.image_changes.specs.Rings.{log_shape, group_shape}
 use Rattle.record_model.specs.State.{State, Content}
 use Rattle.log_records.specs.Log.{Entry}
@@ -20,12 +22,13 @@ use Rattle.log_store.specs.Held.{end_of, HasBlocks}
 use Rattle.flash_cache.specs.declared.cache.FlashCache.{FlashCache}
 use Rattle.flash_cache.specs.Held as flash_held
 use Rattle.flash_cache.specs.Held.{version_on, IsCleanOn}
+use Rattle.checkpoint.specs.declared.master.Master.{Master}
 use Rattle.page_store.specs.declared.store.PageStore.{PageStore}
 use Rattle.page_store.specs.Held as page_held
 use Rattle.page_store.specs.Held.{current}
 use Rattle.page_store.specs.Ahead.{IsAhead}
-use Rattle.image_meaning.specs.Meaning.{picture}
-use Rattle.image_meaning.specs.Beside.{AreRingsSound}
+use Rattle.image_meaning.specs.Meaning.{kept_by, picture_under}
+use Rattle.image_meaning.specs.Beside.{AreRingsSoundUnder}
 use Rattle.redo_undo.specs.Running.{RunsOn}
 use Rattle.redo_undo.specs.Holding.{HoldsLog, HoldsIn, ShowRecords}
 use Rattle.engine.specs.declared.engine.Engine.{Engine}
@@ -37,12 +40,16 @@ use Rattle.face.specs.Run.{StandsFor}
 lengths_stay : (g : Geometry) (a b : Site) → HasLengths g a.image → Goes a b → HasLengths g b.image
 lengths_stay g a b lengths goes = record { log = goes.sizes Log ∙ lengths.log; flash = goes.sizes Flash ∙ lengths.flash; disk = goes.sizes Disk ∙ lengths.disk }
 
+-- a ring may be used as before
+ring_goes_on : (ring : Ring) (a b : Site) → IsUsable ring a → Goes a b → IsUsable ring b
+ring_goes_on ring a b usable goes = record { fits = subst (FitsIn ring.shape) (sym (goes.sizes ring.shape.dev)) usable.fits; bounded = usable.bounded }
+
 -- a log goes on after calls that keep the lengths
 log_goes_on : (log : LogStore) (a b : Site) → log_held.MayGoOn log a → Goes a b → log_held.MayGoOn log b
 log_goes_on log a b going goes = record {
   limits = going.limits;
   lengths = lengths_stay log.geometry a b going.lengths goes;
-  usable = record { fits = subst (FitsIn log.ring.shape) (sym (goes.sizes log.ring.shape.dev)) going.usable.fits; bounded = going.usable.bounded };
+  usable = ring_goes_on log.ring a b going.usable goes;
   shape = going.shape;
   kept = going.kept;
   live = going.live;
@@ -55,7 +62,7 @@ flash_goes_on : (cache : FlashCache) (a b : Site) → flash_held.MayGoOn cache a
 flash_goes_on cache a b going goes = record {
   limits = going.limits;
   lengths = lengths_stay cache.geometry a b going.lengths goes;
-  usable = record { fits = subst (FitsIn cache.ring.shape) (sym (goes.sizes cache.ring.shape.dev)) going.usable.fits; bounded = going.usable.bounded };
+  usable = ring_goes_on cache.ring a b going.usable goes;
   shape = going.shape;
   next = going.next;
   few = going.few;
@@ -75,17 +82,20 @@ goes_on engine a b go goes =
           sizes = both.sizes;
           room = both.room;
         };
-        kept = go.store.kept;
         blocks = go.store.blocks;
         bounded = go.store.bounded;
+        masters = ring_goes_on engine.store.masters a b go.store.masters goes;
+        shape = go.store.shape;
       };
       going = go.going;
       cap = go.cap;
       table = go.table;
       room = go.room;
+      since = go.since;
       bounded = go.bounded;
       commits = go.commits;
       lasts = go.lasts;
+      differ = go.differ;
     }
 
 module _ (a b : Site) (goes : Goes a b) (image : b.image ≡ a.image) where
@@ -111,8 +121,10 @@ module _ (a b : Site) (goes : Goes a b) (image : b.image ≡ a.image) where
       }
 
   -- log and pages hold together
-  log_holds : (g : Geometry) (log : LogStore) (pages : PageStore) (records : List Entry) (table : List Content) (commits : ℕ) → HoldsLog g log pages a records table commits → HoldsLog g log pages b records table commits
-  log_holds g log pages records table commits h = record {
+  log_holds : (g : Geometry) (log : LogStore) (pages : PageStore) (newest : Option Master) (records : List Entry) (table : List Content) (commits : ℕ) → HoldsLog g log pages a newest records table commits →
+      HoldsLog g log pages b newest records table commits
+  log_holds g log pages newest records table commits h = record {
+    kept = h.kept;
     blocks = h.blocks;
     tail = h.tail;
     ready = record {
@@ -122,29 +134,35 @@ module _ (a b : Site) (goes : Goes a b) (image : b.image ≡ a.image) where
         form = same (λ x. IsRing (log_shape log.geometry) x.log) h.ready.blocks.form;
         hi = same (λ x. log.ring.hi ≡ hi_of (log_shape log.geometry) x.log) h.ready.blocks.hi;
       };
-      records = same (λ x. log_held.Holds log x (record { first = 0; blocks = h.blocks; tail = h.tail })) h.ready.records;
+      records = same (λ x. log_held.Holds log x (record { first = kept_by newest; blocks = h.blocks; tail = h.tail })) h.ready.records;
     };
-    rings = same (AreRingsSound g) h.rings;
-    runs_on = same (λ x. RunsOn (picture g x h.blocks) h.tail records table commits) h.runs_on;
+    rings = same (AreRingsSoundUnder newest g) h.rings;
+    runs_on = same (λ x. RunsOn (picture_under newest g x h.blocks) h.tail records table commits) h.runs_on;
     ahead = same (IsAhead log pages) h.ahead;
     room = h.room;
   }
 
-  hold : (g : Geometry) (log : LogStore) (pages : PageStore) (records : List Entry) (table : List Content) (commits : ℕ) → HoldsIn g log pages a records table commits → HoldsIn g log pages b records table commits
-  hold g log pages records table commits h = record {
-    log_holds = log_holds g log pages records table commits h.log_holds;
+  hold : (g : Geometry) (log : LogStore) (pages : PageStore) (newest : Option Master) (records : List Entry) (table : List Content) (commits : ℕ) → HoldsIn g log pages a newest records table commits → HoldsIn g log pages b newest records table commits
+  hold g log pages newest records table commits h = record {
+    log_holds = log_holds g log pages newest records table commits h.log_holds;
     shows = same (λ x. ShowRecords g pages x records) h.shows;
     below = same (λ x. (number : ℕ) → number < g.pages → lsn_of (current pages x number) < end_of log) h.below;
   }
+
+  -- a ring is the one that stands there
+  finds : (ring : Ring) → Finds ring a → Finds ring b
+  finds ring f = record { form = same (λ x. IsRing ring.shape (content_of ring.shape.dev x)) f.form; hi = same (λ x. ring.hi ≡ hi_of ring.shape (content_of ring.shape.dev x)) f.hi }
 
 -- it stands for the same state
 pub still_fits : (engine : Engine) (a b : Site) (s : State) → Fits engine a s → Goes a b → b.image ≡ a.image → Fits engine b s
 still_fits engine a b s fits goes image = record {
   honest = stays_honest a b goes fits.honest;
+  newest = fits.newest;
   records = fits.records;
   holds = record {
-    both = hold a b goes image (sizes_of engine.store) engine.store.log engine.store.pages fits.records s.table s.commits fits.holds.both;
-    made = fits.holds.made;
+    both = hold a b goes image (sizes_of engine.store) engine.store.log engine.store.pages fits.newest fits.records s.table s.commits fits.holds.both;
+    orderly = fits.holds.orderly;
+    masters = finds a b goes image engine.store.masters fits.holds.masters;
   };
   counts = fits.counts;
   sessions = fits.sessions;
@@ -156,19 +174,22 @@ pub fits_stands : (engine : Engine) (site : Site) (s : State) → engine.store.l
 fits_stands engine site s sizes fits =
     let h = fits.holds.both.log_holds in
     record {
-      blocks = h.blocks;
-      sound = record {
-        octets = record {
-          limits = h.rings.limits;
-          lengths = h.rings.lengths;
-          masters = h.rings.masters;
-          segments = h.rings.segments;
-          groups = h.rings.groups;
-          versions = h.ready.pages.sound;
-          clean = h.ready.pages.clean;
+      newest = fits.newest;
+      stands = record {
+        blocks = h.blocks;
+        sound = record {
+          octets = record {
+            limits = h.rings.limits;
+            lengths = h.rings.lengths;
+            masters = h.rings.masters;
+            segments = h.rings.segments;
+            groups = h.rings.groups;
+            versions = h.ready.pages.sound;
+            clean = h.ready.pages.clean;
+          };
+          held = subst (λ (g : Geometry). HasBlocks g (kept_by fits.newest) h.blocks site.image) sizes h.ready.records.blocks;
+          records = h.runs_on.carries.sound;
         };
-        held = subst (λ (g : Geometry). HasBlocks g 0 h.blocks site.image) sizes h.ready.records.blocks;
-        records = h.runs_on.carries.sound;
+        means = h.runs_on.means;
       };
-      means = h.runs_on.means;
     }

@@ -14,7 +14,8 @@ use Rattle.record_model.specs.declared.words.Reply.{Reply}
 use Rattle.record_model.specs.declared.words.Command.{Command}
 use Rattle.record_model.specs.Touches.{CacheWork, line_touches, run_touches}
 use Rattle.log_records.specs.declared.log_record.LogRecord.{LogRecord}
-use Rattle.image_meaning.specs.Meaning.{picture}
+use Rattle.checkpoint.specs.declared.master.Master.{Master}
+use Rattle.image_meaning.specs.Meaning.{picture_under}
 use Rattle.second_chance.specs.Machine.{Rules, Cache, rules_of, after_works}
 use Rattle.page_store.specs.declared.store.PageStore.{PageStore}
 use Rattle.page_store.specs.Caching.{cache_of, rules}
@@ -45,13 +46,13 @@ after_same : (s : State) (line : Line) (listing other : List CacheLine) → (ste
 after_same s None listing other = refl
 after_same s (Some command) listing other = by (refusal s command)
   where
-    way : (b : Bool) → (chosen (ready false s command) command listing b).after ≡ (chosen (ready false s command) command other b).after
+    way : (b : Bool) → (chosen (ready true s command) command listing b).after ≡ (chosen (ready true s command) command other b).after
     way true = refl
     way false = refl
 
-    by : (o : Option Reply) → (outcome false s command listing o).after ≡ (outcome false s command other o).after
+    by : (o : Option Reply) → (outcome true s command listing o).after ≡ (outcome true s command other o).after
     by (Some refused) = refl
-    by None = way (lacks_room (ready false s command) command)
+    by None = way (lacks_room (ready true s command) command)
 
 plain_is : (s : State) (lines : List Line) (listings : List (List CacheLine)) → plain_after s lines ≡ after_lines s lines listings
 unfolding plain_after
@@ -59,76 +60,76 @@ plain_is s [] listings = refl
 plain_is s (line ∷ lines) listings =
     plain_is (step s line []).after lines (later_listings line listings) ∙ ap (λ (x : State). after_lines x lines (later_listings line listings)) (after_same s line [] (next_listing listings))
 
-works_more : (s : State) (lines : List Line) (i : ℕ) (line : Line) (rest : List Line) → drop i lines ≡ line ∷ rest → works_of s (take (suc i) lines) ≡ works_of s (take i lines) ++ line_touches false (plain_after s (take i lines)) line
+works_more : (s : State) (lines : List Line) (i : ℕ) (line : Line) (rest : List Line) → drop i lines ≡ line ∷ rest → works_of s (take (suc i) lines) ≡ works_of s (take i lines) ++ line_touches true (plain_after s (take i lines)) line
 unfolding plain_after
 works_more s [] zero line rest is = cc
 works_more s [] (suc i) line rest is = cc
-works_more s (x ∷ lines) zero line rest is = let same : x ≡ line = cc in append-nil (line_touches false s x) ∙ ap (line_touches false s) same
+works_more s (x ∷ lines) zero line rest is = let same : x ≡ line = cc in append-nil (line_touches true s x) ∙ ap (line_touches true s) same
 works_more s (x ∷ lines) (suc i) line rest is =
-    ap (λ (w : List CacheWork). line_touches false s x ++ w) (works_more (step s x []).after lines i line rest is)
-    ∙ sym (append_assoc (line_touches false s x) (works_of (step s x []).after (take i lines)) (line_touches false (plain_after (step s x []).after (take i lines)) line))
+    ap (λ (w : List CacheWork). line_touches true s x ++ w) (works_more (step s x []).after lines i line rest is)
+    ∙ sym (append_assoc (line_touches true s x) (works_of (step s x []).after (take i lines)) (line_touches true (plain_after (step s x []).after (take i lines)) line))
 
-pub asked_next : (run : Run) (image : Image) (blocks : List (List LogRecord)) (i : ℕ) (line : Line) (rest : List Line) → drop i (answered run) ≡ line ∷ rest →
-    asked_after run image blocks (suc i) ≡ asked_after run image blocks i ++ line_touches false (state_at run i) line
-asked_next run image blocks i line rest is =
-    let restart = restart_works (picture run.geometry image blocks) in
-    ap (λ (w : List CacheWork). restart ++ w) (works_more run.opening (answered run) i line rest is ∙ ap (λ (s : State). works_of run.opening (take i (answered run)) ++ line_touches false s line) (plain_is run.opening (take i (answered run)) run.listings))
-    ∙ sym (append_assoc restart (works_of run.opening (take i (answered run))) (line_touches false (state_at run i) line))
+pub asked_next : (run : Run) (newest : Option Master) (image : Image) (blocks : List (List LogRecord)) (i : ℕ) (line : Line) (rest : List Line) → drop i (answered run) ≡ line ∷ rest →
+    asked_after run newest image blocks (suc i) ≡ asked_after run newest image blocks i ++ line_touches true (state_at run i) line
+asked_next run newest image blocks i line rest is =
+    let restart = restart_works (picture_under newest run.geometry image blocks) in
+    ap (λ (w : List CacheWork). restart ++ w) (works_more run.opening (answered run) i line rest is ∙ ap (λ (s : State). works_of run.opening (take i (answered run)) ++ line_touches true s line) (plain_is run.opening (take i (answered run)) run.listings))
+    ∙ sym (append_assoc restart (works_of run.opening (take i (answered run))) (line_touches true (state_at run i) line))
 
 -- the work of more lines goes on from that of the first ones
 works_join : (s : State) (first later : List Line) → works_of s (first ++ later) ≡ works_of s first ++ works_of (plain_after s first) later
 unfolding plain_after
 works_join s [] later = refl
 works_join s (x ∷ first) later =
-    ap (λ (w : List CacheWork). line_touches false s x ++ w) (works_join (step s x []).after first later)
-    ∙ sym (append_assoc (line_touches false s x) (works_of (step s x []).after first) (works_of (plain_after (step s x []).after first) later))
+    ap (λ (w : List CacheWork). line_touches true s x ++ w) (works_join (step s x []).after first later)
+    ∙ sym (append_assoc (line_touches true s x) (works_of (step s x []).after first) (works_of (plain_after (step s x []).after first) later))
 
 -- the turns of a run ask for what its lines do
-pub turns_ask : (s : State) (lines : List Line) (listings : List (List CacheLine)) → run_touches false (turns false s lines listings) ≡ works_of s (up_to_quit lines)
+pub turns_ask : (s : State) (lines : List Line) (listings : List (List CacheLine)) → run_touches true (turns true s lines listings) ≡ works_of s (up_to_quit lines)
 turns_ask s [] listings = refl
 turns_ask s (line ∷ lines) listings =
     by (is_quit line) (turns_ask (step s line (next_listing listings)).after lines (later_listings line listings) ∙ ap (λ (x : State). works_of x (up_to_quit lines)) (after_same s line (next_listing listings) []))
   where
-    by : (b : Bool) → run_touches false (turns false (step s line (next_listing listings)).after lines (later_listings line listings)) ≡ works_of (step s line []).after (up_to_quit lines) →
-        line_touches false s line ++ run_touches false (if b then [] else turns false (step s line (next_listing listings)).after lines (later_listings line listings)) ≡ line_touches false s line ++ works_of (step s line []).after (if b then [] else up_to_quit lines)
+    by : (b : Bool) → run_touches true (turns true (step s line (next_listing listings)).after lines (later_listings line listings)) ≡ works_of (step s line []).after (up_to_quit lines) →
+        line_touches true s line ++ run_touches true (if b then [] else turns true (step s line (next_listing listings)).after lines (later_listings line listings)) ≡ line_touches true s line ++ works_of (step s line []).after (if b then [] else up_to_quit lines)
     by true later = refl
-    by false later = ap (λ (w : List CacheWork). line_touches false s line ++ w) later
+    by false later = ap (λ (w : List CacheWork). line_touches true s line ++ w) later
 
 -- Calls.
 
-module _ (pool : ℕ) (run : Run) (image : Image) (blocks : List (List LogRecord)) where
+module _ (pool : ℕ) (run : Run) (newest : Option Master) (image : Image) (blocks : List (List LogRecord)) where
   abbrev r : Rules
   r = rules_of pool run.geometry.groups
 
   -- the restart
-  pub first_paged : (engine : Engine) (scanned : ℕ) (old new : Site) → AsksFrom {T = Engine} (Ok engine) (λ e. e.store.pages) r (restart_works (picture run.geometry image blocks)) (cache_on run.geometry image) scanned old new →
-      IsPaged pool run image blocks engine 0
+  pub first_paged : (engine : Engine) (scanned : ℕ) (old new : Site) → AsksFrom {T = Engine} (Ok engine) (λ e. e.store.pages) r (restart_works (picture_under newest run.geometry image blocks)) (cache_on run.geometry image) scanned old new →
+      IsPaged pool run newest image blocks engine 0
   first_paged engine scanned old new asks = record {
-    machine = asks.machine.0 ∙ ap (λ (w : List CacheWork). after_works r w (cache_on run.geometry image)) (sym (append-nil (restart_works (picture run.geometry image blocks))));
+    machine = asks.machine.0 ∙ ap (λ (w : List CacheWork). after_works r w (cache_on run.geometry image)) (sym (append-nil (restart_works (picture_under newest run.geometry image blocks))));
     rules_are = asks.machine.1;
   }
 
-  pub never_paged : Overflows r (restart_works (picture run.geometry image blocks)) (cache_on run.geometry image) → Overflows r (asked_after run image blocks 0) (cache_on run.geometry image)
-  never_paged over = subst (λ (w : List CacheWork). Overflows r w (cache_on run.geometry image)) (sym (append-nil (restart_works (picture run.geometry image blocks)))) over
+  pub never_paged : Overflows r (restart_works (picture_under newest run.geometry image blocks)) (cache_on run.geometry image) → Overflows r (asked_after run newest image blocks 0) (cache_on run.geometry image)
+  never_paged over = subst (λ (w : List CacheWork). Overflows r w (cache_on run.geometry image)) (sym (append-nil (restart_works (picture_under newest run.geometry image blocks)))) over
 
-  module _ (add : WorksAddUp) (i : ℕ) (line : Line) (rest : List Line) (is : drop i (answered run) ≡ line ∷ rest) (engine : Engine) (paged : IsPaged pool run image blocks engine i) where
+  module _ (add : WorksAddUp) (i : ℕ) (line : Line) (rest : List Line) (is : drop i (answered run) ≡ line ∷ rest) (engine : Engine) (paged : IsPaged pool run newest image blocks engine i) where
     -- what the pages come to by the line's work
-    next_is : after_works (rules engine.store.pages) (line_touches false (state_at run i) line) (cache_of engine.store.pages) ≡ after_works r (asked_after run image blocks (suc i)) (cache_on run.geometry image)
+    next_is : after_works (rules engine.store.pages) (line_touches true (state_at run i) line) (cache_of engine.store.pages) ≡ after_works r (asked_after run newest image blocks (suc i)) (cache_on run.geometry image)
     next_is =
-        (λ j. after_works (paged.rules_are j) (line_touches false (state_at run i) line) (paged.machine j))
-        ∙ sym (add r (asked_after run image blocks i) (line_touches false (state_at run i) line) (cache_on run.geometry image))
-        ∙ ap (λ (w : List CacheWork). after_works r w (cache_on run.geometry image)) (sym (asked_next run image blocks i line rest is))
+        (λ j. after_works (paged.rules_are j) (line_touches true (state_at run i) line) (paged.machine j))
+        ∙ sym (add r (asked_after run newest image blocks i) (line_touches true (state_at run i) line) (cache_on run.geometry image))
+        ∙ ap (λ (w : List CacheWork). after_works r w (cache_on run.geometry image)) (sym (asked_next run newest image blocks i line rest is))
 
     -- it is answered
-    pub next_paged : {T : Type 0} (x : T) (engine' : Engine) → Serves {T = T} (Ok x) (line_touches false (state_at run i) line) engine.store.pages engine'.store.pages → IsPaged pool run image blocks engine' (suc i)
+    pub next_paged : {T : Type 0} (x : T) (engine' : Engine) → Serves {T = T} (Ok x) (line_touches true (state_at run i) line) engine.store.pages engine'.store.pages → IsPaged pool run newest image blocks engine' (suc i)
     next_paged x engine' serves = record { machine = serves.machine ∙ next_is; rules_are = serves.rules_are ∙ paged.rules_are }
 
     -- it isn't, since flash is worn
-    pub next_worn : Overflows (rules engine.store.pages) (line_touches false (state_at run i) line) (cache_of engine.store.pages) → Overflows r (asked_after run image blocks (suc i)) (cache_on run.geometry image)
+    pub next_worn : Overflows (rules engine.store.pages) (line_touches true (state_at run i) line) (cache_of engine.store.pages) → Overflows r (asked_after run newest image blocks (suc i)) (cache_on run.geometry image)
     next_worn over = subst (λ (c : Cache). 2 ^ 40 < next_group c) next_is over
 
   -- the ring has what was asked for
-  pub paged_room : (engine : Engine) (site : Site) (i : ℕ) → IsPaged pool run image blocks engine i → MayGoOn engine site → next_group (after_works r (asked_after run image blocks i) (cache_on run.geometry image)) ≤ 2 ^ 40
+  pub paged_room : (engine : Engine) (site : Site) (i : ℕ) → IsPaged pool run newest image blocks engine i → MayGoOn engine site → next_group (after_works r (asked_after run newest image blocks i) (cache_on run.geometry image)) ≤ 2 ^ 40
   paged_room engine site i paged may =
       let next = may.store.both.pages_going.flash.next in
       let bounded = may.store.both.pages_going.flash.usable.bounded in
@@ -202,49 +203,49 @@ module _ (pool : ℕ) (g : Geometry) (opening : State) (listings : List (List Ca
   abbrev taken : Run
   taken = run_of g opening ended octets listings
 
-  abbrev restart : List (List LogRecord) → List CacheWork
-  restart blocks = restart_works (picture g image blocks)
+  abbrev restart : Option Master → List (List LogRecord) → List CacheWork
+  restart newest blocks = restart_works (picture_under newest g image blocks)
 
   -- what a front of its lines asks for is the front of what it asks for
-  all_asked : (blocks : List (List LogRecord)) (front later : List Line) → answered taken ≡ front ++ later →
-      all_works taken image blocks ≡ (restart blocks ++ works_of opening front) ++ works_of (plain_after opening front) later
-  all_asked blocks front later is =
-      ap (λ (w : List CacheWork). restart blocks ++ w) (turns_ask opening (commands_of ended octets) listings ∙ ap (works_of opening) is ∙ works_join opening front later)
-      ∙ sym (append_assoc (restart blocks) (works_of opening front) (works_of (plain_after opening front) later))
+  all_asked : (newest : Option Master) (blocks : List (List LogRecord)) (front later : List Line) → answered taken ≡ front ++ later →
+      all_works taken newest image blocks ≡ (restart newest blocks ++ works_of opening front) ++ works_of (plain_after opening front) later
+  all_asked newest blocks front later is =
+      ap (λ (w : List CacheWork). restart newest blocks ++ w) (turns_ask opening (commands_of ended octets) listings ∙ ap (works_of opening) is ∙ works_join opening front later)
+      ∙ sym (append_assoc (restart newest blocks) (works_of opening front) (works_of (plain_after opening front) later))
 
-  has_one : (blocks : List (List LogRecord)) → IsSound g image blocks → 1 ≤ (rules_of pool g.groups).groups
-  has_one blocks sound = let least = sound.octets.limits.groups in omega (arith, least)
+  has_one : (newest : Option Master) (blocks : List (List LogRecord)) → IsSound newest g image blocks → 1 ≤ (rules_of pool g.groups).groups
+  has_one newest blocks sound = let least = sound.octets.limits.groups in omega (arith, least)
 
   -- with so many of the first lines of all it wears out, so it does with those that were taken
   pub wears_out : OverflowsWithMore → (all : Run) → all.geometry ≡ g → all.opening ≡ opening → (heard : ℕ) → take heard (answered taken) ≡ take heard (answered all) → Outgrows pool all image heard → WearsOut pool taken image
-  wears_out more all same_sizes same_opening heard same over blocks sound =
+  wears_out more all same_sizes same_opening heard same over newest blocks sound =
       let front = take heard (answered taken) in
       let later = drop heard (answered taken) in
-      let asked : asked_after all image blocks heard ≡ restart blocks ++ works_of opening front =
-      λ i. restart_works (picture (same_sizes i) image blocks) ++ works_of (same_opening i) (sym same i) in
-      let there : Overflows (rules_of pool g.groups) (restart blocks ++ works_of opening front) (cache_on g image) =
+      let asked : asked_after all newest image blocks heard ≡ restart newest blocks ++ works_of opening front =
+      λ i. restart_works (picture_under newest (same_sizes i) image blocks) ++ works_of (same_opening i) (sym same i) in
+      let there : Overflows (rules_of pool g.groups) (restart newest blocks ++ works_of opening front) (cache_on g image) =
       subst (λ (w : List CacheWork). Overflows (rules_of pool g.groups) w (cache_on g image)) asked
-      (subst (λ (x : Geometry). Overflows (rules_of pool x.groups) (asked_after all image blocks heard) (cache_on x image)) same_sizes (over blocks (subst (λ (x : Geometry). IsSound x image blocks) (sym same_sizes) sound))) in
-      subst (λ (w : List CacheWork). Overflows (rules_of pool g.groups) w (cache_on g image)) (sym (all_asked blocks front later (sym (take-append-drop heard (answered taken)))))
-      (more (rules_of pool g.groups) (restart blocks ++ works_of opening front) (works_of (plain_after opening front) later) (cache_on g image) (has_one blocks sound) there)
+      (subst (λ (x : Geometry). Overflows (rules_of pool x.groups) (asked_after all newest image blocks heard) (cache_on x image)) same_sizes (over newest blocks (subst (λ (x : Geometry). IsSound newest x image blocks) (sym same_sizes) sound))) in
+      subst (λ (w : List CacheWork). Overflows (rules_of pool g.groups) w (cache_on g image)) (sym (all_asked newest blocks front later (sym (take-append-drop heard (answered taken)))))
+      (more (rules_of pool g.groups) (restart newest blocks ++ works_of opening front) (works_of (plain_after opening front) later) (cache_on g image) (has_one newest blocks sound) there)
 
   -- where all that was taken was heard there was room for it
   pub never_wears : (all : Run) → all.geometry ≡ g → all.opening ≡ opening → (heard : ℕ) → length (answered taken) ≡ heard → take heard (answered taken) ≡ take heard (answered all) → HasGroupsFor pool all image heard → NeverWears pool taken image
-  never_wears all same_sizes same_opening heard count same room blocks sound =
+  never_wears all same_sizes same_opening heard count same room newest blocks sound =
       let whole : take heard (answered taken) ≡ answered taken = take_all heard (answered taken) (omega (arith, count)) in
-      let asked : asked_after all image blocks heard ≡ restart blocks ++ works_of opening (answered taken) =
-      (λ i. restart_works (picture (same_sizes i) image blocks) ++ works_of (same_opening i) (sym same i)) ∙ ap (λ (l : List Line). restart blocks ++ works_of opening l) whole in
-      let own : all_works taken image blocks ≡ restart blocks ++ works_of opening (answered taken) = ap (λ (w : List CacheWork). restart blocks ++ w) (turns_ask opening (commands_of ended octets) listings) in
+      let asked : asked_after all newest image blocks heard ≡ restart newest blocks ++ works_of opening (answered taken) =
+      (λ i. restart_works (picture_under newest (same_sizes i) image blocks) ++ works_of (same_opening i) (sym same i)) ∙ ap (λ (l : List Line). restart newest blocks ++ works_of opening l) whole in
+      let own : all_works taken newest image blocks ≡ restart newest blocks ++ works_of opening (answered taken) = ap (λ (w : List CacheWork). restart newest blocks ++ w) (turns_ask opening (commands_of ended octets) listings) in
       subst (λ (w : List CacheWork). next_group (after_works (rules_of pool g.groups) w (cache_on g image)) ≤ 2 ^ 40) (asked ∙ sym own)
-      (subst (λ (x : Geometry). next_group (after_works (rules_of pool x.groups) (asked_after all image blocks heard) (cache_on x image)) ≤ 2 ^ 40) same_sizes (room blocks (subst (λ (x : Geometry). IsSound x image blocks) (sym same_sizes) sound)))
+      (subst (λ (x : Geometry). next_group (after_works (rules_of pool x.groups) (asked_after all newest image blocks heard) (cache_on x image)) ≤ 2 ^ 40) same_sizes (room newest blocks (subst (λ (x : Geometry). IsSound newest x image blocks) (sym same_sizes) sound)))
 
   -- where what was taken wears out, so does all that is left
   pub wears_out_all : OverflowsWithMore → (left rest : List ℕ) → left ≡ octets ++ rest → (ended ≡ true → rest ≡ []) → WearsOut pool taken image → WearsOut pool (run_of g opening true left []) image
-  wears_out_all more left rest is none over blocks sound =
+  wears_out_all more left rest is none over newest blocks sound =
       let first = taken_first ended left octets rest is none in
-      let all : all_works (run_of g opening true left []) image blocks ≡ all_works taken image blocks ++ works_of (plain_after opening (answered taken)) first.0 =
-      ap (λ (w : List CacheWork). restart blocks ++ w) (turns_ask opening (commands_of true left) [] ∙ ap (works_of opening) first.1 ∙ works_join opening (answered taken) first.0)
-      ∙ sym (append_assoc (restart blocks) (works_of opening (answered taken)) (works_of (plain_after opening (answered taken)) first.0))
-      ∙ ap (λ (w : List CacheWork). (restart blocks ++ w) ++ works_of (plain_after opening (answered taken)) first.0) (sym (turns_ask opening (commands_of ended octets) listings)) in
+      let all : all_works (run_of g opening true left []) newest image blocks ≡ all_works taken newest image blocks ++ works_of (plain_after opening (answered taken)) first.0 =
+      ap (λ (w : List CacheWork). restart newest blocks ++ w) (turns_ask opening (commands_of true left) [] ∙ ap (works_of opening) first.1 ∙ works_join opening (answered taken) first.0)
+      ∙ sym (append_assoc (restart newest blocks) (works_of opening (answered taken)) (works_of (plain_after opening (answered taken)) first.0))
+      ∙ ap (λ (w : List CacheWork). (restart newest blocks ++ w) ++ works_of (plain_after opening (answered taken)) first.0) (sym (turns_ask opening (commands_of ended octets) listings)) in
       subst (λ (w : List CacheWork). Overflows (rules_of pool g.groups) w (cache_on g image)) (sym all)
-      (more (rules_of pool g.groups) (all_works taken image blocks) (works_of (plain_after opening (answered taken)) first.0) (cache_on g image) (has_one blocks sound) (over blocks sound))
+      (more (rules_of pool g.groups) (all_works taken newest image blocks) (works_of (plain_after opening (answered taken)) first.0) (cache_on g image) (has_one newest blocks sound) (over newest blocks sound))

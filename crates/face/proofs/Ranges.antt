@@ -24,7 +24,7 @@ use Rattle.shell_text.specs.Texts.{open_text, reply_text}
 use Rattle.face.specs.Texts.{fault_line}
 use Rattle.face.specs.Run.{Run, answered, step, after_lines, reply_texts, line_texts, text_at, told_after, state_at, StandsAt, IsPart, IsFront, IsAccounted}
 use Rattle.face.specs.Range.{turns_of, texts, run_text, all_commits, StandsAfter, IsToldOf, IsLeft}
-use Rattle.face.proofs.Built.{AreBuilt, texts_are, states_are, turns_count}
+use Rattle.face.proofs.Turns.{texts_are, states_are, turns_count}
 use Rattle.face.proofs.Runs.{length-reply_texts}
 
 -- a fault line, or none
@@ -128,7 +128,7 @@ rises s o h true is = let one = (h.committed is).1 in omega (arith, one)
 rises s o h false is = let same = (h.others is).1 in omega (arith, same)
 
 step_up : (s : State) (line : Line) (listing : List CacheLine) → s.commits ≤ (step s line listing).after.commits
-step_up s line listing = rises s (step s line listing) (commits_once false s line listing) _ refl
+step_up s line listing = rises s (step s line listing) (commits_once true s line listing) _ refl
 
 one_up : (s : State) (lines : List Line) (ls : List (List CacheLine)) (i : ℕ) → (after_lines s (take i lines) ls).commits ≤ (after_lines s (take (suc i) lines) ls).commits
 one_up s [] ls zero = omega arith
@@ -136,22 +136,22 @@ one_up s [] ls (suc i) = omega arith
 one_up s (line ∷ lines) ls zero = step_up s line (next_listing ls)
 one_up s (line ∷ lines) ls (suc i) = one_up (step s line (next_listing ls)).after lines (later_listings line ls) i
 
-module _ (run : Run) (are : AreBuilt run.lines) where
+module _ (run : Run) where
   -- the texts of the turns are those of the lines
   texts_same : texts run ≡ line_texts run
-  texts_same = ap (λ (l : List (List ℕ)). open_text run.opening.commits ∷ l) (texts_are run.opening run.lines run.listings are)
+  texts_same = ap (λ (l : List (List ℕ)). open_text run.opening.commits ∷ l) (texts_are run.opening run.lines run.listings)
 
   abbrev marks : List Bool
   marks = commit_marks (turns_of run)
 
   counted : (i : ℕ) → IsCountedAt run.opening (turns_of run) i
-  counted i = commits_make_the_table false run.opening run.lines run.listings i
+  counted i = commits_make_the_table true run.opening run.lines run.listings i
 
   commits_are : (i : ℕ) → (state_at run i).commits ≡ run.opening.commits + commits_among i marks
-  commits_are i = ap (λ (s : State). s.commits) (sym (states_are run.opening run.lines run.listings i are)) ∙ (counted i).commits
+  commits_are i = ap (λ (s : State). s.commits) (sym (states_are run.opening run.lines run.listings i)) ∙ (counted i).commits
 
   table_is : (i : ℕ) → (state_at run i).table ≡ after_commits run.opening.table (turns_of run) (commits_among i marks)
-  table_is i = ap (λ (s : State). s.table) (sym (states_are run.opening run.lines run.listings i are)) ∙ (counted i).table
+  table_is i = ap (λ (s : State). s.table) (sym (states_are run.opening run.lines run.listings i)) ∙ (counted i).table
 
   -- the table after some lines is the one after some commits
   pub stands_after : (i : ℕ) (image : Image) → StandsAt run i image → StandsAfter run (commits_among i marks) image
@@ -167,7 +167,7 @@ module _ (run : Run) (are : AreBuilt run.lines) where
   near_up (suc i) = let before : suc i - 1 ≡ i = omega arith in let same = ap (λ (n : ℕ). commits_among n marks) before in let up = among_up i in omega (arith, same, up)
 
   length-marks : length marks ≡ length (answered run)
-  length-marks = length-map-marks (turns_of run) ∙ turns_count run.opening run.lines run.listings are
+  length-marks = length-map-marks (turns_of run) ∙ turns_count run.opening run.lines run.listings
     where
       length-map-marks : (ts : List Turn) → length (commit_marks ts) ≡ length ts
       length-map-marks [] = refl

@@ -20,6 +20,9 @@ four_items (x ∷ y ∷ z ∷ w ∷ v ∷ xs) a b c d many few first second thir
 pub second_word : (a b c d : List ℕ) → a ∷ b ∷ [] ≡ c ∷ d ∷ [] → b ≡ d
 second_word a b c d is = cc
 
+pub first_word : (a b : List ℕ) (xs ys : List (List ℕ)) → a ∷ xs ≡ b ∷ ys → a ≡ b
+first_word a b xs ys is = cc
+
 -- the words of two lists of four are the same, one by one
 pub record SameFour (a b c d a' b' c' d' : List ℕ) : Type 0 where
   pub first : a ≡ a'

@@ -1,11 +1,11 @@
 -- When a run halts.
 use Rattle.std.specs.Prelude.{◌≡◌, ◌⊎◌, ℕ, ◌+◌, ◌<◌, ◌≤◌, List, length, take, true, false, ⊤, Result, Ok, Err, IsTrue}
 use Rattle.site.specs.declared.outside.Dev.{Dev}
-use Rattle.site.specs.declared.outside.Dev.TheVariants.{Flash}
+use Rattle.site.specs.declared.outside.Dev.TheVariants.{Log, Flash, Disk}
 use Rattle.site.specs.declared.outside.Stop.{Stop}
 use Rattle.site.specs.declared.outside.Stop.TheVariants.{Device, Memory, Worn, Foreign}
 use Rattle.site.specs.declared.geometry.Geometry.{Geometry}
-use Rattle.site.specs.State.{State, faults_of}
+use Rattle.site.specs.State.{State, Image, faults_of}
 use Rattle.site.specs.Calls.{Rose}
 use Rattle.record_model.specs.State.{Content}
 use Rattle.record_model.specs.State as model
@@ -16,6 +16,7 @@ use Rattle.engine.specs.Image.{Stands}
 use Rattle.engine.specs.Fits.{Fits}
 use Rattle.engine.specs.Going.{sizes_of}
 use Rattle.flash_cache.specs.Held.{IsWorn}
+use Rattle.redo_undo.specs.Holding.{IsLogWorn}
 use Rattle.std.specs.List.{list_any}
 use Rattle.record_model.specs.Run.{is_quit}
 use Rattle.face.specs.Lines.{limit, commands_of}
@@ -28,16 +29,24 @@ IsForeign site = IsTrue site.honest → (g : Geometry) (table : List Content) (c
 abbrev pub IsOverLimit : State → State → Type 0
 IsOverLimit old new = IsTrue old.honest → limit + length new.left < length old.left
 
--- of an honest site whose image at entry stands for a table: the ring of groups stands at its end now
-abbrev pub IsWornOut : State → State → Type 0
-IsWornOut old new = IsTrue old.honest → (g : Geometry) (table : List Content) (commits : ℕ) → Stands g old.image table commits → IsWorn g new.image
+-- the ring of groups on flash, or a ring on the log's device, stands at its end; the disk has no ring
+abbrev pub IsWornAt : Dev → Geometry → Image → Type 0
+IsWornAt Flash g image = IsWorn g image
+IsWornAt Log g image = IsLogWorn g image
+IsWornAt Disk g image = ⊥
 
--- Why a command fails. A device's fault comes only where its count rose. It is flash alone that is worn: over a site that the
--- database fits only where the ring of groups stands at its end. Over such a site nothing is foreign.
+-- of an honest site whose image at entry stands for a table: the device is worn now; of every site: it isn't the disk
+abbrev pub IsWornOut : Dev → State → State → Type 0
+IsWornOut Disk old new = ⊥
+IsWornOut dev old new = IsTrue old.honest → (g : Geometry) (table : List Content) (commits : ℕ) → Stands g old.image table commits → IsWornAt dev g new.image
+
+-- Why a command fails. A device's fault comes only where its count rose. Over a site that the database fits a device is worn only where
+-- a ring of it stands at its end, and nothing is foreign. Over no site is it the disk that is worn.
 abbrev pub FailsBy : Stop → Engine → State → State → Type 0
 FailsBy (Device dev) engine old new = Rose (faults_of dev old) (faults_of dev new)
 FailsBy Memory engine old new = ⊤
-FailsBy (Worn dev) engine old new = (dev ≡ Flash) × ((s : model.State) → Fits engine old s → IsWorn (sizes_of engine.store) new.image)
+FailsBy (Worn Disk) engine old new = ⊥
+FailsBy (Worn dev) engine old new = (s : model.State) → Fits engine old s → IsWornAt dev (sizes_of engine.store) new.image
 FailsBy Foreign engine old new = (s : model.State) → Fits engine old s → ⊥
 
 -- why the answer to a line fails
@@ -47,11 +56,11 @@ AnswerFailsBy halt.Input engine old new = ⊥
 AnswerFailsBy halt.Output engine old new = Rose old.output_faults new.output_faults
 AnswerFailsBy halt.Limit engine old new = ⊥
 
--- Why a run halts. A fault comes only where its count rose, and it is flash alone that is worn.
+-- Why a run halts. A fault comes only where its count rose.
 abbrev pub HasCause : Halt → State → State → Type 0
 HasCause (halt.Stop (Device dev)) old new = Rose (faults_of dev old) (faults_of dev new)
 HasCause (halt.Stop Memory) old new = ⊤
-HasCause (halt.Stop (Worn dev)) old new = (dev ≡ Flash) × IsWornOut old new
+HasCause (halt.Stop (Worn dev)) old new = IsWornOut dev old new
 HasCause (halt.Stop Foreign) old new = IsForeign old
 HasCause halt.Input old new = Rose old.input_faults new.input_faults
 HasCause halt.Output old new = Rose old.output_faults new.output_faults
@@ -63,7 +72,7 @@ pub record HasCauses (status : ℕ) (old new : State) : Type 0 where
   pub input : status ≡ 5 → Rose old.input_faults new.input_faults
   pub output : status ≡ 6 → Rose old.output_faults new.output_faults
   pub limit : status ≡ 7 → IsOverLimit old new
-  pub worn : status ≡ 8 → IsWornOut old new
+  pub worn : status ≡ 8 → IsWornOut Flash old new ⊎ IsWornOut Log old new
   pub foreign : status ≡ 9 → IsForeign old
   pub others : status ≡ 0 ⊎ (status ≡ 3 ⊎ (status ≡ 4 ⊎ (status ≡ 5 ⊎ (status ≡ 6 ⊎ (status ≡ 7 ⊎ (status ≡ 8 ⊎ status ≡ 9))))))
 
@@ -72,6 +81,10 @@ pub record NoFaultRose (old new : State) : Type 0 where
   pub devices : (dev : Dev) → ¬ (Rose (faults_of dev old) (faults_of dev new))
   pub input : ¬ (Rose old.input_faults new.input_faults)
   pub output : ¬ (Rose old.output_faults new.output_faults)
+
+-- no ring on the log's device stands at its end
+abbrev pub HasLogRoom : Geometry → State → Type 0
+HasLogRoom g site = ¬ (IsLogWorn g site.image)
 
 -- the input ends within the limit of octets, or has a quit within it
 abbrev pub EndsInTime : State → Type 0

@@ -1,5 +1,5 @@
 -- A run under way.
-use Rattle.std.specs.Prelude.{◌≡◌, ℕ, ◌+◌, ◌≤◌, [], ◌++◌, List, length, Result, OnOk, IsErrOf}
+use Rattle.std.specs.Prelude.{◌≡◌, ℕ, ◌+◌, ◌≤◌, [], ◌++◌, List, length, Option, Result, OnOk, IsErrOf}
 use Rattle.site.specs.State.{State as Site, Image, no_loose}
 use Rattle.site.specs.Moments.{LeavesOnly}
 use Rattle.record_model.specs.declared.words.CacheLine.{CacheLine}
@@ -10,6 +10,7 @@ use Rattle.site.specs.declared.outside.Dev.TheVariants.{Flash}
 use Rattle.site.specs.declared.outside.Stop.TheVariants.{Worn}
 use Rattle.record_model.specs.Touches.{CacheWork}
 use Rattle.log_records.specs.declared.log_record.LogRecord.{LogRecord}
+use Rattle.checkpoint.specs.declared.master.Master.{Master}
 use Rattle.second_chance.specs.Machine.{rules_of, after_works}
 use Rattle.page_store.specs.declared.store.PageStore.{PageStore}
 use Rattle.page_store.specs.Caching.{cache_of, rules}
@@ -38,8 +39,8 @@ pub record IsUnderWay (entry now : Site) (engine : Engine) (lines : ℕ) : Type 
   pub going : (run : Run) (later : List (List CacheLine)) → Begins run entry → run.listings ≡ listings ++ later → Going run entry now engine lines
 
 -- The page cache has done what the run has asked.
-pub record IsPaged (pool : ℕ) (run : Run) (image : Image) (blocks : List (List LogRecord)) (engine : Engine) (lines : ℕ) : Type 0 where
-  pub machine : cache_of engine.store.pages ≡ after_works (rules_of pool run.geometry.groups) (asked_after run image blocks lines) (cache_on run.geometry image)
+pub record IsPaged (pool : ℕ) (run : Run) (newest : Option Master) (image : Image) (blocks : List (List LogRecord)) (engine : Engine) (lines : ℕ) : Type 0 where
+  pub machine : cache_of engine.store.pages ≡ after_works (rules_of pool run.geometry.groups) (asked_after run newest image blocks lines) (cache_on run.geometry image)
   pub rules_are : rules engine.store.pages ≡ rules_of pool run.geometry.groups
 
 -- A line asks for this work.

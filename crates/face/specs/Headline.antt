@@ -7,6 +7,7 @@ use Rattle.record_model.specs.declared.words.CacheLine.{CacheLine}
 use Rattle.record_model.specs.State.{State}
 use Rattle.face.specs.declared.halt.Halt.{Halt}
 use Rattle.face.specs.Texts.{fault_line, status_of}
+use Rattle.redo_undo.specs.Holding.{IsLogWorn}
 use Rattle.engine.specs.Image.{Opens}
 use Rattle.face.specs.Causes.{HasCause}
 use Rattle.std.specs.List.{list_any}
@@ -59,6 +60,7 @@ pub record Headline (pool : ℕ) (g : Geometry) (opening : State) (old new : Sit
   pub taking : (status ≡ 5) ⊎ (status ≡ 7) → IsToldWhole (run_of g opening false (take limit octets) listings) fault old new
   -- and with 7 there was no quit among these, and one octet more was taken
   pub over : status ≡ 7 → (length octets ≡ limit + 1) × (list_any is_quit (commands_of false (take limit octets)) ≡ false)
-  -- with 8 what was heard appends to a ring of groups that stands at its end, and with 0 it doesn't
-  pub worn : status ≡ 8 → WearsOut pool (run_of g opening ended octets listings) old.image
+  -- with 8 what was heard appends to a ring of groups that stands at its end, or a ring on the log's device stands there; with 0 no group
+  -- is appended there
+  pub worn : status ≡ 8 → WearsOut pool (run_of g opening ended octets listings) old.image ⊎ IsLogWorn g new.image
   pub room : status ≡ 0 → NeverWears pool (run_of g opening ended octets listings) old.image

@@ -1,9 +1,9 @@
 pub mod Causes
 pub mod Going
-pub mod Grammar
 pub mod Headline
 pub mod Image
 pub mod Lines
+pub mod Loads
 pub mod New
 pub mod Program
 pub mod Range
@@ -11,3 +11,4 @@ pub mod Run
 pub mod Tells
 pub mod Texts
 pub mod Words
+pub mod Workload

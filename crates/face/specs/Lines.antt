@@ -3,17 +3,17 @@ use Rattle.std.specs.Prelude.{◌≡◌, ◌≢◌, ◌⊎◌, ℕ, ◌+◌, ◌
 use Rattle.std.specs.List.{AllByRecursion, list_any}
 use Rattle.site.specs.State.{State}
 use Rattle.record_model.specs.Run.{Line, is_quit}
+use Rattle.shell_text.specs.Reading.{line_of}
 use Rattle.shell_text.specs.Runs.{lines_of}
 use Rattle.face.specs.declared.halt.Halt.{Halt}
 use Rattle.face.specs.declared.halt.Halt.TheVariants.{Input, Limit}
 use Rattle.face.specs.declared.source.Source.{Source}
 use Rattle.face.specs.declared.source.Heard.{Heard}
 use Rattle.face.specs.declared.source.Heard.TheVariants as heard
-use Rattle.face.specs.Grammar.{command_of, IsBuilt}
 
 -- what each line says
 abbrev pub commands_of : Bool → List ℕ → List Line
-commands_of ended octets = map command_of (lines_of ended octets)
+commands_of ended octets = map line_of (lines_of ended octets)
 
 -- a quit is the last line that is answered
 abbrev pub up_to_quit : List Line → List Line
@@ -78,11 +78,6 @@ pub record HearsLine (line : Line) (was ended : Bool) (before after : List ℕ) 
 abbrev pub Hears : Heard → Bool → Bool → List ℕ → List ℕ → Type 0
 Hears (heard.Line line) was ended before after = HearsLine line was ended before after
 Hears heard.End was ended before after = (before ≡ []) × (ended ≡ true)
-
--- what is heard is built
-abbrev pub IsBuiltLine : Heard → Type 0
-IsBuiltLine (heard.Line line) = IsBuilt line
-IsBuiltLine heard.End = ⊤
 
 -- the first octet was heard, or there is none
 abbrev pub HearsOctet : Option ℕ → Bool → Bool → List ℕ → List ℕ → Type 0

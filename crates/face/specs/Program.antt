@@ -8,7 +8,8 @@ use Rattle.clap.specs.declared.parser.matches.ArgMatches.{ArgMatches}
 use Rattle.clap.specs.declared.parser.matches.Found.{Found}
 use Rattle.site.specs.declared.geometry.Geometry.{Geometry}
 use Rattle.site.specs.Geometry.{HasLimits}
-use Rattle.face.specs.Words.{is_dashed}
+use Rattle.face.specs.declared.request.Load.{Load}
+use Rattle.face.specs.Words.{HasLoadLimits, is_dashed}
 use Rattle.clap.specs.declared.builder.command.Command.TheViews.{out-Command}
 
 -- a text that has to be there
@@ -21,6 +22,9 @@ new_words = with_rule (with_rule (with_rule (new_app (codes "new")) (text (new_r
 abbrev pub run_words : App
 run_words = with_rule (new_app (codes "run")) (text (new_rule (codes "pool")))
 
+abbrev pub load_words : App
+load_words = with_rule (with_rule (with_rule (new_app (codes "load")) (text (new_rule (codes "count")))) (text (new_rule (codes "seed")))) (text (new_rule (codes "pool")))
+
 abbrev pub bare : App
 bare = on_top (λ s. record s {
   no_binary_name = true;
@@ -30,9 +34,9 @@ bare = on_top (λ s. record s {
   subcommand_required = true;
 }) (new_app (codes "face"))
 
--- `new` with three texts and `run` with one, and no help
+-- `new` and `load` with three texts each and `run` with one, and no help
 abbrev pub program : App
-program = with_subcommand (with_subcommand bare new_words.top) run_words.top
+program = with_subcommand (with_subcommand (with_subcommand bare new_words.top) run_words.top) load_words.top
 
 -- the command is this one, and no argument of it is global
 abbrev pub IsLike : Command → App → Type 0
@@ -56,3 +60,10 @@ pub record AreSizes (found : Found) (g : Geometry) : Type 0 where
   pub groups : first_value found (codes "groups") ≡ Some (decimal g.groups)
   pub blocks : first_value found (codes "blocks") ≡ Some (decimal g.blocks)
   pub limits : HasLimits g
+
+-- the texts behind `load` state this workload
+pub record IsLoadOf (found : Found) (load : Load) : Type 0 where
+  pub count : first_value found (codes "count") ≡ Some (decimal load.count)
+  pub seed : first_value found (codes "seed") ≡ Some (decimal load.seed)
+  pub pool : first_value found (codes "pool") ≡ Some (decimal load.pool)
+  pub limits : HasLoadLimits load

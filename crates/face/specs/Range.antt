@@ -1,5 +1,5 @@
 -- Which commits a told text allows.
-use Rattle.std.specs.Prelude.{◌≡◌, ◌⊎◌, ℕ, ◌+◌, ◌≤◌, Bool, false, List, ◌++◌, ◌^◌, length, take, flat_map, count_by}
+use Rattle.std.specs.Prelude.{◌≡◌, ◌⊎◌, ℕ, ◌+◌, ◌≤◌, Bool, true, List, ◌++◌, ◌^◌, length, take, flat_map, count_by, Option}
 use Rattle.site.specs.State.{Snapshot, Image}
 use Rattle.site.specs.declared.geometry.Geometry.{Geometry}
 use Rattle.record_model.specs.declared.words.CacheLine.{CacheLine}
@@ -7,7 +7,8 @@ use Rattle.record_model.specs.State.{State}
 use Rattle.record_model.specs.Run.{Turn, turns, commit_marks, after_commits, IsInRange}
 use Rattle.record_model.specs.Touches.{CacheWork, run_touches}
 use Rattle.log_records.specs.declared.log_record.LogRecord.{LogRecord}
-use Rattle.image_meaning.specs.Meaning.{picture}
+use Rattle.checkpoint.specs.declared.master.Master.{Master}
+use Rattle.image_meaning.specs.Meaning.{picture_under}
 use Rattle.second_chance.specs.Machine.{rules_of, after_works}
 use Rattle.redo_undo.specs.Works.{next_group, Overflows}
 use Rattle.engine.specs.Paging.{restart_works, cache_on}
@@ -22,11 +23,11 @@ run_of g opening ended octets listings = record { geometry = g; opening = openin
 
 -- its turns, by the record model
 abbrev pub turns_of : Run → List Turn
-turns_of run = turns false run.opening run.lines run.listings
+turns_of run = turns true run.opening run.lines run.listings
 
 -- the opening's text, and one for each turn
 abbrev pub texts : Run → List (List ℕ)
-texts run = run_texts false run.opening run.lines run.listings
+texts run = run_texts true run.opening run.lines run.listings
 
 -- the first of the texts, one after the other
 abbrev pub first_texts : Run → ℕ → List ℕ
@@ -57,15 +58,15 @@ pub record IsLeft (run : Run) (so_far fault : List ℕ) (snapshot : Snapshot) : 
   pub stands : StandsAfter run k snapshot.image
 
 -- all that the run asks of the page cache over this image: the restart's work, then that of its lines
-abbrev pub all_works : Run → Image → List (List LogRecord) → List CacheWork
-all_works run image blocks = restart_works (picture run.geometry image blocks) ++ run_touches false (turns_of run)
+abbrev pub all_works : Run → Option Master → Image → List (List LogRecord) → List CacheWork
+all_works run newest image blocks = restart_works (picture_under newest run.geometry image blocks) ++ run_touches true (turns_of run)
 
 -- the run appends to a ring of groups that stands at its end, where the pool has so many pages
 abbrev pub WearsOut : ℕ → Run → Image → Type 0
 WearsOut pool run image =
-    (blocks : List (List LogRecord)) → IsSound run.geometry image blocks → Overflows (rules_of pool run.geometry.groups) (all_works run image blocks) (cache_on run.geometry image)
+    (newest : Option Master) (blocks : List (List LogRecord)) → IsSound newest run.geometry image blocks → Overflows (rules_of pool run.geometry.groups) (all_works run newest image blocks) (cache_on run.geometry image)
 
 -- no ring that it appends to stands there
 abbrev pub NeverWears : ℕ → Run → Image → Type 0
 NeverWears pool run image =
-    (blocks : List (List LogRecord)) → IsSound run.geometry image blocks → next_group (after_works (rules_of pool run.geometry.groups) (all_works run image blocks) (cache_on run.geometry image)) ≤ 2 ^ 40
+    (newest : Option Master) (blocks : List (List LogRecord)) → IsSound newest run.geometry image blocks → next_group (after_works (rules_of pool run.geometry.groups) (all_works run newest image blocks) (cache_on run.geometry image)) ≤ 2 ^ 40

@@ -1,5 +1,5 @@
 -- A run: its texts, and what a crash may leave of it.
-use Rattle.std.specs.Prelude.{◌≡◌, ◌⊎◌, ℕ, ◌+◌, ◌-◌, ◌<◌, List, [], ◌∷◌, ◌++◌, ◌≤◌, length, take, flat_map, slice_index_or, IsTrue, Result, IfErr, OnOk, IsErrOf, ◌≢◌, ◌^◌, Bool, true, false, ⊤}
+use Rattle.std.specs.Prelude.{◌≡◌, ◌⊎◌, ℕ, ◌+◌, ◌-◌, ◌<◌, List, [], ◌∷◌, ◌++◌, ◌≤◌, length, take, flat_map, slice_index_or, IsTrue, Result, IfErr, OnOk, IsErrOf, ◌≢◌, ◌^◌, Bool, true, false, Option, ⊤}
 use Rattle.site.specs.State.{State as Site, Snapshot, Image, MayLeave, now_of, no_loose}
 use Rattle.site.specs.Moments.{LeavesOnly}
 use Rattle.site.specs.declared.geometry.Geometry.{Geometry}
@@ -14,7 +14,8 @@ use Rattle.site.specs.declared.outside.Dev.TheVariants.{Flash}
 use Rattle.site.specs.declared.outside.Stop.TheVariants.{Worn}
 use Rattle.record_model.specs.Touches.{CacheWork, line_touches}
 use Rattle.log_records.specs.declared.log_record.LogRecord.{LogRecord}
-use Rattle.image_meaning.specs.Meaning.{picture}
+use Rattle.checkpoint.specs.declared.master.Master.{Master}
+use Rattle.image_meaning.specs.Meaning.{picture_under}
 use Rattle.second_chance.specs.Machine.{rules_of, after_works}
 use Rattle.redo_undo.specs.Works.{next_group, Overflows}
 use Rattle.engine.specs.Paging.{restart_works, cache_on}
@@ -23,9 +24,9 @@ use Rattle.face.specs.Texts.{status_of}
 use Rattle.engine.specs.Image.{IsSound, Stands, Opens}
 use Rattle.face.specs.Lines.{commands_of, up_to_quit, answered_of, HeardAll, limit}
 
--- what a line is answered, and the state that it leaves, where the cache has this listing; no checkpoint steps are built yet
+-- what a line is answered, and the state that it leaves, where the cache has this listing
 abbrev pub step : State → Line → List CacheLine → Outcome
-step s line listing = line_step false s line listing
+step s line listing = line_step true s line listing
 
 -- a run opens with a state, has these lines to answer, and the cache has these listings, one after the other, at its cache commands
 pub record Run : Type 0 where
@@ -77,21 +78,21 @@ IsAsked line listing asked = is_cache line ≡ true → asked ≡ listing
 -- what lines ask of the page cache, whatever it lists
 abbrev pub works_of : State → List Line → List CacheWork
 works_of s [] = []
-works_of s (line ∷ lines) = line_touches false s line ++ works_of (step s line []).after lines
+works_of s (line ∷ lines) = line_touches true s line ++ works_of (step s line []).after lines
 
 -- what a run over this image has asked once it has answered so many lines: the restart's work, then theirs
-abbrev pub asked_after : Run → Image → List (List LogRecord) → ℕ → List CacheWork
-asked_after run image blocks lines = restart_works (picture run.geometry image blocks) ++ works_of run.opening (take lines (answered run))
+abbrev pub asked_after : Run → Option Master → Image → List (List LogRecord) → ℕ → List CacheWork
+asked_after run newest image blocks lines = restart_works (picture_under newest run.geometry image blocks) ++ works_of run.opening (take lines (answered run))
 
 -- with so many lines the run appends to a ring of groups that stands at its end
 abbrev pub Outgrows : ℕ → Run → Image → ℕ → Type 0
 Outgrows pool run image lines =
-    (blocks : List (List LogRecord)) → IsSound run.geometry image blocks → Overflows (rules_of pool run.geometry.groups) (asked_after run image blocks lines) (cache_on run.geometry image)
+    (newest : Option Master) (blocks : List (List LogRecord)) → IsSound newest run.geometry image blocks → Overflows (rules_of pool run.geometry.groups) (asked_after run newest image blocks lines) (cache_on run.geometry image)
 
 -- it doesn't
 abbrev pub HasGroupsFor : ℕ → Run → Image → ℕ → Type 0
 HasGroupsFor pool run image lines =
-    (blocks : List (List LogRecord)) → IsSound run.geometry image blocks → next_group (after_works (rules_of pool run.geometry.groups) (asked_after run image blocks lines) (cache_on run.geometry image)) ≤ 2 ^ 40
+    (newest : Option Master) (blocks : List (List LogRecord)) → IsSound newest run.geometry image blocks → next_group (after_works (rules_of pool run.geometry.groups) (asked_after run newest image blocks lines) (cache_on run.geometry image)) ≤ 2 ^ 40
 
 -- the devices stand for the table and the count of a state
 abbrev pub StandsFor : Geometry → Image → State → Type 0

@@ -1,12 +1,13 @@
 -- The words that the program is called with.
-use Rattle.std.specs.Prelude.{◌≡◌, ◌⊎◌, ℕ, ◌≤◌, List, [], ◌∷◌, map, codes, decimal, IsTrue, string_bytes, Bool, true, false, ◌==◌}
+use Rattle.std.specs.Prelude.{◌≡◌, ◌⊎◌, ℕ, ◌≤◌, ◌<◌, ◌^◌, List, [], ◌∷◌, map, codes, decimal, IsTrue, string_bytes, Bool, true, false, ◌==◌}
 use Rattle.std.specs.List.{list_any}
 use Rattle.std.specs.declared.string.String.{String}
 use Rattle.std.specs.declared.alloc.Global.{Global}
 use Rattle.site.specs.declared.geometry.Geometry.{Geometry}
 use Rattle.site.specs.Geometry.{HasLimits}
+use Rattle.face.specs.declared.request.Load.{Load as Workload}
 use Rattle.face.specs.declared.request.Request.{Request}
-use Rattle.face.specs.declared.request.Request.TheVariants.{Run, New}
+use Rattle.face.specs.declared.request.Request.TheVariants.{Run, New, Load}
 use Rattle.site.specs.State.{State}
 use Rattle.site.specs.Calls.{SameReads}
 use Rattle.site.specs.Moments.{EachMoment}
@@ -27,9 +28,22 @@ pub record IsNew (words : List (List ℕ)) (g : Geometry) : Type 0 where
   pub words_are : words ≡ codes "new" ∷ decimal g.pages ∷ decimal g.groups ∷ decimal g.blocks ∷ []
   pub limits : HasLimits g
 
+-- a load makes 1 to 100,000 sets from any seed of 64 bits, with a pool of at most 4,096 pages
+pub record HasLoadLimits (load : Workload) : Type 0 where
+  pub some : 1 ≤ load.count
+  pub few : load.count ≤ 100000
+  pub seed : load.seed < 2 ^ 64
+  pub from : 1 ≤ load.pool
+  pub to : load.pool ≤ 4096
+
+-- `load COUNT SEED POOL` in decimal, within the limits
+pub record IsLoad (words : List (List ℕ)) (load : Workload) : Type 0 where
+  pub words_are : words ≡ codes "load" ∷ decimal load.count ∷ decimal load.seed ∷ decimal load.pool ∷ []
+  pub limits : HasLoadLimits load
+
 -- the words are in the table
 abbrev pub IsRight : List (List ℕ) → Type 0
-IsRight words = ((pool : ℕ) × IsRun words pool) ⊎ ((g : Geometry) × IsNew words g)
+IsRight words = ((pool : ℕ) × IsRun words pool) ⊎ (((g : Geometry) × IsNew words g) ⊎ ((load : Workload) × IsLoad words load))
 
 abbrev pub words_fault : List ℕ
 words_fault = codes "fault words\n"
@@ -54,6 +68,7 @@ RefusesDevices status old new = (status ≡ 9) × OnlyTells foreign_fault old ne
 abbrev pub IsRequest : Request → List (List ℕ) → Type 0
 IsRequest (Run pool) words = IsRun words pool
 IsRequest (New g) words = IsNew words g
+IsRequest (Load load) words = IsLoad words load
 
 -- the word begins with a dash
 abbrev pub is_dashed : List ℕ → Bool

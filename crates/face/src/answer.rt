@@ -1,5 +1,5 @@
 // A line is carried out, and its reply is told.
-ghost use Rattle.std.specs.Prelude.{◌≡◌, ◌≢◌, false, ◌++◌, List, IfErr, IsTrue, OnOk};
+ghost use Rattle.std.specs.Prelude.{◌≡◌, ◌≢◌, true, ◌++◌, List, IfErr, IsTrue, OnOk};
 ghost use Rattle.site.specs.State.{IsQuiet};
 ghost use Rattle.site.specs.Calls.{Goes};
 ghost use Rattle.site.specs.Moments.{LeavesOnly};
@@ -11,7 +11,6 @@ ghost use Rattle.engine.specs.Going.{MayGoOn, sizes_of};
 ghost use Rattle.engine.specs.Fits.{Fits};
 ghost use Rattle.engine.specs.Listings.{listing_of};
 ghost use Rattle.face.specs.Causes.{AnswerFailsBy};
-ghost use Rattle.face.specs.Grammar.{IsBuilt};
 ghost use Rattle.shell_text.specs.Texts.{reply_text};
 ghost use Rattle.face.specs.Run.{step, IsAsked, LeavesAnswer};
 ghost use Rattle.record_model.specs.Touches.{line_touches};
@@ -28,7 +27,6 @@ use site::Site;
 /// its reply, or the table after it and some front of its reply.
 pub fn answer<S: Site>(engine: &mut Engine, site: &mut S, line: Option<Command>) -> Result<(), Halt>
     requires going { MayGoOn engine.old (S.state site.old) }
-    requires built { IsBuilt line }
 
     // Of an honest site that the database fits.
     ensures any_moment { (s : State) (listing : List CacheLine) → IsAsked line (listing_of engine.old) listing
@@ -47,7 +45,7 @@ pub fn answer<S: Site>(engine: &mut Engine, site: &mut S, line: Option<Command>)
         → IsQuiet (S.state site.old)
         → IfErr result (λ halt. halt ≢ Halt.Output → (S.state site.new).told ≡ (S.state site.old).told) }
     ensures asks { (s : State) → Fits engine.old (S.state site.old) s
-        → Serves result (line_touches false s line) engine.old.store.pages engine.new.store.pages }
+        → Serves result (line_touches true s line) engine.old.store.pages engine.new.store.pages }
     ensures left { IsTrue (S.state site.old).honest → (S.state site.new).left ≡ (S.state site.old).left }
     ensures stays_quiet { IsTrue (S.state site.old).honest → IsQuiet (S.state site.old)
         → OnOk result (IsQuiet (S.state site.new)) }

@@ -1,5 +1,5 @@
-// The commands that are built.
-ghost use Rattle.std.specs.Prelude.{◌≡◌, ◌≢◌, false, [], List, IsTrue, IfOk, IfErr, OnOk};
+// The commands are carried out.
+ghost use Rattle.std.specs.Prelude.{◌≡◌, ◌≢◌, false, true, [], List, IsTrue, IfOk, IfErr, OnOk};
 ghost use Rattle.site.specs.declared.outside.Dev.{Dev};
 ghost use Rattle.site.specs.declared.outside.Stop.{Stop};
 ghost use Rattle.site.specs.State.{IsQuiet};
@@ -13,7 +13,6 @@ ghost use Rattle.engine.specs.Fits.{Fits};
 ghost use Rattle.engine.specs.Leaves.{LeavesEither};
 ghost use Rattle.engine.specs.Listings.{listing_of};
 ghost use Rattle.face.specs.Causes.{FailsBy};
-ghost use Rattle.face.specs.Grammar.{IsBuilt, IsPlain};
 ghost use Rattle.face.specs.Run.{step, IsAsked};
 ghost use Rattle.record_model.specs.Touches.{line_touches};
 ghost use Rattle.redo_undo.specs.Works.{Asks};
@@ -29,7 +28,7 @@ fn carry_out_plain<S: Site>(
     line: Option<Command>,
 ) -> Result<Reply, Stop>
     requires going { MayGoOn engine.old (S.state site.old) }
-    requires plain { IsPlain line }
+    requires plain { is_cache line ≡ false }
 
     // Of an honest site that the database fits.
     ensures reply { (s : State) → Fits engine.old (S.state site.old) s
@@ -41,7 +40,7 @@ fn carry_out_plain<S: Site>(
         → LeavesOnly (S.state site.old) (S.state site.new)
         (LeavesEither (sizes_of engine.old.store) s (step s line []).after (S.state site.old).told) }
     ensures asks { (s : State) → Fits engine.old (S.state site.old) s
-        → Asks result (line_touches false s line) engine.old.store.pages engine.new.store.pages
+        → Asks result (line_touches true s line) engine.old.store.pages engine.new.store.pages
         (S.state site.old) (S.state site.new) }
     ensures left { IsTrue (S.state site.old).honest
         → (S.state site.new).left ≡ (S.state site.old).left }
@@ -79,9 +78,10 @@ fn carry_out_plain<S: Site>(
         Command::Abort { session } => engine.abort(site, session),
         Command::Get { number } => engine.get(site, number),
         Command::Set { number, value } => engine.set(site, number, &value),
+        Command::Checkpoint => engine.checkpoint(site),
         Command::Stat => Ok(engine.stat()),
         Command::Quit => Ok(Reply::Bye),
-        _ => Ok(Reply::Refused(Why::BadLine)),
+        Command::Cache => unreachable!(),
     }
 }
 
@@ -99,7 +99,6 @@ pub fn carry_out<S: Site>(
     line: Option<Command>,
 ) -> Result<Reply, Stop>
     requires going { MayGoOn engine.old (S.state site.old) }
-    requires built { IsBuilt line }
 
     // Of an honest site that the database fits.
     ensures reply { (s : State) (listing : List CacheLine) → IsAsked line (listing_of engine.old) listing
@@ -114,7 +113,7 @@ pub fn carry_out<S: Site>(
         → LeavesOnly (S.state site.old) (S.state site.new)
         (LeavesEither (sizes_of engine.old.store) s (step s line listing).after (S.state site.old).told) }
     ensures asks { (s : State) → Fits engine.old (S.state site.old) s
-        → Asks result (line_touches false s line) engine.old.store.pages engine.new.store.pages
+        → Asks result (line_touches true s line) engine.old.store.pages engine.new.store.pages
         (S.state site.old) (S.state site.new) }
     ensures left { IsTrue (S.state site.old).honest
         → (S.state site.new).left ≡ (S.state site.old).left }

@@ -5,11 +5,12 @@
 mod answer;
 mod commands;
 mod fault_lines;
-mod grammar;
 mod halt;
 mod host;
 mod laws;
+mod load;
 mod new_database;
+mod opening;
 mod request;
 #[cfg(test)]
 mod session_tests;

@@ -1,18 +1,27 @@
 // What the words ask for, as `clap` reads them.
-ghost use Rattle.std.specs.Prelude.{◌≡◌, ◌↔◌, IfSome, IfNone, IfOk, IfErr, Err, ℕ, List, false, string_bytes};
+ghost use Rattle.std.specs.Prelude.{◌≡◌, ◌↔◌, IfSome, IfNone, IfOk, IfErr, Err, ℕ, List, false, string_bytes, decimal};
 ghost use Rattle.std.specs.List.{list_any};
 ghost use Rattle.clap.specs.Words.{found_of, kind_of, new_rule, rule_of};
 ghost use Rattle.clap.specs.declared.error.kind.ErrorKind.TheVariants.{OutOfMemory};
-ghost use Rattle.face.specs.Program.{AreSizes, IsLike, IsPool, IsReadFrom, bare, new_words, program, run_words, text};
-ghost use Rattle.face.specs.Words.{IsRight, IsRequest, HasDash, is_dashed, words_of};
+ghost use Rattle.face.specs.Program.{AreSizes, IsLike, IsLoadOf, IsPool, IsReadFrom, bare, load_words, new_words, program, run_words, text};
+ghost use Rattle.face.specs.Words.{IsRight, IsRequest, HasDash, HasLoadLimits, is_dashed, words_of};
+ghost use Rattle.face.specs.declared.request.Load.{Load};
 ghost use Rattle.face.specs.declared.request.Unread.{Unread};
 ghost use Rattle.site.specs.declared.geometry.Geometry.{Geometry};
 
-use crate::words::{POOL_MAX, geometry_of, number_within};
+use crate::words::{COUNT_MAX, POOL_MAX, geometry_of, number_in, number_within};
 use clap::error::ErrorKind;
 use clap::{Arg, ArgMatches, Command, Error};
 use site::Geometry;
 use std::alloc::{AllocError, Global};
+
+/// A stated workload: so many sets, of the numbers that a generator makes of a seed, with a pool of so many frames.
+#[derive(Clone, Copy, Debug, PartialEq, Eq, Drop)]
+pub struct Load {
+    pub count: u32,
+    pub seed: u64,
+    pub pool: u32,
+}
 
 /// What the words ask for.
 #[derive(Clone, Copy, Debug, PartialEq, Eq, Drop)]
@@ -21,6 +30,8 @@ pub enum Request {
     Run(u32),
     /// A test that the devices have these sizes and are blank.
     New(Geometry),
+    /// A stated workload, and its summary.
+    Load(Load),
 }
 
 /// Why words ask for nothing.
@@ -57,6 +68,16 @@ fn run_command<'a>(alloc: Global) -> Result<Command<'a>, AllocError>
     Command::new(alloc, "run").arg(text_argument(alloc, "pool"))
 }
 
+// The words behind `load`.
+fn load_command<'a>(alloc: Global) -> Result<Command<'a>, AllocError>
+    ensures { IfOk result (λ c. IsLike c load_words) }
+{
+    Command::new(alloc, "load")
+        .arg(text_argument(alloc, "count"))?
+        .arg(text_argument(alloc, "seed"))?
+        .arg(text_argument(alloc, "pool"))
+}
+
 // The words are the program's without its own name, and there is no help.
 fn bare_command<'a>(alloc: Global) -> Command<'a>
     ensures { IsLike result bare }
@@ -69,13 +90,17 @@ fn bare_command<'a>(alloc: Global) -> Command<'a>
         .subcommand_required(true)
 }
 
-// The program's command line: `new` and `run` with their texts.
+// The program's command line: `new`, `run` and `load` with their texts.
 fn command<'a>(alloc: Global) -> Result<Command<'a>, AllocError>
     ensures { IfOk result (λ c. IsLike c program) }
 {
     let new = new_command(alloc)?;
     let run = run_command(alloc)?;
-    bare_command(alloc).subcommand(new)?.subcommand(run)
+    let load = load_command(alloc)?;
+    bare_command(alloc)
+        .subcommand(new)?
+        .subcommand(run)?
+        .subcommand(load)
 }
 
 fn begins_with_dash(word: &[u8]) -> bool
@@ -128,6 +153,40 @@ fn sizes_in(new: &ArgMatches<'_>) -> Option<Geometry>
     geometry_of(pages.as_bytes(), groups.as_bytes(), blocks.as_bytes())
 }
 
+// The workload that three texts state, if its numbers are within the limits.
+fn load_of(count: &str, seed: &str, pool: &str) -> Option<Load>
+    ensures load { IfSome result (λ l. HasLoadLimits l × (count.now ≡ decimal l.count) × (seed.now ≡ decimal l.seed) × (pool.now ≡ decimal l.pool)) }
+    ensures none { IfNone result ((l : Load) → HasLoadLimits l → count.now ≡ decimal l.count → seed.now ≡ decimal l.seed → pool.now ≡ decimal l.pool → ⊥) }
+{
+    let Some(count) = number_within(count.as_bytes(), 1, COUNT_MAX) else {
+        return None;
+    };
+    let Some(seed) = number_in(seed) else {
+        return None;
+    };
+    let Some(pool) = number_within(pool.as_bytes(), 1, POOL_MAX) else {
+        return None;
+    };
+    Some(Load { count, seed, pool })
+}
+
+// The workload that the texts behind `load` state.
+fn load_in(load: &ArgMatches<'_>) -> Option<Load>
+    ensures load { IfSome result (λ l. IsLoadOf (found_of load.now) l) }
+    ensures none { IfNone result ((l : Load) → IsLoadOf (found_of load.now) l → ⊥) }
+{
+    let Some(count) = load.get_str("count") else {
+        return None;
+    };
+    let Some(seed) = load.get_str("seed") else {
+        return None;
+    };
+    let Some(pool) = load.get_str("pool") else {
+        return None;
+    };
+    load_of(count, seed, pool)
+}
+
 fn unread_by(kind: ErrorKind) -> Unread
     ensures { (result ≡ Unread.Memory) ↔ (kind ≡ OutOfMemory) }
 {
@@ -153,6 +212,12 @@ fn request_in(matches: &ArgMatches<'_>) -> Option<Request>
             return None;
         };
         return Some(Request::New(geometry));
+    }
+    if let Some(load) = matches.subcommand_matches("load") {
+        let Some(load) = load_in(load) else {
+            return None;
+        };
+        return Some(Request::Load(load));
     }
     None
 }

@@ -95,11 +95,11 @@ fn undo_has_room(rt: HostRuntime) -> Result<(), Fail> {
     let rows: [(&[u8], &[u8]); 2] = [
         (
             b"begin 0\nwrite 0 1 aa\nwrite 0 1 aa\nwrite 0 1 aa\nwrite 0 1 aa\nwrite 0 1 aa\nwrite 0 1 aa\nwrite 0 1 aa\nabort 0\nstat\nset 0 aa\n",
-            b"open 0\nok\nok\nok\nok\nok\nok\nok\nfull 7 7 15\naborted\nstat commits 0 used 14 owed 0 cap 15 active 0\nfull 14 0 15\n",
+            b"open 0\nok\nok\nok\nok\nok\nok\nok\nfull 7 7 15\naborted\nstat commits 0 used 14 owed 0 cap 15 active 0\ncommitted 1\n",
         ),
         (
-            b"begin 0\nbegin 1\nbegin 2\nbegin 3\nbegin 4\nbegin 5\nbegin 6\nbegin 7\ncommit 0\nbegin 7\n",
-            b"open 0\nok\nok\nok\nok\nok\nok\nok\nfull 7 7 15\ncommitted 1\nfull 8 6 15\n",
+            b"begin 0\nbegin 1\nbegin 2\nbegin 3\nbegin 4\nbegin 5\nbegin 6\nbegin 7\ncommit 0\nbegin 7\nstat\n",
+            b"open 0\nok\nok\nok\nok\nok\nok\nok\nfull 7 7 15\ncommitted 1\nok\nstat commits 1 used 8 owed 7 cap 15 active 7\n",
         ),
     ];
     for (input, told) in rows {
@@ -111,8 +111,8 @@ fn undo_has_room(rt: HostRuntime) -> Result<(), Fail> {
 #[test]
 fn faults_end_a_session(rt: HostRuntime) -> Result<(), Fail> {
     let rows: [(Call, u64, u8, &[u8]); 3] = [
-        (Call::Write(Dev::Log), 1, 3, b"open 0\nok\nok\nfault log\n"),
-        (Call::Sync(Dev::Log), 2, 3, b"open 0\nok\nok\nfault log\n"),
+        (Call::Write(Dev::Log), 4, 3, b"open 0\nok\nok\nfault log\n"),
+        (Call::Sync(Dev::Log), 3, 3, b"open 0\nok\nok\nfault log\n"),
         (Call::Tell, 4, 6, b"open 0\nok\nok\n"),
     ];
     for (call, nth, status, told) in rows {
@@ -176,8 +176,8 @@ fn are_committed(told: &[u8]) -> bool {
     let values = told.get(7..995);
     told.starts_with(b"open 5\n")
         && values.is_some_and(|lines| lines.chunks(247).all(|line| is_long_value(line)))
-        && told.ends_with(b"none\nvalue 04\nstat commits 5 used 31 owed 0 cap 63 active 0\n")
-        && told.len() == 1_055
+        && told.ends_with(b"none\nvalue 04\nstat commits 5 used 0 owed 0 cap 63 active 0\n")
+        && told.len() == 1_054
 }
 
 fn is_long_value(line: &[u8]) -> bool {
@@ -188,42 +188,64 @@ fn is_long_value(line: &[u8]) -> bool {
             .all(|octet| octet == b"5a".as_slice()))
 }
 
-// The statuses of the first restart by the change at which it is stopped, and of the second one, which is stopped at its
-// change 3, for the seeds 0, 1, 2 and 77: the first makes 25 changes of the devices and tells one line.
-fn statuses(changes: u64) -> (u8, [u8; 4]) {
-    match changes {
-        0..23 => (3, [3, 3, 3, 3]),
-        23 | 24 => (3, [0, 3, 0, 3]),
-        25 => (6, [0, 0, 0, 0]),
-        _ => (0, [0, 0, 0, 0]),
+// The status of a restart by the change at which it is stopped: it makes so many changes of the devices, and tells one line.
+fn status_at(changes: u64, made: u64) -> u8 {
+    if changes < made {
+        3
+    } else if changes == made {
+        6
+    } else {
+        0
     }
 }
 
 #[test]
 fn a_stopped_restart_goes_on(rt: HostRuntime) -> Result<(), Fail> {
-    for changes in 0..27 {
-        let (one, others) = statuses(changes);
-        for (seed, two) in [0, 1, 2, 77].iter().zip(&others) {
-            let found = stop_twice(rt.alloc(), changes, 3, *seed)?;
-            assert!(rt; found == (one, *two, true));
-        }
+    // The second restart is stopped at its change 3, within its checkpoint at the latest.
+    for changes in 0..37 {
+        let found = stop_twice(rt.alloc(), changes, 3, changes % 4)?;
+        assert!(rt; found == (status_at(changes, 35), 3, true));
     }
     Ok(())
 }
 
 #[test]
 fn a_restart_stopped_at_any_two_changes_undoes_all(rt: HostRuntime) -> Result<(), Fail> {
-    for first in 0..26 {
-        for second in [1, 5, 14, 24] {
-            let (_, _, committed) = stop_twice(rt.alloc(), first, second, first + second)?;
-            assert!(rt; committed);
-        }
+    for first in 0..36 {
+        let second = first * 7 % 36;
+        let (_, _, committed) = stop_twice(rt.alloc(), first, second, first + second)?;
+        assert!(rt; committed);
     }
     Ok(())
 }
 
-// The status of each of eight restarts that are stopped, the first at its first change: by then the sixth has undone all.
-const STOPPED: [u8; 8] = [3, 3, 3, 3, 3, 3, 0, 0];
+// The devices after a crash that leaves a session unfinished which began before a checkpoint and wrote behind it too.
+fn unfinished_for_long(alloc: Global) -> Result<MemSite, Fail> {
+    let mut site = MemSite::new(alloc, &STANDARD)?;
+    let input = b"set 0 aa\nbegin 0\nwrite 0 1 bb\ncheckpoint\nwrite 0 0 cc\nset 2 dd\n";
+    let _status = run(alloc, &mut site, input)?;
+    Ok(site.crash(0))
+}
+
+#[test]
+fn a_restart_undoes_what_is_older_than_a_checkpoint(rt: HostRuntime) -> Result<(), Fail> {
+    for changes in 0..17 {
+        for seed in [0, 1, 2, 77] {
+            let mut site = unfinished_for_long(rt.alloc())?;
+            site.fuse(changes);
+            let status = run(rt.alloc(), &mut site, b"")?;
+            assert_eq!(rt; status, status_at(changes, 15));
+            let mut site = site.crash(seed);
+            let status = run(rt.alloc(), &mut site, b"get 0\nget 1\nget 2\nstat\n")?;
+            assert_eq!(rt; status, 0);
+            assert!(rt;
+                site.told()
+                    == b"open 2\nvalue aa\nnone\nvalue dd\nstat commits 2 used 0 owed 0 cap 63 active 0\n".as_slice()
+            );
+        }
+    }
+    Ok(())
+}
 
 #[test]
 fn eight_stopped_restarts_lose_nothing(rt: HostRuntime) -> Result<(), Fail> {
@@ -234,10 +256,10 @@ fn eight_stopped_restarts_lose_nothing(rt: HostRuntime) -> Result<(), Fail> {
     assert!(rt; status == 0);
     assert!(rt; site.told() == b"open 0\ncommitted 1\nok\nok\nok\nok\n".as_slice());
     let mut site = site.crash(1);
-    for (place, expected) in STOPPED.iter().enumerate() {
-        site.fuse(place as u64 + 1);
+    for changes in 1..9 {
+        site.fuse(changes);
         let status = run(rt.alloc(), &mut site, b"")?;
-        assert!(rt; status == *expected);
+        assert_eq!(rt; status, 3);
         site = site.crash(1);
     }
     let status = run(rt.alloc(), &mut site, b"get 0\nget 32\nget 64\n")?;

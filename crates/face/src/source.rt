@@ -1,12 +1,12 @@
 // The lines of the input.
 ghost use Rattle.std.specs.Prelude.{◌≡◌, ◌⊎◌, ◌+◌, ◌^◌, ◌≤◌, ◌<◌, ◌≢◌, IsTrue, IfOk, IfErr, OnOk, OnErr, Err, None, false, true, [], ◌∷◌, length, take, nat_lt, min, slice_set, if◌then◌else◌};
 ghost use Rattle.site.specs.Calls.{Goes, Rose};
-ghost use Rattle.face.specs.Lines.{to_hear, total, IsSource, HasEnded, HearsOnly, HearsOctet, Hears, IsBuiltLine, CutsOff, IsCutOff};
-ghost use Rattle.face.specs.Grammar.{command_of, IsBuilt};
+ghost use Rattle.face.specs.Lines.{to_hear, total, IsSource, HasEnded, HearsOnly, HearsOctet, Hears, CutsOff, IsCutOff};
+ghost use Rattle.shell_text.specs.Reading.{line_of};
 
-use crate::grammar::read_command;
 use crate::halt::Halt;
 use record_model::Command;
+use shell_text::read_line;
 use site::Site;
 
 // At most so many octets of the input are cut into lines.
@@ -141,7 +141,6 @@ impl Source {
         requires { IsSource self.old }
         ensures source { IsSource self.new }
         ensures heard { IsTrue (S.state site.old).honest → HasEnded self.old (S.state site.old) → IfOk result (λ heard. Hears heard self.old.ended self.new.ended (to_hear self.old (S.state site.old)) (to_hear self.new (S.state site.new))) }
-        ensures built { IfOk result IsBuiltLine }
         ensures ended { IsTrue (S.state site.old).honest → HasEnded self.old (S.state site.old) → OnOk result (HasEnded self.new (S.state site.new)) }
         ensures count { IsTrue (S.state site.old).honest → OnOk result (total self.new (S.state site.new) ≡ total self.old (S.state site.old)) }
         ensures cut_off { IsTrue (S.state site.old).honest → HasEnded self.old (S.state site.old) → IfErr result (λ halt. IsCutOff halt self.old.ended (total self.old (S.state site.old)) (to_hear self.old (S.state site.old)) (S.state site.new).left) }
@@ -178,13 +177,12 @@ impl Source {
 // What a line of so many octets says, 501 standing for more than 500.
 fn command_in(line: &[u8; 500], len: usize) -> Option<Command>
     requires { len ≤ 501 }
-    ensures command { result ≡ (if nat_lt 500 len then None else command_of (take len line.now)) }
-    ensures built { IsBuilt result }
+    ensures { result ≡ (if nat_lt 500 len then None else line_of (take len line.now)) }
 {
     if len > 500 {
         return None;
     }
-    read_command(&line[..len])
+    read_line(&line[..len]).ok()
 }
 
 // Keeps an octet where there is room, and answers how many there are, 501 standing for more than 500.

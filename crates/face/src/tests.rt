@@ -1,6 +1,6 @@
 // The top call over a site in memory. What is expected was worked out by hand or by another program.
 use crate::top::face;
-use site::{Call, Dev, Geometry, MemSite};
+use site::{Call, Dev, Geometry, MemSite, Site};
 use std::alloc::{AllocError, Global};
 use std::test::Fail;
 
@@ -71,7 +71,7 @@ fn other_lines_are_refused(rt: HostRuntime) -> Result<(), Fail> {
         b"get -1\n",
         b"get 1234567890\n",
         b"scan 0 0 65\n",
-        b"checkpoint\n",
+        b"checkpoint 0\n",
         b"cache 0\n",
         b"get 5\r\n",
     ];
@@ -79,7 +79,7 @@ fn other_lines_are_refused(rt: HostRuntime) -> Result<(), Fail> {
         let mut site = MemSite::new(rt.alloc(), &STANDARD)?;
         assert_eq!(rt; run(rt.alloc(), &mut site, line)?, 0);
         assert!(rt; site.told() == b"open 0\nrefused line\n".as_slice());
-        assert_eq!(rt; site.changes(), 2);
+        assert_eq!(rt; site.changes(), 7);
     }
     Ok(())
 }
@@ -156,7 +156,9 @@ fn a_set_fills_the_first_slot(rt: HostRuntime) -> Result<(), Fail> {
     let log = site.content(Dev::Log);
     let slot = log.get(1_536..1_600);
     assert!(rt; slot.is_some_and(|slot| slot == FIRST_SLOT.as_slice()));
-    assert!(rt; log.iter().take(1_536).all(|octet| *octet == 0));
+    // The restart's master unit, which says nothing: the log keeps the blocks from the first one on, and no transaction is unfinished.
+    assert!(rt; log.get(0) == Some(&0xA5));
+    assert!(rt; log.iter().take(1_536).skip(1).all(|octet| *octet == 0));
     assert!(rt; log.iter().skip(1_600).all(|octet| *octet == 0));
     assert!(rt; site.content(Dev::Flash).iter().all(|octet| *octet == 0));
     assert!(rt; site.content(Dev::Disk).iter().all(|octet| *octet == 0));
@@ -220,7 +222,7 @@ fn a_long_input_is_heard_to_its_end(rt: HostRuntime) -> Result<(), Fail> {
             .chunks(13)
             .all(|line| line == b"refused long\n".as_slice()))
     );
-    assert_eq!(rt; site.changes(), 137);
+    assert_eq!(rt; site.changes(), 142);
     Ok(())
 }
 
@@ -246,22 +248,59 @@ fn a_long_line_is_refused_once(rt: HostRuntime) -> Result<(), Fail> {
 }
 
 #[test]
-fn a_log_fills_up(rt: HostRuntime) -> Result<(), Fail> {
+fn a_small_log_is_used_again(rt: HostRuntime) -> Result<(), Fail> {
     let small = Geometry {
         pages: 16,
         groups: 8,
         blocks: 16,
     };
     let mut site = MemSite::new(rt.alloc(), &small)?;
-    let input = b"set 0 aa\nset 0 aa\nset 0 aa\nset 0 aa\nset 0 aa\n";
-    assert_eq!(rt; run(rt.alloc(), &mut site, input)?, 0);
+    for _set in 0..100 {
+        site.feed(b"set 0 aa\n")?;
+    }
+    assert_eq!(rt; run(rt.alloc(), &mut site, b"stat\n")?, 0);
+    let told = site.told();
+    assert!(rt; told.starts_with(b"open 0\ncommitted 1\ncommitted 2\n"));
     assert!(rt;
-        site.told()
-            == b"open 0\ncommitted 1\ncommitted 2\ncommitted 3\ncommitted 4\nfull 12 0 15\n".as_slice()
+        told.ends_with(
+            b"committed 99\ncommitted 100\nstat commits 100 used 3 owed 0 cap 15 active 0\n"
+        )
     );
+    assert_eq!(rt; told.len(), 1_346);
     let mut site = site.crash(0);
-    assert_eq!(rt; run(rt.alloc(), &mut site, b"set 0 aa\nget 0\n")?, 0);
-    assert!(rt; site.told() == b"open 4\nfull 12 0 15\nvalue aa\n".as_slice());
+    assert_eq!(rt; run(rt.alloc(), &mut site, b"get 0\n")?, 0);
+    assert!(rt; site.told() == b"open 100\nvalue aa\n".as_slice());
+    Ok(())
+}
+
+#[test]
+fn a_checkpoint_lets_records_go(rt: HostRuntime) -> Result<(), Fail> {
+    let rows: [(&[u8], &[u8]); 2] = [
+        (
+            b"set 0 01\ncheckpoint\ncheckpoint\nstat\nget 0\n",
+            b"open 0\ncommitted 1\ncheckpoint\ncheckpoint\nstat commits 1 used 0 owed 0 cap 63 active 0\nvalue 01\n",
+        ),
+        // The records of an active session stay.
+        (
+            b"begin 0\nwrite 0 1 aa\ncheckpoint\nstat\nwrite 0 2 bb\ncheckpoint\nstat\ncommit 0\nstat\ncheckpoint\nstat\n",
+            b"open 0\nok\nok\ncheckpoint\nstat commits 0 used 2 owed 2 cap 63 active 1\nok\ncheckpoint\nstat commits 0 used 3 owed 3 cap 63 active 1\ncommitted 1\nstat commits 1 used 4 owed 0 cap 63 active 0\ncheckpoint\nstat commits 1 used 0 owed 0 cap 63 active 0\n",
+        ),
+    ];
+    for (input, told) in rows {
+        let mut site = MemSite::new(rt.alloc(), &STANDARD)?;
+        assert_eq!(rt; run(rt.alloc(), &mut site, input)?, 0);
+        assert!(rt; site.told() == told);
+    }
+    Ok(())
+}
+
+#[test]
+fn a_worn_ring_of_masters_ends_a_run(rt: HostRuntime) -> Result<(), Fail> {
+    let mut site = MemSite::new(rt.alloc(), &STANDARD)?;
+    site.write_at(Dev::Log, 0, &[0xA5, 0, 0, 0, 0xFF, 0xFF, 0xFF, 0xFF, 0xFF])?;
+    site.write_at(Dev::Log, 1_025, &[0, 0, 0, 0xFF, 0xFF, 0xFF, 0xFF, 0xFE])?;
+    assert_eq!(rt; run(rt.alloc(), &mut site, b"")?, 8);
+    assert!(rt; site.told() == b"fault worn log\n".as_slice());
     Ok(())
 }
 
@@ -318,7 +357,7 @@ fn large_devices_are_tested(rt: HostRuntime) -> Result<(), Fail> {
 
 #[test]
 fn other_words_are_refused(rt: HostRuntime) -> Result<(), Fail> {
-    let lists: [&[&str]; 29] = [
+    let lists: [&[&str]; 36] = [
         &[],
         &["help", "run"],
         &["run", "help"],
@@ -346,7 +385,14 @@ fn other_words_are_refused(rt: HostRuntime) -> Result<(), Fail> {
         &["new", "65537", "8", "64"],
         &["new", "16", "8", "15"],
         &["new", "16", "16388", "64"],
-        &["load", "1", "1", "4"],
+        &["load", "1", "1"],
+        &["load", "1", "1", "4", "1"],
+        &["load", "0", "1", "4"],
+        &["load", "100001", "1", "4"],
+        &["load", "1", "18446744073709551616", "4"],
+        &["load", "1", "01", "4"],
+        &["load", "1", "+1", "4"],
+        &["load", "1", "1", "4097"],
         &["trial", "16", "8", "64", "1"],
     ];
     for words in lists {
@@ -381,7 +427,12 @@ fn survives(alloc: Global, changes: u64, seed: u64) -> Result<Option<bool>, Fail
 #[test]
 fn a_stopped_set_is_done_or_not(rt: HostRuntime) -> Result<(), Fail> {
     // By the change that is stopped, and by the seeds 0, 1, 2 and 77.
-    let rows: [[bool; 4]; 8] = [
+    let rows: [[bool; 4]; 13] = [
+        [false, false, false, false],
+        [false, false, false, false],
+        [false, false, false, false],
+        [false, false, false, false],
+        [false, false, false, false],
         [false, false, false, false],
         [false, false, false, false],
         [false, false, false, false],
@@ -401,10 +452,13 @@ fn a_stopped_set_is_done_or_not(rt: HostRuntime) -> Result<(), Fail> {
 
 #[test]
 fn faults_have_their_status(rt: HostRuntime) -> Result<(), Fail> {
-    let rows: [(Call, u64, u8, &[u8]); 6] = [
+    let rows: [(Call, u64, u8, &[u8]); 9] = [
         (Call::Read(Dev::Log), 1, 3, b"fault log\n"),
-        (Call::Write(Dev::Log), 1, 3, b"open 0\nfault log\n"),
-        (Call::Sync(Dev::Log), 2, 3, b"open 0\nfault log\n"),
+        (Call::Read(Dev::Flash), 1, 3, b"fault flash\n"),
+        (Call::Write(Dev::Log), 1, 3, b"fault log\n"),
+        (Call::Sync(Dev::Log), 2, 3, b"fault log\n"),
+        (Call::Write(Dev::Log), 4, 3, b"open 0\nfault log\n"),
+        (Call::Sync(Dev::Log), 3, 3, b"open 0\nfault log\n"),
         (Call::Take, 1, 5, b"open 0\nfault input\n"),
         (Call::Take, 2, 5, b"open 0\ncommitted 1\nfault input\n"),
         (Call::Tell, 2, 6, b"open 0\n"),
@@ -448,5 +502,80 @@ fn damaged_devices_are_foreign(rt: HostRuntime) -> Result<(), Fail> {
     assert_eq!(rt; run(rt.alloc(), &mut site, b"get 5\n")?, 9);
     assert_eq!(rt; site.reads(Dev::Log), 0);
     assert_eq!(rt; site.changes(), 1);
+    Ok(())
+}
+
+// A load of a few sets on blank devices, and what a run finds after it. The numbers were worked out by another program.
+#[test]
+fn a_load_is_summed_up(rt: HostRuntime) -> Result<(), Fail> {
+    let mut site = MemSite::new(rt.alloc(), &STANDARD)?;
+    assert_eq!(rt; call(rt.alloc(), &["load", "1", "1", "4"], &mut site)?, 0);
+    assert!(rt; site.told() == b"open 0\nload 1 committed 1 checkpoints 0 found 1\n".as_slice());
+    Ok(())
+}
+
+#[test]
+fn a_load_is_found_again(rt: HostRuntime) -> Result<(), Fail> {
+    let mut site = MemSite::new(rt.alloc(), &STANDARD)?;
+    let _ = call(rt.alloc(), &["load", "1", "1", "4"], &mut site)?;
+    site.feed(b"get 470\n")?;
+    assert_eq!(rt; call(rt.alloc(), &["run", "4"], &mut site)?, 0);
+    assert!(rt;
+        site.told()
+            == b"open 0\nload 1 committed 1 checkpoints 0 found 1\nopen 1\nvalue 6c576fac43fd007c\n".as_slice()
+    );
+    Ok(())
+}
+
+// The sets make checkpoints where the log is half full: 3 of 12 do in a log of 16 blocks.
+#[test]
+fn a_load_makes_checkpoints(rt: HostRuntime) -> Result<(), Fail> {
+    let mut site = MemSite::new(
+        rt.alloc(),
+        &Geometry {
+            pages: 16,
+            groups: 8,
+            blocks: 16,
+        },
+    )?;
+    assert_eq!(rt; call(rt.alloc(), &["load", "12", "5", "1"], &mut site)?, 0);
+    assert!(rt; site.told() == b"open 0\nload 12 committed 12 checkpoints 3 found 12\n".as_slice());
+    Ok(())
+}
+
+// Two of 200 sets make one in a log of 400 blocks.
+#[test]
+fn a_long_load_is_summed_up(rt: HostRuntime) -> Result<(), Fail> {
+    let mut site = MemSite::new(
+        rt.alloc(),
+        &Geometry {
+            pages: 1_024,
+            groups: 64,
+            blocks: 400,
+        },
+    )?;
+    assert_eq!(rt;
+        call(rt.alloc(), &["load", "200", "7", "64"], &mut site)?,
+        0
+    );
+    assert!(rt;
+        site.told() == b"open 0\nload 200 committed 200 checkpoints 2 found 200\n".as_slice()
+    );
+    Ok(())
+}
+
+// The largest seed is read.
+#[test]
+fn a_seed_has_64_bits(rt: HostRuntime) -> Result<(), Fail> {
+    let mut site = MemSite::new(rt.alloc(), &STANDARD)?;
+    assert_eq!(rt;
+        call(
+            rt.alloc(),
+            &["load", "1", "18446744073709551615", "1"],
+            &mut site
+        )?,
+        0
+    );
+    assert!(rt; site.told() == b"open 0\nload 1 committed 1 checkpoints 0 found 1\n".as_slice());
     Ok(())
 }

@@ -4,11 +4,14 @@ ghost use Rattle.site.specs.Geometry.{HasLimits};
 ghost use Rattle.site.specs.declared.geometry.Geometry.{Geometry};
 ghost use Rattle.face.specs.Words.{IsNew, words_of};
 
-use shell_text::read_decimal;
+use shell_text::{Line, read_decimal};
 use site::Geometry;
 
 /// The most pages of memory that a run may ask for.
 pub const POOL_MAX: u32 = 4_096;
+
+/// The most sets that a load may make.
+pub const COUNT_MAX: u32 = 100_000;
 
 const PAGES_MAX: u32 = 65_536;
 
@@ -35,6 +38,30 @@ pub fn number_within(word: &[u8], least: u32, most: u32) -> Option<u32>
         return None;
     }
     if number > most {
+        return None;
+    }
+    Some(number)
+}
+
+// Whether a word is a number's decimal text.
+fn writes(word: &[u8], number: u64) -> bool
+    ensures { IsTrue result ↔ (word.now ≡ decimal number) }
+{
+    let mut text = Line::new();
+    text.push_number(number);
+    word == text.as_slice()
+}
+
+/// The number below 2^64 that a word writes in decimal.
+pub fn number_in(word: &str) -> Option<u64>
+    ensures number { IfSome result (λ n. word.now ≡ decimal n) }
+    ensures none { IfNone result ((n : ℕ) → n < 2 ^ 64 → word.now ≡ decimal n → ⊥) }
+{
+    let number = match word.parse::<u64>() {
+        Ok(number) => number,
+        Err(_) => return None,
+    };
+    if !writes(word.as_bytes(), number) {
         return None;
     }
     Some(number)

@@ -1,7 +1,7 @@
 use Rattle.face.proofs.Pagings.{listing_asks}
 use Rattle.redo_undo.specs.Works.{Asks}
 use Rattle.record_model.specs.Touches.{line_touches}
-use Rattle.std.proofs.Common.{◌≡◌, ◌∙◌, List, IfOk, OnOk, sym, subst, false}
+use Rattle.std.proofs.Common.{◌≡◌, ◌∙◌, List, IfOk, OnOk, sym, subst, true}
 use Rattle.site.specs.Moments.{LeavesOnly}
 use Rattle.record_model.specs.declared.words.CacheLine.{CacheLine}
 use Rattle.record_model.specs.declared.words.Reply.TheVariants as reply
@@ -13,11 +13,11 @@ use Rattle.engine.specs.Leaves.{LeavesEither}
 use Rattle.face.specs.Run.{step}
 use Rattle.face.proofs.Logs.{fits_stands}
 use Rattle.face.proofs.Quiet.{no_change}
-use Rattle.face.proofs.Listed.{cache_line, plain_line, same_step, memory_fails, on_ok}
+use Rattle.face.proofs.Listed.{cache_line, same_step, memory_fails, on_ok}
 use Rattle.face.proofs.commands.carry_out.Goals as goal
 
 pub carry_out_plain-requires-clause-plain : goal.carry_out_plain-requires-clause-plain
-carry_out_plain-requires-clause-plain g c = plain_line c.args.line c.requires.built (sym c.asks_for_listing.ensures ∙ c.if-asks_for_listing.false)
+carry_out_plain-requires-clause-plain g c = sym c.asks_for_listing.ensures ∙ c.if-asks_for_listing.false
 
 pub cache-requires : goal.cache-requires
 cache-requires g c = record { going = (g.S.Site.state c.args.site.now, c.requires.going) }
@@ -59,5 +59,5 @@ returns-clause-any_moment g c s listing asked fits quiet =
 pub returns-then-asks_for_listing-clause-asks : goal.returns-then-asks_for_listing-clause-asks
 returns-then-asks_for_listing-clause-asks g c s fits =
     let asks = sym c.asks_for_listing.ensures ∙ c.if-asks_for_listing.true in
-    subst (λ (l : Line). Asks c.cache.result (line_touches false s l) c.args.engine.now.store.pages c.args.engine.now.store.pages (g.S.Site.state c.args.site.now) (g.S.Site.state c.args.site.now)) (sym (cache_line c.args.line asks))
+    subst (λ (l : Line). Asks c.cache.result (line_touches true s l) c.args.engine.now.store.pages c.args.engine.now.store.pages (g.S.Site.state c.args.site.now) (g.S.Site.state c.args.site.now)) (sym (cache_line c.args.line asks))
     (listing_asks c.cache.result c.args.engine.now.store.pages (g.S.Site.state c.args.site.now) c.cache.ensures.stops)

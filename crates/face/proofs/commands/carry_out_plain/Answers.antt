@@ -1,7 +1,7 @@
 use Rattle.face.proofs.Pagings.{idle_line}
 use Rattle.redo_undo.specs.Works.{Asks}
 use Rattle.record_model.specs.Touches.{line_touches}
-use Rattle.std.proofs.Common.{◌≡◌, IfOk, OnOk, sym, ap, subst, ◌∙◌, false}
+use Rattle.std.proofs.Common.{◌≡◌, IfOk, OnOk, sym, ap, subst, ◌∙◌, true}
 use Rattle.std.specs.Prelude.{Some, []}
 use Rattle.site.specs.Moments.{LeavesOnly}
 use Rattle.record_model.specs.Run.{Line}
@@ -11,7 +11,8 @@ use Rattle.engine.specs.Leaves.{LeavesEither}
 use Rattle.face.specs.Run.{step}
 use Rattle.face.proofs.Logs.{fits_stands}
 use Rattle.face.proofs.Quiet.{no_change, table_stays}
-use Rattle.face.proofs.CommandLaws.{fails_by, log_fails}
+use Rattle.face.proofs.CommandLaws.{fails_by, log_fails, never_foreign}
+use Rattle.face.proofs.Listed.{never_cache}
 use Rattle.face.proofs.commands.carry_out_plain.Goals as goal
 
 pub returns-in-Begin-clause-reply : goal.returns-in-Begin-clause-reply
@@ -100,10 +101,13 @@ pub returns-in-Get-clause-any_moment : goal.returns-in-Get-clause-any_moment
 returns-in-Get-clause-any_moment g c s fits quiet = table_stays (sizes_of c.args.engine.now.store) (g.S.Site.state c.args.site.now) (g.S.Site.state c.get.new.site) s _ (c.get.ensures.any_moment s fits quiet)
 
 pub returns-in-Begin-clause-cause : goal.returns-in-Begin-clause-cause
-returns-in-Begin-clause-cause g c = log_fails c.begin.result c.args.engine.now (g.S.Site.state c.args.site.now) (g.S.Site.state c.begin.new.site) c.begin.ensures.stops c.begin.ensures.device
+returns-in-Begin-clause-cause g c = fails_by c.begin.result c.args.engine.now (g.S.Site.state c.args.site.now) (g.S.Site.state c.begin.new.site) c.begin.ensures.stops c.begin.ensures.device c.begin.ensures.worn_log c.begin.ensures.worn (λ is. absurd (never_foreign c.begin.result c.begin.ensures.foreign is))
+
+pub returns-in-Checkpoint-clause-cause : goal.returns-in-Checkpoint-clause-cause
+returns-in-Checkpoint-clause-cause g c = fails_by c.checkpoint.result c.args.engine.now (g.S.Site.state c.args.site.now) (g.S.Site.state c.checkpoint.new.site) c.checkpoint.ensures.stops c.checkpoint.ensures.device c.checkpoint.ensures.worn_log c.checkpoint.ensures.worn (λ is. absurd (never_foreign c.checkpoint.result c.checkpoint.ensures.foreign is))
 
 pub returns-in-Commit-clause-cause : goal.returns-in-Commit-clause-cause
-returns-in-Commit-clause-cause g c = log_fails c.commit.result c.args.engine.now (g.S.Site.state c.args.site.now) (g.S.Site.state c.commit.new.site) c.commit.ensures.stops c.commit.ensures.device
+returns-in-Commit-clause-cause g c = log_fails c.commit.result c.args.engine.now (g.S.Site.state c.args.site.now) (g.S.Site.state c.commit.new.site) c.commit.ensures.stops c.commit.ensures.device c.commit.ensures.worn_log
 
 pub returns-in-Read-clause-cause : goal.returns-in-Read-clause-cause
 returns-in-Read-clause-cause g c = fails_by c.read.result c.args.engine.now (g.S.Site.state c.args.site.now) (g.S.Site.state c.read.new.site) c.read.ensures.stops c.read.ensures.device c.read.ensures.worn_log c.read.ensures.worn c.read.ensures.foreign
@@ -135,50 +139,66 @@ returns-in-Stat-clause-any_moment g c s fits quiet = no_change (sizes_of c.args.
 pub returns-in-Quit-clause-any_moment : goal.returns-in-Quit-clause-any_moment
 returns-in-Quit-clause-any_moment g c s fits quiet = no_change (sizes_of c.args.engine.now.store) (g.S.Site.state c.args.site.now) s _ quiet (fits_stands c.args.engine.now (g.S.Site.state c.args.site.now) s c.requires.going.store.both.sizes fits)
 
-pub returns-in_default-clause-any_moment : goal.returns-in_default-clause-any_moment
-returns-in_default-clause-any_moment g c s fits quiet = no_change (sizes_of c.args.engine.now.store) (g.S.Site.state c.args.site.now) s _ quiet (fits_stands c.args.engine.now (g.S.Site.state c.args.site.now) s c.requires.going.store.both.sizes fits)
-
 pub returns-in-Begin-clause-asks : goal.returns-in-Begin-clause-asks
 returns-in-Begin-clause-asks g c s fits =
-    subst (λ (l : Line). Asks c.begin.result (line_touches false s l) c.args.engine.now.store.pages c.begin.new.self.store.pages (g.S.Site.state c.args.site.now) (g.S.Site.state c.begin.new.site)) (sym (c.in-Some.is ∙ ap Some c.in-Begin.is)) (c.begin.ensures.asks s fits)
+    subst (λ (l : Line). Asks c.begin.result (line_touches true s l) c.args.engine.now.store.pages c.begin.new.self.store.pages (g.S.Site.state c.args.site.now) (g.S.Site.state c.begin.new.site)) (sym (c.in-Some.is ∙ ap Some c.in-Begin.is)) (c.begin.ensures.asks s fits)
 
 pub returns-in-Read-clause-asks : goal.returns-in-Read-clause-asks
 returns-in-Read-clause-asks g c s fits =
-    subst (λ (l : Line). Asks c.read.result (line_touches false s l) c.args.engine.now.store.pages c.read.new.self.store.pages (g.S.Site.state c.args.site.now) (g.S.Site.state c.read.new.site)) (sym (c.in-Some.is ∙ ap Some c.in-Read.is)) (c.read.ensures.asks s fits)
+    subst (λ (l : Line). Asks c.read.result (line_touches true s l) c.args.engine.now.store.pages c.read.new.self.store.pages (g.S.Site.state c.args.site.now) (g.S.Site.state c.read.new.site)) (sym (c.in-Some.is ∙ ap Some c.in-Read.is)) (c.read.ensures.asks s fits)
 
 pub returns-in-Write-clause-asks : goal.returns-in-Write-clause-asks
 returns-in-Write-clause-asks g c s fits =
-    subst (λ (l : Line). Asks c.write.result (line_touches false s l) c.args.engine.now.store.pages c.write.new.self.store.pages (g.S.Site.state c.args.site.now) (g.S.Site.state c.write.new.site)) (sym (c.in-Some.is ∙ ap Some c.in-Write.is)) (c.write.ensures.asks s fits)
+    subst (λ (l : Line). Asks c.write.result (line_touches true s l) c.args.engine.now.store.pages c.write.new.self.store.pages (g.S.Site.state c.args.site.now) (g.S.Site.state c.write.new.site)) (sym (c.in-Some.is ∙ ap Some c.in-Write.is)) (c.write.ensures.asks s fits)
 
 pub returns-in-Erase-clause-asks : goal.returns-in-Erase-clause-asks
 returns-in-Erase-clause-asks g c s fits =
-    subst (λ (l : Line). Asks c.erase.result (line_touches false s l) c.args.engine.now.store.pages c.erase.new.self.store.pages (g.S.Site.state c.args.site.now) (g.S.Site.state c.erase.new.site)) (sym (c.in-Some.is ∙ ap Some c.in-Erase.is)) (c.erase.ensures.asks s fits)
+    subst (λ (l : Line). Asks c.erase.result (line_touches true s l) c.args.engine.now.store.pages c.erase.new.self.store.pages (g.S.Site.state c.args.site.now) (g.S.Site.state c.erase.new.site)) (sym (c.in-Some.is ∙ ap Some c.in-Erase.is)) (c.erase.ensures.asks s fits)
 
 pub returns-in-Scan-clause-asks : goal.returns-in-Scan-clause-asks
 returns-in-Scan-clause-asks g c s fits =
-    subst (λ (l : Line). Asks c.scan.result (line_touches false s l) c.args.engine.now.store.pages c.scan.new.self.store.pages (g.S.Site.state c.args.site.now) (g.S.Site.state c.scan.new.site)) (sym (c.in-Some.is ∙ ap Some c.in-Scan.is)) (c.scan.ensures.asks s fits)
+    subst (λ (l : Line). Asks c.scan.result (line_touches true s l) c.args.engine.now.store.pages c.scan.new.self.store.pages (g.S.Site.state c.args.site.now) (g.S.Site.state c.scan.new.site)) (sym (c.in-Some.is ∙ ap Some c.in-Scan.is)) (c.scan.ensures.asks s fits)
 
 pub returns-in-Commit-clause-asks : goal.returns-in-Commit-clause-asks
 returns-in-Commit-clause-asks g c s fits =
-    subst (λ (l : Line). Asks c.commit.result (line_touches false s l) c.args.engine.now.store.pages c.commit.new.self.store.pages (g.S.Site.state c.args.site.now) (g.S.Site.state c.commit.new.site)) (sym (c.in-Some.is ∙ ap Some c.in-Commit.is)) (c.commit.ensures.asks s fits)
+    subst (λ (l : Line). Asks c.commit.result (line_touches true s l) c.args.engine.now.store.pages c.commit.new.self.store.pages (g.S.Site.state c.args.site.now) (g.S.Site.state c.commit.new.site)) (sym (c.in-Some.is ∙ ap Some c.in-Commit.is)) (c.commit.ensures.asks s fits)
 
 pub returns-in-Abort-clause-asks : goal.returns-in-Abort-clause-asks
 returns-in-Abort-clause-asks g c s fits =
-    subst (λ (l : Line). Asks c.abort.result (line_touches false s l) c.args.engine.now.store.pages c.abort.new.self.store.pages (g.S.Site.state c.args.site.now) (g.S.Site.state c.abort.new.site)) (sym (c.in-Some.is ∙ ap Some c.in-Abort.is)) (c.abort.ensures.asks s fits)
+    subst (λ (l : Line). Asks c.abort.result (line_touches true s l) c.args.engine.now.store.pages c.abort.new.self.store.pages (g.S.Site.state c.args.site.now) (g.S.Site.state c.abort.new.site)) (sym (c.in-Some.is ∙ ap Some c.in-Abort.is)) (c.abort.ensures.asks s fits)
 
 pub returns-in-Get-clause-asks : goal.returns-in-Get-clause-asks
 returns-in-Get-clause-asks g c s fits =
-    subst (λ (l : Line). Asks c.get.result (line_touches false s l) c.args.engine.now.store.pages c.get.new.self.store.pages (g.S.Site.state c.args.site.now) (g.S.Site.state c.get.new.site)) (sym (c.in-Some.is ∙ ap Some c.in-Get.is)) (c.get.ensures.asks s fits)
+    subst (λ (l : Line). Asks c.get.result (line_touches true s l) c.args.engine.now.store.pages c.get.new.self.store.pages (g.S.Site.state c.args.site.now) (g.S.Site.state c.get.new.site)) (sym (c.in-Some.is ∙ ap Some c.in-Get.is)) (c.get.ensures.asks s fits)
 
 pub returns-in-Set-clause-asks : goal.returns-in-Set-clause-asks
 returns-in-Set-clause-asks g c s fits =
-    subst (λ (l : Line). Asks c.set.result (line_touches false s l) c.args.engine.now.store.pages c.set.new.self.store.pages (g.S.Site.state c.args.site.now) (g.S.Site.state c.set.new.site)) (sym (c.in-Some.is ∙ ap Some c.in-Set.is)) (c.set.ensures.asks s fits)
+    subst (λ (l : Line). Asks c.set.result (line_touches true s l) c.args.engine.now.store.pages c.set.new.self.store.pages (g.S.Site.state c.args.site.now) (g.S.Site.state c.set.new.site)) (sym (c.in-Some.is ∙ ap Some c.in-Set.is)) (c.set.ensures.asks s fits)
 
 pub returns-in-Stat-clause-asks : goal.returns-in-Stat-clause-asks
-returns-in-Stat-clause-asks g c s fits = idle_line _ _ c.args.engine.now.store.pages _ (ap (line_touches false s) (c.in-Some.is ∙ ap Some c.in-Stat.is))
+returns-in-Stat-clause-asks g c s fits = idle_line _ _ c.args.engine.now.store.pages _ (ap (line_touches true s) (c.in-Some.is ∙ ap Some c.in-Stat.is))
 
 pub returns-in-Quit-clause-asks : goal.returns-in-Quit-clause-asks
-returns-in-Quit-clause-asks g c s fits = idle_line _ _ c.args.engine.now.store.pages _ (ap (line_touches false s) (c.in-Some.is ∙ ap Some c.in-Quit.is))
+returns-in-Quit-clause-asks g c s fits = idle_line _ _ c.args.engine.now.store.pages _ (ap (line_touches true s) (c.in-Some.is ∙ ap Some c.in-Quit.is))
+
+pub returns-in-Checkpoint-clause-reply : goal.returns-in-Checkpoint-clause-reply
+returns-in-Checkpoint-clause-reply g c s fits = subst (λ (l : Line). IfOk c.checkpoint.result (λ reply. reply ≡ (step s l []).reply)) (sym (c.in-Some.is ∙ ap Some c.in-Checkpoint.is)) (c.checkpoint.ensures.reply s fits)
+
+pub returns-in-Checkpoint-clause-after : goal.returns-in-Checkpoint-clause-after
+returns-in-Checkpoint-clause-after g c s fits = subst (λ (l : Line). OnOk c.checkpoint.result (Fits c.checkpoint.new.self (g.S.Site.state c.checkpoint.new.site) (step s l []).after)) (sym (c.in-Some.is ∙ ap Some c.in-Checkpoint.is)) (c.checkpoint.ensures.after s fits)
+
+pub returns-in-Checkpoint-clause-asks : goal.returns-in-Checkpoint-clause-asks
+returns-in-Checkpoint-clause-asks g c s fits =
+    subst (λ (l : Line). Asks c.checkpoint.result (line_touches true s l) c.args.engine.now.store.pages c.checkpoint.new.self.store.pages (g.S.Site.state c.args.site.now) (g.S.Site.state c.checkpoint.new.site)) (sym (c.in-Some.is ∙ ap Some c.in-Checkpoint.is)) (c.checkpoint.ensures.asks s fits)
+
+pub returns-in-Checkpoint-clause-any_moment : goal.returns-in-Checkpoint-clause-any_moment
+returns-in-Checkpoint-clause-any_moment g c s fits quiet = table_stays (sizes_of c.args.engine.now.store) (g.S.Site.state c.args.site.now) (g.S.Site.state c.checkpoint.new.site) s _ (c.checkpoint.ensures.any_moment s fits quiet)
+
+pub unreachable-requires : goal.unreachable-requires
+unreachable-requires g c = absurd (never_cache c.args.line c.in-Some.command c.requires.plain c.in-Some.is c.in-Cache.is)
+
+pub returns-in_default-clause-any_moment : goal.returns-in_default-clause-any_moment
+returns-in_default-clause-any_moment g c s fits quiet = no_change (sizes_of c.args.engine.now.store) (g.S.Site.state c.args.site.now) s _ quiet (fits_stands c.args.engine.now (g.S.Site.state c.args.site.now) s c.requires.going.store.both.sizes fits)
 
 pub returns-in_default-clause-asks : goal.returns-in_default-clause-asks
-returns-in_default-clause-asks g c s fits = idle_line _ _ c.args.engine.now.store.pages _ (ap (line_touches false s) c.in_default.is)
+returns-in_default-clause-asks g c s fits = idle_line _ _ c.args.engine.now.store.pages _ (ap (line_touches true s) c.in_default.is)

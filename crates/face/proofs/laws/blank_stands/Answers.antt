@@ -2,4 +2,4 @@ use Rattle.face.proofs.Meanings.{blank_stands}
 use Rattle.face.proofs.laws.blank_stands.Goals as goal
 
 pub returns : goal.returns
-returns c = blank_stands c.blank_stands.ensures c.blank_log.ensures c.one_log.ensures
+returns c = blank_stands c.blank_stands.ensures

@@ -3,9 +3,12 @@ use Rattle.face.specs.Headline.{Headline}
 use Rattle.std.proofs.Common.{rules, subst, ℕ, true, []}
 use Rattle.site.specs.declared.geometry.Geometry.{Geometry}
 use Rattle.face.specs.New.{New, NewCauses}
-use Rattle.face.specs.Words.{IsNew, words_of, IsRun}
+use Rattle.face.specs.declared.request.Load.{Load}
+use Rattle.face.specs.Loads.{LoadHeadline}
+use Rattle.face.specs.Workload.{load_run}
+use Rattle.face.specs.Words.{IsLoad, IsNew, words_of, IsRun}
 use Rattle.face.proofs.MemoryLaws.{lacked_new}
-use Rattle.face.proofs.WordLaws.{one_geometry, one_pool}
+use Rattle.face.proofs.WordLaws.{one_geometry, one_load, one_pool}
 use Rattle.face.proofs.top.face.Goals as goal
 
 pub returns-in-Ok-New-clause-new : goal.returns-in-Ok-New-clause-new
@@ -31,7 +34,18 @@ returns-in-Ok-Run-clause-headline g c pool is_run geometry opening good =
     subst (λ (n : ℕ). Headline n geometry opening (g.S.Site.state c.args.site.now) (g.S.Site.state c.serve.new.site) c.serve.result) (one_pool (words_of c.args.words.now) _ pool found is_run) (c.serve.ensures.headline geometry opening good)
 
 pub returns-in-Ok-Run-clause-complete : goal.returns-in-Ok-Run-clause-complete
-returns-in-Ok-Run-clause-complete g c pool is_run geometry opening good none room ends =
+returns-in-Ok-Run-clause-complete g c pool is_run geometry opening good none room log_room ends =
     let found : IsRun (words_of c.args.words.now) c.in-Ok-Run.pool = search rules in
     c.serve.ensures.complete geometry opening good none
-    (subst (λ (n : ℕ). NeverWears n (run_of geometry opening true (g.S.Site.state c.args.site.now).left []) (g.S.Site.state c.args.site.now).image) (one_pool (words_of c.args.words.now) pool _ is_run found) room) ends
+    (subst (λ (n : ℕ). NeverWears n (run_of geometry opening true (g.S.Site.state c.args.site.now).left []) (g.S.Site.state c.args.site.now).image) (one_pool (words_of c.args.words.now) pool _ is_run found) room) log_room ends
+
+pub returns-in-Ok-Load-clause-load : goal.returns-in-Ok-Load-clause-load
+returns-in-Ok-Load-clause-load g c load is_load geometry opening good =
+    let found : IsLoad (words_of c.args.words.now) c.in-Ok-Load.load = search rules in
+    subst (λ (l : Load). LoadHeadline l geometry opening (g.S.Site.state c.args.site.now) (g.S.Site.state c.serve_load.new.site) c.serve_load.result) (one_load (words_of c.args.words.now) _ load found is_load) (c.serve_load.ensures.headline geometry opening good)
+
+pub returns-in-Ok-Load-clause-load_complete : goal.returns-in-Ok-Load-clause-load_complete
+returns-in-Ok-Load-clause-load_complete g c load is_load geometry opening good none room log_room =
+    let found : IsLoad (words_of c.args.words.now) c.in-Ok-Load.load = search rules in
+    c.serve_load.ensures.complete geometry opening good none
+    (subst (λ (l : Load). NeverWears l.pool (load_run geometry opening l) (g.S.Site.state c.args.site.now).image) (one_load (words_of c.args.words.now) load _ is_load found) room) log_room

@@ -21,7 +21,7 @@ returns-in-Err-clause-headline g c geometry opening good =
     let honest = stays_honest old mid c.work.ensures.goes good.honest in
     let same = c.tell_halt.ensures.devices honest in
     let works = c.in-Err.ensures.works in
-    halted c.works_add_up.ensures.overflow c.args.pool geometry opening works.0 old mid new c.in-Err.halt (works.1 _ (begins geometry opening works.0 old good) refl)
+    halted c.works_add_up.ensures.overflow c.args.pool geometry opening works.0 old mid new c.in-Err.halt good (works.1 _ (begins geometry opening works.0 old good) refl)
     (c.tell_halt.ensures.any_moment honest) same.left same.loose
     (cause_then c.in-Err.halt old mid new c.in-Err.ensures.cause c.tell_halt.ensures.goes (λ h. same)) c.status.result c.status.ensures
 
@@ -34,5 +34,5 @@ returns-in-Err-clause-causes g c =
     (cause_then c.in-Err.halt old mid new c.in-Err.ensures.cause c.tell_halt.ensures.goes (λ h. c.tell_halt.ensures.devices (stays_honest old mid c.work.ensures.goes h)))
 
 pub returns-in-Err-clause-complete : goal.returns-in-Err-clause-complete
-returns-in-Err-clause-complete g c geometry opening good none room ends =
-    complete c.works_add_up.ensures.overflow c.args.pool geometry opening _ _ _ good none room ends (returns-in-Err-clause-causes g c) (returns-in-Err-clause-headline g c geometry opening good)
+returns-in-Err-clause-complete g c geometry opening good none room log_room ends =
+    complete c.works_add_up.ensures.overflow c.args.pool geometry opening _ _ _ good none room log_room ends (returns-in-Err-clause-causes g c) (returns-in-Err-clause-headline g c geometry opening good)

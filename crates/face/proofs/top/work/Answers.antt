@@ -19,8 +19,8 @@ use Rattle.face.proofs.top.work.Goals as goal
 pub returns-in-Err-clause-works : goal.returns-in-Err-clause-works
 returns-in-Err-clause-works g c = ([], λ run begins same. never_opened c.args.pool run (g.S.Site.state c.args.site.now) (g.S.Site.state c.open.new.site) c.in-Err.halt (c.in-Err.ensures.stops run begins) c.in-Err.ensures.halts (c.open.ensures.left begins.honest) (λ is. c.in-Err.ensures.worn run begins (ap Err is)))
 
-pub answer-requires-clause-going : goal.answer-requires-clause-going
-answer-requires-clause-going g c = engine_goes_on c.loop-line.engine (g.S.Site.state c.loop-line.site) (g.S.Site.state c.next.new.site) c.loop-line.invariant.engine c.next.ensures.goes
+pub answer-requires : goal.answer-requires
+answer-requires g c = record { going = engine_goes_on c.loop-line.engine (g.S.Site.state c.loop-line.site) (g.S.Site.state c.next.new.site) c.loop-line.invariant.engine c.next.ensures.goes }
 
 pub loop-line-init : goal.loop-line-init
 loop-line-init g c = record {
@@ -69,7 +69,7 @@ returns-in-End-clause-works g c =
           let going = moved run entry mid next c.loop-line.engine c.loop-line._line so_far c.next.ensures.goes (c.next.ensures.same honest) in
           let end = heard_end c.in-Ok-next.heard _ _ _ _ (c.in-Ok-next.ensures.heard honest cut.ended) c.in-End.is in
           finished c.args.pool run entry mid next c.loop-line.engine c.loop-line.source c.loop-line._line cut c.loop-line.invariant.source going _ end.0 (c.in-Ok-next.ensures.ended honest cut.ended end.1)
-          (λ blocks sound. paged_room c.args.pool run entry.image blocks c.loop-line.engine mid c.loop-line._line (c.loop-line.invariant.paged run begins blocks sound) c.loop-line.invariant.engine),
+          (λ newest blocks sound. paged_room c.args.pool run newest entry.image blocks c.loop-line.engine mid c.loop-line._line (c.loop-line.invariant.paged run begins newest blocks sound) c.loop-line.invariant.engine),
     )
 
 pub returns-in-Err-answer-clause-works : goal.returns-in-Err-answer-clause-works
@@ -95,7 +95,7 @@ returns-in-Err-answer-clause-works g c =
           let stops = cut_short run entry next c.loop-line.engine i going new c.in-Line.line _ is (c.answer.ensures.any_moment (state_at run i) (listing_at run i) asked going.fits going.quiet) c.in-Err-answer.halt
           (λ ne. c.in-Err-answer.ensures.quiet _ going.fits going.quiet (λ d e. ne (ap status_of e))) (c.in-Err-answer.ensures.untold _ going.fits going.quiet) in
           answer_failed c.args.pool run entry mid next new c.loop-line.source c.next.new.self i cut c.loop-line.invariant.source c.in-Line.line hears ended c.next.ensures.source (c.answer.ensures.left going.fits.honest) c.in-Err-answer.halt stops (answer_takes_nothing c.in-Err-answer.halt c.loop-line.engine next new c.in-Err-answer.ensures.cause)
-          (λ worn blocks sound. next_worn c.args.pool run entry.image blocks c.works_add_up.ensures.works i c.in-Line.line _ is c.loop-line.engine (c.loop-line.invariant.paged run begins blocks sound) ((c.in-Err-answer.ensures.asks (state_at run i) going.fits).worn (ap Err worn))),
+          (λ worn newest blocks sound. next_worn c.args.pool run newest entry.image blocks c.works_add_up.ensures.works i c.in-Line.line _ is c.loop-line.engine (c.loop-line.invariant.paged run begins newest blocks sound) ((c.in-Err-answer.ensures.asks (state_at run i) going.fits).worn (ap Err worn))),
     )
 
 pub loop-line-preserved : goal.loop-line-preserved
@@ -145,7 +145,7 @@ loop-line-preserved g c =
                 (goes_on run entry next c.loop-line.engine i going new c.in-Line.line _ is (c.answer.ensures.any_moment (state_at run i) (listing_at run i) asked going.fits going.quiet)
                 c.answer.new.engine c.answer.ensures.sizes c.in_default.ensures.going.store.both.sizes (c.in_default.ensures.fits (state_at run i) (listing_at run i) asked going.fits) (c.in_default.ensures.stays_quiet going.fits.honest going.quiet) (c.in_default.ensures.told (state_at run i) (listing_at run i) asked going.fits going.quiet));
           };
-      paged = λ run begins blocks sound.
+      paged = λ run begins newest blocks sound.
           let under_way = c.loop-line.invariant.under_way in
           let with = with_line entry mid c.loop-line.engine i under_way c.in-Line.line in
           let own : Run = record run { listings = with } in
@@ -157,8 +157,8 @@ loop-line-preserved g c =
           let hears = line_heard c.in-Ok-next.heard c.in-Line.line _ _ _ _ (c.in-Ok-next.ensures.heard honest cut.ended) c.in-Line.is in
           let ended = c.in-Ok-next.ensures.ended honest cut.ended in
           let is = ap (λ (l : List Line). drop i (up_to_quit l)) begins.lines ∙ line_is entry.left c.loop-line.source mid i cut c.loop-line.invariant.source c.next.new.self next c.in-Line.line hears ended c.next.ensures.source in
-          let paged = next_paged c.args.pool own entry.image blocks c.works_add_up.ensures.works i c.in-Line.line _ is c.loop-line.engine (c.loop-line.invariant.paged own starts blocks sound) c.in_default.field-0 c.answer.new.engine (c.in_default.ensures.asks (state_at own i) going.fits) in
-          subst (IsPaged c.args.pool run entry.image blocks c.answer.new.engine) (sym (add-one i)) (record { machine = paged.machine; rules_are = paged.rules_are });
+          let paged = next_paged c.args.pool own newest entry.image blocks c.works_add_up.ensures.works i c.in-Line.line _ is c.loop-line.engine (c.loop-line.invariant.paged own starts newest blocks sound) c.in_default.field-0 c.answer.new.engine (c.in_default.ensures.asks (state_at own i) going.fits) in
+          subst (IsPaged c.args.pool run newest entry.image blocks c.answer.new.engine) (sym (add-one i)) (record { machine = paged.machine; rules_are = paged.rules_are });
     }
 
 pub returns-then-last-clause-works : goal.returns-then-last-clause-works
@@ -184,8 +184,8 @@ returns-then-last-clause-works g c =
           let gone = goes_on run entry next c.loop-line.engine i going new c.in-Line.line _ is (c.answer.ensures.any_moment (state_at run i) (listing_at run i) asked going.fits going.quiet)
           c.answer.new.engine c.answer.ensures.sizes c.in_default.ensures.going.store.both.sizes (c.in_default.ensures.fits (state_at run i) (listing_at run i) asked going.fits) (c.in_default.ensures.stays_quiet going.fits.honest going.quiet) (c.in_default.ensures.told (state_at run i) (listing_at run i) asked going.fits going.quiet) in
           quitted c.args.pool run entry mid next new c.loop-line.source c.next.new.self i cut c.loop-line.invariant.source c.in-Line.line hears ended c.next.ensures.source (c.answer.ensures.left going.fits.honest) _ c.answer.new.engine (sym c.quits-last.ensures ∙ c.if-last.true) gone
-          (λ blocks sound. paged_room c.args.pool run entry.image blocks c.answer.new.engine new (suc i)
-          (next_paged c.args.pool run entry.image blocks c.works_add_up.ensures.works i c.in-Line.line _ is c.loop-line.engine (c.loop-line.invariant.paged run begins blocks sound) c.in_default.field-0 c.answer.new.engine (c.in_default.ensures.asks (state_at run i) going.fits)) c.in_default.ensures.going),
+          (λ newest blocks sound. paged_room c.args.pool run newest entry.image blocks c.answer.new.engine new (suc i)
+          (next_paged c.args.pool run newest entry.image blocks c.works_add_up.ensures.works i c.in-Line.line _ is c.loop-line.engine (c.loop-line.invariant.paged run begins newest blocks sound) c.in_default.field-0 c.answer.new.engine (c.in_default.ensures.asks (state_at run i) going.fits)) c.in_default.ensures.going),
     )
 
 pub returns-clause-works : goal.returns-clause-works

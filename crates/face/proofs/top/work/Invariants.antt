@@ -1,4 +1,5 @@
-use Rattle.std.proofs.Common.{◌≡◌, IsTrue, List, ℕ}
+use Rattle.std.proofs.Common.{◌≡◌, IsTrue, List, Option, ℕ}
+use Rattle.checkpoint.specs.declared.master.Master.{Master}
 use Rattle.site.specs.declared.geometry.Geometry.{Geometry}
 use Rattle.record_model.specs.State.{State, Content}
 use Rattle.engine.specs.Image.{IsSound, Stands}
@@ -23,5 +24,5 @@ invariant-loop-line g l =
       cut : IsTrue old.honest → Cut old.left l.source now l._line;
       fits : IsTrue old.honest → (g : Geometry) (table : List Content) (commits : ℕ) → Stands g old.image table commits → ((s : State) × Fits l.engine now s) × (sizes_of l.engine.store ≡ g);
       under_way : IsUnderWay old now l.engine l._line;
-      paged : (run : Run) → Begins run old → (blocks : List (List LogRecord)) → IsSound run.geometry old.image blocks → IsPaged l.pool run old.image blocks l.engine l._line;
+      paged : (run : Run) → Begins run old → (newest : Option Master) (blocks : List (List LogRecord)) → IsSound newest run.geometry old.image blocks → IsPaged l.pool run newest old.image blocks l.engine l._line;
     }

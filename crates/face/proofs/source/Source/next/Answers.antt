@@ -14,7 +14,7 @@ returns-in-None-clause-heard g c honest ended =
     let count = so_far.count in
     let number = so_far.number in
     last_heard _ c.loop-octet.line c.loop-octet.len c.loop-octet._octet _ _ _ _ (then_rest _ _ [] c.loop-octet.line c.loop-octet.len c.loop-octet._octet so_far end.0) end.1 some end.2
-    (c.loop-octet.invariant.going honest ended (omega (arith, some, count, number))) c.command_in.ensures.command
+    (c.loop-octet.invariant.going honest ended (omega (arith, some, count, number))) c.command_in.ensures
 
 pub returns-in-None-clause-ended : goal.returns-in-None-clause-ended
 returns-in-None-clause-ended g c honest ended =
@@ -31,7 +31,7 @@ returns-then-octet-eq10-clause-heard g c honest ended =
     line_heard _ rest c.loop-octet.line c.loop-octet.len c.loop-octet._octet _ _ _
     (then_rest _ _ (10 ∷ rest) c.loop-octet.line c.loop-octet.len c.loop-octet._octet (c.loop-octet.invariant.so_far honest ended)
     (octet.0 ∙ ap (λ x. x ∷ rest) c.if-octet-eq10.true))
-    (sym (c.loop-octet.invariant.same_end honest ended) ∙ octet.1) c.command_in-then-octet-eq10.ensures.command
+    (sym (c.loop-octet.invariant.same_end honest ended) ∙ octet.1) c.command_in-then-octet-eq10.ensures
 
 pub loop-octet-preserved : goal.loop-octet-preserved
 loop-octet-preserved g c =

@@ -11,7 +11,7 @@ use Rattle.face.proofs.Meanings.{stands_by, opens_where_it_stands}
 use Rattle.face.proofs.Works.{not_opened, opening_lost, opened}
 use Rattle.face.proofs.Logs.{goes_on, still_fits}
 use Rattle.face.proofs.CommandLaws.{start_cause}
-use Rattle.face.proofs.top.open.Goals as goal
+use Rattle.face.proofs.opening.open.Goals as goal
 
 pub returns-in-Err-clause-stops : goal.returns-in-Err-clause-stops
 returns-in-Err-clause-stops g c run begins =
@@ -59,13 +59,13 @@ returns-in-Ok-tell_all-clause-fits g c honest geometry table commits stands =
     ((opens.0, still_fits c.in-Ok.engine mid (g.S.Site.state c.tell_all.new.site) opens.0 fits.0 c.tell_all.ensures.goes same.image), fits.1)
 
 pub returns-in-Ok-tell_all-clause-paged : goal.returns-in-Ok-tell_all-clause-paged
-returns-in-Ok-tell_all-clause-paged g c run begins blocks sound =
-    first_paged c.args.pool run (g.S.Site.state c.args.site.now).image blocks c.in-Ok.engine _ _ _ (c.in-Ok.ensures.asks begins.honest run.geometry blocks sound)
+returns-in-Ok-tell_all-clause-paged g c run begins newest blocks sound =
+    first_paged c.args.pool run newest (g.S.Site.state c.args.site.now).image blocks c.in-Ok.engine _ _ _ (c.in-Ok.ensures.asks begins.honest run.geometry newest blocks sound)
 
 pub returns-in-Err-clause-worn : goal.returns-in-Err-clause-worn
-returns-in-Err-clause-worn g c run begins is blocks sound =
+returns-in-Err-clause-worn g c run begins is newest blocks sound =
     let same : c.in-Err.stop ≡ Worn Flash = cc in
-    never_paged c.args.pool run (g.S.Site.state c.args.site.now).image blocks ((c.in-Err.ensures.asks begins.honest run.geometry blocks sound).worn (ap Err same))
+    never_paged c.args.pool run newest (g.S.Site.state c.args.site.now).image blocks ((c.in-Err.ensures.asks begins.honest run.geometry newest blocks sound).worn (ap Err same))
 
 pub returns-in-Err-tell_all-clause-worn : goal.returns-in-Err-tell_all-clause-worn
-returns-in-Err-tell_all-clause-worn g c run begins is blocks sound = absurd cc
+returns-in-Err-tell_all-clause-worn g c run begins is newest blocks sound = absurd cc

@@ -1,0 +1,193 @@
+-- Lines that are carried out while nothing is told: none, some and some more, and some of all.
+use Rattle.std.proofs.Common.{◌≡◌, ⊎_elim, true, suc, ℕ, ◌+◌, ◌<◌, ◌^◌, List, [], ◌∷◌, ◌++◌, length, take, refl, sym, ◌∙◌, ap, subst, arith, length-append}
+use Rattle.std.specs.Prelude.{Result, Ok, Err, IfErr, OnOk, IsErrOf}
+use Rattle.std.proofs.lemmas.List.{append-nil, take-append-le}
+use Rattle.site.specs.declared.geometry.Geometry.{Geometry}
+use Rattle.site.specs.declared.outside.Dev.TheVariants.{Log, Flash, Disk}
+use Rattle.site.specs.declared.outside.Stop.TheVariants.{Device, Memory, Worn, Foreign}
+use Rattle.site.specs.State.{State as Site, Image, Snapshot, IsQuiet, now_of, faults_of}
+use Rattle.site.specs.Calls.{Goes}
+use Rattle.site.specs.Moments.{Leaves, LeavesOnly}
+use Rattle.site.specs.Laws.{goes_in_sequence, goes_nowhere, holds_now, image_is, in_sequence, leaves_weaker, no_call, rose_since, stays_honest, told_is}
+use Rattle.record_model.specs.State.{State}
+use Rattle.record_model.specs.Run.{Line}
+use Rattle.record_model.specs.Touches.{CacheWork, line_touches}
+use Rattle.second_chance.specs.Machine.{Cache, after_works}
+use Rattle.page_store.specs.declared.store.PageStore.{PageStore}
+use Rattle.page_store.specs.Caching.{cache_of, rules}
+use Rattle.flash_cache.specs.Held.{IsWorn}
+use Rattle.redo_undo.specs.Holding.{IsLogWorn}
+use Rattle.redo_undo.specs.Works.{next_group, Overflows, WorksAddUp, OverflowsWithMore}
+use Rattle.engine.specs.declared.engine.Engine.{Engine}
+use Rattle.engine.specs.Fits.{Fits}
+use Rattle.engine.specs.Going.{MayGoOn, sizes_of}
+use Rattle.engine.specs.Leaves.{LeavesEither}
+use Rattle.face.specs.declared.halt.Halt.{Halt}
+use Rattle.face.specs.declared.halt.Halt.TheVariants as halt
+use Rattle.face.specs.Causes.{AnswerFailsBy}
+use Rattle.face.specs.Going.{Serves}
+use Rattle.face.specs.Loads.{CarriesOut, LeavesSome}
+use Rattle.face.specs.Run.{StandsFor, after_lines, step, works_of}
+use Rattle.face.proofs.Logs.{fits_stands}
+use Rattle.face.proofs.Stated.{after_join, works_join}
+
+-- what is left of some lines is left of more
+leaves_first : (g : Geometry) (s : State) (first later : List Line) (told : List ℕ) (snapshot : Snapshot) → LeavesSome g s first told snapshot → LeavesSome g s (first ++ later) told snapshot
+leaves_first g s first later told snapshot l = record {
+  done = l.done;
+  few = let few = l.few in let long = length-append first later in omega (arith, few, long);
+  stands = subst (λ (x : List Line). StandsFor g snapshot.image (after_lines s x [])) (sym (take-append-le l.done first later l.few)) l.stands;
+  told = l.told;
+}
+
+take_over : (first later : List Line) (n : ℕ) → take (length first + n) (first ++ later) ≡ first ++ take n later
+take_over [] later n = let same : 0 + n ≡ n = omega arith in ap (λ (m : ℕ). take m later) same
+take_over (line ∷ first) later n =
+    let same : length (line ∷ first) + n ≡ suc (length first + n) = omega arith in
+    ap (λ (m : ℕ). take m (line ∷ (first ++ later))) same ∙ ap (λ (l : List Line). line ∷ l) (take_over first later n)
+
+-- what is left of later lines is left of all
+leaves_later : (g : Geometry) (s : State) (first later : List Line) (told : List ℕ) (snapshot : Snapshot) → LeavesSome g (after_lines s first []) later told snapshot → LeavesSome g s (first ++ later) told snapshot
+leaves_later g s first later told snapshot l = record {
+  done = length first + l.done;
+  few = let few = l.few in let long = length-append first later in omega (arith, few, long);
+  stands = subst (λ (x : State). StandsFor g snapshot.image x) (sym (ap (λ (x : List Line). after_lines s x []) (take_over first later l.done) ∙ after_join s first (take l.done later))) l.stands;
+  told = l.told;
+}
+
+-- why an answer fails, since an earlier state
+fails_since : (h : Halt) (a b : Engine) (old mid new : Site) → AnswerFailsBy h b mid new → Goes old mid → sizes_of b.store ≡ sizes_of a.store → ((s : State) → Fits a old s → (t : State) × Fits b mid t) → AnswerFailsBy h a old new
+fails_since (halt.Stop (Device dev)) a b old mid new fails goes sizes fits = rose_since (faults_of dev old) (faults_of dev mid) (faults_of dev new) (goes.faults dev) fails
+fails_since (halt.Stop Memory) a b old mid new fails goes sizes fits = tt
+fails_since (halt.Stop (Worn Log)) a b old mid new fails goes sizes fits = λ s f. let still = fits s f in subst (λ (g : Geometry). IsLogWorn g new.image) sizes (fails still.0 still.1)
+fails_since (halt.Stop (Worn Flash)) a b old mid new fails goes sizes fits = λ s f. let still = fits s f in subst (λ (g : Geometry). IsWorn g new.image) sizes (fails still.0 still.1)
+fails_since (halt.Stop (Worn Disk)) a b old mid new fails goes sizes fits = fails
+fails_since (halt.Stop Foreign) a b old mid new fails goes sizes fits = λ s f. let still = fits s f in fails still.0 still.1
+fails_since halt.Input a b old mid new fails goes sizes fits = fails
+fails_since halt.Output a b old mid new fails goes sizes fits = rose_since old.output_faults mid.output_faults new.output_faults goes.output_faults fails
+fails_since halt.Limit a b old mid new fails goes sizes fits = fails
+
+if_err : {T : Type 0} (result : Result T Halt) (P Q : Halt → Type 0) → ((h : Halt) → P h → Q h) → IfErr result P → IfErr result Q
+if_err (Ok x) P Q f p = tt
+if_err (Err h) P Q f p = f h p
+
+-- no line
+pub carries_none : {T : Type 0} (x : T) (engine : Engine) (site : Site) → MayGoOn engine site → CarriesOut (Ok x) [] engine engine site site
+carries_none {T} x engine site going = record {
+  any_moment = λ s fits quiet. no_call site (Leaves (LeavesSome (sizes_of engine.store) s [] site.told)) (λ snapshot left. record {
+    done = 0;
+    few = omega arith;
+    stands = subst (λ (i : Image). StandsFor (sizes_of engine.store) i s) (sym (image_is (now_of site) snapshot quiet left)) (fits_stands engine site s going.store.both.sizes fits);
+    told = told_is site snapshot left;
+  });
+  fits = λ s fits. fits;
+  serves = λ s fits. record { machine = refl; worn = λ is. absurd (no_error is); rules_are = refl };
+  left = λ honest. refl;
+  stays_quiet = λ honest quiet. quiet;
+  quiet = λ s fits quiet. tt;
+  going = going;
+  cause = tt;
+  goes = goes_nowhere site;
+  sizes = refl;
+}
+  where
+    no_error : IsErrOf {T = T} (Ok x) (halt.Stop (Worn Flash)) → ⊥
+    no_error is = cc
+
+-- another value
+pub carries_with : {T U : Type 0} (x : T) (y : U) (lines : List Line) (a b : Engine) (old new : Site) → CarriesOut (Ok x) lines a b old new → CarriesOut (Ok y) lines a b old new
+carries_with {T} {U} x y lines a b old new one = record {
+  any_moment = one.any_moment;
+  fits = one.fits;
+  serves = λ s fits. let serves = one.serves s fits in record { machine = serves.machine; worn = λ is. absurd (no_error is); rules_are = serves.rules_are };
+  left = one.left;
+  stays_quiet = one.stays_quiet;
+  quiet = λ s fits quiet. tt;
+  going = one.going;
+  cause = tt;
+  goes = one.goes;
+  sizes = one.sizes;
+}
+  where
+    no_error : IsErrOf {T = U} (Ok y) (halt.Stop (Worn Flash)) → ⊥
+    no_error is = cc
+
+-- some lines, and then some more
+module _ {T U : Type 0} (add : WorksAddUp) (x : T) (result : Result U Halt) (first later : List Line) (a b c : Engine) (old mid new : Site) (one : CarriesOut (Ok x) first a b old mid) (two : CarriesOut result later b c mid new) where
+  moments_join : (s : State) → Fits a old s → IsQuiet old → LeavesOnly old new (LeavesSome (sizes_of a.store) s (first ++ later) old.told)
+  moments_join s fits quiet =
+      let so_far = one.any_moment s fits quiet in
+      let untold : mid.told ≡ old.told = (holds_now old mid (LeavesSome (sizes_of a.store) s first old.told) so_far).told in
+      let then = two.any_moment (after_lines s first []) (one.fits s fits) (one.stays_quiet fits.honest quiet) in
+      in_sequence old mid new (Leaves (LeavesSome (sizes_of a.store) s (first ++ later) old.told))
+      (leaves_weaker old mid (LeavesSome (sizes_of a.store) s first old.told) (LeavesSome (sizes_of a.store) s (first ++ later) old.told) (leaves_first (sizes_of a.store) s first later old.told) so_far)
+      (leaves_weaker mid new (LeavesSome (sizes_of b.store) (after_lines s first []) later mid.told) (LeavesSome (sizes_of a.store) s (first ++ later) old.told)
+      (λ snapshot l. leaves_later (sizes_of a.store) s first later old.told snapshot
+      (subst (λ (g : Geometry). LeavesSome g (after_lines s first []) later old.told snapshot) one.sizes (subst (λ (t : List ℕ). LeavesSome (sizes_of b.store) (after_lines s first []) later t snapshot) untold l))) then)
+
+  serves_join : (s : State) → Fits a old s → Serves result (works_of s (first ++ later)) a.store.pages c.store.pages
+  serves_join s fits =
+      let front = one.serves s fits in
+      let back = two.serves (after_lines s first []) (one.fits s fits) in
+      let same : after_works (rules b.store.pages) (works_of (after_lines s first []) later) (cache_of b.store.pages) ≡ after_works (rules a.store.pages) (works_of s (first ++ later)) (cache_of a.store.pages) =
+      (λ i. after_works (front.rules_are i) (works_of (after_lines s first []) later) (front.machine i))
+      ∙ sym (add (rules a.store.pages) (works_of s first) (works_of (after_lines s first []) later) (cache_of a.store.pages))
+      ∙ ap (λ (w : List CacheWork). after_works (rules a.store.pages) w (cache_of a.store.pages)) (sym (works_join s first later)) in
+      record {
+        machine = subst (λ (z : Cache). OnOk result (cache_of c.store.pages ≡ z)) same back.machine;
+        worn = λ is. subst (λ (z : Cache). 2 ^ 40 < next_group z) same (back.worn is);
+        rules_are = back.rules_are ∙ front.rules_are;
+      }
+
+  pub carries_more : CarriesOut result (first ++ later) a c old new
+  carries_more = record {
+    any_moment = moments_join;
+    fits = λ s fits. subst (λ (x : State). OnOk result (Fits c new x)) (sym (after_join s first later)) (two.fits (after_lines s first []) (one.fits s fits));
+    serves = serves_join;
+    left = λ honest. two.left (stays_honest old mid one.goes honest) ∙ one.left honest;
+    stays_quiet = λ honest quiet. two.stays_quiet (stays_honest old mid one.goes honest) (one.stays_quiet honest quiet);
+    quiet = λ s fits quiet. two.quiet (after_lines s first []) (one.fits s fits) (one.stays_quiet fits.honest quiet);
+    going = two.going;
+    cause = if_err result (λ h. AnswerFailsBy h b mid new) (λ h. AnswerFailsBy h a old new) (λ h fails. fails_since h a b old mid new fails one.goes one.sizes (λ s fits. (after_lines s first [], one.fits s fits))) two.cause;
+    goes = goes_in_sequence old mid new one.goes two.goes;
+    sizes = two.sizes ∙ one.sizes;
+  }
+
+-- lines that aren't all carried out
+pub carries_some : {T U : Type 0} → OverflowsWithMore → (h : Halt) (first later : List Line) (a b : Engine) (old new : Site) → CarriesOut {T = T} (Err h) first a b old new → CarriesOut {T = U} (Err h) (first ++ later) a b old new
+carries_some {T} {U} more h first later a b old new one = record {
+  any_moment = λ s fits quiet. leaves_weaker old new (LeavesSome (sizes_of a.store) s first old.told) (LeavesSome (sizes_of a.store) s (first ++ later) old.told) (leaves_first (sizes_of a.store) s first later old.told) (one.any_moment s fits quiet);
+  fits = λ s fits. tt;
+  serves = λ s fits.
+      let serves = one.serves s fits in
+      let least = fits.holds.both.log_holds.rings.limits.groups in
+      record {
+        machine = tt;
+        worn = λ is. subst (λ (w : List CacheWork). Overflows (rules a.store.pages) w (cache_of a.store.pages)) (sym (works_join s first later))
+            (more (rules a.store.pages) (works_of s first) (works_of (after_lines s first []) later) (cache_of a.store.pages) (omega (arith, least)) (serves.worn (again is)));
+        rules_are = serves.rules_are;
+      };
+  left = one.left;
+  stays_quiet = λ honest quiet. tt;
+  quiet = one.quiet;
+  going = tt;
+  cause = one.cause;
+  goes = one.goes;
+  sizes = one.sizes;
+}
+  where
+    same_halt : IsErrOf {T = U} (Err h) (halt.Stop (Worn Flash)) → h ≡ halt.Stop (Worn Flash)
+    same_halt is = cc
+
+    again : IsErrOf {T = U} (Err h) (halt.Stop (Worn Flash)) → IsErrOf {T = T} (Err h) (halt.Stop (Worn Flash))
+    again is = ap Err (same_halt is)
+
+-- one line
+pub leaves_line : (g : Geometry) (s : State) (line : Line) (old new : Site) → LeavesOnly old new (LeavesEither g s (step s line []).after old.told) → LeavesOnly old new (LeavesSome g s (line ∷ []) old.told)
+leaves_line g s line old new leaves =
+    leaves_weaker old new (LeavesEither g s (step s line []).after old.told) (LeavesSome g s (line ∷ []) old.told) (λ snapshot e. ⊎_elim
+    (λ before. record { done = 0; few = omega arith; stands = before; told = e.told })
+    (λ after. record { done = 1; few = omega arith; stands = after; told = e.told }) e.stands) leaves
+
+pub serves_line : {T : Type 0} (result : Result T Halt) (s : State) (line : Line) (old new : PageStore) → Serves result (line_touches true s line) old new → Serves result (works_of s (line ∷ [])) old new
+serves_line result s line old new serves = subst (λ (w : List CacheWork). Serves result w old new) (sym (append-nil (line_touches true s line))) serves

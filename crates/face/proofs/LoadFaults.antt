@@ -1,0 +1,211 @@
+-- A load that halts with its fault line, and one that is summed up.
+use Rattle.std.proofs.Common.{◌≡◌, ◌≢◌, ◌⊎◌, inl, inr, ⊎_elim, ℕ, ◌≤◌, List, [], ◌++◌, take, refl, sym, ◌∙◌, ap, subst, arith, append_assoc}
+use Rattle.std.specs.Prelude.{Ok, Err, IsErrOf}
+use Rattle.std.proofs.lemmas.List.{append-nil, take_all}
+use Rattle.site.specs.declared.geometry.Geometry.{Geometry}
+use Rattle.site.specs.declared.outside.Dev.TheVariants.{Flash}
+use Rattle.site.specs.declared.outside.Stop.TheVariants.{Device, Memory, Worn, Foreign}
+use Rattle.site.specs.State.{State as Site, Snapshot, now_of}
+use Rattle.site.specs.Moments.{EachMoment, Leaves, LeavesOnly}
+use Rattle.site.specs.Laws.{image_is, in_sequence, leaves_weaker, tell_leaves, told_is}
+use Rattle.site.specs.Telling.{SameDevices, TellsPart}
+use Rattle.record_model.specs.State.{State}
+use Rattle.face.specs.declared.halt.Halt.{Halt}
+use Rattle.face.specs.declared.halt.Halt.TheVariants as halt
+use Rattle.face.specs.declared.request.Load.{Load}
+use Rattle.face.specs.Causes.{HasCause, HasCauses, HasLogRoom, NoFaultRose}
+use Rattle.face.specs.Headline.{IsGood}
+use Rattle.face.specs.Loads.{Allows, IsLeftOf, IsOpened, IsUntold, LoadHeadline, LoadStops, LoadWorks}
+use Rattle.face.specs.Range.{NeverWears, StandsAfter, WearsOut, all_commits}
+use Rattle.face.specs.Run.{IsFront, Run}
+use Rattle.face.specs.Texts.{fault_line, status_of}
+use Rattle.face.specs.Workload.{load_run, opening_text, summary_text}
+use Rattle.face.proofs.Faults.{not_zero, worn_by}
+use Rattle.face.proofs.Meanings.{stands_by}
+
+no_text : (rest text : List ℕ) → IsFront rest [] → IsFront rest text
+no_text rest text front = (0, front.1 ∙ take_all front.0 [] (omega arith))
+
+-- a summary and a fault line of which nothing is told yet
+more_allowed : (run : Run) (summary fault told : List ℕ) (k : ℕ) → Allows run [] [] told k → Allows run summary fault told k
+more_allowed run summary fault told k (inl first) = inl (⊎_elim (λ f. inl f) (λ f. inl (no_text told (opening_text run) f)) first.0, first.1)
+more_allowed run summary fault told k (inr (inl some)) = inr (inl (some.0, some.1, no_text some.0 fault some.2, some.3))
+more_allowed run summary fault told k (inr (inr all)) = inr (inr (all.0, all.1, no_text all.0 summary all.2, all.3))
+
+more_left : (run : Run) (summary fault so_far : List ℕ) (s : Snapshot) → IsLeftOf run [] [] so_far s → IsLeftOf run summary fault so_far s
+more_left run summary fault so_far s l = record { told = l.told; told_is = l.told_is; k = l.k; allowed = more_allowed run summary fault l.told l.k l.allowed; stands = l.stands }
+
+-- the same where the summary may be told already
+fault_allowed : (run : Run) (summary fault told : List ℕ) (k : ℕ) → Allows run summary [] told k → Allows run summary fault told k
+fault_allowed run summary fault told k (inl first) = inl (⊎_elim (λ f. inl f) (λ f. inl (no_text told (opening_text run) f)) first.0, first.1)
+fault_allowed run summary fault told k (inr (inl some)) = inr (inl (some.0, some.1, no_text some.0 fault some.2, some.3))
+fault_allowed run summary fault told k (inr (inr all)) = inr (inr all)
+
+fault_left : (run : Run) (summary fault so_far : List ℕ) (s : Snapshot) → IsLeftOf run summary [] so_far s → IsLeftOf run summary fault so_far s
+fault_left run summary fault so_far s l = record { told = l.told; told_is = l.told_is; k = l.k; allowed = fault_allowed run summary fault l.told l.k l.allowed; stands = l.stands }
+
+no_error : {T : Type 0} (x : T) (h : Halt) → IsErrOf {T = T} (Ok x) h → ⊥
+no_error x h is = cc
+
+same_halt : {T : Type 0} (h is : Halt) → IsErrOf {T = T} (Err h) is → h ≡ is
+same_halt h is same = cc
+
+module _ (pool : ℕ) (run : Run) (summary : List ℕ) (old : Site) where
+  -- it stops before its summary
+  pub stopped_before : {T U : Type 0} (new : Site) (h : Halt) → LoadWorks {T = T} pool run [] old new (Err h) → LoadWorks {T = U} pool run summary old new (Err h)
+  stopped_before {T} {U} new h works = record {
+    stops = record {
+      any_moment = leaves_weaker old new (IsLeftOf run [] [] old.told) (IsLeftOf run summary [] old.told) (λ s l. more_left run summary [] old.told s l) works.stops.any_moment;
+      between = works.stops.between;
+      quiet = works.stops.quiet;
+    };
+    done = tt;
+    worn = λ is. works.worn (ap Err (same_halt {T = U} h (halt.Stop (Worn Flash)) is));
+    room = tt;
+    left = works.left;
+  }
+
+  module _ {T : Type 0} (x : T) (mid new : Site) (works : LoadWorks pool run [] old mid (Ok x)) (tells : EachMoment mid new (TellsPart summary mid)) (same : SameDevices mid new) where
+    told_mid : mid.told ≡ old.told ++ opening_text run
+    told_mid = works.done.whole.told ∙ ap (λ (l : List ℕ). old.told ++ l) (append-nil (opening_text run))
+
+    summing : LeavesOnly old new (IsLeftOf run summary [] old.told)
+    summing = in_sequence old mid new (Leaves (IsLeftOf run summary [] old.told))
+        (leaves_weaker old mid (IsLeftOf run [] [] old.told) (IsLeftOf run summary [] old.told) (λ s l. more_left run summary [] old.told s l) works.done.any_moment)
+        (leaves_weaker mid new (λ s. ((k : ℕ) × (s.told ≡ mid.told ++ take k summary)) × StandsAfter run (all_commits run) s.image) (IsLeftOf run summary [] old.told) (λ s p. record {
+          told = opening_text run ++ take p.0.0 summary;
+          told_is = p.0.1 ∙ ap (λ (l : List ℕ). l ++ take p.0.0 summary) told_mid ∙ append_assoc old.told (opening_text run) (take p.0.0 summary);
+          k = all_commits run;
+          allowed = inr (inr (take p.0.0 summary, refl, (p.0.0, refl), refl));
+          stands = p.1;
+        }) (tell_leaves (StandsAfter run (all_commits run)) summary mid new (λ s left. subst (StandsAfter run (all_commits run)) (sym (image_is (now_of mid) s works.done.quiet left)) works.done.whole.stands) tells))
+
+    -- it is summed up
+    pub summed_up : {U : Type 0} (y : U) → new.told ≡ mid.told ++ summary → LoadWorks {T = U} pool run summary old new (Ok y)
+    summed_up {U} y told = record {
+      stops = tt;
+      done = record {
+        any_moment = summing;
+        whole = record {
+          told = told ∙ ap (λ (l : List ℕ). l ++ summary) told_mid ∙ append_assoc old.told (opening_text run) summary;
+          stands = subst (StandsAfter run (all_commits run)) (sym same.image) works.done.whole.stands;
+        };
+        quiet = same.loose ∙ works.done.quiet;
+      };
+      worn = λ is. absurd (no_error y (halt.Stop (Worn Flash)) is);
+      room = works.room;
+      left = same.left ∙ works.left;
+    }
+
+    -- the summary isn't told whole
+    pub summary_lost : {U : Type 0} → LoadWorks {T = U} pool run summary old new (Err halt.Output)
+    summary_lost {U} = record {
+      stops = record { any_moment = summing; between = λ ne. absurd (ne refl); quiet = λ ne. same.loose ∙ works.done.quiet };
+      done = tt;
+      worn = λ is. absurd (other (same_halt {T = U} halt.Output (halt.Stop (Worn Flash)) is));
+      room = tt;
+      left = same.left ∙ works.left;
+    }
+      where
+        other : halt.Output ≡ halt.Stop (Worn Flash) → ⊥
+        other is = cc
+
+-- A fault line.
+module _ (run : Run) (summary : List ℕ) (old mid new : Site) (h : Halt) (stops : LoadStops run summary old mid h) (tells : EachMoment mid new (TellsPart (fault_line h) mid)) where
+  before : LeavesOnly old mid (IsLeftOf run summary (fault_line h) old.told)
+  before = leaves_weaker old mid (IsLeftOf run summary [] old.told) (IsLeftOf run summary (fault_line h) old.told) (λ s l. fault_left run summary (fault_line h) old.told s l) stops.any_moment
+
+  fault_untold : IsUntold run old mid → LeavesOnly mid new (IsLeftOf run summary (fault_line h) old.told)
+  fault_untold u = leaves_weaker mid new (λ s. ((k : ℕ) × (s.told ≡ mid.told ++ take k (fault_line h))) × StandsAfter run 0 s.image) (IsLeftOf run summary (fault_line h) old.told) (λ s p. record {
+    told = take p.0.0 (fault_line h);
+    told_is = p.0.1 ∙ ap (λ (l : List ℕ). l ++ take p.0.0 (fault_line h)) u.told;
+    k = 0;
+    allowed = inl (inr (p.0.0, refl), refl);
+    stands = p.1;
+  }) (tell_leaves (StandsAfter run 0) (fault_line h) mid new u.stands tells)
+
+  fault_opened : IsOpened run old mid → LeavesOnly mid new (IsLeftOf run summary (fault_line h) old.told)
+  fault_opened o = leaves_weaker mid new (λ s. ((k : ℕ) × (s.told ≡ mid.told ++ take k (fault_line h))) × ((k : ℕ) × (k ≤ all_commits run) × StandsAfter run k s.image)) (IsLeftOf run summary (fault_line h) old.told) (λ s p. record {
+    told = opening_text run ++ take p.0.0 (fault_line h);
+    told_is = p.0.1 ∙ ap (λ (l : List ℕ). l ++ take p.0.0 (fault_line h)) o.told ∙ append_assoc old.told (opening_text run) (take p.0.0 (fault_line h));
+    k = p.1.0;
+    allowed = inr (inl (take p.0.0 (fault_line h), refl, (p.0.0, refl), p.1.1));
+    stands = p.1.2;
+  }) (tell_leaves (λ image. (k : ℕ) × (k ≤ all_commits run) × StandsAfter run k image) (fault_line h) mid new o.stands tells)
+
+  -- where the output failed nothing more is told
+  fault_none : h ≡ halt.Output → LeavesOnly mid new (IsLeftOf run summary (fault_line h) old.told)
+  fault_none output =
+      let none : fault_line h ≡ [] = ap fault_line output in
+      leaves_weaker mid new (λ s. ((k : ℕ) × (s.told ≡ mid.told ++ take k (fault_line h))) × IsLeftOf run summary (fault_line h) old.told (record { told = mid.told; image = s.image })) (IsLeftOf run summary (fault_line h) old.told) (λ s p. record {
+        told = p.1.told;
+        told_is = p.0.1 ∙ ap (λ (l : List ℕ). mid.told ++ take p.0.0 l) none ∙ ap (λ (l : List ℕ). mid.told ++ l) (take_all p.0.0 [] (omega arith)) ∙ append-nil mid.told ∙ p.1.told_is;
+        k = p.1.k;
+        allowed = p.1.allowed;
+        stands = p.1.stands;
+      }) (tell_leaves (λ image. IsLeftOf run summary (fault_line h) old.told (record { told = mid.told; image = image })) (fault_line h) mid new (λ s left. subst (λ (t : List ℕ). IsLeftOf run summary (fault_line h) old.told (record { told = t; image = s.image })) (told_is mid s left) (before.now s left)) tells)
+
+  output_or_not : (x : Halt) → (x ≡ halt.Output) ⊎ (x ≢ halt.Output)
+  output_or_not (halt.Stop stop) = inr (λ e. cc)
+  output_or_not halt.Input = inr (λ e. cc)
+  output_or_not halt.Output = inl refl
+  output_or_not halt.Limit = inr (λ e. cc)
+
+  with_fault : LeavesOnly old new (IsLeftOf run summary (fault_line h) old.told)
+  with_fault = in_sequence old mid new (Leaves (IsLeftOf run summary (fault_line h) old.told)) before
+      (⊎_elim fault_none (λ ne. ⊎_elim fault_untold fault_opened (stops.between ne)) (output_or_not h))
+
+-- The headline.
+module _ (load : Load) (g : Geometry) (opening : State) (old : Site) (good : IsGood g opening old) where
+  abbrev run' : Run
+  run' = load_run g opening load
+
+  abbrev summary' : List ℕ
+  summary' = summary_text run' load
+
+  pub load_halted : {T : Type 0} (mid new : Site) (h : Halt) → LoadWorks {T = T} load.pool run' summary' old mid (Err h) → EachMoment mid new (TellsPart (fault_line h) mid) → SameDevices mid new → HasCause h old new → (status : ℕ) → status ≡ status_of h → LoadHeadline load g opening old new status
+  load_halted {T} mid new h works tells same cause status is = record {
+    fault = fault_line h;
+    of_status = inr (h, is, refl, cause);
+    any_moment = with_fault run' summary' old mid new h works.stops tells;
+    quiet = λ ne. same.loose ∙ works.stops.quiet (λ e. ne (is ∙ e));
+    done = λ zero. absurd (not_zero h (sym is ∙ zero));
+    worn = λ eight. ⊎_elim (λ flash. inl (works.worn flash)) (λ log. inr log) (worn_by {T = T} g opening h old new good cause (sym is ∙ eight));
+    room = λ zero. absurd (not_zero h (sym is ∙ zero));
+    left = same.left ∙ works.left;
+  }
+
+  pub load_done : {T : Type 0} (new : Site) (x : T) → LoadWorks {T = T} load.pool run' summary' old new (Ok x) → LoadHeadline load g opening old new 0
+  load_done new x works = record {
+    fault = [];
+    of_status = inl (refl, refl);
+    any_moment = works.done.any_moment;
+    quiet = λ ne. works.done.quiet;
+    done = λ zero. works.done.whole;
+    worn = λ eight. absurd (omega (arith, eight));
+    room = λ zero. works.room;
+    left = works.left;
+  }
+
+  -- where nothing fails, and no ring is too short, it is done, or memory was wanted
+  pub load_complete : (new : Site) (status : ℕ) → NoFaultRose old new → NeverWears load.pool run' old.image → HasLogRoom g new → (status ≢ 5) × (status ≢ 7) → HasCauses status old new → LoadHeadline load g opening old new status → (status ≡ 0) ⊎ (status ≡ 4)
+  load_complete new status none room log_room untaken causes h =
+      ⊎_elim (λ e. inl e) (⊎_elim (λ e. let c = causes.device e in absurd (none.devices c.0 c.1)) (⊎_elim (λ e. inr e) (⊎_elim (λ e. absurd (untaken.0 e))
+      (⊎_elim (λ e. absurd (none.output (causes.output e))) (⊎_elim (λ e. absurd (untaken.1 e))
+      (⊎_elim (λ e. absurd (⊎_elim never log_room (h.worn e))) (λ e. absurd (causes.foreign e good.honest g opening.table opening.commits (stands_by g old.image opening good.opens))))))))) causes.others
+    where
+      never : WearsOut load.pool run' old.image → ⊥
+      never over =
+          let all = over good.opens.newest good.opens.blocks good.opens.sound in
+          let few = room good.opens.newest good.opens.blocks good.opens.sound in
+          omega (arith, all, few)
+
+-- a status of none that speaks of input
+pub not_taken : (h : Halt) (status : ℕ) → status ≡ status_of h → (h ≢ halt.Input) × (h ≢ halt.Limit) → (status ≢ 5) × (status ≢ 7)
+not_taken (halt.Stop (Device dev)) status is ne = (λ e. omega (arith, is, e), λ e. omega (arith, is, e))
+not_taken (halt.Stop Memory) status is ne = (λ e. omega (arith, is, e), λ e. omega (arith, is, e))
+not_taken (halt.Stop (Worn dev)) status is ne = (λ e. omega (arith, is, e), λ e. omega (arith, is, e))
+not_taken (halt.Stop Foreign) status is ne = (λ e. omega (arith, is, e), λ e. omega (arith, is, e))
+not_taken halt.Input status is ne = absurd (ne.0 refl)
+not_taken halt.Output status is ne = (λ e. omega (arith, is, e), λ e. omega (arith, is, e))
+not_taken halt.Limit status is ne = absurd (ne.1 refl)

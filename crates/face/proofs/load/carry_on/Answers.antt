@@ -1,0 +1,38 @@
+use Rattle.std.proofs.Common.{◌∙◌, ap, sym, true≢false, []}
+use Rattle.engine.specs.Going.{sizes_of}
+use Rattle.face.specs.declared.halt.Halt.TheVariants as halt
+use Rattle.face.proofs.Courses.{leaves_line, serves_line}
+use Rattle.face.proofs.Pagings.{serves_ok, serves_err}
+use Rattle.face.proofs.load.carry_on.Goals as goal
+
+pub returns-in-Ok-clause-course : goal.returns-in-Ok-clause-course
+returns-in-Ok-clause-course g c =
+    record {
+      any_moment = λ s fits quiet. leaves_line (sizes_of c.args.engine.now.store) s c.args.line (g.S.Site.state c.args.site.now) (g.S.Site.state c.carry_out.new.site) (c.carry_out.ensures.any_moment s [] (λ asks. absurd (true≢false (sym asks ∙ c.requires.plain))) fits quiet);
+      fits = λ s fits. c.in-Ok.ensures.after s [] (λ asks. absurd (true≢false (sym asks ∙ c.requires.plain))) fits;
+      serves = λ s fits. serves_line _ s c.args.line c.args.engine.now.store.pages c.carry_out.new.engine.store.pages (serves_ok c.in-Ok.reply c.in-Ok.reply _ _ _ _ _ (c.in-Ok.ensures.asks s fits));
+      left = c.carry_out.ensures.left;
+      stays_quiet = c.in-Ok.ensures.stays_quiet;
+      quiet = λ s fits quiet. tt;
+      going = c.in-Ok.ensures.going;
+      cause = tt;
+      goes = c.carry_out.ensures.goes;
+      sizes = c.carry_out.ensures.sizes;
+    }
+
+pub returns-in-Ok-clause-reply : goal.returns-in-Ok-clause-reply
+returns-in-Ok-clause-reply g c s fits = c.in-Ok.ensures.reply s [] (λ asks. absurd (true≢false (sym asks ∙ c.requires.plain))) fits
+
+pub returns-in-Err-clause-course : goal.returns-in-Err-clause-course
+returns-in-Err-clause-course g c = record {
+  any_moment = λ s fits quiet. leaves_line (sizes_of c.args.engine.now.store) s c.args.line (g.S.Site.state c.args.site.now) (g.S.Site.state c.carry_out.new.site) (c.carry_out.ensures.any_moment s [] (λ asks. absurd (true≢false (sym asks ∙ c.requires.plain))) fits quiet);
+  fits = λ s fits. tt;
+  serves = λ s fits. serves_line _ s c.args.line c.args.engine.now.store.pages c.carry_out.new.engine.store.pages (serves_err c.in-Err.stop _ _ _ _ _ (c.in-Err.ensures.asks s fits));
+  left = c.carry_out.ensures.left;
+  stays_quiet = λ honest quiet. tt;
+  quiet = λ s fits quiet other. c.in-Err.ensures.quiet s fits quiet (λ d is. other d (ap halt.Stop is));
+  going = tt;
+  cause = c.in-Err.ensures.cause;
+  goes = c.carry_out.ensures.goes;
+  sizes = c.carry_out.ensures.sizes;
+}

@@ -1,0 +1,127 @@
+-- What a load does, and what a crash at any moment leaves of it.
+use Rattle.std.specs.Prelude.{◌≡◌, ◌≢◌, ◌⊎◌, ℕ, ◌≤◌, List, [], ◌++◌, length, take, IsTrue, Result, IfErr, OnOk, IsErrOf}
+use Rattle.site.specs.State.{State as Site, Snapshot, MayLeave, now_of, IsQuiet, no_loose}
+use Rattle.site.specs.Calls.{Goes}
+use Rattle.site.specs.Moments.{LeavesOnly}
+use Rattle.site.specs.declared.geometry.Geometry.{Geometry}
+use Rattle.site.specs.declared.outside.Dev.{Dev}
+use Rattle.site.specs.declared.outside.Dev.TheVariants.{Flash}
+use Rattle.site.specs.declared.outside.Stop.TheVariants.{Device, Worn}
+use Rattle.record_model.specs.State.{State}
+use Rattle.record_model.specs.Run.{Line, Turn}
+use Rattle.redo_undo.specs.Holding.{IsLogWorn}
+use Rattle.engine.specs.declared.engine.Engine.{Engine}
+use Rattle.engine.specs.Fits.{Fits}
+use Rattle.engine.specs.Going.{MayGoOn, sizes_of}
+use Rattle.face.specs.declared.halt.Halt.{Halt}
+use Rattle.face.specs.declared.halt.Halt.TheVariants.{Stop, Output}
+use Rattle.face.specs.declared.request.Load.{Load}
+use Rattle.face.specs.Causes.{AnswerFailsBy}
+use Rattle.face.specs.Going.{Serves}
+use Rattle.face.specs.Headline.{IsFaultOf}
+use Rattle.face.specs.Range.{all_commits, StandsAfter, WearsOut, NeverWears}
+use Rattle.face.specs.Run.{Run, IsFront, StandsFor, after_lines, works_of}
+use Rattle.face.specs.Texts.{status_of}
+use Rattle.face.specs.Workload.{committed_in, checkpoints_in, found_in, load_run, load_turns, opening_text, summary_text}
+
+-- What was told of a load, and how many of its commits the devices then have: none while the opening is told, or a fault line in
+-- its place; some of them once the opening is told, also while a fault line is told behind it; all of them while the summary is told.
+abbrev pub Allows : Run → List ℕ → List ℕ → List ℕ → ℕ → Type 0
+Allows run summary fault told k =
+    ((IsFront told (opening_text run) ⊎ IsFront told fault) × (k ≡ 0))
+    ⊎ (((rest : List ℕ) × (told ≡ opening_text run ++ rest) × IsFront rest fault × (k ≤ all_commits run))
+    ⊎ ((rest : List ℕ) × (told ≡ opening_text run ++ rest) × IsFront rest summary × (k ≡ all_commits run)))
+
+-- what a crash may leave of a load, where `so_far` was told before it
+pub record IsLeftOf (run : Run) (summary fault so_far : List ℕ) (snapshot : Snapshot) : Type 0 where
+  pub told : List ℕ
+  pub told_is : snapshot.told ≡ so_far ++ told
+  pub k : ℕ
+  pub allowed : Allows run summary fault told k
+  pub stands : StandsAfter run k snapshot.image
+
+-- both lines are told, and the devices stand for the table after all commits
+pub record IsLoaded (run : Run) (summary : List ℕ) (old new : Site) : Type 0 where
+  pub told : new.told ≡ old.told ++ (opening_text run ++ summary)
+  pub stands : StandsAfter run (all_commits run) new.image
+
+-- What a load leaves that opens with this state, and what a crash at any moment of it leaves.
+pub record LoadHeadline (load : Load) (g : Geometry) (opening : State) (old new : Site) (status : ℕ) : Type 0 where
+  -- the fault line of the status
+  pub fault : List ℕ
+  pub of_status : IsFaultOf status fault old new
+  pub any_moment : LeavesOnly old new (IsLeftOf (load_run g opening load) (summary_text (load_run g opening load) load) fault old.told)
+  -- with any status but 3 no range is loose
+  pub quiet : status ≢ 3 → new.loose ≡ no_loose
+  -- with status 0 all is told and done
+  pub done : status ≡ 0 → IsLoaded (load_run g opening load) (summary_text (load_run g opening load) load) old new
+  -- with 8 the load appends to a ring of groups that stands at its end, or a ring on the log's device stands there; with 0 no group is
+  -- appended there
+  pub worn : status ≡ 8 → WearsOut load.pool (load_run g opening load) old.image ⊎ IsLogWorn g new.image
+  pub room : status ≡ 0 → NeverWears load.pool (load_run g opening load) old.image
+  -- no input is taken
+  pub left : new.left ≡ old.left
+
+-- What comes of a load before its fault line. The summary is the empty text as long as it isn't to be told.
+
+-- nothing is told, and a crash now leaves no commit
+pub record IsUntold (run : Run) (old now : Site) : Type 0 where
+  pub told : now.told ≡ old.told
+  pub stands : (s : Snapshot) → MayLeave (now_of now) s → StandsAfter run 0 s.image
+
+-- the opening is told, and a crash now leaves some of the commits
+pub record IsOpened (run : Run) (old now : Site) : Type 0 where
+  pub told : now.told ≡ old.told ++ opening_text run
+  pub stands : (s : Snapshot) → MayLeave (now_of now) s → (k : ℕ) × (k ≤ all_commits run) × StandsAfter run k s.image
+
+pub record LoadStops (run : Run) (summary : List ℕ) (old new : Site) (halt : Halt) : Type 0 where
+  pub any_moment : LeavesOnly old new (IsLeftOf run summary [] old.told)
+  pub between : halt ≢ Output → IsUntold run old new ⊎ IsOpened run old new
+  pub quiet : status_of halt ≢ 3 → new.loose ≡ no_loose
+
+pub record LoadDone (run : Run) (summary : List ℕ) (old new : Site) : Type 0 where
+  pub any_moment : LeavesOnly old new (IsLeftOf run summary [] old.told)
+  pub whole : IsLoaded run summary old new
+  pub quiet : new.loose ≡ no_loose
+
+pub record LoadWorks {T : Type 0} (pool : ℕ) (run : Run) (summary : List ℕ) (old new : Site) (result : Result T Halt) : Type 0 where
+  pub stops : IfErr result (LoadStops run summary old new)
+  pub done : OnOk result (LoadDone run summary old new)
+  -- flash is worn only where the load asks for more groups than the ring can have
+  pub worn : IsErrOf result (Stop (Worn Flash)) → WearsOut pool run old.image
+  pub room : OnOk result (NeverWears pool run old.image)
+  pub left : new.left ≡ old.left
+
+-- what was counted is what the turns of the record model say
+pub record HasCounted (run : Run) (committed checkpoints found : ℕ) : Type 0 where
+  pub committed_is : committed ≡ committed_in (load_turns run)
+  pub checkpoints_are : checkpoints ≡ checkpoints_in (load_turns run)
+  pub found_is : found ≡ found_in (load_turns run)
+
+-- the same of sets alone
+pub record HasMade (run : List Turn) (committed checkpoints : ℕ) : Type 0 where
+  pub committed_is : committed ≡ committed_in run
+  pub checkpoints_are : checkpoints ≡ checkpoints_in run
+
+-- Lines that are carried out, one after the other, while nothing is told.
+
+-- a crash meanwhile leaves the table after some of them
+pub record LeavesSome (g : Geometry) (s : State) (lines : List Line) (so_far : List ℕ) (snapshot : Snapshot) : Type 0 where
+  pub done : ℕ
+  pub few : done ≤ length lines
+  pub stands : StandsFor g snapshot.image (after_lines s (take done lines) [])
+  pub told : snapshot.told ≡ so_far
+
+pub record CarriesOut {T : Type 0} (result : Result T Halt) (lines : List Line) (before after : Engine) (old new : Site) : Type 0 where
+  -- of an honest site that the database fits
+  pub any_moment : (s : State) → Fits before old s → IsQuiet old → LeavesOnly old new (LeavesSome (sizes_of before.store) s lines old.told)
+  pub fits : (s : State) → Fits before old s → OnOk result (Fits after new (after_lines s lines []))
+  pub serves : (s : State) → Fits before old s → Serves result (works_of s lines) before.store.pages after.store.pages
+  pub left : IsTrue old.honest → new.left ≡ old.left
+  pub stays_quiet : IsTrue old.honest → IsQuiet old → OnOk result (IsQuiet new)
+  pub quiet : (s : State) → Fits before old s → IsQuiet old → IfErr result (λ halt. ((d : Dev) → halt ≢ Stop (Device d)) → IsQuiet new)
+  -- of every site
+  pub going : OnOk result (MayGoOn after new)
+  pub cause : IfErr result (λ halt. AnswerFailsBy halt before old new)
+  pub goes : Goes old new
+  pub sizes : sizes_of after.store ≡ sizes_of before.store

@@ -1,0 +1,50 @@
+// How a run or a load begins.
+ghost use Rattle.std.specs.Prelude.{◌≡◌, ◌≢◌, ◌≤◌, ℕ, List, Option, IsTrue, IfOk, IfErr, IsErrOf};
+ghost use Rattle.site.specs.Calls.{Goes};
+ghost use Rattle.face.specs.declared.halt.Halt.{Halt};
+ghost use Rattle.site.specs.declared.geometry.Geometry.{Geometry};
+ghost use Rattle.record_model.specs.State.{State, Content};
+ghost use Rattle.engine.specs.Image.{IsSound, Stands};
+ghost use Rattle.site.specs.declared.outside.Dev.{Dev};
+ghost use Rattle.site.specs.declared.outside.Stop.{Stop};
+ghost use Rattle.checkpoint.specs.declared.master.Master.{Master};
+ghost use Rattle.log_records.specs.declared.log_record.LogRecord.{LogRecord};
+ghost use Rattle.engine.specs.Fits.{Fits};
+ghost use Rattle.engine.specs.Going.{MayGoOn, sizes_of};
+ghost use Rattle.engine.specs.Leaves.{HasNoSizes};
+ghost use Rattle.face.specs.Causes.{HasCause, Halts};
+ghost use Rattle.face.specs.Run.{Run, Begins, Stops, Outgrows};
+ghost use Rattle.face.specs.Going.{Going, IsPaged};
+
+use crate::halt::Halt;
+use engine::Engine;
+use shell_text::open_line;
+use site::{Site, tell_all};
+use std::alloc::Global;
+
+/// Restart, and the line that opens the run. No input is taken.
+pub fn open<S: Site>(alloc: Global, pool: u32, site: &mut S) -> Result<Engine, Halt>
+    requires pool { (1 ≤ pool) × (pool ≤ 4096) }
+    ensures going { (run : Run) → Begins run (S.state site.old) → IfOk result (λ engine. Going run (S.state site.old) (S.state site.new) engine 0) }
+    // The same, whatever is loose at entry.
+    ensures fits { IsTrue (S.state site.old).honest → (g : Geometry) (table : List Content) (commits : ℕ) → Stands g (S.state site.old).image table commits → IfOk result (λ engine. ((s : State) × Fits engine (S.state site.new) s) × (sizes_of engine.store ≡ g)) }
+    ensures stops { (run : Run) → Begins run (S.state site.old) → IfErr result (λ halt. Stops run 0 (S.state site.old) (S.state site.new) halt) }
+    // The page cache has done the restart's work.
+    ensures paged { (run : Run) → Begins run (S.state site.old) → (newest : Option Master) (blocks : List (List LogRecord)) → IsSound newest run.geometry (S.state site.old).image blocks → IfOk result (λ engine. IsPaged pool run newest (S.state site.old).image blocks engine 0) }
+    ensures worn { (run : Run) → Begins run (S.state site.old) → IsErrOf result (Halt.Stop (Stop.Worn Dev.Flash)) → Outgrows pool run (S.state site.old).image 0 }
+    ensures left { IsTrue (S.state site.old).honest → (S.state site.new).left ≡ (S.state site.old).left }
+    ensures goes_on { IfOk result (λ engine. MayGoOn engine (S.state site.new)) }
+    ensures halts { IfErr result (λ halt. (halt ≢ Halt.Input) × (halt ≢ Halt.Limit)) }
+    ensures cause { IfErr result (λ halt. HasCause halt (S.state site.old) (S.state site.new)) }
+    ensures refuses { HasNoSizes (S.state site.old) → Halts result (S.state site.old) (S.state site.new) }
+    ensures goes { Goes (S.state site.old) (S.state site.new) }
+{
+    let engine = match Engine::start(alloc, site, pool) {
+        Ok(engine) => engine,
+        Err(stop) => return Err(Halt::Stop(stop)),
+    };
+    match tell_all(site, open_line(engine.commits()).as_slice()) {
+        Ok(()) => Ok(engine),
+        Err(_) => Err(Halt::Output),
+    }
+}
