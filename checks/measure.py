@@ -1,7 +1,8 @@
 #!/usr/bin/env python3
 """How long one durable set takes, and how long the bare calls that it makes take, in turns on the same disk, so that both
-meet the same load: measure.py [COUNT]. Each is handed one line and is timed until its reply. The current folder's disk is
-measured. FACE names another program than the one that is built here."""
+meet the same load: measure.py [COUNT]. Each is handed one line and is timed until its reply. The log has 400 blocks, so that
+it is written over again and again; the means have the sets that make a checkpoint first, the medians hardly see them. The
+current folder's disk is measured. FACE names another program than the one that is built here."""
 import os
 import shutil
 import statistics
@@ -12,6 +13,7 @@ import time
 
 ROOT = os.path.dirname(os.path.dirname(os.path.realpath(__file__)))
 COUNT = int(sys.argv[1]) if len(sys.argv) > 1 else 3000
+BLOCKS = 400
 
 
 def start(words):
@@ -38,7 +40,7 @@ def main():
     try:
         os.chdir(folder)
         subprocess.run(["cc", "-O2", "-o", "raw_calls", f"{ROOT}/checks/raw_calls.c"], check=True)
-        subprocess.run([face, "new", "1024", "8", str(3 * COUNT + 100)], check=True, stdout=subprocess.DEVNULL)
+        subprocess.run([face, "new", "1024", "64", str(BLOCKS)], check=True, stdout=subprocess.DEVNULL)
         program = start([face, "run", "64"])
         bare = start(["./raw_calls", str(COUNT + 2)])
         times = {"a durable set": [], "the bare calls": []}
@@ -47,12 +49,15 @@ def main():
             times["a durable set"].append(once(program, line))
             times["the bare calls"].append(once(bare, line))
         medians = []
+        means = []
         for name, taken in times.items():
             taken.sort()
             medians.append(statistics.median(taken))
+            means.append(statistics.mean(taken))
             quarter = taken[len(taken) // 4]
-            print(f"{name}: median {medians[-1] * 1e6:.0f} us, lower quarter {quarter * 1e6:.0f} us, {COUNT} times")
-        print(f"rate of sets to rate of the bare calls, by medians: {medians[1] / medians[0]:.3f}")
+            print(f"{name}: median {medians[-1] * 1e6:.0f} us, lower quarter {quarter * 1e6:.0f} us, {1 / means[-1]:.0f} a second, {COUNT} times")
+        print(f"rate of sets to rate of the bare calls, by medians: {medians[1] / medians[0]:.3f}, by means: {means[1] / means[0]:.3f}")
+        print(f"the log of {BLOCKS} blocks was written over {COUNT // BLOCKS} times")
         program.stdin.close()
         bare.stdin.close()
     finally:

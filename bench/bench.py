@@ -1,0 +1,135 @@
+#!/usr/bin/env python3
+"""Measures the database on files beside the bare system calls and, where it is installed, sqlite3, in one go on one disk.
+
+    bench/bench.py FOLDER [COUNT]
+
+FOLDER is where the files are made, in a folder of their own that is removed at the end: it says which disk is measured. COUNT
+is the number of sets, and of gets, of each size (2,000 where it isn't given). FACE names another program than the one that is
+built here. It prints one table of all figures: commits, gets and pairs of a load's set and get per second at several sizes, of
+which one is changed at a time; the rate of the commits to that of the bare calls; the time of a restart; and the instructions of
+a set with its get, where valgrind is installed."""
+import os
+import random
+import re
+import shutil
+import subprocess
+import sys
+import tempfile
+import time
+
+ROOT = os.path.dirname(os.path.dirname(os.path.realpath(__file__)))
+COUNT = int(sys.argv[2]) if len(sys.argv) > 2 else 2000
+SEED = 7
+
+# pages, groups, blocks and pool; each further row changes one of the first
+SIZES = [
+    (1024, 1024, 4096, 64),
+    (16, 1024, 4096, 64),
+    (65536, 1024, 4096, 64),
+    (1024, 8, 4096, 64),
+    (1024, 16384, 4096, 64),
+    (1024, 1024, 64, 64),
+    (1024, 1024, 4096, 1),
+    (1024, 1024, 4096, 4096),
+]
+
+
+def program():
+    face = os.environ.get("FACE")
+    if not face:
+        subprocess.run([f"{ROOT}/bin/face", "help"], stdout=subprocess.DEVNULL, stdin=subprocess.DEVNULL)
+        face = f"{ROOT}/crates/face/out/face"
+    return os.path.realpath(face)
+
+
+def timed(words, lines=""):
+    """Seconds that a command takes over this input, and its last line."""
+    begun = time.perf_counter()
+    done = subprocess.run(words, input=lines, capture_output=True, text=True)
+    taken = time.perf_counter() - begun
+    if done.returncode != 0:
+        raise SystemExit(f"{' '.join(words)}: status {done.returncode}: {done.stdout[-200:]}{done.stderr[-200:]}")
+    return taken, done.stdout.rstrip("\n").split("\n")[-1]
+
+
+def made(face, size):
+    pages, groups, blocks, _ = size
+    for name in ("face.log", "face.flash", "face.disk"):
+        if os.path.exists(name):
+            os.remove(name)
+    timed([face, "new", str(pages), str(groups), str(blocks)])
+
+
+def lines_of(pages, line):
+    numbers = random.Random(SEED)
+    return "".join(line.format(numbers.randrange(32 * pages)) + "\n" for _ in range(COUNT))
+
+
+def measured(face, size):
+    """Commits and gets per second, the restart after the commits and the one after that one, and what a load makes of it."""
+    pages, _, _, pool = size
+    made(face, size)
+    blank, _ = timed([face, "run", str(pool)])
+    sets, last = timed([face, "run", str(pool)], lines_of(pages, "set {} 0102030405060708"))
+    assert last == f"committed {COUNT}", last
+    after_sets, _ = timed([face, "run", str(pool)])
+    at_once, _ = timed([face, "run", str(pool)])
+    gets, _ = timed([face, "run", str(pool)], lines_of(pages, "get {}"))
+    made(face, size)
+    load, summary = timed([face, "load", str(COUNT), str(SEED), str(pool)])
+    found = re.fullmatch(r"load \d+ committed \d+ checkpoints (\d+) found \d+", summary)
+    return COUNT / (sets - blank), COUNT / (gets - at_once), COUNT / (load - blank), int(found[1]), after_sets, at_once
+
+
+def bare_rate():
+    taken, _ = timed(["./raw_calls", str(COUNT)], "set\n" * COUNT)
+    return COUNT / taken
+
+
+def sqlite_rate():
+    if not shutil.which("sqlite3"):
+        return None
+    numbers = random.Random(SEED)
+    sets = "".join(f"REPLACE INTO record VALUES ({numbers.randrange(32768)}, x'{numbers.randrange(2 ** 64):016x}');\n" for _ in range(COUNT))
+    head = "PRAGMA journal_mode=WAL; PRAGMA synchronous=FULL; CREATE TABLE IF NOT EXISTS record (number INTEGER PRIMARY KEY, value BLOB);\n"
+    alone, _ = timed(["sqlite3", "database"], head)
+    taken, _ = timed(["sqlite3", "database"], head + sets)
+    return COUNT / (taken - alone)
+
+
+def instructions(face, size):
+    """Instructions of one set with its get: what a load of twice as many takes more."""
+    if not shutil.which("valgrind"):
+        return None
+    totals = []
+    for count in (200, 400):
+        made(face, size)
+        done = subprocess.run(["valgrind", "--tool=callgrind", "--callgrind-out-file=/dev/null", face, "load", str(count), str(SEED), str(size[3])], capture_output=True, text=True)
+        totals.append(int(re.search(r"Collected : (\d+)", done.stderr)[1]))
+    return (totals[1] - totals[0]) // 200
+
+
+def main():
+    if len(sys.argv) < 2:
+        raise SystemExit(__doc__)
+    face = program()
+    folder = os.path.realpath(tempfile.mkdtemp(dir=sys.argv[1]))
+    try:
+        os.chdir(folder)
+        subprocess.run(["cc", "-O2", "-o", "raw_calls", f"{ROOT}/checks/raw_calls.c"], check=True)
+        print(f"{COUNT} sets, {COUNT} gets and a load of {COUNT} each")
+        print("| PAGES | GROUPS | BLOCKS | POOL | commits/s | bare calls/s | rate | sqlite/s | gets/s | load, pairs/s | its checkpoints | restart after the sets | restart again | instructions of a set and a get |")
+        print("|---|---|---|---|---|---|---|---|---|---|---|---|---|---|")
+        for size in SIZES:
+            before = bare_rate()
+            commits, gets, pairs, checkpoints, after_sets, at_once = measured(face, size)
+            bare = (before + bare_rate()) / 2
+            sqlite, steps = sqlite_rate(), instructions(face, size)
+            print("| " + " | ".join(str(n) for n in size) + f" | {commits:.0f} | {bare:.0f} | {commits / bare:.2f} | {f'{sqlite:.0f}' if sqlite else 'not installed'} | {gets:.0f} | {pairs:.0f}"
+                  f" | {checkpoints} | {after_sets:.3f} s | {at_once:.3f} s | {steps if steps else 'not installed'} |", flush=True)
+    finally:
+        os.chdir("/")
+        shutil.rmtree(folder)
+
+
+main()
