@@ -111,6 +111,7 @@ goes_on old new site site' first going go works ended cap sizes table counted ow
       let since = going.since n was.before was.is in
       subst (λ (b : ℕ). blocks_to new.store.log + entry.born ≤ b / 512 + new.store.made) begin (omega (arith, born, early, since, blocks, made));
   bounded = let bounded = going.bounded in omega (arith, bounded, owed, made);
+  budget = let budget = going.budget in omega (arith, budget, owed, made, cap);
   commits = let most = going.commits in omega (arith, most, commits, end);
   lasts = λ n entry is.
       let was = was_there old.active new.active first n entry (counted n) is in

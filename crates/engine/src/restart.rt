@@ -208,6 +208,7 @@ fn recover<S: Site>(alloc: Global, site: &mut S, opened: Opened) -> Result<Resta
     ensures room { IfOk result (λ restarted. blocks_to restarted.store.log
         < restarted.store.log.kept + restarted.blocks) }
     ensures commits { IfOk result (λ restarted. restarted.commits ≤ end_of restarted.store.log) }
+    ensures made { IfOk result (λ restarted. restarted.store.made ≡ 0) }
     ensures sizes { IfOk result (λ restarted. sizes_of restarted.store ≡ opened.pages.flash.geometry) }
     ensures pool { IfOk result (λ restarted. restarted.store.pages.pool.size ≡ opened.pages.pool.size) }
     ensures goes { Goes (S.state site.old) (S.state site.new) }
@@ -311,6 +312,7 @@ pub fn restart<S: Site>(alloc: Global, site: &mut S, pool: u32) -> Result<Restar
     ensures room { IfOk result (λ restarted. blocks_to restarted.store.log
         < restarted.store.log.kept + restarted.blocks) }
     ensures commits { IfOk result (λ restarted. restarted.commits ≤ end_of restarted.store.log) }
+    ensures made { IfOk result (λ restarted. restarted.store.made ≡ 0) }
     ensures pool { IfOk result (λ restarted. restarted.store.pages.pool.size ≡ pool) }
     ensures goes { Goes (S.state site.old) (S.state site.new) }
 

@@ -93,6 +93,7 @@ goes_on engine a b go goes =
       room = go.room;
       since = go.since;
       bounded = go.bounded;
+      budget = go.budget;
       commits = go.commits;
       lasts = go.lasts;
       differ = go.differ;

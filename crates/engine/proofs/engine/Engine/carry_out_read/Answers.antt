@@ -95,6 +95,7 @@ returns-in-Ok-add-clause-going g c =
       room = let room = going.room in omega (arith, blocks, room, kept);
       since = λ n entry at. let since = going.since n entry at in omega (arith, blocks, made, since);
       bounded = let bounded = going.bounded in omega (arith, bounded, made);
+      budget = let budget = going.budget in omega (arith, budget, made);
       commits = let commits = going.commits in omega (arith, commits, rises);
       lasts = λ n entry at. let lasts = going.lasts n entry at in (lasts.0, omega (arith, lasts.1, rises));
       differ = going.differ;

@@ -95,6 +95,7 @@ returns-in-Ok-seal_commit-clause-going g c =
       room = omega (arith, blocks, blocks_then, owed_is, cap_is, room, below, kept, kept_then);
       since = λ m other at. let before = going.since m other (sym (ap (λ (x : Engine). entry_of x.active m) engine_is) ∙ at) in omega (arith, before, blocks, blocks_then, made, made_then);
       bounded = omega (arith, made, made_then, owed_is, room, cap, few);
+      budget = omega (arith, made, made_then, owed_is, room, cap_is);
       commits = omega (arith, commits, commits_then, commits_before, rises, rises_then);
       lasts = λ m other at. let before = going.lasts m other (sym (ap (λ (x : Engine). entry_of x.active m) engine_is) ∙ at) in (before.0, omega (arith, before.1, rises, rises_then));
       differ = subst AreApart (sym (ap (λ (x : Engine). x.active) engine_is)) going.differ;

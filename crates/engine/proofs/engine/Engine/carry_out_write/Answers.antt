@@ -129,6 +129,7 @@ returns-in-Ok-update-clause-going g c =
           (λ differ. let before = going.since m other (sym (changes.others m differ) ∙ at) in omega (arith, before, blocks, same, made, made_before))
           (cases_eq m n);
       bounded = omega (arith, made, made_before, owed_is, room, cap, few);
+      budget = omega (arith, made, made_before, owed_is, room);
       commits = let later = rises.0 in let last = rises.1 in omega (arith, touched, later, last, commits);
       lasts = below_wrote c.args.self.now.active c.wrote.new.active n (end_of c.args.self.now.store.log) (end_of c.update.new.self.log) _ c.args.entry going.lasts c.requires.active changes (omega (arith, touched, rises.0)) rises.1;
       differ = apart_wrote c.args.self.now.active c.wrote.new.active n _ c.args.entry going.differ c.requires.active changes;
