@@ -84,6 +84,10 @@ told 'new 1024 64 400' 0 'ready 1024 64 400' '' new 1024 64 400
 [ "$(stat -c %s face.log face.flash face.disk | tr '\n' ' ')" = '206336 2149376 4194304 ' ]
 verdict 'its files have their lengths' $?
 
+# --- a stated workload, twice: each makes its checkpoints where half of the log is used
+told 'load' 0 'open 0/load 200 committed 200 checkpoints 2 found 200' '' load 200 7 64
+told 'load again' 0 'open 200/load 200 committed 200 checkpoints 2 found 200' '' load 200 7 64
+
 # --- several records at once, and what the page cache holds
 fresh
 told 'scan' 0 'open 0/committed 1/committed 2/ok/item 2 aa/item 4 -/end 2/ok/ok/busy 1/committed 3/refused record' 'set 2 aa/set 4 -/begin 0/scan 0 0 6/begin 1/write 1 9 01/scan 0 5 8/set 6 bb/scan 0 500 64/' run 1
