@@ -15,6 +15,9 @@ ghost use Rattle.log_store.specs.Held as log_held;
 ghost use Rattle.checkpoint.specs.declared.master.Master.{Master};
 ghost use Rattle.checkpoint.specs.Actives.{Ascend};
 ghost use Rattle.analysis.specs.Open.{owed_for};
+ghost use Rattle.analysis.specs.Laws.{OneTable, TableOfUnfinished, OwedOfUnfinished};
+ghost use Rattle.analysis.specs.Taken.{TakenCommits};
+ghost use Rattle.redo_undo.specs.Works.{WorksAddUp, ReadsAddUp, ReadsForMore, OverflowsWithMore};
 ghost use Rattle.analysis.specs.Table.{listed};
 ghost use Rattle.analysis.specs.Read as analysis;
 ghost use Rattle.flash_cache.specs.Held.{IsWorn};
@@ -170,6 +173,22 @@ fn owed(found: &Analysis) -> u64
     sum
 }
 
+// On what a restart takes of a log, and on the work that it asks of the cache.
+fn recovery_laws()
+    ensures one { OneTable }
+    ensures unfinished { TableOfUnfinished }
+    ensures owed { OwedOfUnfinished }
+    ensures commits { TakenCommits }
+    ensures works { WorksAddUp }
+    ensures reads { ReadsAddUp }
+    ensures more { ReadsForMore }
+    ensures overflow { OverflowsWithMore }
+{
+    table_of_records();
+    losers_are_taken();
+    works_add_up();
+}
+
 // Redoes what the pages lack, undoes all that is unfinished, and makes a checkpoint.
 fn recover<S: Site>(alloc: Global, site: &mut S, opened: Opened) -> Result<Restarted, Stop>
     requires may { MayRecover opened (S.state site.old) }
@@ -226,9 +245,7 @@ fn recover<S: Site>(alloc: Global, site: &mut S, opened: Opened) -> Result<Resta
         → IsWorn opened.pages.flash.geometry (S.state site.new).image }
     ensures stops { IfErr result (λ stop. MayStop stop) }
 {
-    table_of_records();
-    losers_are_taken();
-    works_add_up();
+    recovery_laws();
     let Opened {
         mut log,
         mut pages,

@@ -38,8 +38,8 @@ returns-in-Err-clause-asks g c newest blocks table commits h =
     let k = c.args.opened.pages.flash.geometry in
     let p = picture_under newest k old.image blocks in
     let some : 1 ≤ (rules c.args.opened.pages).groups = (let least = c.requires.may.going.pages_going.flash.limits.groups in omega (arith, least)) in
-    let more = c.works_add_up.ensures.more in
-    let over = c.works_add_up.ensures.overflow in
+    let more = c.recovery_laws.ensures.more in
+    let over = c.recovery_laws.ensures.overflow in
     let two : Asks {T = Unit {0}} (Err c.in-Err.stop) (redo_works p ++ undo_works p.log) c.args.opened.pages c.redo.new.pages old mid = asks_stopped more over c.in-Err.stop (redo_works p) (undo_works p.log) _ _ old mid some (c.in-Err.ensures.asks newest blocks table commits h.master h.opened_is) in
     from_stopped more over c.in-Err.stop _ (redo_works p ++ undo_works p.log) checkpoint_works _ _ _ _ some two
 
@@ -57,7 +57,7 @@ returns-then-sealed_end-owed-clause-readable g c newest blocks table commits h i
     let site = g.S.Site.state c.args.site.now in
     let holds = c.in-Ok.ensures.holds newest blocks table commits h.master h.opened_is in
     let read = c.in-Ok.ensures.unfinished newest blocks table commits h.master h.opened_is in
-    let owes = owed_found c.table_of_records.ensures.one c.table_of_records.ensures.unfinished c.table_of_records.ensures.owed newest c.args.opened.pages.flash.geometry site.image blocks c.in-Ok.redone.found h.opened_is.sound read in
+    let owes = owed_found c.recovery_laws.ensures.one c.recovery_laws.ensures.unfinished c.recovery_laws.ensures.owed newest c.args.opened.pages.flash.geometry site.image blocks c.in-Ok.redone.found h.opened_is.sound read in
     let room = holds.log_holds.room in
     let least = holds.log_holds.rings.limits.blocks in
     let sizes = ap (λ (k : Geometry). k.blocks) c.in-Ok.ensures.going.sizes in
@@ -76,8 +76,8 @@ returns-then-sealed_end-owed-clause-asks g c newest blocks table commits h =
     let k = c.args.opened.pages.flash.geometry in
     let p = picture_under newest k old.image blocks in
     let some : 1 ≤ (rules c.args.opened.pages).groups = (let least = c.requires.may.going.pages_going.flash.limits.groups in omega (arith, least)) in
-    let more = c.works_add_up.ensures.more in
-    let over = c.works_add_up.ensures.overflow in
+    let more = c.recovery_laws.ensures.more in
+    let over = c.recovery_laws.ensures.overflow in
     let failed : Asks {T = Unit {0}} (Err Foreign) (redo_works p) c.args.opened.pages c.redo.new.pages old mid = asks_fails c.in-Ok.redone Foreign (redo_works p) _ _ old mid (λ is. cc) (c.in-Ok.ensures.asks newest blocks table commits h.master h.opened_is) in
     let two : Asks {T = Unit {0}} (Err Foreign) (redo_works p ++ undo_works p.log) c.args.opened.pages c.redo.new.pages old mid = asks_stopped more over Foreign (redo_works p) (undo_works p.log) _ _ old mid some failed in
     from_stopped more over Foreign _ (redo_works p ++ undo_works p.log) checkpoint_works _ _ _ _ some two
@@ -134,11 +134,11 @@ returns-in-Err-undo_all-clause-asks g c newest blocks table commits h =
     let none : has_tail c.redo.new.log ≡ false = no_tail_still c.args.opened.log c.redo.new.log c.requires.empty c.in-Ok.ensures.blocks c.in-Ok.ensures.rises in
     let und = g.S.Site.state c.undo_all.new.site in
     let p = picture_under newest k old.image blocks in
-    let add = c.works_add_up.ensures.works in
-    let reads = c.works_add_up.ensures.reads in
+    let add = c.recovery_laws.ensures.works in
+    let reads = c.recovery_laws.ensures.reads in
     let first = c.in-Ok.ensures.asks newest blocks table commits h.master h.opened_is in
-    let more = c.works_add_up.ensures.more in
-    let over = c.works_add_up.ensures.overflow in
+    let more = c.recovery_laws.ensures.more in
+    let over = c.recovery_laws.ensures.overflow in
     let some : 1 ≤ (rules c.args.opened.pages).groups = (let least = c.requires.may.going.pages_going.flash.limits.groups in omega (arith, least)) in
     from_stopped more over c.in-Err-undo_all.stop _ (redo_works p ++ undo_works p.log) checkpoint_works _ _ _ _ some
     (asks_then add reads c.in-Ok.redone _ (redo_works p) (undo_works p.log) _ _ _ old mid und first (c.in-Err-undo_all.ensures.asks newest records table commits none holds read))
@@ -196,7 +196,7 @@ returns-then-commits-sealed_end-clause-readable g c newest blocks table commits 
     let und = g.S.Site.state c.undo_all.new.site in
     let undone = c.in-Ok-undo_all.ensures.undone newest records table commits none holds read in
     let bounded = c.requires.may.going.log_going.usable.bounded in
-    let found = commits_found c.losers_are_taken.ensures.commits c.args.opened old newest blocks table commits c.in-Ok.redone.found h (c.in-Ok.ensures.read newest blocks table commits h.master h.opened_is) bounded in
+    let found = commits_found c.recovery_laws.ensures.commits c.args.opened old newest blocks table commits c.in-Ok.redone.found h (c.in-Ok.ensures.read newest blocks table commits h.master h.opened_is) bounded in
     let few = commits_fit c.undo_all.new.log c.undo_all.new.pages und newest (records ++ undone.more) table commits undone.holds in
     let end = c.sealed_end-2.ensures in
     let same = c.undo_all.ensures.commits in
@@ -215,11 +215,11 @@ returns-then-commits-sealed_end-clause-asks g c newest blocks table commits h =
     let none : has_tail c.redo.new.log ≡ false = no_tail_still c.args.opened.log c.redo.new.log c.requires.empty c.in-Ok.ensures.blocks c.in-Ok.ensures.rises in
     let und = g.S.Site.state c.undo_all.new.site in
     let p = picture_under newest k old.image blocks in
-    let add = c.works_add_up.ensures.works in
-    let reads = c.works_add_up.ensures.reads in
+    let add = c.recovery_laws.ensures.works in
+    let reads = c.recovery_laws.ensures.reads in
     let first = c.in-Ok.ensures.asks newest blocks table commits h.master h.opened_is in
-    let more = c.works_add_up.ensures.more in
-    let over = c.works_add_up.ensures.overflow in
+    let more = c.recovery_laws.ensures.more in
+    let over = c.recovery_laws.ensures.overflow in
     let some : 1 ≤ (rules c.args.opened.pages).groups = (let least = c.requires.may.going.pages_going.flash.limits.groups in omega (arith, least)) in
     let two = asks_then add reads c.in-Ok.redone _ (redo_works p) (undo_works p.log) _ _ _ old mid und first (c.in-Ok-undo_all.ensures.asks newest records table commits none holds read) in
     from_fails more over c.in-Ok-undo_all.field-0 Foreign _ (redo_works p ++ undo_works p.log) checkpoint_works _ _ _ _ _ some (λ is. cc) (λ dev. refl) two
@@ -236,7 +236,7 @@ returns-in-Ok-checkpoint-clause-recovers g c newest blocks table commits h =
     let und = g.S.Site.state c.undo_all.new.site in
     let undone = c.in-Ok-undo_all.ensures.undone newest records table commits none holds read in
     let bounded = c.requires.may.going.log_going.usable.bounded in
-    let found = commits_found c.losers_are_taken.ensures.commits c.args.opened old newest blocks table commits c.in-Ok.redone.found h (c.in-Ok.ensures.read newest blocks table commits h.master h.opened_is) bounded in
+    let found = commits_found c.recovery_laws.ensures.commits c.args.opened old newest blocks table commits c.in-Ok.redone.found h (c.in-Ok.ensures.read newest blocks table commits h.master h.opened_is) bounded in
     let all = records ++ undone.more in
     let new = g.S.Site.state c.checkpoint.new.site in
     let counted : c.commits-commits.result ≡ commits = c.commits-commits.ensures.commits ∙ c.undo_all.ensures.commits ∙ found in
@@ -266,7 +266,7 @@ returns-in-Ok-checkpoint-clause-any_moment g c newest blocks table commits h qui
     let two = and_then k c.redo.new.pages.flash.geometry old mid und table commits c.redo.ensures.geometry first second in
     let undone = c.in-Ok-undo_all.ensures.undone newest records table commits none holds read in
     let bounded = c.requires.may.going.log_going.usable.bounded in
-    let found = commits_found c.losers_are_taken.ensures.commits c.args.opened old newest blocks table commits c.in-Ok.redone.found h (c.in-Ok.ensures.read newest blocks table commits h.master h.opened_is) bounded in
+    let found = commits_found c.recovery_laws.ensures.commits c.args.opened old newest blocks table commits c.in-Ok.redone.found h (c.in-Ok.ensures.read newest blocks table commits h.master h.opened_is) bounded in
     let all = records ++ undone.more in
     let new = g.S.Site.state c.checkpoint.new.site in
     let counted : c.commits-commits.result ≡ commits = c.commits-commits.ensures.commits ∙ c.undo_all.ensures.commits ∙ found in
@@ -290,8 +290,8 @@ returns-in-Ok-checkpoint-clause-asks g c newest blocks table commits h =
     let und = g.S.Site.state c.undo_all.new.site in
     let new = g.S.Site.state c.checkpoint.new.site in
     let p = picture_under newest k old.image blocks in
-    let add = c.works_add_up.ensures.works in
-    let reads = c.works_add_up.ensures.reads in
+    let add = c.recovery_laws.ensures.works in
+    let reads = c.recovery_laws.ensures.reads in
     let first = c.in-Ok.ensures.asks newest blocks table commits h.master h.opened_is in
     let two = asks_then add reads c.in-Ok.redone _ (redo_works p) (undo_works p.log) _ _ _ old mid und first (c.in-Ok-undo_all.ensures.asks newest records table commits none holds read) in
     let all = asks_then add reads c.in-Ok-undo_all.field-0 _ (redo_works p ++ undo_works p.log) checkpoint_works _ _ _ old und new two c.in-Ok-checkpoint.ensures.asks in
@@ -314,7 +314,7 @@ returns-clause-any_moment g c newest blocks table commits h quiet =
     let two = and_then k c.redo.new.pages.flash.geometry old mid und table commits c.redo.ensures.geometry first second in
     let undone = c.in-Ok-undo_all.ensures.undone newest records table commits none holds read in
     let bounded = c.requires.may.going.log_going.usable.bounded in
-    let found = commits_found c.losers_are_taken.ensures.commits c.args.opened old newest blocks table commits c.in-Ok.redone.found h (c.in-Ok.ensures.read newest blocks table commits h.master h.opened_is) bounded in
+    let found = commits_found c.recovery_laws.ensures.commits c.args.opened old newest blocks table commits c.in-Ok.redone.found h (c.in-Ok.ensures.read newest blocks table commits h.master h.opened_is) bounded in
     let all = records ++ undone.more in
     let new = g.S.Site.state c.checkpoint.new.site in
     let counted : c.commits-commits.result ≡ commits = c.commits-commits.ensures.commits ∙ c.undo_all.ensures.commits ∙ found in
@@ -340,7 +340,7 @@ returns-clause-quiet g c newest blocks table commits h quiet =
     let quiet_mid = c.in-Ok.ensures.stays_quiet honest quiet in
     let undone = c.in-Ok-undo_all.ensures.undone newest records table commits none holds read in
     let bounded = c.requires.may.going.log_going.usable.bounded in
-    let found = commits_found c.losers_are_taken.ensures.commits c.args.opened old newest blocks table commits c.in-Ok.redone.found h (c.in-Ok.ensures.read newest blocks table commits h.master h.opened_is) bounded in
+    let found = commits_found c.recovery_laws.ensures.commits c.args.opened old newest blocks table commits c.in-Ok.redone.found h (c.in-Ok.ensures.read newest blocks table commits h.master h.opened_is) bounded in
     let all = records ++ undone.more in
     let new = g.S.Site.state c.checkpoint.new.site in
     let counted : c.commits-commits.result ≡ commits = c.commits-commits.ensures.commits ∙ c.undo_all.ensures.commits ∙ found in
@@ -360,8 +360,8 @@ returns-clause-asks g c newest blocks table commits h =
     let und = g.S.Site.state c.undo_all.new.site in
     let new = g.S.Site.state c.checkpoint.new.site in
     let p = picture_under newest k old.image blocks in
-    let add = c.works_add_up.ensures.works in
-    let reads = c.works_add_up.ensures.reads in
+    let add = c.recovery_laws.ensures.works in
+    let reads = c.recovery_laws.ensures.reads in
     let first = c.in-Ok.ensures.asks newest blocks table commits h.master h.opened_is in
     let two = asks_then add reads c.in-Ok.redone _ (redo_works p) (undo_works p.log) _ _ _ old mid und first (c.in-Ok-undo_all.ensures.asks newest records table commits none holds read) in
     let all = asks_then add reads c.in-Ok-undo_all.field-0 _ (redo_works p ++ undo_works p.log) checkpoint_works _ _ _ old und new two c.in-Err-checkpoint.ensures.asks in
@@ -379,7 +379,7 @@ returns-clause-worn_log g c newest blocks table commits h is =
     let und = g.S.Site.state c.undo_all.new.site in
     let undone = c.in-Ok-undo_all.ensures.undone newest records table commits none holds read in
     let bounded = c.requires.may.going.log_going.usable.bounded in
-    let found = commits_found c.losers_are_taken.ensures.commits c.args.opened old newest blocks table commits c.in-Ok.redone.found h (c.in-Ok.ensures.read newest blocks table commits h.master h.opened_is) bounded in
+    let found = commits_found c.recovery_laws.ensures.commits c.args.opened old newest blocks table commits c.in-Ok.redone.found h (c.in-Ok.ensures.read newest blocks table commits h.master h.opened_is) bounded in
     let all = records ++ undone.more in
     let new = g.S.Site.state c.checkpoint.new.site in
     let counted : c.commits-commits.result ≡ commits = c.commits-commits.ensures.commits ∙ c.undo_all.ensures.commits ∙ found in
@@ -401,7 +401,7 @@ returns-clause-worn g c newest blocks table commits h is =
     let und = g.S.Site.state c.undo_all.new.site in
     let undone = c.in-Ok-undo_all.ensures.undone newest records table commits none holds read in
     let bounded = c.requires.may.going.log_going.usable.bounded in
-    let found = commits_found c.losers_are_taken.ensures.commits c.args.opened old newest blocks table commits c.in-Ok.redone.found h (c.in-Ok.ensures.read newest blocks table commits h.master h.opened_is) bounded in
+    let found = commits_found c.recovery_laws.ensures.commits c.args.opened old newest blocks table commits c.in-Ok.redone.found h (c.in-Ok.ensures.read newest blocks table commits h.master h.opened_is) bounded in
     let all = records ++ undone.more in
     let new = g.S.Site.state c.checkpoint.new.site in
     let counted : c.commits-commits.result ≡ commits = c.commits-commits.ensures.commits ∙ c.undo_all.ensures.commits ∙ found in
