@@ -33,3 +33,6 @@ pub mod Pendings
 pub mod UndoneWrites
 pub mod RedoWorks
 pub mod WornLogs
+pub mod RingNumbers
+pub mod UndoneNumbers
+pub mod LeftNumbers

@@ -129,7 +129,7 @@ module _ (laws : PageLaws) (redo : RedoLaws) (o : Opening) (log : LogStore) (pag
   pub replaced : (s : Snapshot) → LeavesPages o.sizes (current pages site.image) false list site s → ReplaceAll (opened o) (versions_on o.sizes s.image)
   replaced s leaves = all_replace laws redo o h.sound s.image (λ number exists. by_version s.image number exists (leaves.versions number exists))
 
-  blocks_left : (s : Snapshot) → LeavesPages o.sizes (current pages site.image) false list site s → HasBlocks o.sizes (kept_by o.newest) o.blocks s.image
+  pub blocks_left : (s : Snapshot) → LeavesPages o.sizes (current pages site.image) false list site s → HasBlocks o.sizes (kept_by o.newest) o.blocks s.image
   blocks_left s leaves = elim leaves.log.blocks [
     | inl has ↦ has
     | inr more ↦ absurd (true≢false (sym more.0))
@@ -150,7 +150,7 @@ module _ (laws : PageLaws) (redo : RedoLaws) (o : Opening) (log : LogStore) (pag
       by_page number exists (inr same) = subst page.IsSound (sym same) (content_sound own number exists)
 
   module _ (sealing : Bool) (never : sealing ≡ false) (new : State) where
-    leaves_so : LeavesOnly site new (LeavesPages pages.flash.geometry (current pages site.image) sealing list site) → LeavesOnly site new (LeavesPages o.sizes (current pages site.image) false list site)
+    pub leaves_so : LeavesOnly site new (LeavesPages pages.flash.geometry (current pages site.image) sealing list site) → LeavesOnly site new (LeavesPages o.sizes (current pages site.image) false list site)
     leaves_so leaves = subst (λ (b : Bool). LeavesOnly site new (LeavesPages o.sizes (current pages site.image) b list site)) never
         (subst (λ (k : Geometry). LeavesOnly site new (LeavesPages k (current pages site.image) sealing list site)) h.geometry leaves)
 

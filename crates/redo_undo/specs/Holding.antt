@@ -3,7 +3,7 @@ use Rattle.std.specs.Prelude.{◌≡◌, ◌⊎◌, ℕ, ◌+◌, ◌-◌, ◌/�
 use Rattle.site.specs.declared.geometry.Geometry.{Geometry}
 use Rattle.site.specs.State.{State, Image}
 use Rattle.sealed_ring.specs.Ring.{hi_of}
-use Rattle.image_changes.specs.Rings.{log_shape, master_shape}
+use Rattle.image_changes.specs.Rings.{master_shape}
 use Rattle.record_model.specs.State.{Content}
 use Rattle.log_records.specs.declared.log_record.LogRecord.{LogRecord}
 use Rattle.log_records.specs.Log.{Entry, number_of}
@@ -19,6 +19,7 @@ use Rattle.page_store.specs.Held as page_held
 use Rattle.page_store.specs.Held.{current}
 use Rattle.page_store.specs.Ahead.{IsAhead}
 use Rattle.page_store.specs.Leaves.{AreReady}
+use Rattle.page_store.specs.Stopping.{IsLogAtEnd}
 use Rattle.checkpoint.specs.declared.master.Master.{Master}
 use Rattle.image_meaning.specs.Meaning.{picture_under, versions_on, version_in, master_of, kept_by}
 use Rattle.image_meaning.specs.Redone.{ShowsAll}
@@ -78,4 +79,4 @@ pub record KeepsPages (g : Geometry) (pages : PageStore) (old new : Image) : Typ
 
 -- the ring of the log's blocks, or that of the master units, stands at its end: nothing can be appended to it
 abbrev pub IsLogWorn : Geometry → Image → Type 0
-IsLogWorn g image = (hi_of (log_shape g) image.log ≡ 2 ^ 40) ⊎ (hi_of master_shape image.log ≡ 2 ^ 40)
+IsLogWorn g image = IsLogAtEnd g image ⊎ (hi_of master_shape image.log ≡ 2 ^ 40)

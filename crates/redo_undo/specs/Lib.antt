@@ -1,6 +1,7 @@
 pub mod Running
 pub mod Holding
 pub mod Laws
+pub mod Numbers
 pub mod Undoing
 pub mod Rollback
 pub mod UndoingAll

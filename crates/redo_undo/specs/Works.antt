@@ -1,5 +1,5 @@
 -- What calls on pages ask of the cache: work for the machine, the groups that it appends, and the pages that it reads at most.
-use Rattle.std.specs.Prelude.{◌≡◌, ℕ, ◌+◌, ◌*◌, ◌^◌, ◌≤◌, ◌<◌, true, false, List, [], ◌∷◌, ◌++◌, length, map, filter_map, reverse, if◌then◌else◌, Result, OnOk, IsErrOf, Option}
+use Rattle.std.specs.Prelude.{◌≡◌, ℕ, ◌+◌, ◌*◌, ◌^◌, ◌≤◌, ◌<◌, true, false, List, [], ◌∷◌, ◌++◌, map, filter_map, reverse, if◌then◌else◌, Result, OnOk, IsErrOf, Option}
 use Rattle.site.specs.declared.outside.Dev.TheVariants.{Flash}
 use Rattle.site.specs.declared.outside.Stop.{Stop}
 use Rattle.site.specs.declared.outside.Stop.TheVariants.{Worn}
@@ -15,6 +15,7 @@ use Rattle.checkpoint.specs.declared.master.Master.{Master}
 use Rattle.image_meaning.specs.Meaning.{master_of}
 use Rattle.page_store.specs.declared.store.PageStore.{PageStore}
 use Rattle.page_store.specs.Caching.{cache_of, rules}
+pub use Rattle.page_store.specs.Caching.{next_group}
 use Rattle.second_chance.specs.Machine.{Rules, Cache, worked, after_works, finds, misses}
 
 -- Work.
@@ -43,10 +44,6 @@ abbrev pub checkpoint_works : List CacheWork
 checkpoint_works = flush ∷ []
 
 -- The groups that it appends.
-
--- the number of the group that the next push appends
-abbrev pub next_group : Cache → ℕ
-next_group cache = cache.queue.first + length cache.queue.groups
 
 -- this work appends to a ring that stands at its end
 abbrev pub Overflows : Rules → List CacheWork → Cache → Type 0

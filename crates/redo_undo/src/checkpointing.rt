@@ -26,6 +26,7 @@ ghost use Rattle.image_meaning.specs.Flushed.{first_block};
 ghost use Rattle.redo_undo.specs.Holding.{MayGoOn, Holds, IsLogWorn, blocks_to};
 ghost use Rattle.redo_undo.specs.Checkpointing.{MayBeMade, KeepUnfinished, begins_of, SaveLaws};
 ghost use Rattle.redo_undo.specs.Works.{Asks, checkpoint_works};
+ghost use Rattle.redo_undo.specs.Numbers.{SkipsNone};
 
 use crate::forcing::force;
 use crate::laws::{beside_laws, log_laws, page_laws};
@@ -75,6 +76,10 @@ fn flush<S: Site>(site: &mut S, log: &mut LogStore, pages: &mut PageStore) -> Re
         → IsQuiet (S.state site.old)
         → LeavesOnly (S.state site.old) (S.state site.new)
         (LeavesTableUnder newest pages.old.flash.geometry table commits (S.state site.old).told) }
+    ensures numbers { (newest : Option Master) (records : List Entry) (table : List Content) (commits : ℕ)
+        → Holds log.old pages.old (S.state site.old) newest records table commits
+        → IsQuiet (S.state site.old)
+        → SkipsNone result pages.old.flash.geometry log.old log.new (S.state site.old) (S.state site.new) 0 0 }
     ensures masters { (newest : Option Master) (records : List Entry) (table : List Content) (commits : ℕ)
         → Holds log.old pages.old (S.state site.old) newest records table commits
         → OnOk result (KeepsUnits master_shape (S.state site.old).image (S.state site.new).image) }
@@ -185,6 +190,13 @@ fn save_master<S: Site>(
         → IsQuiet (S.state site.old)
         → LeavesOnly (S.state site.old) (S.state site.new)
         (LeavesFor pages.flash.geometry table commits (S.state site.old).told) }
+    ensures numbers { (pages : PageStore) (newest : Option Master) (records : List Entry) (table : List Content)
+        → log.old.geometry ≡ pages.flash.geometry
+        → Holds log.old pages (S.state site.old) newest records table commits
+        → log.old.used ≡ 2 → wants_flush (cache_of pages) ≡ false
+        → MayBeMade masters.old (S.state site.old) records active
+        → IsQuiet (S.state site.old)
+        → SkipsNone result log.old.geometry log.old log.new (S.state site.old) (S.state site.new) 0 1 }
     ensures ready { IsTrue (S.state site.old).honest → Finds masters.old (S.state site.old)
         → OnOk result (IsReady masters.new (S.state site.new)) }
     ensures worn_log_end { Finds masters.old (S.state site.old)
@@ -270,6 +282,11 @@ pub fn checkpoint<S: Site>(
         → IsQuiet (S.state site.old)
         → LeavesOnly (S.state site.old) (S.state site.new)
         (LeavesFor pages.old.flash.geometry table commits (S.state site.old).told) }
+    ensures numbers { (newest : Option Master) (records : List Entry) (table : List Content)
+        → Holds log.old pages.old (S.state site.old) newest records table commits
+        → MayBeMade masters.old (S.state site.old) records active
+        → IsQuiet (S.state site.old)
+        → SkipsNone result pages.old.flash.geometry log.old log.new (S.state site.old) (S.state site.new) 0 1 }
     ensures found { (newest : Option Master) (records : List Entry) (table : List Content)
         → Holds log.old pages.old (S.state site.old) newest records table commits
         → MayBeMade masters.old (S.state site.old) records active

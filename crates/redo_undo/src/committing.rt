@@ -1,5 +1,5 @@
 // A transaction is committed.
-ghost use Rattle.std.specs.Prelude.{◌≡◌, ◌≢◌, ◌⊎◌, ◌+◌, ◌^◌, ◌<◌, ◌≤◌, ◌++◌, ◌∷◌, [], ℕ, List, IfOk, OnOk, IfErr, IsErrOf, IsTrue, Option};
+ghost use Rattle.std.specs.Prelude.{◌≡◌, ◌≢◌, ◌⊎◌, ◌+◌, ◌<◌, ◌≤◌, ◌++◌, ◌∷◌, [], ℕ, List, IfOk, OnOk, IfErr, IsErrOf, IsTrue, Option};
 ghost use Rattle.site.specs.declared.outside.Dev.{Dev};
 ghost use Rattle.site.specs.declared.outside.Stop.{Stop};
 ghost use Rattle.site.specs.State.{IsQuiet};
@@ -18,6 +18,7 @@ ghost use Rattle.checkpoint.specs.declared.master.Master.{Master};
 ghost use Rattle.image_meaning.specs.Moments.{LeavesEitherUnder};
 ghost use Rattle.redo_undo.specs.Holding.{MayGoOn, Holds, KeepsPages, IsLogWorn, blocks_to};
 ghost use Rattle.redo_undo.specs.Committing.{MayCommit, CommitLaws};
+ghost use Rattle.redo_undo.specs.Numbers.{SkipsNone};
 
 use crate::laws::{beside_laws, log_laws, page_laws};
 use crate::logging::log_record;
@@ -66,6 +67,12 @@ pub fn commit<S: Site>(site: &mut S, log: &mut LogStore, txn: u64, number: u64) 
         → LeavesOnly (S.state site.old) (S.state site.new)
         (LeavesEitherUnder newest pages.flash.geometry table (table_with table (writes_in txn records)) commits
         (S.state site.old).told) }
+    ensures numbers { (pages : PageStore) (newest : Option Master) (records : List Entry) (table : List Content) (commits : ℕ)
+        → MayGoOn log.old pages (S.state site.old)
+        → Holds log.old pages (S.state site.old) newest records table commits
+        → MayCommit newest records txn number commits
+        → IsQuiet (S.state site.old)
+        → SkipsNone result log.old.geometry log.old log.new (S.state site.old) (S.state site.new) 1 0 }
     ensures pages { (pages : PageStore) (newest : Option Master) (records : List Entry) (table : List Content) (commits : ℕ)
         → Holds log.old pages (S.state site.old) newest records table commits
         → KeepsPages pages.flash.geometry pages (S.state site.old).image (S.state site.new).image }
@@ -99,7 +106,6 @@ pub fn commit<S: Site>(site: &mut S, log: &mut LogStore, txn: u64, number: u64) 
     ensures reads { SameReads (S.state site.old) (S.state site.new) }
 
     // When each answer comes.
-    ensures worn { IsErrOf result (Stop.Worn Dev.Log) → 2 ^ 40 ≤ log.old.ring.hi + 1 }
     ensures device { IsErrOf result (Stop.Device Dev.Log)
         → FaultRose Dev.Log (S.state site.old) (S.state site.new) }
     ensures stops { IfErr result (λ stop. (stop ≡ Stop.Device Dev.Log) ⊎ (stop ≡ Stop.Worn Dev.Log)) }

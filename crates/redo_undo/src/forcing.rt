@@ -13,6 +13,7 @@ ghost use Rattle.image_changes.specs.Rings.{KeepsUnits, master_shape};
 ghost use Rattle.checkpoint.specs.declared.master.Master.{Master};
 ghost use Rattle.image_meaning.specs.Moments.{LeavesTableUnder};
 ghost use Rattle.redo_undo.specs.Holding.{MayGoOn, Holds, IsLogWorn, blocks_to};
+ghost use Rattle.redo_undo.specs.Numbers.{SkipsNone};
 
 use crate::laws::{beside_laws, log_laws, page_laws};
 use image_changes::ring_kept;
@@ -36,6 +37,11 @@ pub fn force<S: Site>(site: &mut S, log: &mut LogStore) -> Result<(), Stop>
         → IsQuiet (S.state site.old)
         → LeavesOnly (S.state site.old) (S.state site.new)
         (LeavesTableUnder newest pages.flash.geometry table commits (S.state site.old).told) }
+    ensures numbers { (pages : PageStore) (newest : Option Master) (records : List Entry) (table : List Content) (commits : ℕ)
+        → MayGoOn log.old pages (S.state site.old)
+        → Holds log.old pages (S.state site.old) newest records table commits
+        → IsQuiet (S.state site.old)
+        → SkipsNone result log.old.geometry log.old log.new (S.state site.old) (S.state site.new) 0 0 }
     ensures worn_log_end { (pages : PageStore) (newest : Option Master) (records : List Entry) (table : List Content) (commits : ℕ)
         → Holds log.old pages (S.state site.old) newest records table commits
         → IsErrOf result (Stop.Worn Dev.Log) → IsLogWorn log.old.geometry (S.state site.new).image }

@@ -25,6 +25,7 @@ ghost use Rattle.image_meaning.specs.Moments.{LeavesTableUnder};
 ghost use Rattle.redo_undo.specs.Holding.{MayGoOn, HoldsLog, Holds, MayGrow, KeepsPages, IsOnPage, IsLogWorn, blocks_to};
 ghost use Rattle.redo_undo.specs.Committing.{EndsWith};
 ghost use Rattle.redo_undo.specs.Works.{Asks, one_touch};
+ghost use Rattle.redo_undo.specs.Numbers.{SkipsNone};
 
 use crate::changing::change_front;
 use crate::laws::{beside_laws, log_laws, page_laws};
@@ -55,6 +56,10 @@ pub fn touch<S: Site>(
         → IsQuiet (S.state site.old)
         → LeavesOnly (S.state site.old) (S.state site.new)
         (LeavesTableUnder newest pages.old.flash.geometry table commits (S.state site.old).told) }
+    ensures numbers { (newest : Option Master) (records : List Entry) (table : List Content) (commits : ℕ)
+        → Holds log.old pages.old (S.state site.old) newest records table commits
+        → IsQuiet (S.state site.old)
+        → SkipsNone result pages.old.flash.geometry log.old log.new (S.state site.old) (S.state site.new) 0 0 }
     ensures readable { (newest : Option Master) (records : List Entry) (table : List Content) (commits : ℕ)
         → Holds log.old pages.old (S.state site.old) newest records table commits
         → IsErrOf result Stop.Foreign → ⊥ }
@@ -142,6 +147,11 @@ pub fn log_record<S: Site>(site: &mut S, log: &mut LogStore, rec: &LogRecord) ->
         → IsQuiet (S.state site.old)
         → LeavesOnly (S.state site.old) (S.state site.new)
         (LeavesTableUnder newest pages.flash.geometry table commits (S.state site.old).told) }
+    ensures numbers { (pages : PageStore) (newest : Option Master) (records : List Entry) (table : List Content) (commits : ℕ)
+        → MayGoOn log.old pages (S.state site.old)
+        → Holds log.old pages (S.state site.old) newest records table commits
+        → IsQuiet (S.state site.old)
+        → SkipsNone result log.old.geometry log.old log.new (S.state site.old) (S.state site.new) 1 0 }
     ensures worn_log_end { (pages : PageStore) (newest : Option Master) (records : List Entry) (table : List Content) (commits : ℕ)
         → Holds log.old pages (S.state site.old) newest records table commits
         → IsErrOf result (Stop.Worn Dev.Log) → IsLogWorn log.old.geometry (S.state site.new).image }
@@ -215,6 +225,10 @@ pub fn log_change<S: Site>(
         → IsQuiet (S.state site.old)
         → LeavesOnly (S.state site.old) (S.state site.new)
         (LeavesTableUnder newest pages.old.flash.geometry table commits (S.state site.old).told) }
+    ensures numbers { (newest : Option Master) (records : List Entry) (table : List Content) (commits : ℕ)
+        → Holds log.old pages.old (S.state site.old) newest records table commits
+        → IsQuiet (S.state site.old)
+        → SkipsNone result pages.old.flash.geometry log.old log.new (S.state site.old) (S.state site.new) 1 0 }
     ensures readable { (newest : Option Master) (records : List Entry) (table : List Content) (commits : ℕ)
         → Holds log.old pages.old (S.state site.old) newest records table commits
         → IsErrOf result Stop.Foreign → ⊥ }

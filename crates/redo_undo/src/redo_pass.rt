@@ -28,6 +28,7 @@ ghost use Rattle.redo_undo.specs.RedoLaws.{RedoLaws};
 ghost use Rattle.checkpoint.specs.declared.master.Master.{Master};
 ghost use Rattle.image_changes.specs.Rings.{KeepsUnits, master_shape};
 ghost use Rattle.redo_undo.specs.Works.{Asks, one_touch, redo_works};
+ghost use Rattle.redo_undo.specs.Numbers.{SkipsNone};
 
 use crate::changing::change_front;
 use crate::laws::{log_laws, page_laws};
@@ -153,6 +154,9 @@ fn touch_page<S: Site>(
     ensures any_moment { (o : Opening) (front : List Entry) → IsRedoing o log.old pages.old (S.state site.old) front
         → IsQuiet (S.state site.old)
         → LeavesOnly (S.state site.old) (S.state site.new) (LeavesOpened o (S.state site.old).told) }
+    ensures numbers { (o : Opening) (front : List Entry) → IsRedoing o log.old pages.old (S.state site.old) front
+        → IsQuiet (S.state site.old)
+        → SkipsNone result pages.old.flash.geometry log.old log.new (S.state site.old) (S.state site.new) 0 0 }
     ensures readable { (o : Opening) (front : List Entry) → IsRedoing o log.old pages.old (S.state site.old) front
         → IsErrOf result Stop.Foreign → ⊥ }
     ensures worn_end { (o : Opening) (front : List Entry) → IsRedoing o log.old pages.old (S.state site.old) front
@@ -179,7 +183,6 @@ fn touch_page<S: Site>(
     ensures size { pages.new.pool.size ≡ pages.old.pool.size }
     ensures goes { Goes (S.state site.old) (S.state site.new) }
     ensures log_reads { (S.state site.new).log_reads ≡ (S.state site.old).log_reads }
-    ensures worn_log { IsErrOf result (Stop.Worn Dev.Log) → 2 ^ 40 ≤ blocks_to log.old }
     ensures device { (d : Dev) → IsErrOf result (Stop.Device d)
         → FaultRose d (S.state site.old) (S.state site.new) }
     ensures stops { IfErr result (λ stop. MayStop stop) }
@@ -207,6 +210,9 @@ fn redo_record<S: Site>(
     ensures any_moment { (o : Opening) (front : List Entry) → IsRedoing o log.old pages.old (S.state site.old) front
         → IsQuiet (S.state site.old)
         → LeavesOnly (S.state site.old) (S.state site.new) (LeavesOpened o (S.state site.old).told) }
+    ensures numbers { (o : Opening) (front : List Entry) → IsRedoing o log.old pages.old (S.state site.old) front
+        → IsQuiet (S.state site.old)
+        → SkipsNone result pages.old.flash.geometry log.old log.new (S.state site.old) (S.state site.new) 0 0 }
     ensures readable { (o : Opening) (front rest : List Entry) → IsRedoing o log.old pages.old (S.state site.old) front
         → log_from (kept_by o.newest) o.blocks ≡ front ++ record { lsn = lsn; rec = rec.now } ∷ rest
         → IsErrOf result Stop.Foreign → ⊥ }
@@ -234,7 +240,6 @@ fn redo_record<S: Site>(
     ensures size { pages.new.pool.size ≡ pages.old.pool.size }
     ensures goes { Goes (S.state site.old) (S.state site.new) }
     ensures log_reads { (S.state site.new).log_reads ≡ (S.state site.old).log_reads }
-    ensures worn_log { IsErrOf result (Stop.Worn Dev.Log) → 2 ^ 40 ≤ blocks_to log.old }
     ensures device { (d : Dev) → IsErrOf result (Stop.Device d)
         → FaultRose d (S.state site.old) (S.state site.new) }
     ensures stops { IfErr result (λ stop. MayStop stop) }
@@ -282,6 +287,10 @@ fn take_record<S: Site>(
         → HasTaken o log.old pages.old (S.state site.old) so_far.old front
         → IsQuiet (S.state site.old)
         → LeavesOnly (S.state site.old) (S.state site.new) (LeavesOpened o (S.state site.old).told) }
+    ensures numbers { (o : Opening) (front : List Entry)
+        → HasTaken o log.old pages.old (S.state site.old) so_far.old front
+        → IsQuiet (S.state site.old)
+        → SkipsNone result pages.old.flash.geometry log.old log.new (S.state site.old) (S.state site.new) 0 0 }
     ensures readable { (o : Opening) (front rest : List Entry) → master.now ≡ saved_by o.newest
         → HasTaken o log.old pages.old (S.state site.old) so_far.old front
         → log_from (kept_by o.newest) o.blocks ≡ front ++ record { lsn = lsn; rec = rec.now } ∷ rest
@@ -316,7 +325,6 @@ fn take_record<S: Site>(
     ensures size { pages.new.pool.size ≡ pages.old.pool.size }
     ensures goes { Goes (S.state site.old) (S.state site.new) }
     ensures log_reads { (S.state site.new).log_reads ≡ (S.state site.old).log_reads }
-    ensures worn_log { IsErrOf result (Stop.Worn Dev.Log) → 2 ^ 40 ≤ blocks_to log.old }
     ensures device { (d : Dev) → IsErrOf result (Stop.Device d)
         → FaultRose d (S.state site.old) (S.state site.new) }
     ensures stops { IfErr result (λ stop. MayStop stop) }
@@ -364,6 +372,12 @@ fn take_block<S: Site>(
         → log_from (kept_by o.newest) o.blocks ≡ front ++ (entries_from (512 * block + 2) records ++ rest)
         → IsQuiet (S.state site.old)
         → LeavesOnly (S.state site.old) (S.state site.new) (LeavesOpened o (S.state site.old).told) }
+    ensures numbers { (o : Opening) (front rest : List Entry) (records : List LogRecord) → master.now ≡ saved_by o.newest
+        → HasTaken o log.old pages.old (S.state site.old) so_far.old front
+        → IsBlock content.now records → used ≡ used_by records
+        → log_from (kept_by o.newest) o.blocks ≡ front ++ (entries_from (512 * block + 2) records ++ rest)
+        → IsQuiet (S.state site.old)
+        → SkipsNone result pages.old.flash.geometry log.old log.new (S.state site.old) (S.state site.new) 0 0 }
     ensures readable { (o : Opening) (front rest : List Entry) (records : List LogRecord) → master.now ≡ saved_by o.newest
         → HasTaken o log.old pages.old (S.state site.old) so_far.old front
         → IsBlock content.now records → used ≡ used_by records
@@ -409,7 +423,6 @@ fn take_block<S: Site>(
     ensures size { pages.new.pool.size ≡ pages.old.pool.size }
     ensures goes { Goes (S.state site.old) (S.state site.new) }
     ensures log_reads { (S.state site.new).log_reads ≡ (S.state site.old).log_reads }
-    ensures worn_log { IsErrOf result (Stop.Worn Dev.Log) → 2 ^ 40 ≤ blocks_to log.old }
     ensures device { (d : Dev) → IsErrOf result (Stop.Device d)
         → FaultRose d (S.state site.old) (S.state site.new) }
     ensures stops { IfErr result (λ stop. MayStop stop) }
@@ -471,6 +484,10 @@ pub fn redo<S: Site>(
         → IsQuiet (S.state site.old)
         → LeavesOnly (S.state site.old) (S.state site.new)
         (LeavesTableUnder newest pages.old.flash.geometry table commits (S.state site.old).told) }
+    ensures numbers { (newest : Option Master) (blocks : List (List LogRecord)) (table : List Content) (commits : ℕ) → master.now ≡ saved_by newest
+        → IsOpened pages.old.flash.geometry log.old pages.old (S.state site.old) newest blocks table commits
+        → IsQuiet (S.state site.old)
+        → SkipsNone result pages.old.flash.geometry log.old log.new (S.state site.old) (S.state site.new) 0 0 }
     ensures readable { (newest : Option Master) (blocks : List (List LogRecord)) (table : List Content) (commits : ℕ) → master.now ≡ saved_by newest
         → IsOpened pages.old.flash.geometry log.old pages.old (S.state site.old) newest blocks table commits
         → IsErrOf result Stop.Foreign → ⊥ }
@@ -512,7 +529,6 @@ pub fn redo<S: Site>(
         ≤ (S.state site.old).log_reads + (log.old.ring.hi - log.old.kept) }
 
     // When each answer comes.
-    ensures worn_log { IsErrOf result (Stop.Worn Dev.Log) → 2 ^ 40 ≤ blocks_to log.old }
     ensures device { (d : Dev) → IsErrOf result (Stop.Device d)
         → FaultRose d (S.state site.old) (S.state site.new) }
     ensures stops { IfErr result (λ stop. MayStop stop) }

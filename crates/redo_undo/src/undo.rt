@@ -26,6 +26,7 @@ ghost use Rattle.redo_undo.specs.Undoing.{IsAt, IsWanted, Undone};
 ghost use Rattle.redo_undo.specs.Rollback.{Compensates, RollsBack};
 ghost use Rattle.redo_undo.specs.Works.{Asks, one_change, undo_one_works};
 ghost use Rattle.redo_undo.specs.UndoWorks.{works_of};
+ghost use Rattle.redo_undo.specs.Numbers.{SkipsNone};
 
 use crate::laws::{beside_laws, found_laws, page_laws, undo_laws};
 use crate::logging::{log_change, log_record, touch};
@@ -180,6 +181,10 @@ fn compensate<S: Site>(
         → IsQuiet (S.state site.old)
         → LeavesOnly (S.state site.old) (S.state site.new)
         (LeavesTableUnder newest pages.old.flash.geometry table commits (S.state site.old).told) }
+    ensures numbers { (newest : Option Master) (records : List Entry) (table : List Content) (commits : ℕ)
+        → Holds log.old pages.old (S.state site.old) newest records table commits
+        → IsQuiet (S.state site.old)
+        → SkipsNone result pages.old.flash.geometry log.old log.new (S.state site.old) (S.state site.new) 1 0 }
     ensures readable { (newest : Option Master) (records : List Entry) (table : List Content) (commits : ℕ)
         → Holds log.old pages.old (S.state site.old) newest records table commits
         → IsErrOf result Stop.Foreign → ⊥ }
@@ -212,7 +217,6 @@ fn compensate<S: Site>(
     ensures rises { OnOk result (end_of log.old ≤ end_of log.new) }
     ensures goes { Goes (S.state site.old) (S.state site.new) }
     ensures log_reads { (S.state site.new).log_reads ≡ (S.state site.old).log_reads }
-    ensures worn_log { IsErrOf result (Stop.Worn Dev.Log) → 2 ^ 40 ≤ blocks_to log.old }
     ensures worn_flash { IsErrOf result (Stop.Worn Dev.Flash) → pages.old.flash.ring.hi ≡ 2 ^ 40 }
     ensures device { (d : Dev) → IsErrOf result (Stop.Device d)
         → FaultRose d (S.state site.old) (S.state site.new) }
@@ -256,6 +260,10 @@ pub(crate) fn undo_update<S: Site>(
         → IsQuiet (S.state site.old)
         → LeavesOnly (S.state site.old) (S.state site.new)
         (LeavesTableUnder newest pages.old.flash.geometry table commits (S.state site.old).told) }
+    ensures numbers { (newest : Option Master) (records : List Entry) (table : List Content) (commits : ℕ)
+        → Holds log.old pages.old (S.state site.old) newest records table commits
+        → IsQuiet (S.state site.old)
+        → SkipsNone result pages.old.flash.geometry log.old log.new (S.state site.old) (S.state site.new) 1 0 }
     ensures readable { (newest : Option Master) (records : List Entry) (table : List Content) (commits : ℕ) (x : Unfinished)
         → Holds log.old pages.old (S.state site.old) newest records table commits
         → IsUnfinished records x → IsAt at x → 0 < x.remaining
@@ -295,9 +303,7 @@ pub(crate) fn undo_update<S: Site>(
     ensures rises { OnOk result (end_of log.old ≤ end_of log.new) }
     ensures goes { Goes (S.state site.old) (S.state site.new) }
     ensures log_reads { (S.state site.new).log_reads ≤ (S.state site.old).log_reads + 1 }
-    ensures worn_log { IsErrOf result (Stop.Worn Dev.Log) → 2 ^ 40 ≤ blocks_to log.old }
     ensures worn_flash { IsErrOf result (Stop.Worn Dev.Flash) → pages.old.flash.ring.hi ≡ 2 ^ 40 }
-    ensures worn_room { IsErrOf result (Stop.Worn Dev.Log) → 2 ^ 40 < log.old.kept + log.old.geometry.blocks }
     ensures device { (d : Dev) → IsErrOf result (Stop.Device d)
         → FaultRose d (S.state site.old) (S.state site.new) }
     ensures stops { IfErr result (λ stop. MayStop stop) }
@@ -346,6 +352,11 @@ fn undo_updates<S: Site>(
         → IsQuiet (S.state site.old)
         → LeavesOnly (S.state site.old) (S.state site.new)
         (LeavesTableUnder newest pages.old.flash.geometry table commits (S.state site.old).told) }
+    ensures numbers { (newest : Option Master) (records : List Entry) (table : List Content) (commits : ℕ) (x : Unfinished)
+        → Holds log.old pages.old (S.state site.old) newest records table commits
+        → IsUnfinished records x → IsAt first x
+        → IsQuiet (S.state site.old)
+        → SkipsNone result pages.old.flash.geometry log.old log.new (S.state site.old) (S.state site.new) x.remaining 0 }
     ensures readable { (newest : Option Master) (records : List Entry) (table : List Content) (commits : ℕ) (x : Unfinished)
         → Holds log.old pages.old (S.state site.old) newest records table commits
         → IsUnfinished records x → IsAt first x
@@ -374,10 +385,6 @@ fn undo_updates<S: Site>(
         → Holds log.old pages.old (S.state site.old) newest records table commits
         → IsUnfinished records x → IsAt first x
         → (S.state site.new).log_reads ≤ (S.state site.old).log_reads + x.remaining }
-    ensures worn_log { (newest : Option Master) (records : List Entry) (table : List Content) (commits : ℕ) (x : Unfinished)
-        → Holds log.old pages.old (S.state site.old) newest records table commits
-        → IsUnfinished records x → IsAt first x
-        → IsErrOf result (Stop.Worn Dev.Log) → 2 ^ 40 ≤ blocks_to log.old + x.remaining }
     ensures asks { (newest : Option Master) (records : List Entry) (table : List Content) (commits : ℕ) (x : Unfinished)
         → Holds log.old pages.old (S.state site.old) newest records table commits
         → IsUnfinished records x → IsAt first x
@@ -393,7 +400,6 @@ fn undo_updates<S: Site>(
     ensures size { pages.new.pool.size ≡ pages.old.pool.size }
     ensures rises { OnOk result (end_of log.old ≤ end_of log.new) }
     ensures goes { Goes (S.state site.old) (S.state site.new) }
-    ensures worn_room { IsErrOf result (Stop.Worn Dev.Log) → 2 ^ 40 < log.old.kept + log.old.geometry.blocks }
     ensures device { (d : Dev) → IsErrOf result (Stop.Device d)
         → FaultRose d (S.state site.old) (S.state site.new) }
     ensures stops { IfErr result (λ stop. MayStop stop) }
@@ -501,6 +507,11 @@ pub fn undo_one<S: Site>(
         → IsQuiet (S.state site.old)
         → LeavesOnly (S.state site.old) (S.state site.new)
         (LeavesTableUnder newest pages.old.flash.geometry table commits (S.state site.old).told) }
+    ensures numbers { (newest : Option Master) (records : List Entry) (table : List Content) (commits : ℕ) (x : Unfinished)
+        → Holds log.old pages.old (S.state site.old) newest records table commits
+        → IsUnfinished records x → x.txn ≡ txn → x.last ≡ last
+        → IsQuiet (S.state site.old)
+        → SkipsNone result pages.old.flash.geometry log.old log.new (S.state site.old) (S.state site.new) (x.remaining + 1) 0 }
     ensures readable { (newest : Option Master) (records : List Entry) (table : List Content) (commits : ℕ) (x : Unfinished)
         → Holds log.old pages.old (S.state site.old) newest records table commits
         → IsUnfinished records x → x.txn ≡ txn → x.last ≡ last
@@ -534,10 +545,6 @@ pub fn undo_one<S: Site>(
         → Holds log.old pages.old (S.state site.old) newest records table commits
         → IsUnfinished records x → x.txn ≡ txn → x.last ≡ last
         → (S.state site.new).log_reads ≤ (S.state site.old).log_reads + (x.remaining + 1) }
-    ensures worn_log { (newest : Option Master) (records : List Entry) (table : List Content) (commits : ℕ) (x : Unfinished)
-        → Holds log.old pages.old (S.state site.old) newest records table commits
-        → IsUnfinished records x → x.txn ≡ txn → x.last ≡ last
-        → IsErrOf result (Stop.Worn Dev.Log) → 2 ^ 40 ≤ blocks_to log.old + (x.remaining + 1) }
     ensures asks { (newest : Option Master) (records : List Entry) (table : List Content) (commits : ℕ) (x : Unfinished)
         → Holds log.old pages.old (S.state site.old) newest records table commits
         → IsUnfinished records x → x.txn ≡ txn → x.last ≡ last
@@ -553,7 +560,6 @@ pub fn undo_one<S: Site>(
     ensures goes { Goes (S.state site.old) (S.state site.new) }
 
     // When each answer comes.
-    ensures worn_room { IsErrOf result (Stop.Worn Dev.Log) → 2 ^ 40 < log.old.kept + log.old.geometry.blocks }
     ensures device { (d : Dev) → IsErrOf result (Stop.Device d)
         → FaultRose d (S.state site.old) (S.state site.new) }
     ensures stops { IfErr result (λ stop. MayStop stop) }

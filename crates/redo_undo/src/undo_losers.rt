@@ -23,6 +23,7 @@ ghost use Rattle.redo_undo.specs.Works.{Asks, undo_works};
 ghost use Rattle.redo_undo.specs.UndoWorks.{works_of, IsLastAt, UndoesUpdates};
 ghost use Rattle.image_changes.specs.Rings.{KeepsUnits, master_shape};
 ghost use Rattle.redo_undo.specs.UndoingAll.{IsOf, Remain, HasNone, IsGreatest, IsUndoing, UndoesSome, UndoesAll};
+ghost use Rattle.redo_undo.specs.Numbers.{SkipsNone};
 
 use crate::laws::{found_laws, page_laws, undo_laws};
 use crate::logging::log_record;
@@ -90,6 +91,11 @@ fn end_one<S: Site>(
         → IsQuiet (S.state site.old)
         → LeavesOnly (S.state site.old) (S.state site.new)
         (LeavesTableUnder newest pages.flash.geometry table commits (S.state site.old).told) }
+    ensures numbers { (pages : PageStore) (newest : Option Master) (records : List Entry) (table : List Content) (commits : ℕ)
+        → MayGoOn log.old pages (S.state site.old)
+        → Holds log.old pages (S.state site.old) newest records table commits
+        → IsQuiet (S.state site.old)
+        → SkipsNone result log.old.geometry log.old log.new (S.state site.old) (S.state site.new) 1 0 }
     ensures readable { (pages : PageStore) (newest : Option Master) (records : List Entry) (table : List Content) (commits known : ℕ)
         → log.old.geometry ≡ pages.flash.geometry
         → IsUndoing log.old pages (S.state site.old) newest records table commits found.old known
@@ -173,6 +179,11 @@ fn end_undone<S: Site>(
         → IsQuiet (S.state site.old)
         → LeavesOnly (S.state site.old) (S.state site.new)
         (LeavesTableUnder newest pages.flash.geometry table commits (S.state site.old).told) }
+    ensures numbers { (pages : PageStore) (newest : Option Master) (records : List Entry) (table : List Content) (commits : ℕ)
+        → MayGoOn log.old pages (S.state site.old)
+        → IsUndoing log.old pages (S.state site.old) newest records table commits found.old known
+        → IsQuiet (S.state site.old)
+        → SkipsNone result log.old.geometry log.old log.new (S.state site.old) (S.state site.new) (owed_for (listed found.old.table)) 0 }
     ensures readable { (pages : PageStore) (newest : Option Master) (records : List Entry) (table : List Content) (commits : ℕ)
         → MayGoOn log.old pages (S.state site.old)
         → IsUndoing log.old pages (S.state site.old) newest records table commits found.old known
@@ -217,8 +228,6 @@ fn end_undone<S: Site>(
     ensures reads { SameReads (S.state site.old) (S.state site.new) }
 
     // When each answer comes.
-    ensures worn { IsErrOf result (Stop.Worn Dev.Log)
-        → 2 ^ 40 ≤ blocks_to log.old + owed_for (listed found.old.table) }
     ensures device { (d : Dev) → IsErrOf result (Stop.Device d)
         → FaultRose d (S.state site.old) (S.state site.new) }
     ensures stops { IfErr result (λ stop. (stop ≡ Stop.Device Dev.Log)
@@ -260,6 +269,10 @@ fn undo_greatest<S: Site>(
         → IsQuiet (S.state site.old)
         → LeavesOnly (S.state site.old) (S.state site.new)
         (LeavesTableUnder newest pages.old.flash.geometry table commits (S.state site.old).told) }
+    ensures numbers { (newest : Option Master) (records : List Entry) (table : List Content) (commits : ℕ)
+        → Holds log.old pages.old (S.state site.old) newest records table commits
+        → IsQuiet (S.state site.old)
+        → SkipsNone result pages.old.flash.geometry log.old log.new (S.state site.old) (S.state site.new) 1 0 }
     ensures readable { (newest : Option Master) (records : List Entry) (table : List Content) (commits known : ℕ)
         → IsUndoing log.old pages.old (S.state site.old) newest records table commits found.old known
         → IfErr result (λ stop. stop ≢ Stop.Foreign) }
@@ -306,7 +319,6 @@ fn undo_greatest<S: Site>(
     ensures log_reads { (S.state site.new).log_reads ≤ (S.state site.old).log_reads + 1 }
 
     // When each answer comes.
-    ensures worn_log { IsErrOf result (Stop.Worn Dev.Log) → 2 ^ 40 ≤ blocks_to log.old }
     ensures worn_flash { IsErrOf result (Stop.Worn Dev.Flash) → pages.old.flash.ring.hi ≡ 2 ^ 40 }
     ensures device { (d : Dev) → IsErrOf result (Stop.Device d)
         → FaultRose d (S.state site.old) (S.state site.new) }
@@ -356,6 +368,11 @@ fn undo_next<S: Site>(
         → IsQuiet (S.state site.old)
         → LeavesOnly (S.state site.old) (S.state site.new)
         (LeavesTableUnder newest pages.old.flash.geometry table commits (S.state site.old).told) }
+    ensures numbers { (newest : Option Master) (records : List Entry) (table : List Content) (commits : ℕ)
+        → IsUndoing log.old pages.old (S.state site.old) newest records table commits found.old known
+        → IsGreatest records next.0
+        → IsQuiet (S.state site.old)
+        → SkipsNone result pages.old.flash.geometry log.old log.new (S.state site.old) (S.state site.new) (owed_for (listed found.old.table)) 0 }
     ensures readable { (newest : Option Master) (records : List Entry) (table : List Content) (commits : ℕ)
         → IsUndoing log.old pages.old (S.state site.old) newest records table commits found.old known
         → IsGreatest records next.0
@@ -406,8 +423,6 @@ fn undo_next<S: Site>(
     ensures log_reads { (S.state site.new).log_reads ≤ (S.state site.old).log_reads + 1 }
 
     // When each answer comes.
-    ensures worn_log { IsErrOf result (Stop.Worn Dev.Log)
-        → 2 ^ 40 ≤ blocks_to log.old + owed_for (listed found.old.table) }
     ensures device { (d : Dev) → IsErrOf result (Stop.Device d)
         → FaultRose d (S.state site.old) (S.state site.new) }
     ensures stops { IfErr result (λ stop. MayStop stop) }
@@ -456,6 +471,12 @@ pub fn undo_all<S: Site>(
         → IsQuiet (S.state site.old)
         → LeavesOnly (S.state site.old) (S.state site.new)
         (LeavesTableUnder newest pages.old.flash.geometry table commits (S.state site.old).told) }
+    ensures numbers { (newest : Option Master) (records : List Entry) (table : List Content) (commits : ℕ)
+        → has_tail log.old ≡ false
+        → Holds log.old pages.old (S.state site.old) newest records table commits
+        → IsTable [] records (listed found.old.table)
+        → IsQuiet (S.state site.old)
+        → SkipsNone result pages.old.flash.geometry log.old log.new (S.state site.old) (S.state site.new) (owed_for (listed found.old.table)) 0 }
     ensures readable { (newest : Option Master) (records : List Entry) (table : List Content) (commits : ℕ)
         → has_tail log.old ≡ false
         → Holds log.old pages.old (S.state site.old) newest records table commits
@@ -506,8 +527,6 @@ pub fn undo_all<S: Site>(
         ≤ (S.state site.old).log_reads + owed_for (listed found.old.table) }
 
     // When each answer comes.
-    ensures worn_log { IsErrOf result (Stop.Worn Dev.Log)
-        → 2 ^ 40 ≤ blocks_to log.old + owed_for (listed found.old.table) }
     ensures device { (d : Dev) → IsErrOf result (Stop.Device d)
         → FaultRose d (S.state site.old) (S.state site.new) }
     ensures stops { IfErr result (λ stop. MayStop stop) }

@@ -19,6 +19,8 @@ use Rattle.log_store.specs.declared.store.LogStore.{LogStore}
 use Rattle.log_store.specs.Held.{end_of}
 use Rattle.image_meaning.specs.Flushed.{first_block}
 use Rattle.redo_undo.specs.Checkpointing.{begins_of}
+use Rattle.redo_undo.proofs.RingNumbers.{then_skips, skips_again, skips_on}
+use Rattle.redo_undo.proofs.LeftNumbers.{skips_not_saved}
 use Rattle.redo_undo.proofs.checkpointing.checkpoint.Goals as goal
 
 pub returns-in-Err-clause-any_moment : goal.returns-in-Err-clause-any_moment
@@ -194,3 +196,52 @@ returns-clause-end g c =
     let rises = sealed_end c.args.log.now c.force.new.log c.in-Ok.ensures.sealed c.in-Ok.ensures.blocks c.requires.going.log_going.high in
     if_ok_one c.save_master.result (λ master. c.save_master.new.log ≡ record c.flush.new.log { kept = master.kept }) (λ master. end_of c.args.log.now ≤ end_of c.save_master.new.log)
     (λ master is. let same = ap end_of is in omega (arith, rises, same, c.in-Ok-flush.ensures.hi, c.in-Ok-flush.ensures.sealed, c.in-Ok.ensures.sealed)) c.save_master.ensures.log
+
+pub returns-in-Err-clause-numbers : goal.returns-in-Err-clause-numbers
+returns-in-Err-clause-numbers g c newest records table h may quiet =
+    let old = g.S.Site.state c.args.site.now in
+    let mid = g.S.Site.state c.force.new.site in
+    let log = c.args.log.now in
+    let k = c.args.pages.now.flash.geometry in
+    let first = skips_again c.in-Err.stop log.geometry log c.force.new.log old mid 0 0 (c.in-Err.ensures.numbers c.args.pages.now newest records table c.args.commits c.requires.going h quiet) in
+    skips_on _ log.geometry k log c.force.new.log old mid 0 1 c.requires.going.sizes (skips_not_saved c.in-Err.stop log.geometry log c.force.new.log old mid 0 0 1 (omega arith) first)
+
+pub returns-in-Err-flush-clause-numbers : goal.returns-in-Err-flush-clause-numbers
+returns-in-Err-flush-clause-numbers g c newest records table h may quiet =
+    let old = g.S.Site.state c.args.site.now in
+    let mid = g.S.Site.state c.force.new.site in
+    let flushed = g.S.Site.state c.flush.new.site in
+    let pages = c.args.pages.now in
+    let log = c.args.log.now in
+    let k = pages.flash.geometry in
+    let honest = h.log_holds.ready.blocks.honest in
+    let held = c.in-Ok.ensures.holds pages newest records table c.args.commits c.requires.going.sizes h in
+    let mid_quiet = c.in-Ok.ensures.stays_quiet honest quiet in
+    let first = skips_on _ log.geometry k log c.force.new.log old mid 0 0 c.requires.going.sizes (c.in-Ok.ensures.numbers pages newest records table c.args.commits c.requires.going h quiet) in
+    let second = skips_again c.in-Err-flush.stop k c.force.new.log c.flush.new.log mid flushed 0 0 (c.in-Err-flush.ensures.numbers newest records table c.args.commits held mid_quiet) in
+    skips_not_saved c.in-Err-flush.stop k log c.flush.new.log old flushed 0 0 1 (omega arith)
+    (then_skips _ _ k log c.force.new.log c.flush.new.log old mid flushed 0 0 0 0 0 0 first second (omega arith) refl)
+
+pub returns-clause-numbers : goal.returns-clause-numbers
+returns-clause-numbers g c newest records table h may quiet =
+    let old = g.S.Site.state c.args.site.now in
+    let mid = g.S.Site.state c.force.new.site in
+    let flushed = g.S.Site.state c.flush.new.site in
+    let new = g.S.Site.state c.save_master.new.site in
+    let pages = c.args.pages.now in
+    let log = c.args.log.now in
+    let log' = c.flush.new.log in
+    let k = pages.flash.geometry in
+    let honest = h.log_holds.ready.blocks.honest in
+    let held = c.in-Ok.ensures.holds pages newest records table c.args.commits c.requires.going.sizes h in
+    let mid_quiet = c.in-Ok.ensures.stays_quiet honest quiet in
+    let held' = c.in-Ok-flush.ensures.holds newest records table c.args.commits held in
+    let may' = may_still c.args.masters.now mid flushed records c.args.active c.requires.shape (c.in-Ok-flush.ensures.masters newest records table c.args.commits held)
+    (may_still c.args.masters.now old mid records c.args.active c.requires.shape (c.in-Ok.ensures.masters pages newest records table c.args.commits h) may) in
+    let sizes = c.flush.ensures.log_geometry ∙ c.force.ensures.geometry ∙ c.requires.going.sizes in
+    let first = skips_on _ log.geometry k log c.force.new.log old mid 0 0 c.requires.going.sizes (c.in-Ok.ensures.numbers pages newest records table c.args.commits c.requires.going h quiet) in
+    let second = then_skips _ _ k log c.force.new.log log' old mid flushed 0 0 0 0 0 0 first (c.in-Ok-flush.ensures.numbers newest records table c.args.commits held mid_quiet) (omega arith) refl in
+    then_skips c.save_master.result _ k log log' c.save_master.new.log old flushed new 0 0 0 1 0 1 second
+    (skips_on _ log'.geometry k log' c.save_master.new.log flushed new 0 1 sizes
+    (c.save_master.ensures.numbers c.flush.new.pages newest records table c.in-Ok-flush.ensures.going.sizes held' c.in-Ok-flush.ensures.sealed c.in-Ok-flush.ensures.clean may' (c.in-Ok-flush.ensures.stays_quiet (stays_honest old mid c.force.ensures.goes honest) mid_quiet)))
+    (omega arith) refl

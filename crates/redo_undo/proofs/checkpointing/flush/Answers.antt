@@ -10,6 +10,8 @@ use Rattle.image_meaning.specs.Meaning.{kept_by}
 use Rattle.redo_undo.specs.Holding.{HoldsIn, Holds}
 use Rattle.redo_undo.proofs.Touched.{forced_tail, leaves_table, touched_holds, ok_seven}
 use Rattle.redo_undo.proofs.Redoings.{ok_one_of}
+use Rattle.page_store.specs.Held.{current}
+use Rattle.redo_undo.proofs.LeftNumbers.{pages_skip, ready_next}
 use Rattle.redo_undo.proofs.checkpointing.flush.Goals as goal
 
 pub returns-clause-any_moment : goal.returns-clause-any_moment
@@ -61,3 +63,13 @@ returns-clause-asks g c =
       reads = record { flash = omega (arith, asked); disk = omega (arith, other) };
       rules_are = (λ i. rules_of (c.flush_all.ensures.size i) (c.flush_all.ensures.geometry i).groups);
     }
+
+pub returns-clause-numbers : goal.returns-clause-numbers
+returns-clause-numbers g c newest records table commits h quiet =
+    let site = g.S.Site.state c.args.site.now in
+    let log = c.args.log.now in
+    let pages = c.args.pages.now in
+    let ready = h.log_holds.ready in
+    let list : LogList = record { first = kept_by newest; blocks = h.log_holds.blocks; tail = h.log_holds.tail } in
+    pages_skip c.flush_all.result pages.flash.geometry (current pages site.image) log c.flush_all.new.log list (forces log (flushed_contents pages)) site (g.S.Site.state c.flush_all.new.site) (ready_next pages log list site ready)
+    (forced_tail log (flushed_contents pages)) (c.flush_all.ensures.any_moment list ready quiet) c.flush_all.ensures.end

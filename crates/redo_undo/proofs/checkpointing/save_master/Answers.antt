@@ -13,6 +13,11 @@ use Rattle.redo_undo.proofs.Sames.{nothing_happens}
 use Rattle.redo_undo.proofs.Saved.{needed_there, sound, may_save, orderly_now, unfinished_now, saved_holds, finds_log, held_log, held_after, log_still}
 use Rattle.site.specs.declared.outside.Stop.TheVariants.{Worn}
 use Rattle.redo_undo.proofs.WornLogs.{masters_at_end}
+use Rattle.sealed_ring.specs.Ring.{Units}
+use Rattle.redo_undo.specs.Holding.{blocks_to}
+use Rattle.redo_undo.proofs.RingNumbers.{skips_on, hi_on}
+use Rattle.redo_undo.proofs.LeftNumbers.{save_skips}
+use Rattle.checkpoint.specs.Units.{unit}
 use Rattle.redo_undo.proofs.checkpointing.save_master.Goals as goal
 
 -- the ring that was found, where nothing of its device is loose
@@ -119,3 +124,28 @@ returns-in-Err-clause-worn_log_end g c finds is =
     let same : c.in-Err.stop ≡ Worn Log = cc in
     let worn = c.in-Err.ensures.worn.0 (ap Err same) in
     masters_at_end c.args.masters.now (g.S.Site.state c.args.site.now) (g.S.Site.state c.save.new.site) c.requires.shape finds (ap g.S.Site.state (c.save.ensures.unchanged worn)) worn
+
+pub returns-in-Err-clause-numbers : goal.returns-in-Err-clause-numbers
+returns-in-Err-clause-numbers g c pages newest records table sizes h empty clean may quiet =
+    let site = g.S.Site.state c.args.site.now in
+    let new = g.S.Site.state c.save.new.site in
+    let log = c.args.log.now in
+    let k = pages.flash.geometry in
+    let honest = h.log_holds.ready.blocks.honest in
+    let m : Master = record { redo = c.sealed_end-redo.result / 512; kept = c.oldest_block-kept.result; commits = c.args.commits; active = c.args.active } in
+    skips_on _ k log.geometry log log site new 0 1 (sym sizes)
+    (save_skips _ k log log (unit m) site new (hi_on log.geometry k log site.image sizes h.log_holds.ready.blocks.hi)
+    (c.save.ensures.front k h.log_holds.rings.limits h.log_holds.rings.lengths honest (ring_ready c.args.masters.now site c.requires.shape quiet may.ring) quiet) tt tt)
+
+pub returns-clause-numbers : goal.returns-clause-numbers
+returns-clause-numbers g c pages newest records table sizes h empty clean may quiet =
+    let site = g.S.Site.state c.args.site.now in
+    let new = g.S.Site.state c.save.new.site in
+    let log = c.args.log.now in
+    let k = pages.flash.geometry in
+    let honest = h.log_holds.ready.blocks.honest in
+    let m : Master = record { redo = c.sealed_end-redo.result / 512; kept = c.oldest_block-kept.result; commits = c.args.commits; active = c.args.active } in
+    skips_on _ k log.geometry log c.keep.new.self site new 0 1 (sym sizes)
+    (save_skips _ k log c.keep.new.self (unit m) site new (hi_on log.geometry k log site.image sizes h.log_holds.ready.blocks.hi)
+    (c.save.ensures.front k h.log_holds.rings.limits h.log_holds.rings.lengths honest (ring_ready c.args.masters.now site c.requires.shape quiet may.ring) quiet)
+    (ap blocks_to c.keep.ensures.kept) (ap (λ (u : Units). u.hi) (c.in-Ok.ensures.stands honest may.ring)))

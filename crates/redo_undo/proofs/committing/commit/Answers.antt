@@ -1,4 +1,4 @@
-use Rattle.std.proofs.Common.{◌≡◌, ◌∙◌, ◌∷◌, [], ◌++◌, ◌+◌, Bool, true, nat_lt, inl, inr, Err, sym, ap, subst, arith}
+use Rattle.std.proofs.Common.{◌≡◌, ◌∙◌, ◌∷◌, [], ◌++◌, ◌+◌, Bool, true, nat_lt, inl, inr, Err, sym, ap, subst, arith, refl}
 use Rattle.std.specs.Prelude.{if◌then◌else◌}
 use Rattle.site.specs.Laws.{stays_honest, fault_since}
 use Rattle.site.specs.State.{IsQuiet}
@@ -19,6 +19,8 @@ use Rattle.redo_undo.proofs.Forced.{seals_only}
 use Rattle.log_store.specs.Held.{has_tail}
 use Rattle.redo_undo.specs.Holding.{IsLogWorn}
 use Rattle.redo_undo.proofs.WornLogs.{log_at_end}
+use Rattle.redo_undo.proofs.RingNumbers.{then_skips, skips_on, skips_again}
+use Rattle.redo_undo.proofs.LeftNumbers.{log_skips, ready_next, same_at_most}
 use Rattle.redo_undo.proofs.committing.commit.Goals as goal
 
 pub force-requires-clause-room : goal.force-requires-clause-room
@@ -167,3 +169,41 @@ returns-in-Ok-force-clause-masters g c pages newest records table commits sizes 
     let second : KeepsUnits master_shape mid.image new.image =
     c.ring_kept.ensures log.geometry Masters (changes_if (has_tail log) list) mid.image new.image (seals_only (has_tail log) list) (c.in-Ok-force.ensures.reaches list m.ready.blocks m.ready.records) in
     record { units = second.units ∙ first.units; form = λ form. second.form (first.form form) }
+
+pub returns-in-Err-clause-numbers : goal.returns-in-Err-clause-numbers
+returns-in-Err-clause-numbers g c pages newest records table commits going h may quiet =
+    let log = c.args.log.now in
+    skips_again _ log.geometry log c.log_record.new.log (g.S.Site.state c.args.site.now) (g.S.Site.state c.log_record.new.site) 1 0 (c.in-Err.ensures.numbers pages newest records table commits going h quiet)
+
+pub returns-in-Err-force-clause-numbers : goal.returns-in-Err-force-clause-numbers
+returns-in-Err-force-clause-numbers g c pages newest records table commits going h may quiet =
+    let old = g.S.Site.state c.args.site.now in
+    let mid = g.S.Site.state c.log_record.new.site in
+    let new = g.S.Site.state c.force.new.site in
+    let log = c.log_record.new.log in
+    let m = c.in-Ok.ensures.last pages newest records table commits going.sizes h in
+    let list : LogList = record { first = kept_by newest; blocks = m.blocks; tail = m.front ++ Commit c.args.txn c.args.number ∷ [] } in
+    let ready = m.ready in
+    let mid_quiet = c.in-Ok.ensures.stays_quiet h.log_holds.ready.blocks.honest quiet in
+    let fits = found_fits log mid mid_quiet ready.blocks in
+    then_skips _ c.in-Ok.lsn c.args.log.now.geometry c.args.log.now log c.force.new.self old mid new 1 0 0 0 1 0 (c.in-Ok.ensures.numbers pages newest records table commits going h quiet)
+    (skips_on _ log.geometry c.args.log.now.geometry log c.force.new.self mid new 0 0 c.log_record.ensures.geometry
+    (log_skips c.ring_kept.ensures _ log.geometry log c.force.new.self list (has_tail log) mid new 0 (ready_next pages log list mid ready) (λ tail. tail)
+    (c.force.ensures.any_moment list fits ready.records) (c.force.ensures.front list fits ready.records mid_quiet) tt)) (omega arith) refl
+
+pub returns-in-Ok-force-clause-numbers : goal.returns-in-Ok-force-clause-numbers
+returns-in-Ok-force-clause-numbers g c pages newest records table commits going h may quiet =
+    let old = g.S.Site.state c.args.site.now in
+    let mid = g.S.Site.state c.log_record.new.site in
+    let new = g.S.Site.state c.force.new.site in
+    let log = c.log_record.new.log in
+    let m = c.in-Ok.ensures.last pages newest records table commits going.sizes h in
+    let list : LogList = record { first = kept_by newest; blocks = m.blocks; tail = m.front ++ Commit c.args.txn c.args.number ∷ [] } in
+    let ready = m.ready in
+    let mid_quiet = c.in-Ok.ensures.stays_quiet h.log_holds.ready.blocks.honest quiet in
+    let fits = found_fits log mid mid_quiet ready.blocks in
+    then_skips _ c.in-Ok.lsn c.args.log.now.geometry c.args.log.now log c.force.new.self old mid new 1 0 0 0 1 0 (c.in-Ok.ensures.numbers pages newest records table commits going h quiet)
+    (skips_on _ log.geometry c.args.log.now.geometry log c.force.new.self mid new 0 0 c.log_record.ensures.geometry
+    (log_skips c.ring_kept.ensures _ log.geometry log c.force.new.self list (has_tail log) mid new 0 (ready_next pages log list mid ready) (λ tail. tail)
+    (c.force.ensures.any_moment list fits ready.records) (c.force.ensures.front list fits ready.records mid_quiet)
+    (same_at_most log c.force.new.self c.in-Ok.ensures.some c.in-Ok-force.ensures.next c.in-Ok-force.ensures.empty))) (omega arith) refl

@@ -9,6 +9,8 @@ use Rattle.redo_undo.proofs.Sames.{nothing_happens}
 use Rattle.redo_undo.proofs.Appended.{append_leaves, found_fits}
 use Rattle.redo_undo.proofs.Forced.{forced_holds, some_now, ok_five, quiet_stops, seals_only}
 use Rattle.redo_undo.proofs.WornLogs.{log_at_end}
+use Rattle.redo_undo.proofs.RingNumbers.{skips_nothing}
+use Rattle.redo_undo.proofs.LeftNumbers.{log_skips, ready_next, same_at_most, ok_both}
 use Rattle.redo_undo.proofs.forcing.force.Goals as goal
 
 pub returns-then-tail_empty-clause-any_moment : goal.returns-then-tail_empty-clause-any_moment
@@ -65,3 +67,19 @@ returns-clause-masters g c pages newest records table commits h =
     ok_one_of c.force.result _ (KeepsUnits master_shape site.image new.image)
     (λ reaches. c.ring_kept.ensures log.geometry Masters (changes_if (has_tail log) list) site.image new.image (seals_only (has_tail log) list) reaches)
     (c.force.ensures.reaches list ready.blocks ready.records)
+
+pub returns-then-tail_empty-clause-numbers : goal.returns-then-tail_empty-clause-numbers
+returns-then-tail_empty-clause-numbers g c pages newest records table commits going h quiet = skips_nothing _ c.args.log.now.geometry c.args.log.now (g.S.Site.state c.args.site.now) 0 h.log_holds.ready.blocks.hi
+
+pub returns-clause-numbers : goal.returns-clause-numbers
+returns-clause-numbers g c pages newest records table commits going h quiet =
+    let site = g.S.Site.state c.args.site.now in
+    let new = g.S.Site.state c.force.new.site in
+    let log = c.args.log.now in
+    let ready = h.log_holds.ready in
+    let list : LogList = record { first = kept_by newest; blocks = h.log_holds.blocks; tail = h.log_holds.tail } in
+    let fits = found_fits log site quiet ready.blocks in
+    let some : has_tail log ≡ true = some_now log c.requires.going.low (λ two. true≢false (sym (c.tail_empty.ensures.1 two) ∙ c.if-tail_empty.false)) in
+    log_skips c.ring_kept.ensures c.force.result log.geometry log c.force.new.self list (has_tail log) site new 0 (ready_next pages log list site ready) (λ tail. tail)
+    (c.force.ensures.any_moment list fits ready.records) (c.force.ensures.front list fits ready.records quiet)
+    (ok_both c.force.result _ _ _ (λ next empty. same_at_most log c.force.new.self some next empty) c.force.ensures.next c.force.ensures.empty)

@@ -7,6 +7,7 @@ use Rattle.redo_undo.specs.Holding.{HoldsIn, IsLogWorn}
 use Rattle.redo_undo.proofs.Changed.{holds_on, other_pages, front_exists, front_is_current}
 use Rattle.site.specs.declared.outside.Stop.TheVariants.{Worn}
 use Rattle.site.specs.declared.outside.Dev.TheVariants.{Log}
+use Rattle.redo_undo.proofs.RingNumbers.{skips_on, skips_again, skips_refused}
 use Rattle.redo_undo.proofs.logging.log_change.Goals as goal
 use Rattle.buffer_pool.specs.Frames.{front_of}
 
@@ -64,3 +65,21 @@ returns-clause-orderly g c newest records table commits h = c.in-Ok.ensures.orde
 
 pub returns-clause-masters : goal.returns-clause-masters
 returns-clause-masters g c newest records table commits h = c.in-Ok.ensures.masters c.args.pages.now newest records table commits h
+
+pub returns-in-Err-clause-numbers : goal.returns-in-Err-clause-numbers
+returns-in-Err-clause-numbers g c newest records table commits h quiet =
+    let log = c.args.log.now in
+    skips_on _ log.geometry c.args.pages.now.flash.geometry log c.log_record.new.log (g.S.Site.state c.args.site.now) (g.S.Site.state c.log_record.new.site) 1 0 c.requires.going.sizes
+    (skips_again _ log.geometry log c.log_record.new.log (g.S.Site.state c.args.site.now) (g.S.Site.state c.log_record.new.site) 1 0 (c.in-Err.ensures.numbers c.args.pages.now newest records table commits c.requires.going h quiet))
+
+pub returns-then-front_lsn-lsn-clause-numbers : goal.returns-then-front_lsn-lsn-clause-numbers
+returns-then-front_lsn-lsn-clause-numbers g c newest records table commits h quiet =
+    let log = c.args.log.now in
+    skips_on _ log.geometry c.args.pages.now.flash.geometry log c.log_record.new.log (g.S.Site.state c.args.site.now) (g.S.Site.state c.log_record.new.site) 1 0 c.requires.going.sizes
+    (skips_refused _ _ log.geometry log c.log_record.new.log (g.S.Site.state c.args.site.now) (g.S.Site.state c.log_record.new.site) 1 0 (c.in-Ok.ensures.numbers c.args.pages.now newest records table commits c.requires.going h quiet))
+
+pub returns-clause-numbers : goal.returns-clause-numbers
+returns-clause-numbers g c newest records table commits h quiet =
+    let log = c.args.log.now in
+    skips_on _ log.geometry c.args.pages.now.flash.geometry log c.log_record.new.log (g.S.Site.state c.args.site.now) (g.S.Site.state c.log_record.new.site) 1 0 c.requires.going.sizes
+    (c.in-Ok.ensures.numbers c.args.pages.now newest records table commits c.requires.going h quiet)

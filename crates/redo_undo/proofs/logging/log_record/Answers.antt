@@ -11,12 +11,13 @@ use Rattle.log_store.specs.LogList.{LogList, changes_if}
 use Rattle.page_store.specs.Ahead.{end_forced}
 use Rattle.image_meaning.specs.Meaning.{kept_by}
 use Rattle.redo_undo.specs.Holding.{MayGrow, HoldsLog, Holds}
-use Rattle.redo_undo.proofs.Appended.{found_fits, has_now, before_end, appended, ends_with, append_leaves, rings_now, sealed_now, versions_same, current_same, if_ok_six, if_ok_one, if_ok_two, if_ok_three, ok_two}
+use Rattle.redo_undo.proofs.Appended.{found_fits, has_now, before_end, appended, ends_with, append_leaves, rings_now, sealed_now, versions_same, current_same, if_ok_six, if_ok_one, if_ok_two, if_ok_three, ok_two, most_blocks}
 use Rattle.redo_undo.specs.Committing.{EndsWith}
 use Rattle.redo_undo.proofs.Changed.{holds_off}
 use Rattle.image_changes.specs.Rings.{Masters, KeepsUnits, master_shape}
 use Rattle.redo_undo.proofs.Redoings.{ok_one_of}
 use Rattle.redo_undo.proofs.WornLogs.{log_at_end}
+use Rattle.redo_undo.proofs.LeftNumbers.{log_skips, ready_next}
 use Rattle.redo_undo.proofs.logging.log_record.Goals as goal
 
 pub returns-clause-quiet : goal.returns-clause-quiet
@@ -172,3 +173,19 @@ returns-clause-masters g c pages newest records table commits h =
     let sealing : Bool = overflows log c.args.rec.now in
     ok_one_of c.append.result _ (KeepsUnits master_shape site.image new.image)
     (λ reaches. c.ring_kept.ensures log.geometry Masters (changes_if sealing list) site.image new.image (seals_only sealing list) reaches) (c.append.ensures.reaches list ready.blocks ready.records)
+
+pub returns-clause-numbers : goal.returns-clause-numbers
+returns-clause-numbers g c pages newest records table commits going h quiet =
+    let site = g.S.Site.state c.args.site.now in
+    let log = c.args.log.now in
+    let rec = c.args.rec.now in
+    let ready = h.log_holds.ready in
+    let list : LogList = record { first = kept_by newest; blocks = h.log_holds.blocks; tail = h.log_holds.tail } in
+    let fits = found_fits log site quiet ready.blocks in
+    let full = c.beside_laws.ensures.full log rec c.requires.form in
+    log_skips c.ring_kept.ensures c.append.result log.geometry log c.append.new.self list (overflows log rec) site (g.S.Site.state c.append.new.site) 1 (ready_next pages log list site ready) full
+    (c.append.ensures.any_moment list fits ready.records) (c.append.ensures.front list fits ready.records quiet)
+    (ok_two c.append.result _ (λ lsn. lsn ≡ next_lsn log rec) (λ lsn. (end_of log ≤ lsn) × (lsn < end_of c.append.new.self)) _
+    (λ lsn next lsn_is rises. most_blocks log c.append.new.self lsn (overflows log rec) full
+    (record { lsn_is = lsn_is; next = next; below = rises.1; low = c.requires.going.low; high = c.append.ensures.going.high }))
+    c.append.ensures.next c.append.ensures.lsn c.append.ensures.rises)

@@ -10,6 +10,8 @@ use Rattle.page_store.specs.Caching.{cache_of, rules}
 use Rattle.redo_undo.proofs.Asking.{touch_overflows, touch_reads}
 use Rattle.image_changes.specs.Rings.{Masters, KeepsUnits, master_shape}
 use Rattle.redo_undo.proofs.Redoings.{ok_one_of}
+use Rattle.page_store.specs.Held.{current}
+use Rattle.redo_undo.proofs.LeftNumbers.{pages_skip, ready_next}
 use Rattle.redo_undo.proofs.logging.touch.Goals as goal
 
 pub returns-clause-any_moment : goal.returns-clause-any_moment
@@ -69,3 +71,13 @@ returns-clause-masters g c newest records table commits h =
     let ready = h.log_holds.ready in
     ok_one_of c.touch.result _ (KeepsUnits master_shape (g.S.Site.state c.args.site.now).image (g.S.Site.state c.touch.new.site).image)
     (λ leaves. leaves.rings Masters (λ same. cc) (λ same. cc)) (c.touch.ensures.leaves (record { first = kept_by newest; blocks = h.log_holds.blocks; tail = h.log_holds.tail }) ready)
+
+pub returns-clause-numbers : goal.returns-clause-numbers
+returns-clause-numbers g c newest records table commits h quiet =
+    let site = g.S.Site.state c.args.site.now in
+    let log = c.args.log.now in
+    let pages = c.args.pages.now in
+    let ready = h.log_holds.ready in
+    let list : LogList = record { first = kept_by newest; blocks = h.log_holds.blocks; tail = h.log_holds.tail } in
+    pages_skip c.touch.result pages.flash.geometry (current pages site.image) log c.touch.new.log list (forces log (pushed_by_touch pages c.args.page)) site (g.S.Site.state c.touch.new.site) (ready_next pages log list site ready)
+    (forced_tail log (pushed_by_touch pages c.args.page)) (c.touch.ensures.any_moment list ready quiet) c.touch.ensures.end

@@ -10,11 +10,13 @@ use Rattle.page_store.specs.Caching.{rules}
 use Rattle.redo_undo.specs.Redoing.{Opening, asked_of, heard_of, IsRedoing, HasTaken}
 use Rattle.redo_undo.proofs.LogBlocks.{block_of, log_split}
 use Rattle.redo_undo.proofs.Sames.{going_still, opened_holds}
-use Rattle.redo_undo.proofs.Redoings.{read_quiet, begins, nothing_happens, then_read, and_opened, holds_all}
+use Rattle.redo_undo.proofs.Redoings.{redoing_still, read_quiet, begins, nothing_happens, then_read, and_opened, holds_all}
 use Rattle.redo_undo.proofs.TakenRecords.{asks_first, up_to_none, opened_count, finds, next_block, one_more_block, all_blocks, same_stop, unfinished_by}
 use Rattle.site.specs.declared.outside.Stop.TheVariants.{Worn}
 use Rattle.site.specs.declared.outside.Dev.TheVariants.{Flash, Log}
 use Rattle.redo_undo.proofs.RedoWorks.{stops_first, not_worn_log, stops_reading, asks_with_read, asks_more, asks_all, stops_within}
+use Rattle.redo_undo.proofs.RingNumbers.{skips_nothing, skips_again, hi_on}
+use Rattle.redo_undo.proofs.UndoneNumbers.{masters_redoing, skips_redoing, skips_behind}
 use Rattle.redo_undo.proofs.redo_pass.redo.Goals as goal
 
 pub returns-in-Err-clause-any_moment : goal.returns-in-Err-clause-any_moment
@@ -369,3 +371,58 @@ returns-clause-asks g c newest blocks table commits own h =
 
 pub returns-clause-masters : goal.returns-clause-masters
 returns-clause-masters g c newest blocks table commits own h = (c.loop-block.invariant.up_to newest blocks table commits own h).taken.pages_are.masters
+
+pub returns-in-Err-clause-numbers : goal.returns-in-Err-clause-numbers
+returns-in-Err-clause-numbers g c newest blocks table commits own h quiet =
+    skips_nothing _ c.args.pages.now.flash.geometry c.args.log.now (g.S.Site.state c.args.site.now) 0 (hi_on c.args.log.now.geometry c.args.pages.now.flash.geometry c.args.log.now (g.S.Site.state c.args.site.now).image c.requires.going.sizes h.ready.blocks.hi)
+
+pub returns-in-Err-read_block-clause-numbers : goal.returns-in-Err-read_block-clause-numbers
+returns-in-Err-read_block-clause-numbers g c newest blocks table commits own h quiet =
+    let log = c.args.log.now in
+    let pages = c.args.pages.now in
+    let old = g.S.Site.state c.args.site.now in
+    let mid = g.S.Site.state c.loop-block.site in
+    let read = g.S.Site.state c.read_block.new.site in
+    let o : Opening = record { sizes = pages.flash.geometry; image = old.image; newest = newest; blocks = blocks; table = table; commits = commits } in
+    let up = c.loop-block.invariant.up_to newest blocks table commits own h in
+    let front = log_from (kept_by newest) (take (c.loop-block.block - kept_by newest) blocks) in
+    skips_redoing _ o log c.loop-block.log pages c.loop-block.pages old read [] front (begins c.page_laws.ensures c.redo_laws.ensures log pages old newest blocks table commits h) (c.loop-block.invariant.log_geometry ∙ c.requires.going.sizes)
+    (redoing_still c.redo_laws.ensures o c.loop-block.log c.loop-block.pages mid read front c.read_block.ensures.goes (c.read_block.ensures.same up.taken.pages_are.ready.blocks.honest) up.taken.pages_are)
+
+pub returns-in-Err-take_block-clause-numbers : goal.returns-in-Err-take_block-clause-numbers
+returns-in-Err-take_block-clause-numbers g c newest blocks table commits own h quiet =
+    let old = g.S.Site.state c.args.site.now in
+    let mid = g.S.Site.state c.loop-block.site in
+    let read = g.S.Site.state c.read_block.new.site in
+    let o : Opening = record { sizes = c.args.pages.now.flash.geometry; image = old.image; newest = newest; blocks = blocks; table = table; commits = commits } in
+    let up = c.loop-block.invariant.up_to newest blocks table commits own h in
+    let count = opened_count c.args.log.now c.args.pages.now old newest blocks table commits h in
+    let from = c.loop-block.auto.block in
+    let own_kept = h.kept in
+    let inside : c.loop-block.block - kept_by newest < length blocks = omega (arith, count, c.sealed_end-block-end.ensures, c.loop-block-test.true, from, c.kept-block.ensures, own_kept) in
+    let next = next_block c.redo_laws.ensures o c.loop-block.log c.loop-block.pages old mid c.loop-block.so_far c.loop-block.block up read c.read_block.new.into c.in-Ok-read_block.used c.read_block.ensures.goes
+    (c.read_block.ensures.same up.taken.pages_are.ready.blocks.honest) inside
+    (c.in-Ok-read_block.ensures.holds (record { first = kept_by newest; blocks = blocks; tail = [] }) (finds c.redo_laws.ensures o c.loop-block.log c.loop-block.pages old mid c.loop-block.so_far c.loop-block.block up)
+    up.taken.pages_are.ready.records (let from = up.from in omega (arith, from))) in
+    let log = c.args.log.now in
+    let pages = c.args.pages.now in
+    let i = c.loop-block.invariant in
+    let same_blocks = i.blocks in
+    let stop = c.in-Err-take_block.stop in
+    let now = g.S.Site.state c.take_block.new.site in
+    let front = log_from (kept_by newest) (take (c.loop-block.block - kept_by newest) blocks) in
+    skips_again stop pages.flash.geometry log c.take_block.new.log old now 0 0
+    (skips_behind (Err stop) pages.flash.geometry c.loop-block.pages.flash.geometry log c.loop-block.log c.take_block.new.log old read now 0 0 i.geometry (omega (arith, same_blocks))
+    (masters_redoing o log c.loop-block.log pages c.loop-block.pages old read [] front (begins c.page_laws.ensures c.redo_laws.ensures log pages old newest blocks table commits h) next.taken.pages_are)
+    (c.in-Err-take_block.ensures.numbers o front (log_from (c.loop-block.block + 1) (drop (suc (c.loop-block.block - kept_by newest)) blocks)) (block_of blocks (c.loop-block.block - kept_by newest)) own next.taken next.content_is next.used_is
+    next.split (read_quiet mid read (c.read_block.ensures.same up.taken.pages_are.ready.blocks.honest) (i.stays_quiet h.ready.blocks.honest quiet))))
+
+pub returns-clause-numbers : goal.returns-clause-numbers
+returns-clause-numbers g c newest blocks table commits own h quiet =
+    let log = c.args.log.now in
+    let pages = c.args.pages.now in
+    let old = g.S.Site.state c.args.site.now in
+    let o : Opening = record { sizes = pages.flash.geometry; image = old.image; newest = newest; blocks = blocks; table = table; commits = commits } in
+    let up = c.loop-block.invariant.up_to newest blocks table commits own h in
+    skips_redoing _ o log c.loop-block.log pages c.loop-block.pages old (g.S.Site.state c.loop-block.site) [] (log_from (kept_by newest) (take (c.loop-block.block - kept_by newest) blocks))
+    (begins c.page_laws.ensures c.redo_laws.ensures log pages old newest blocks table commits h) (c.loop-block.invariant.log_geometry ∙ c.requires.going.sizes) up.taken.pages_are

@@ -14,6 +14,7 @@ use Rattle.redo_undo.proofs.Changed.{front_is_current}
 use Rattle.redo_undo.proofs.Redoings.{nothing_happens}
 use Rattle.redo_undo.proofs.NextRecords.{page_exists, lsn_sealed, no_change, changed, front_knows}
 use Rattle.redo_undo.proofs.RedoWorks.{stops_first, asks_no_page, stops_in_touch, asks_known, asks_redone}
+use Rattle.redo_undo.proofs.RingNumbers.{skips_nothing, hi_on}
 use Rattle.redo_undo.proofs.redo_pass.redo_record.Goals as goal
 
 pub returns-in_default-clause-redoing : goal.returns-in_default-clause-redoing
@@ -112,3 +113,20 @@ returns-clause-asks g c o front rest h is =
     c.in-Some.page on.0 on.1 on.2 c.args.pages.now (g.S.Site.state c.args.site.now) _ c.in-Ok.ensures.asks
     (omega (arith, content, c.front_lsn.ensures, c.if-front_lsn-lsn.false)) c.change_front.new.pages some c.change_front.ensures.machine
     (λ i. rules_of (c.change_front.ensures.size i) (c.change_front.ensures.flash i).geometry.groups)
+
+pub returns-in_default-clause-numbers : goal.returns-in_default-clause-numbers
+returns-in_default-clause-numbers g c o front h quiet =
+    skips_nothing _ c.args.pages.now.flash.geometry c.args.log.now (g.S.Site.state c.args.site.now) 0 (hi_on c.args.log.now.geometry c.args.pages.now.flash.geometry c.args.log.now (g.S.Site.state c.args.site.now).image c.requires.going.sizes h.ready.blocks.hi)
+
+pub returns-then-page-geometry-clause-numbers : goal.returns-then-page-geometry-clause-numbers
+returns-then-page-geometry-clause-numbers g c o front h quiet =
+    skips_nothing _ c.args.pages.now.flash.geometry c.args.log.now (g.S.Site.state c.args.site.now) 0 (hi_on c.args.log.now.geometry c.args.pages.now.flash.geometry c.args.log.now (g.S.Site.state c.args.site.now).image c.requires.going.sizes h.ready.blocks.hi)
+
+pub returns-in-Err-clause-numbers : goal.returns-in-Err-clause-numbers
+returns-in-Err-clause-numbers g c o front h quiet = c.in-Err.ensures.numbers o front h quiet
+
+pub returns-then-front_lsn-lsn-clause-numbers : goal.returns-then-front_lsn-lsn-clause-numbers
+returns-then-front_lsn-lsn-clause-numbers g c o front h quiet = c.in-Ok.ensures.numbers o front h quiet
+
+pub returns-clause-numbers : goal.returns-clause-numbers
+returns-clause-numbers g c o front h quiet = c.in-Ok.ensures.numbers o front h quiet

@@ -7,6 +7,7 @@ use Rattle.redo_undo.proofs.BlockRecords.{some_octet, next_of_log, past_one, non
 use Rattle.redo_undo.proofs.Redoings.{and_opened}
 use Rattle.redo_undo.proofs.TakenRecords.{part_begins}
 use Rattle.redo_undo.proofs.RedoWorks.{asks_more, asks_all, stops_within}
+use Rattle.redo_undo.proofs.UndoneNumbers.{masters_redoing, skips_redoing, skips_behind}
 use Rattle.redo_undo.proofs.redo_pass.take_block.Goals as goal
 
 pub loop-at-init : goal.loop-at-init
@@ -165,3 +166,26 @@ returns-clause-asks g c o front rest records own h block used is =
     let a = c.loop-at.invariant.part o front rest records own h block used is in
     asks_all _ o c.args.pages.now c.loop-at.pages (g.S.Site.state c.args.site.now) (g.S.Site.state c.loop-at.site) a.done (entries_from (512 * c.args.block + 2) records)
     (past_all c.read_again.ensures.only c.args.block c.args.content.now c.args.used c.loop-at.at records a.done a.past c.loop-at-test.false) a.asked
+
+pub returns-in_default-clause-numbers : goal.returns-in_default-clause-numbers
+returns-in_default-clause-numbers g c o front rest records own h block used is quiet =
+    let i = c.loop-at.invariant in
+    let a = i.part o front rest records own h block used is in
+    skips_redoing _ o c.args.log.now c.loop-at.log c.args.pages.now c.loop-at.pages (g.S.Site.state c.args.site.now) (g.S.Site.state c.loop-at.site) front (front ++ a.done) h.pages_are (i.log_geometry ∙ c.requires.going.sizes) a.taken.pages_are
+
+pub returns-in-Err-clause-numbers : goal.returns-in-Err-clause-numbers
+returns-in-Err-clause-numbers g c o front rest records own h block used is quiet =
+    let i = c.loop-at.invariant in
+    let a = i.part o front rest records own h block used is in
+    let old = g.S.Site.state c.args.site.now in
+    let mid = g.S.Site.state c.loop-at.site in
+    let blocks = i.blocks in
+    skips_behind _ c.args.pages.now.flash.geometry c.loop-at.pages.flash.geometry c.args.log.now c.loop-at.log c.take_record.new.log old mid (g.S.Site.state c.take_record.new.site) 0 0 i.geometry (omega (arith, blocks))
+    (masters_redoing o c.args.log.now c.loop-at.log c.args.pages.now c.loop-at.pages old mid front (front ++ a.done) h.pages_are a.taken.pages_are)
+    (c.in-Err.ensures.numbers o (front ++ a.done) a.taken (i.stays_quiet h.pages_are.ready.blocks.honest quiet))
+
+pub returns-clause-numbers : goal.returns-clause-numbers
+returns-clause-numbers g c o front rest records own h block used is quiet =
+    let i = c.loop-at.invariant in
+    let a = i.part o front rest records own h block used is in
+    skips_redoing _ o c.args.log.now c.loop-at.log c.args.pages.now c.loop-at.pages (g.S.Site.state c.args.site.now) (g.S.Site.state c.loop-at.site) front (front ++ a.done) h.pages_are (i.log_geometry ∙ c.requires.going.sizes) a.taken.pages_are

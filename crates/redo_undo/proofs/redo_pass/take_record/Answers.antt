@@ -8,6 +8,7 @@ use Rattle.redo_undo.proofs.Redoings.{nothing_happens, ok_one_of}
 use Rattle.redo_undo.proofs.NextRecords.{may_step, known_before, no_change}
 use Rattle.redo_undo.proofs.RedoWorks.{stops_first, not_worn, asks_early, asks_late}
 use Rattle.redo_undo.proofs.TakenRecords.{analysis_to, analysis_back, step_to}
+use Rattle.redo_undo.proofs.RingNumbers.{skips_nothing, hi_on}
 use Rattle.redo_undo.proofs.redo_pass.take_record.Goals as goal
 
 pub returns-in-Err-clause-any_moment : goal.returns-in-Err-clause-any_moment
@@ -79,3 +80,14 @@ returns-clause-asks g c o front rest own h is =
     let redo = ap (λ (m : Master). m.redo) own in
     asks_late c.redo_record.result o (record { lsn = c.args.lsn; rec = c.args.rec.now }) c.args.pages.now c.redo_record.new.pages (g.S.Site.state c.args.site.now) (g.S.Site.state c.redo_record.new.site)
     (omega (arith, redo, c.if-lsn-master.false)) (c.redo_record.ensures.asks o front rest h.pages_are is)
+
+pub returns-in-Err-clause-numbers : goal.returns-in-Err-clause-numbers
+returns-in-Err-clause-numbers g c o front h quiet =
+    skips_nothing _ c.args.pages.now.flash.geometry c.args.log.now (g.S.Site.state c.args.site.now) 0 (hi_on c.args.log.now.geometry c.args.pages.now.flash.geometry c.args.log.now (g.S.Site.state c.args.site.now).image c.requires.going.sizes h.pages_are.ready.blocks.hi)
+
+pub returns-then-lsn-master-clause-numbers : goal.returns-then-lsn-master-clause-numbers
+returns-then-lsn-master-clause-numbers g c o front h quiet =
+    skips_nothing _ c.args.pages.now.flash.geometry c.args.log.now (g.S.Site.state c.args.site.now) 0 (hi_on c.args.log.now.geometry c.args.pages.now.flash.geometry c.args.log.now (g.S.Site.state c.args.site.now).image c.requires.going.sizes h.pages_are.ready.blocks.hi)
+
+pub returns-clause-numbers : goal.returns-clause-numbers
+returns-clause-numbers g c o front h quiet = c.redo_record.ensures.numbers o front h.pages_are quiet

@@ -11,6 +11,7 @@ use Rattle.page_store.specs.Caching.{cache_of, rules}
 use Rattle.redo_undo.proofs.Asking.{touch_overflows, touch_reads}
 use Rattle.image_meaning.specs.Meaning.{kept_by}
 use Rattle.redo_undo.specs.Holding.{IsLogWorn}
+use Rattle.redo_undo.proofs.UndoneNumbers.{skips_touch}
 use Rattle.redo_undo.proofs.redo_pass.touch_page.Goals as goal
 
 pub returns-clause-redoing : goal.returns-clause-redoing
@@ -64,3 +65,14 @@ returns-clause-asks g c =
       reads = touch_reads (rules pages) c.args.page (cache_of pages) (g.S.Site.state c.args.site.now) (g.S.Site.state c.touch.new.site) some c.touch.ensures.flash_reads c.touch.ensures.disk_reads;
       rules_are = (λ i. rules_of (c.touch.ensures.size i) (c.touch.ensures.geometry i).groups);
     }
+
+pub returns-clause-numbers : goal.returns-clause-numbers
+returns-clause-numbers g c o front h quiet =
+    let site = g.S.Site.state c.args.site.now in
+    let log = c.args.log.now in
+    let pages = c.args.pages.now in
+    let list : LogList = record { first = kept_by o.newest; blocks = o.blocks; tail = [] } in
+    let sealing : Bool = forces log (pushed_by_touch pages c.args.page) in
+    let never : sealing ≡ false = never_forced log (pushed_by_touch pages c.args.page) h.ready.records.tail.end in
+    skips_touch c.page_laws.ensures c.redo_laws.ensures o log pages site front h sealing never (g.S.Site.state c.touch.new.site) c.touch.result c.touch.new.log c.touch.new.self (c.touch.ensures.any_moment list h.ready quiet)
+    (returns-clause-redoing g c o front h)

@@ -15,6 +15,8 @@ use Rattle.redo_undo.proofs.AskingUndo.{change_made, change_stopped, never_worn}
 use Rattle.image_changes.specs.Rings.{KeepsUnits, master_shape}
 use Rattle.redo_undo.proofs.Redoings.{ok_one_of}
 use Rattle.site.specs.declared.geometry.Geometry.{Geometry}
+use Rattle.redo_undo.proofs.RingNumbers.{skips_weaker, skips_again}
+use Rattle.redo_undo.proofs.UndoneNumbers.{masters_hi, skips_behind}
 use Rattle.redo_undo.proofs.undo.compensate.Goals as goal
 
 pub returns-in-Ok-clause-any_moment : goal.returns-in-Ok-clause-any_moment
@@ -105,3 +107,20 @@ returns-in-Ok-clause-masters g c newest records table commits h =
     let new = g.S.Site.state c.log_change.new.site in
     ok_one_of c.log_change.result _ (KeepsUnits master_shape old.image new.image) (units_then old.image mid.image new.image (c.in-Ok.ensures.masters newest records table commits h))
     (c.log_change.ensures.masters newest records table commits (c.in-Ok.ensures.holds newest records table commits h))
+
+pub returns-in-Ok-clause-numbers : goal.returns-in-Ok-clause-numbers
+returns-in-Ok-clause-numbers g c newest records table commits h quiet =
+    let old = g.S.Site.state c.args.site.now in
+    let mid = g.S.Site.state c.touch.new.site in
+    let blocks = c.in-Ok.ensures.blocks in
+    skips_behind c.log_change.result c.args.pages.now.flash.geometry c.touch.new.pages.flash.geometry c.args.log.now c.touch.new.log c.log_change.new.log old mid (g.S.Site.state c.log_change.new.site) 1 1 c.touch.ensures.geometry (omega (arith, blocks))
+    (masters_hi old.image mid.image (c.in-Ok.ensures.masters newest records table commits h))
+    (c.log_change.ensures.numbers newest records table commits (c.in-Ok.ensures.holds newest records table commits h) (c.in-Ok.ensures.stays_quiet h.log_holds.ready.blocks.honest quiet))
+
+pub returns-in-Err-clause-numbers : goal.returns-in-Err-clause-numbers
+returns-in-Err-clause-numbers g c newest records table commits h quiet =
+    let k = c.args.pages.now.flash.geometry in
+    let old = g.S.Site.state c.args.site.now in
+    let mid = g.S.Site.state c.touch.new.site in
+    let stop = c.in-Err.stop in
+    skips_again stop k c.args.log.now c.touch.new.log old mid 1 0 (skips_weaker (Err stop) k c.args.log.now c.touch.new.log old mid 0 1 0 (omega arith) (c.in-Err.ensures.numbers newest records table commits h quiet))

@@ -15,6 +15,9 @@ use Rattle.redo_undo.specs.Works.{Asks, undo_one_works}
 use Rattle.redo_undo.proofs.AskingUndo.{log_alone, none_read, not_worn, not_worn_flash, is_error, asks_refused, asks_later, asks_before, stops_again}
 use Rattle.image_changes.specs.Rings.{KeepsUnits, master_shape}
 use Rattle.site.specs.State.{Image}
+use Rattle.sealed_ring.specs.Ring.{hi_of}
+use Rattle.redo_undo.proofs.RingNumbers.{skips_again, skips_refused, skips_answered}
+use Rattle.redo_undo.proofs.UndoneNumbers.{masters_read, skips_held, skips_behind}
 use Rattle.redo_undo.proofs.undo.undo_one.Goals as goal
 
 pub returns-in-Err-clause-any_moment : goal.returns-in-Err-clause-any_moment
@@ -271,36 +274,6 @@ returns-in-Err-log_record-clause-log_reads g c newest records table commits x h 
     let none = c.log_record.ensures.reads Log in
     omega (arith, one, more, none)
 
-pub returns-in-Err-undo_updates-clause-worn_log : goal.returns-in-Err-undo_updates-clause-worn_log
-returns-in-Err-undo_updates-clause-worn_log g c newest records table commits x h unfinished own last worn =
-    let log = c.args.log.now in
-    let pages = c.args.pages.now in
-    let old = g.S.Site.state c.args.site.now in
-    let mid = g.S.Site.state c.read_last.new.site in
-    let same = c.read_last.ensures.same h.log_holds.ready.blocks.honest in
-    let still = holds_still c.beside_laws.ensures.fits log pages old mid newest records table commits c.read_last.ensures.goes same h in
-    let at = c.in-Ok.ensures.at pages newest records table commits x c.requires.going.sizes h unfinished own last in
-    let same' : c.in-Err-undo_updates.stop ≡ Worn Log = cc in
-    let full = c.in-Err-undo_updates.ensures.worn_log newest records table commits x still unfinished at (ap Err same') in
-    omega (arith, full)
-
-pub returns-in-Err-log_record-clause-worn_log : goal.returns-in-Err-log_record-clause-worn_log
-returns-in-Err-log_record-clause-worn_log g c newest records table commits x h unfinished own last worn =
-    let log = c.args.log.now in
-    let pages = c.args.pages.now in
-    let old = g.S.Site.state c.args.site.now in
-    let mid = g.S.Site.state c.read_last.new.site in
-    let same = c.read_last.ensures.same h.log_holds.ready.blocks.honest in
-    let still = holds_still c.beside_laws.ensures.fits log pages old mid newest records table commits c.read_last.ensures.goes same h in
-    let at = c.in-Ok.ensures.at pages newest records table commits x c.requires.going.sizes h unfinished own last in
-    let done = c.in-Ok-undo_updates.ensures.undone newest records table commits x still unfinished at in
-    let same' : c.in-Err-log_record.stop ≡ Worn Log = cc in
-    let full = c.in-Err-log_record.ensures.worn (ap Err same') in
-    let count = done.count in
-    let few = done.few in
-    let all = unfinished.remaining_is in
-    omega (arith, full, count, few, all)
-
 pub returns-in-Err-undo_updates-clause-worn_end : goal.returns-in-Err-undo_updates-clause-worn_end
 returns-in-Err-undo_updates-clause-worn_end g c newest records table commits x h unfinished own last worn =
     let log = c.args.log.now in
@@ -431,3 +404,82 @@ returns-in-Ok-log_record-clause-masters g c newest records table commits x h unf
     let done = c.in-Ok-undo_updates.ensures.undone newest records table commits x still unfinished at in
     let keeps = subst (λ (i : Image). KeepsUnits master_shape i site.image) same.image (c.in-Ok-undo_updates.ensures.masters newest records table commits x still unfinished at) in
     units_then old.image site.image new.image keeps (c.in-Ok-log_record.ensures.masters pages newest (records ++ done.clrs) table commits done.holds)
+
+pub returns-in-Err-clause-numbers : goal.returns-in-Err-clause-numbers
+returns-in-Err-clause-numbers g c newest records table commits x h unfinished own last quiet =
+    skips_held _ c.args.log.now c.args.pages.now (g.S.Site.state c.args.site.now) (g.S.Site.state c.read_last.new.site) newest records table commits (x.remaining + 1) c.requires.going.sizes (c.read_last.ensures.same h.log_holds.ready.blocks.honest) h
+
+pub returns-in-Err-undo_updates-clause-numbers : goal.returns-in-Err-undo_updates-clause-numbers
+returns-in-Err-undo_updates-clause-numbers g c newest records table commits x h unfinished own last quiet =
+    let log = c.args.log.now in
+    let pages = c.args.pages.now in
+    let k = pages.flash.geometry in
+    let old = g.S.Site.state c.args.site.now in
+    let mid = g.S.Site.state c.read_last.new.site in
+    let site = g.S.Site.state c.undo_updates.new.site in
+    let same = c.read_last.ensures.same h.log_holds.ready.blocks.honest in
+    let still = holds_still c.beside_laws.ensures.fits log pages old mid newest records table commits c.read_last.ensures.goes same h in
+    let at = c.in-Ok.ensures.at pages newest records table commits x c.requires.going.sizes h unfinished own last in
+    let stop = c.in-Err-undo_updates.stop in
+    skips_again stop k log c.undo_updates.new.log old site (x.remaining + 1) 0
+    (skips_behind (Err stop) k k log log c.undo_updates.new.log old mid site (x.remaining + 1) x.remaining refl (omega arith) (masters_read old mid same) (c.in-Err-undo_updates.ensures.numbers newest records table commits x still unfinished at (same.loose ∙ quiet)))
+
+pub returns-then-not-has_room-clause-numbers : goal.returns-then-not-has_room-clause-numbers
+returns-then-not-has_room-clause-numbers g c newest records table commits x h unfinished own last quiet =
+    let log = c.args.log.now in
+    let pages = c.args.pages.now in
+    let k = pages.flash.geometry in
+    let old = g.S.Site.state c.args.site.now in
+    let mid = g.S.Site.state c.read_last.new.site in
+    let site = g.S.Site.state c.undo_updates.new.site in
+    let same = c.read_last.ensures.same h.log_holds.ready.blocks.honest in
+    let still = holds_still c.beside_laws.ensures.fits log pages old mid newest records table commits c.read_last.ensures.goes same h in
+    let at = c.in-Ok.ensures.at pages newest records table commits x c.requires.going.sizes h unfinished own last in
+    skips_refused c.in-Ok-undo_updates.at Foreign k log c.undo_updates.new.log old site (x.remaining + 1) 0
+    (skips_behind (Ok c.in-Ok-undo_updates.at) k k log log c.undo_updates.new.log old mid site (x.remaining + 1) x.remaining refl (omega arith) (masters_read old mid same) (c.in-Ok-undo_updates.ensures.numbers newest records table commits x still unfinished at (same.loose ∙ quiet)))
+
+pub returns-in-Ok-log_record-clause-numbers : goal.returns-in-Ok-log_record-clause-numbers
+returns-in-Ok-log_record-clause-numbers g c newest records table commits x h unfinished own last quiet =
+    let log = c.args.log.now in
+    let pages = c.args.pages.now in
+    let k = pages.flash.geometry in
+    let old = g.S.Site.state c.args.site.now in
+    let mid = g.S.Site.state c.read_last.new.site in
+    let site = g.S.Site.state c.undo_updates.new.site in
+    let same = c.read_last.ensures.same h.log_holds.ready.blocks.honest in
+    let still = holds_still c.beside_laws.ensures.fits log pages old mid newest records table commits c.read_last.ensures.goes same h in
+    let at = c.in-Ok.ensures.at pages newest records table commits x c.requires.going.sizes h unfinished own last in
+    let new = g.S.Site.state c.log_record.new.site in
+    let done = c.in-Ok-undo_updates.ensures.undone newest records table commits x still unfinished at in
+    let made = c.in-Ok-undo_updates.ensures.numbers newest records table commits x still unfinished at (same.loose ∙ quiet) in
+    let few = made.log in
+    let masters = made.saved in
+    let calm = c.in-Ok-undo_updates.ensures.stays_quiet (stays_honest old mid c.read_last.ensures.goes h.log_holds.ready.blocks.honest) (same.loose ∙ quiet) in
+    let lsn = c.in-Ok-log_record.field-0 in
+    skips_answered lsn tt k log c.log_record.new.log old new (x.remaining + 1) 0
+    (skips_behind (Ok lsn) k c.undo_updates.new.log.geometry log c.undo_updates.new.log c.log_record.new.log old site new (x.remaining + 1) 1 (c.undo_updates.ensures.log_geometry ∙ c.requires.going.sizes) (omega (arith, few))
+    (let is : hi_of master_shape site.image.log ≡ hi_of master_shape old.image.log = omega (arith, masters, masters_read old mid same) in is)
+    (c.in-Ok-log_record.ensures.numbers c.undo_updates.new.pages newest (records ++ done.clrs) table commits c.in-Ok-undo_updates.ensures.going done.holds calm))
+
+pub returns-in-Err-log_record-clause-numbers : goal.returns-in-Err-log_record-clause-numbers
+returns-in-Err-log_record-clause-numbers g c newest records table commits x h unfinished own last quiet =
+    let log = c.args.log.now in
+    let pages = c.args.pages.now in
+    let k = pages.flash.geometry in
+    let old = g.S.Site.state c.args.site.now in
+    let mid = g.S.Site.state c.read_last.new.site in
+    let site = g.S.Site.state c.undo_updates.new.site in
+    let same = c.read_last.ensures.same h.log_holds.ready.blocks.honest in
+    let still = holds_still c.beside_laws.ensures.fits log pages old mid newest records table commits c.read_last.ensures.goes same h in
+    let at = c.in-Ok.ensures.at pages newest records table commits x c.requires.going.sizes h unfinished own last in
+    let new = g.S.Site.state c.log_record.new.site in
+    let done = c.in-Ok-undo_updates.ensures.undone newest records table commits x still unfinished at in
+    let made = c.in-Ok-undo_updates.ensures.numbers newest records table commits x still unfinished at (same.loose ∙ quiet) in
+    let few = made.log in
+    let masters = made.saved in
+    let calm = c.in-Ok-undo_updates.ensures.stays_quiet (stays_honest old mid c.read_last.ensures.goes h.log_holds.ready.blocks.honest) (same.loose ∙ quiet) in
+    let stop = c.in-Err-log_record.stop in
+    skips_again stop k log c.log_record.new.log old new (x.remaining + 1) 0
+    (skips_behind (Err stop) k c.undo_updates.new.log.geometry log c.undo_updates.new.log c.log_record.new.log old site new (x.remaining + 1) 1 (c.undo_updates.ensures.log_geometry ∙ c.requires.going.sizes) (omega (arith, few))
+    (let is : hi_of master_shape site.image.log ≡ hi_of master_shape old.image.log = omega (arith, masters, masters_read old mid same) in is)
+    (c.in-Err-log_record.ensures.numbers c.undo_updates.new.pages newest (records ++ done.clrs) table commits c.in-Ok-undo_updates.ensures.going done.holds calm))

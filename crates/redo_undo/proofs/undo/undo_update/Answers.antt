@@ -12,6 +12,8 @@ use Rattle.page_store.specs.Caching.{rules}
 use Rattle.redo_undo.specs.UndoWorks.{works_of}
 use Rattle.redo_undo.proofs.AskingUndo.{log_alone, not_worn, asks_refused, asks_of_update, stops_again, ends_again}
 use Rattle.image_changes.specs.Rings.{KeepsUnits, master_shape}
+use Rattle.redo_undo.proofs.RingNumbers.{skips_again, skips_answered}
+use Rattle.redo_undo.proofs.UndoneNumbers.{masters_read, skips_held, skips_behind}
 use Rattle.redo_undo.proofs.undo.undo_update.Goals as goal
 
 pub returns-in-Err-clause-any_moment : goal.returns-in-Err-clause-any_moment
@@ -162,3 +164,39 @@ returns-clause-masters g c newest records table commits h =
     let same = c.read_update.ensures.same h.log_holds.ready.blocks.honest in
     let still = holds_still c.beside_laws.ensures.fits c.args.log.now c.args.pages.now old mid newest records table commits c.read_update.ensures.goes same h in
     subst (λ (i : Image). KeepsUnits master_shape i new.image) same.image (c.in-Ok-compensate.ensures.masters newest records table commits still)
+
+pub returns-in-Err-clause-numbers : goal.returns-in-Err-clause-numbers
+returns-in-Err-clause-numbers g c newest records table commits h quiet =
+    skips_held _ c.args.log.now c.args.pages.now (g.S.Site.state c.args.site.now) (g.S.Site.state c.read_update.new.site) newest records table commits 1 c.requires.going.sizes (c.read_update.ensures.same h.log_holds.ready.blocks.honest) h
+
+pub returns-then-not-has_room-clause-numbers : goal.returns-then-not-has_room-clause-numbers
+returns-then-not-has_room-clause-numbers g c newest records table commits h quiet =
+    skips_held _ c.args.log.now c.args.pages.now (g.S.Site.state c.args.site.now) (g.S.Site.state c.read_update.new.site) newest records table commits 1 c.requires.going.sizes (c.read_update.ensures.same h.log_holds.ready.blocks.honest) h
+
+pub returns-in-Err-compensate-clause-numbers : goal.returns-in-Err-compensate-clause-numbers
+returns-in-Err-compensate-clause-numbers g c newest records table commits h quiet =
+    let log = c.args.log.now in
+    let pages = c.args.pages.now in
+    let k = pages.flash.geometry in
+    let old = g.S.Site.state c.args.site.now in
+    let mid = g.S.Site.state c.read_update.new.site in
+    let new = g.S.Site.state c.compensate.new.site in
+    let same = c.read_update.ensures.same h.log_holds.ready.blocks.honest in
+    let still = holds_still c.beside_laws.ensures.fits log pages old mid newest records table commits c.read_update.ensures.goes same h in
+    let stop = c.in-Err-compensate.stop in
+    skips_again stop k log c.compensate.new.log old new 1 0
+    (skips_behind (Err stop) k k log log c.compensate.new.log old mid new 1 1 refl (omega arith) (masters_read old mid same) (c.in-Err-compensate.ensures.numbers newest records table commits still (same.loose ∙ quiet)))
+
+pub returns-clause-numbers : goal.returns-clause-numbers
+returns-clause-numbers g c newest records table commits h quiet =
+    let log = c.args.log.now in
+    let pages = c.args.pages.now in
+    let k = pages.flash.geometry in
+    let old = g.S.Site.state c.args.site.now in
+    let mid = g.S.Site.state c.read_update.new.site in
+    let new = g.S.Site.state c.compensate.new.site in
+    let same = c.read_update.ensures.same h.log_holds.ready.blocks.honest in
+    let still = holds_still c.beside_laws.ensures.fits log pages old mid newest records table commits c.read_update.ensures.goes same h in
+    let last = c.in-Ok-compensate.last in
+    skips_answered last _ k log c.compensate.new.log old new 1 0
+    (skips_behind (Ok last) k k log log c.compensate.new.log old mid new 1 1 refl (omega arith) (masters_read old mid same) (c.in-Ok-compensate.ensures.numbers newest records table commits still (same.loose ∙ quiet)))

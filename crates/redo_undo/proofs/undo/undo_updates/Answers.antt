@@ -14,6 +14,7 @@ use Rattle.page_store.specs.Caching.{rules}
 use Rattle.redo_undo.proofs.LeftUpdates.{first_of, none_of}
 use Rattle.redo_undo.proofs.AskingUndo.{more_work_stopped, all_work}
 use Rattle.redo_undo.proofs.UndoSoFar.{starts_asking, goes_on_asking}
+use Rattle.redo_undo.proofs.UndoneNumbers.{masters_hi, skips_so_far, skips_behind}
 use Rattle.redo_undo.proofs.undo.undo_updates.Goals as goal
 
 pub loop-at-init : goal.loop-at-init
@@ -134,16 +135,6 @@ returns-clause-log_reads g c newest records table commits x h unfinished at =
     let all = unfinished.remaining_is in
     omega (arith, count, read, all)
 
-pub returns-in-Err-clause-worn_log : goal.returns-in-Err-clause-worn_log
-returns-in-Err-clause-worn_log g c newest records table commits x h unfinished at worn =
-    let inv = c.loop-at.invariant.undone newest records table commits x h unfinished at in
-    let same : c.in-Err.stop ≡ Worn Log = cc in
-    let full = c.in-Err.ensures.worn_log (ap Err same) in
-    let count = inv.count in
-    let few = inv.few in
-    let all = unfinished.remaining_is in
-    omega (arith, full, count, few, all)
-
 pub returns-in-Err-clause-worn_end : goal.returns-in-Err-clause-worn_end
 returns-in-Err-clause-worn_end g c newest records table commits x h unfinished at worn =
     let inv = c.loop-at.invariant.undone newest records table commits x h unfinished at in
@@ -183,3 +174,29 @@ returns-clause-asks g c newest records table commits x h unfinished at =
     let empty : left_open (records ++ before.clrs) x.txn ≡ [] = sym (ap (left_open (records ++ before.clrs)) before.same) ∙ none_of (left_open (records ++ before.clrs) c.loop-at.at.txn) (omega (arith, none, count)) in
     all_work tt _ (left_open records x.txn) both.1.done c.args.pages.now c.loop-at.pages old mid
     (both.1.are ∙ ap (λ (l : List Entry). both.1.done ++ l) empty ∙ append-nil both.1.done) both.1.asks
+
+pub returns-in-Err-clause-numbers : goal.returns-in-Err-clause-numbers
+returns-in-Err-clause-numbers g c newest records table commits x h unfinished at quiet =
+    let i = c.loop-at.invariant in
+    let old = g.S.Site.state c.args.site.now in
+    let mid = g.S.Site.state c.loop-at.site in
+    let so_far = i.undone newest records table commits x h unfinished at in
+    let some = remains c.page_laws.ensures c.undo_laws.ensures c.loop-at.log c.loop-at.pages mid newest records table commits x.txn (blocks_to c.args.log.now) old.log_reads c.loop-at.at so_far c.loop-at-test.true in
+    let count = so_far.count in
+    let few = so_far.few in
+    let all = unfinished.remaining_is in
+    skips_behind _ c.args.pages.now.flash.geometry c.loop-at.pages.flash.geometry c.args.log.now c.loop-at.log c.undo_update.new.log old mid (g.S.Site.state c.undo_update.new.site) x.remaining 1 i.geometry (omega (arith, some, count, few, all))
+    (masters_hi old.image mid.image (i.masters newest records table commits x h unfinished at))
+    (c.in-Err.ensures.numbers newest _ table commits so_far.holds (i.stays_quiet h.log_holds.ready.blocks.honest quiet))
+
+pub returns-clause-numbers : goal.returns-clause-numbers
+returns-clause-numbers g c newest records table commits x h unfinished at quiet =
+    let i = c.loop-at.invariant in
+    let old = g.S.Site.state c.args.site.now in
+    let mid = g.S.Site.state c.loop-at.site in
+    let so_far = i.undone newest records table commits x h unfinished at in
+    let count = so_far.count in
+    let few = so_far.few in
+    let all = unfinished.remaining_is in
+    skips_so_far _ c.args.pages.now.flash.geometry c.args.log.now c.loop-at.log old mid x.remaining (i.log_geometry ∙ c.requires.going.sizes) so_far.holds.log_holds.ready.blocks.hi (omega (arith, count, few, all))
+    (masters_hi old.image mid.image (i.masters newest records table commits x h unfinished at))

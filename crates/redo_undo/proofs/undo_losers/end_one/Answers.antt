@@ -9,6 +9,7 @@ use Rattle.log_records.specs.Unfinished.{left_open}
 use Rattle.redo_undo.proofs.LeftUpdates.{none_of}
 use Rattle.redo_undo.proofs.UndoneUpdates.{end_updates}
 use Rattle.site.specs.declared.outside.Stop.TheVariants.{Worn}
+use Rattle.redo_undo.proofs.RingNumbers.{skips_nothing}
 use Rattle.redo_undo.proofs.undo_losers.end_one.Goals as goal
 
 pub returns-then-not-has_room-clause-readable : goal.returns-then-not-has_room-clause-readable
@@ -73,3 +74,12 @@ pub returns-in-Err-clause-worn_log_end : goal.returns-in-Err-clause-worn_log_end
 returns-in-Err-clause-worn_log_end g c pages newest records table commits h worn =
     let same : c.in-Err.stop ≡ Worn Log = cc in
     c.in-Err.ensures.worn_log_end pages newest records table commits h (ap Err same)
+
+pub returns-then-not-has_room-clause-numbers : goal.returns-then-not-has_room-clause-numbers
+returns-then-not-has_room-clause-numbers g c pages newest records table commits going h quiet = skips_nothing _ c.args.log.now.geometry c.args.log.now (g.S.Site.state c.args.site.now) 1 h.log_holds.ready.blocks.hi
+
+pub returns-in-Err-clause-numbers : goal.returns-in-Err-clause-numbers
+returns-in-Err-clause-numbers g c pages newest records table commits going h quiet = c.in-Err.ensures.numbers pages newest records table commits going h quiet
+
+pub returns-clause-numbers : goal.returns-clause-numbers
+returns-clause-numbers g c pages newest records table commits going h quiet = c.in-Ok.ensures.numbers pages newest records table commits going h quiet

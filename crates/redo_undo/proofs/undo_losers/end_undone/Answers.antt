@@ -7,6 +7,10 @@ use Rattle.redo_undo.proofs.UndoneUpdates.{no_updates, more_updates}
 use Rattle.site.specs.declared.outside.Dev.TheVariants.{Log}
 use Rattle.site.specs.declared.geometry.Geometry.{Geometry}
 use Rattle.redo_undo.specs.Holding.{IsLogWorn}
+use Rattle.redo_undo.proofs.Opens.{some_owed}
+use Rattle.analysis.specs.Table.{listed}
+use Rattle.analysis.specs.Open.{owed_for}
+use Rattle.redo_undo.proofs.UndoneNumbers.{masters_hi, skips_so_far, skips_behind}
 use Rattle.redo_undo.proofs.undo_losers.end_undone.Goals as goal
 
 pub loop-txn-init : goal.loop-txn-init
@@ -112,3 +116,27 @@ returns-in-Err-clause-worn_log_end g c pages newest records table commits going 
 
 pub returns-in-Err-clause-reads : goal.returns-in-Err-clause-reads
 returns-in-Err-clause-reads g c = λ d. c.end_one.ensures.reads d ∙ c.loop-txn.invariant.reads d
+
+pub returns-in-Err-clause-numbers : goal.returns-in-Err-clause-numbers
+returns-in-Err-clause-numbers g c pages newest records table commits going h quiet =
+    let i = c.loop-txn.invariant in
+    let k = c.args.log.now.geometry in
+    let old = g.S.Site.state c.args.site.now in
+    let mid = g.S.Site.state c.loop-txn.site in
+    let so_far = i.undone pages newest records table commits going h in
+    let none = c.in-Some.ensures.none in
+    let some = some_owed (listed c.loop-txn.found.table) c.in-Some.txn none.x none.there in
+    let few = i.blocks in
+    skips_behind _ k c.loop-txn.log.geometry c.args.log.now c.loop-txn.log c.end_one.new.log old mid (g.S.Site.state c.end_one.new.site) (owed_for (listed c.args.found.now.table)) 1 i.geometry (omega (arith, some, few))
+    (masters_hi old.image mid.image (i.masters pages newest records table commits going h))
+    (c.in-Err.ensures.numbers pages newest _ table commits (i.going pages going) so_far.now.holds (i.stays_quiet h.holds.log_holds.ready.blocks.honest quiet))
+
+pub returns-clause-numbers : goal.returns-clause-numbers
+returns-clause-numbers g c pages newest records table commits going h quiet =
+    let i = c.loop-txn.invariant in
+    let old = g.S.Site.state c.args.site.now in
+    let mid = g.S.Site.state c.loop-txn.site in
+    let so_far = i.undone pages newest records table commits going h in
+    let few = i.blocks in
+    skips_so_far _ c.args.log.now.geometry c.args.log.now c.loop-txn.log old mid (owed_for (listed c.args.found.now.table)) i.geometry so_far.now.holds.log_holds.ready.blocks.hi (omega (arith, few))
+    (masters_hi old.image mid.image (i.masters pages newest records table commits going h))

@@ -19,6 +19,9 @@ use Rattle.redo_undo.proofs.Asking.{asks_nothing}
 use Rattle.redo_undo.proofs.AskingUndo.{none_read, not_worn_either, asks_refused}
 use Rattle.redo_undo.proofs.UndoneUpdates.{next_is_last, none_is_next, updates_asked_more, updates_asked_stopped, updates_asked}
 use Rattle.redo_undo.specs.Holding.{IsLogWorn}
+use Rattle.analysis.specs.Open.{owed_for}
+use Rattle.redo_undo.proofs.RingNumbers.{skips_again, skips_on}
+use Rattle.redo_undo.proofs.UndoneNumbers.{masters_hi, skips_so_far, skips_behind}
 use Rattle.redo_undo.proofs.undo_losers.undo_all.Goals as goal
 
 pub loop-next-init : goal.loop-next-init
@@ -240,3 +243,43 @@ returns-clause-asks g c newest records table commits none h is =
     let ordered = order c.found_laws.ensures c.undo_laws.ensures c.loop-next.log c.loop-next.pages mid newest all table commits c.loop-next.found undone.now.holds undone.now.analysis in
     updates_asked tt c.loop-next.log c.loop-next.pages mid newest records table commits c.loop-next.found c.loop-next.known c.args.pages.now (g.S.Site.state c.args.site.now) before
     (none_is_next all c.next_undo.result (λ at is_some. c.in_default.not-Some at is_some) (c.next_undo.ensures.of_table [] all (512 * kept_by newest) _ undone.now.analysis (own_known c.found_laws.ensures c.undo_laws.ensures c.loop-next.log c.loop-next.pages mid newest all table commits c.loop-next.found undone.now.holds undone.now.analysis) ordered))
+
+pub returns-in-Err-clause-numbers : goal.returns-in-Err-clause-numbers
+returns-in-Err-clause-numbers g c newest records table commits none h is quiet =
+    let log = c.args.log.now in
+    let old = g.S.Site.state c.args.site.now in
+    let new = g.S.Site.state c.end_undone.new.site in
+    let owed = owed_for (listed c.args.found.now.table) in
+    let stop = c.in-Err.stop in
+    skips_again stop c.args.pages.now.flash.geometry log c.end_undone.new.log old new owed 0
+    (skips_on (Err stop) log.geometry c.args.pages.now.flash.geometry log c.end_undone.new.log old new owed 0 c.requires.going.sizes
+    (c.in-Err.ensures.numbers c.args.pages.now newest records table commits c.requires.going
+    (record { holds = h; analysis = is; up_to = sealed_up_to c.page_laws.ensures c.undo_laws.ensures log c.args.pages.now old newest records table commits (c.sealed_end-sealed.result + 1) h none (omega (arith, c.sealed_end-sealed.ensures)) }) quiet))
+
+pub returns-in-Err-undo_next-clause-numbers : goal.returns-in-Err-undo_next-clause-numbers
+returns-in-Err-undo_next-clause-numbers g c newest records table commits none h is quiet =
+    let log = c.args.log.now in
+    let k = c.args.pages.now.flash.geometry in
+    let old = g.S.Site.state c.args.site.now in
+    let mid = g.S.Site.state c.loop-next.site in
+    let new = g.S.Site.state c.undo_next.new.site in
+    let i = c.loop-next.invariant in
+    let before = i.undone newest records table commits none h is in
+    let all = records ++ before.more in
+    let ordered = order c.found_laws.ensures c.undo_laws.ensures c.loop-next.log c.loop-next.pages mid newest all table commits c.loop-next.found before.now.holds before.now.analysis in
+    let greatest = next_is_greatest c.next_undo.result c.in-Some.next (last_where (λ v. true) (pending all)) c.in-Some.is (c.next_undo.ensures.of_table [] all (512 * kept_by newest) _ before.now.analysis (own_known c.found_laws.ensures c.undo_laws.ensures c.loop-next.log c.loop-next.pages mid newest all table commits c.loop-next.found before.now.holds before.now.analysis) ordered) in
+    let owed = owed_for (listed c.args.found.now.table) in
+    let stop = c.in-Err-undo_next.stop in
+    skips_again stop k log c.undo_next.new.log old new owed 0
+    (skips_behind (Err stop) k c.loop-next.pages.flash.geometry log c.loop-next.log c.undo_next.new.log old mid new owed (owed_for (listed c.loop-next.found.table)) i.geometry i.blocks (masters_hi old.image mid.image (i.masters newest records table commits none h is))
+    (c.in-Err-undo_next.ensures.numbers newest all table commits before.now greatest (i.stays_quiet h.log_holds.ready.blocks.honest quiet)))
+
+pub returns-clause-numbers : goal.returns-clause-numbers
+returns-clause-numbers g c newest records table commits none h is quiet =
+    let i = c.loop-next.invariant in
+    let old = g.S.Site.state c.args.site.now in
+    let mid = g.S.Site.state c.loop-next.site in
+    let before = i.undone newest records table commits none h is in
+    let few = i.blocks in
+    skips_so_far _ c.args.pages.now.flash.geometry c.args.log.now c.loop-next.log old mid (owed_for (listed c.args.found.now.table)) (i.log_geometry ∙ c.requires.going.sizes) before.now.holds.log_holds.ready.blocks.hi (omega (arith, few))
+    (masters_hi old.image mid.image (i.masters newest records table commits none h is))

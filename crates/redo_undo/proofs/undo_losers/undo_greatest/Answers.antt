@@ -7,6 +7,7 @@ use Rattle.site.specs.declared.outside.Dev.TheVariants.{Flash, Log}
 use Rattle.redo_undo.specs.UndoWorks.{works_of}
 use Rattle.redo_undo.proofs.AskingUndo.{stops_again, ends_again}
 use Rattle.redo_undo.proofs.UndoneUpdates.{last_is_left, clr_updates}
+use Rattle.redo_undo.proofs.RingNumbers.{skips_again, skips_answered}
 use Rattle.redo_undo.proofs.undo_losers.undo_greatest.Goals as goal
 
 pub returns-in-Err-clause-readable : goal.returns-in-Err-clause-readable
@@ -81,3 +82,11 @@ returns-clause-updates g c newest records table commits known u h last =
 
 pub returns-clause-masters : goal.returns-clause-masters
 returns-clause-masters g c newest records table commits h = c.in-Ok.ensures.masters newest records table commits h
+
+pub returns-in-Err-clause-numbers : goal.returns-in-Err-clause-numbers
+returns-in-Err-clause-numbers g c newest records table commits h quiet =
+    skips_again c.in-Err.stop c.args.pages.now.flash.geometry c.args.log.now c.undo_update.new.log (g.S.Site.state c.args.site.now) (g.S.Site.state c.undo_update.new.site) 1 0 (c.in-Err.ensures.numbers newest records table commits h quiet)
+
+pub returns-clause-numbers : goal.returns-clause-numbers
+returns-clause-numbers g c newest records table commits h quiet =
+    skips_answered c.in-Ok.now _ c.args.pages.now.flash.geometry c.args.log.now c.undo_update.new.log (g.S.Site.state c.args.site.now) (g.S.Site.state c.undo_update.new.site) 1 0 (c.in-Ok.ensures.numbers newest records table commits h quiet)

@@ -17,6 +17,10 @@ use Rattle.image_changes.specs.Rings.{KeepsUnits, master_shape}
 use Rattle.redo_undo.proofs.Redoings.{ok_one_of}
 use Rattle.site.specs.declared.geometry.Geometry.{Geometry}
 use Rattle.redo_undo.specs.Holding.{IsLogWorn}
+use Rattle.redo_undo.proofs.Opens.{some_owed}
+use Rattle.analysis.specs.Open.{owed_for}
+use Rattle.redo_undo.proofs.RingNumbers.{skips_nothing, skips_weaker, hi_on}
+use Rattle.redo_undo.proofs.UndoneNumbers.{masters_hi, skips_behind}
 use Rattle.redo_undo.proofs.undo_losers.undo_next.Goals as goal
 
 pub returns-then-loser-known-clause-any_moment : goal.returns-then-loser-known-clause-any_moment
@@ -162,3 +166,38 @@ returns-clause-masters g c newest records table commits h greatest =
     let first = c.in-Ok.ensures.undone newest records table commits c.args.known h (subst (IsGreatest records) (sym c.in-Some.ensures.named) greatest) in
     ok_one_of c.end_one.result _ (KeepsUnits master_shape old.image new.image) (units_then old.image mid.image new.image (c.in-Ok.ensures.masters newest records table commits h.holds))
     (c.end_one.ensures.masters c.undo_greatest.new.pages newest (records ++ first.more) table commits first.now.holds)
+
+pub returns-in_default-clause-numbers : goal.returns-in_default-clause-numbers
+returns-in_default-clause-numbers g c newest records table commits h greatest quiet =
+    let owed = owed_for (listed c.args.found.now.table) in
+    skips_nothing _ c.args.pages.now.flash.geometry c.args.log.now (g.S.Site.state c.args.site.now) owed (hi_on c.args.log.now.geometry c.args.pages.now.flash.geometry c.args.log.now (g.S.Site.state c.args.site.now).image c.requires.going.sizes h.holds.log_holds.ready.blocks.hi)
+
+pub returns-then-loser-known-clause-numbers : goal.returns-then-loser-known-clause-numbers
+returns-then-loser-known-clause-numbers g c newest records table commits h greatest quiet =
+    let owed = owed_for (listed c.args.found.now.table) in
+    skips_nothing _ c.args.pages.now.flash.geometry c.args.log.now (g.S.Site.state c.args.site.now) owed (hi_on c.args.log.now.geometry c.args.pages.now.flash.geometry c.args.log.now (g.S.Site.state c.args.site.now).image c.requires.going.sizes h.holds.log_holds.ready.blocks.hi)
+
+pub returns-in-Err-clause-numbers : goal.returns-in-Err-clause-numbers
+returns-in-Err-clause-numbers g c newest records table commits h greatest quiet =
+    let remains = c.requires.greatest in
+    skips_weaker _ c.args.pages.now.flash.geometry c.args.log.now c.undo_greatest.new.log (g.S.Site.state c.args.site.now) (g.S.Site.state c.undo_greatest.new.site) 1 (owed_for (listed c.args.found.now.table)) 0
+    (some_owed (listed c.args.found.now.table) c.args.next.0 remains.x remains.there) (c.in-Err.ensures.numbers newest records table commits h.holds quiet)
+
+pub returns-then-loser-gt1-clause-numbers : goal.returns-then-loser-gt1-clause-numbers
+returns-then-loser-gt1-clause-numbers g c newest records table commits h greatest quiet =
+    let remains = c.requires.greatest in
+    skips_weaker _ c.args.pages.now.flash.geometry c.args.log.now c.undo_greatest.new.log (g.S.Site.state c.args.site.now) (g.S.Site.state c.undo_greatest.new.site) 1 (owed_for (listed c.args.found.now.table)) 0
+    (some_owed (listed c.args.found.now.table) c.args.next.0 remains.x remains.there) (c.in-Ok.ensures.numbers newest records table commits h.holds quiet)
+
+pub returns-clause-numbers : goal.returns-clause-numbers
+returns-clause-numbers g c newest records table commits h greatest quiet =
+    let old = g.S.Site.state c.args.site.now in
+    let mid = g.S.Site.state c.undo_greatest.new.site in
+    let first = c.in-Ok.ensures.undone newest records table commits c.args.known h (subst (IsGreatest records) (sym c.in-Some.ensures.named) greatest) in
+    let none = none_remains_of (listed c.args.found.now.table) (listed c.undo_greatest.new.found.table) c.in-Some.loser c.in-Ok.last c.requires.found c.undo_greatest.ensures.found_going c.in-Some.ensures.there (omega (arith, c.if-loser-gt1.false)) c.in-Ok.ensures.replaces in
+    let some = some_owed (listed c.undo_greatest.new.found.table) c.in-Some.loser.txn none.x none.there in
+    let one = c.in-Ok.ensures.blocks in
+    let less = c.in-Ok.ensures.owed in
+    skips_behind c.end_one.result c.args.pages.now.flash.geometry c.undo_greatest.new.log.geometry c.args.log.now c.undo_greatest.new.log c.end_one.new.log old mid (g.S.Site.state c.end_one.new.site) (owed_for (listed c.args.found.now.table)) 1
+    (c.undo_greatest.ensures.log_geometry ∙ c.requires.going.sizes) (omega (arith, some, one, less)) (masters_hi old.image mid.image (c.in-Ok.ensures.masters newest records table commits h.holds))
+    (c.end_one.ensures.numbers c.undo_greatest.new.pages newest (records ++ first.more) table commits c.in-Ok.ensures.going first.now.holds (c.in-Ok.ensures.stays_quiet h.holds.log_holds.ready.blocks.honest quiet))

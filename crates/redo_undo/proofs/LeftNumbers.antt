@@ -1,0 +1,119 @@
+-- The numbers of the rings in what a call has left.
+use Rattle.std.proofs.Common.{◌≡◌, inl, inr, ℕ, ◌+◌, ◌≤◌, Bool, true, List, [], ◌∷◌, ◌++◌, length, ap, subst, arith}
+use Rattle.std.specs.Prelude.{Result, Ok, Err, OnOk, Some, ◌≢◌, if◌then◌else◌}
+use Rattle.std.specs.List.{AllByRecursion}
+use Rattle.std.proofs.lemmas.List.{length-append}
+use Rattle.site.specs.declared.geometry.Geometry.{Geometry}
+use Rattle.site.specs.State.{State, Image, Snapshot, snapshot_of}
+use Rattle.site.specs.Moments.{LeavesOnly}
+use Rattle.site.specs.Laws.{holds_now}
+use Rattle.sealed_ring.specs.Ring.{hi_of, Units}
+use Rattle.image_changes.specs.Rings.{Masters, Blocks, log_shape, master_shape, KeepsUnits}
+use Rattle.image_changes.specs.Changes.{Change, AppendsMaster, Reaches, ring_of}
+use Rattle.image_changes.specs.Reached.{IsReached, IsFrontOf, LeavesFront}
+use Rattle.image_changes.specs.Laws.{RingKept}
+use Rattle.log_store.specs.declared.store.LogStore.{LogStore}
+use Rattle.log_store.specs.LogList.{LogList, changes_if}
+use Rattle.log_store.specs.Held.{LeavesLog, has_tail}
+use Rattle.page_store.specs.declared.store.PageStore.{PageStore}
+use Rattle.page_store.specs.Leaves.{AreReady, LeavesPages}
+use Rattle.page_store.specs.Ahead.{end_forced}
+use Rattle.redo_undo.specs.Holding.{blocks_to}
+use Rattle.redo_undo.specs.Numbers.{SkipsNone}
+use Rattle.redo_undo.proofs.Touched.{tail_blocks}
+use Rattle.redo_undo.proofs.Appended.{all_front}
+use Rattle.redo_undo.proofs.Forced.{seals_only, same_blocks}
+use Rattle.redo_undo.proofs.RingNumbers.{ok_as, ok_always}
+
+pub ok_both : {T E : Type 0} (r : Result T E) (P Q Z : Type 0) → (P → Q → Z) → OnOk r P → OnOk r Q → OnOk r Z
+ok_both (Ok x) P Q Z f p q = f p q
+ok_both (Err e) P Q Z f p q = tt
+
+-- the ring's next block is the one behind the blocks that are held
+pub ready_next : (pages : PageStore) (log : LogStore) (list : LogList) (site : State) → AreReady pages log list site → log.ring.hi ≡ list.first + length list.blocks
+ready_next pages log list site ready = let hi = ready.blocks.hi in let next = ready.records.blocks.next in omega (arith, hi, next)
+
+-- a ring that keeps its units keeps its next number
+pub masters_same : (old new : Image) → KeepsUnits master_shape old new → hi_of master_shape new.log ≡ hi_of master_shape old.log
+masters_same old new keeps = ap (λ (u : Units). u.hi) keeps.units
+
+pub blocks_same : (g : Geometry) (old new : Image) → KeepsUnits (log_shape g) old new → hi_of (log_shape g) new.log ≡ hi_of (log_shape g) old.log
+blocks_same g old new keeps = ap (λ (u : Units). u.hi) keeps.units
+
+-- the blocks that are left are those that were sealed, or the tail that was there is one more
+pub blocks_left : (g : Geometry) (log : LogStore) (list : LogList) (sealing : Bool) (told : List ℕ) (s : Snapshot) → log.ring.hi ≡ list.first + length list.blocks → (sealing ≡ true → has_tail log ≡ true)
+    → LeavesLog g sealing list told s → hi_of (log_shape g) s.image.log ≤ blocks_to log
+blocks_left g log list sealing told s hi some leaves = elim leaves.blocks [
+  | inl has ↦ let next = has.next in omega (arith, next, hi)
+  | inr more ↦ let next = more.1.next in let one = ap tail_blocks (some more.0) in let len = length-append list.blocks (list.tail ∷ []) in omega (arith, next, hi, one, len)
+]
+
+-- so no number is skipped where the masters stay
+pub left_skips : {T E : Type 0} (r : Result T E) (g : Geometry) (log log' : LogStore) (list : LogList) (sealing : Bool) (site new : State) (n : ℕ) → log.ring.hi ≡ list.first + length list.blocks → (sealing ≡ true → has_tail log ≡ true)
+    → LeavesLog g sealing list site.told (snapshot_of new) → KeepsUnits master_shape site.image new.image → OnOk r (blocks_to log' ≤ blocks_to log + n) → SkipsNone r g log log' site new n 0
+left_skips r g log log' list sealing site new n hi some leaves keeps count =
+    let same = masters_same site.image new.image keeps in
+    let now = blocks_left g log list sealing site.told (snapshot_of new) hi some leaves in
+    record {
+      log = count;
+      blocks = omega (arith, now);
+      masters = omega (arith, same);
+      saved = ok_always r _ (let all : hi_of master_shape new.image.log ≡ hi_of master_shape site.image.log + 0 = omega (arith, same) in all);
+    }
+
+-- a call on pages
+pub pages_skip : {T E : Type 0} (r : Result T E) (g : Geometry) (given : ℕ → List ℕ) (log log' : LogStore) (list : LogList) (sealing : Bool) (site new : State) → log.ring.hi ≡ list.first + length list.blocks → (sealing ≡ true → has_tail log ≡ true)
+    → LeavesOnly site new (LeavesPages g given sealing list site) → OnOk r (end_forced log' ≡ end_forced log) → SkipsNone r g log log' site new 0 0
+pages_skip r g given log log' list sealing site new hi some leaves end =
+    let now = holds_now site new (LeavesPages g given sealing list site) leaves in
+    left_skips r g log log' list sealing site new 0 hi some now.log (now.rings Masters (λ same. cc) (λ same. cc)) (ok_as r _ _ (λ is. omega (arith, is)) end)
+
+-- a call on the log
+pub log_skips : RingKept → {T E : Type 0} (r : Result T E) (g : Geometry) (log log' : LogStore) (list : LogList) (sealing : Bool) (site new : State) (n : ℕ) → log.ring.hi ≡ list.first + length list.blocks → (sealing ≡ true → has_tail log ≡ true)
+    → LeavesOnly site new (LeavesLog g sealing list site.told) → LeavesFront g (changes_if sealing list) site new → OnOk r (blocks_to log' ≤ blocks_to log + n) → SkipsNone r g log log' site new n 0
+log_skips kept r g log log' list sealing site new n hi some leaves front count =
+    let is = holds_now site new (IsReached g (IsFrontOf (changes_if sealing list)) site) front in
+    let others : AllByRecursion (λ change. ring_of change ≢ Some Masters) is.changes =
+    all_front (λ change. ring_of change ≢ Some Masters) is.changes is.made.0 (subst (AllByRecursion (λ change. ring_of change ≢ Some Masters)) is.made.1 (seals_only sealing list)) in
+    left_skips r g log log' list sealing site new n hi some (holds_now site new (LeavesLog g sealing list site.told) leaves) (kept g Masters is.changes site.image new.image others is.reaches) count
+
+-- a tail that is sealed was counted before
+pub same_at_most : (log log' : LogStore) → has_tail log ≡ true → log'.ring.hi ≡ (if has_tail log then log.ring.hi + 1 else log.ring.hi) → log'.used ≡ 2 → blocks_to log' ≤ blocks_to log + 0
+same_at_most log log' some next empty = let same = same_blocks log log' some next empty in omega (arith, same)
+
+-- what has been left of an append to the masters' ring: the blocks stay, and there is at most one master unit more
+record HasMasters (g : Geometry) (old new : Image) : Type 0 where
+  pub blocks : hi_of (log_shape g) new.log ≡ hi_of (log_shape g) old.log
+  pub masters : hi_of master_shape new.log ≤ hi_of master_shape old.log + 1
+
+masters_left : (g : Geometry) (unit : List ℕ) (changes left : List Change) (old new : Image) → AppendsMaster unit ∷ [] ≡ changes ++ left → Reaches g changes old new → HasMasters g old new
+masters_left g unit [] left old new is reads =
+    let masters = masters_same old new (reads.rings Masters) in
+    record { blocks = blocks_same g old new (reads.rings Blocks); masters = omega (arith, masters) }
+masters_left g unit (AppendsMaster content ∷ []) left old new is made =
+    let mid = made.0 in
+    let first = ap (λ (u : Units). u.hi) made.1.units in
+    let second = masters_same mid new (made.2.rings Masters) in
+    let before : hi_of (log_shape g) mid.log ≡ hi_of (log_shape g) old.log = blocks_same g old mid (made.1.others Blocks (λ same. cc)) in
+    let behind = blocks_same g mid new (made.2.rings Blocks) in
+    record { blocks = omega (arith, before, behind); masters = omega (arith, first, second) }
+masters_left g unit (x ∷ y ∷ changes) left old new is made = absurd (let len = ap length is in omega (arith, len))
+masters_left g unit (other ∷ []) left old new is made = absurd cc
+
+-- a call that appends a master unit
+pub save_skips : {T E : Type 0} (r : Result T E) (g : Geometry) (log log' : LogStore) (unit : List ℕ) (site new : State) → log.ring.hi ≡ hi_of (log_shape g) site.image.log → LeavesFront g (AppendsMaster unit ∷ []) site new
+    → OnOk r (blocks_to log' ≡ blocks_to log) → OnOk r (hi_of master_shape new.image.log ≡ hi_of master_shape site.image.log + 1) → SkipsNone r g log log' site new 0 1
+save_skips r g log log' unit site new hi front count saved =
+    let is = holds_now site new (IsReached g (IsFrontOf (AppendsMaster unit ∷ [])) site) front in
+    let has = masters_left g unit is.changes is.made.0 site.image new.image is.made.1 is.reaches in
+    let blocks = has.blocks in
+    record {
+      log = ok_as r _ _ (λ same. omega (arith, same)) count;
+      blocks = omega (arith, blocks, hi);
+      masters = has.masters;
+      saved = saved;
+    }
+
+-- a call that stops may have made more checkpoints
+pub skips_not_saved : {T E : Type 0} (e : E) (g : Geometry) (old new : LogStore) (before now : State) (n m j : ℕ) → m ≤ j → SkipsNone {T = T} {E = E} (Err e) g old new before now n m → SkipsNone {T = T} {E = E} (Err e) g old new before now n j
+skips_not_saved e g old new before now n m j few first = record { log = tt; blocks = first.blocks; masters = let more = first.masters in omega (arith, more, few); saved = tt }

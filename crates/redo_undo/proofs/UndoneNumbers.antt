@@ -1,0 +1,102 @@
+-- The numbers of the rings while records of an opened log are redone, and between the calls of undo.
+use Rattle.std.proofs.Common.{◌≡◌, ℕ, ◌+◌, ◌≤◌, Bool, false, List, [], length, refl, sym, ap, ◌∙◌, arith, Option}
+use Rattle.std.specs.Prelude.{Result, OnOk}
+use Rattle.site.specs.declared.geometry.Geometry.{Geometry}
+use Rattle.site.specs.State.{State, Image, snapshot_of}
+use Rattle.site.specs.Calls.{IsUnchanged}
+use Rattle.site.specs.Moments.{LeavesOnly}
+use Rattle.site.specs.Laws.{holds_now}
+use Rattle.sealed_ring.specs.Ring.{Units, hi_of}
+use Rattle.image_changes.specs.Rings.{log_shape, master_shape, KeepsUnits, Masters}
+use Rattle.record_model.specs.State.{Content}
+use Rattle.log_records.specs.Log.{Entry}
+use Rattle.log_store.specs.declared.store.LogStore.{LogStore}
+use Rattle.log_store.specs.LogList.{LogList}
+use Rattle.page_store.specs.declared.store.PageStore.{PageStore}
+use Rattle.page_store.specs.Held.{current}
+use Rattle.page_store.specs.Leaves.{LeavesPages}
+use Rattle.checkpoint.specs.declared.master.Master.{Master}
+use Rattle.image_meaning.specs.Meaning.{kept_by}
+use Rattle.redo_undo.specs.Holding.{Holds, blocks_to}
+use Rattle.redo_undo.specs.Redoing.{Opening, IsRedoing}
+use Rattle.redo_undo.specs.Numbers.{SkipsNone}
+use Rattle.redo_undo.proofs.WornLogs.{sealed_hi}
+use Rattle.redo_undo.specs.Laws.{PageLaws}
+use Rattle.redo_undo.specs.RedoLaws.{RedoLaws}
+use Rattle.redo_undo.proofs.Redoings.{leaves_so, blocks_left}
+use Rattle.redo_undo.proofs.RingNumbers.{ok_as, ok_always, hi_on, skips_reads, skips_on}
+
+-- a ring of master units that is kept has the same next number
+pub masters_hi : (old new : Image) → KeepsUnits master_shape old new → hi_of master_shape new.log ≡ hi_of master_shape old.log
+masters_hi old new keeps = ap (λ (u : Units). u.hi) keeps.units
+
+-- calls that were Ok so far have made at most so many records
+pub skips_so_far : {T E : Type 0} (r : Result T E) (g : Geometry) (old new : LogStore) (before now : State) (n : ℕ) → new.geometry ≡ g → new.ring.hi ≡ hi_of (log_shape new.geometry) now.image.log → blocks_to new ≤ blocks_to old + n →
+    hi_of master_shape now.image.log ≡ hi_of master_shape before.image.log → SkipsNone r g old new before now n 0
+skips_so_far r g old new before now n sizes hi few same =
+    let there = hi_on new.geometry g new now.image sizes hi in
+    record {
+      log = ok_always r _ few;
+      blocks = omega (arith, there, few);
+      masters = omega (arith, same);
+      saved = ok_always r _ (let is : hi_of master_shape now.image.log ≡ hi_of master_shape before.image.log + 0 = omega (arith, same) in is);
+    }
+
+-- a call behind them, together with which they make at most so many
+pub skips_behind : {T E : Type 0} (r : Result T E) (g g' : Geometry) (old mid new : LogStore) (before middle now : State) (n n' : ℕ) → g' ≡ g → blocks_to mid + n' ≤ blocks_to old + n →
+    hi_of master_shape middle.image.log ≡ hi_of master_shape before.image.log → SkipsNone r g' mid new middle now n' 0 → SkipsNone r g old new before now n 0
+skips_behind r g g' old mid new before middle now n n' sizes few saved more =
+    let second = skips_on r g' g mid new middle now n' 0 sizes more in
+    record {
+      log = ok_as r _ _ (λ blocks. omega (arith, blocks, few)) second.log;
+      blocks = let blocks = second.blocks in omega (arith, blocks, few);
+      masters = let masters = second.masters in omega (arith, masters, saved);
+      saved = ok_as r _ _ (λ masters. let all : hi_of master_shape now.image.log ≡ hi_of master_shape before.image.log + 0 = omega (arith, masters, saved) in all) second.saved;
+    }
+
+-- a site of which only was read has the same ring of master units
+pub masters_read : (old new : State) → IsUnchanged old new → hi_of master_shape new.image.log ≡ hi_of master_shape old.image.log
+masters_read old new same = ap (λ (i : Image). hi_of master_shape i.log) same.image
+
+-- a call that only reads the devices, where log and pages hold together
+pub skips_held : {T E : Type 0} (r : Result T E) (log : LogStore) (pages : PageStore) (old new : State) (newest : Option Master) (records : List Entry) (table : List Content) (commits n : ℕ) → log.geometry ≡ pages.flash.geometry → IsUnchanged old new →
+    Holds log pages old newest records table commits → SkipsNone r pages.flash.geometry log log old new n 0
+skips_held r log pages old new newest records table commits n sizes same h = skips_reads r pages.flash.geometry log old new n (hi_on log.geometry pages.flash.geometry log old.image sizes h.log_holds.ready.blocks.hi) same.image
+
+-- While records are redone the log ends with the blocks that it was opened with.
+module _ (o : Opening) (log : LogStore) (pages : PageStore) (site : State) (front : List Entry) (h : IsRedoing o log pages site front) where
+  opened_end : blocks_to log ≡ kept_by o.newest + length o.blocks
+  opened_end = let end = sealed_hi log (blocks_to log) h.ready.records.tail.end refl in let hi = h.ready.blocks.hi in let next = h.ready.records.blocks.next in omega (arith, end, hi, next)
+
+  opened_masters : hi_of master_shape site.image.log ≡ hi_of master_shape o.image.log
+  opened_masters = masters_hi o.image site.image h.masters
+
+-- The ring of master units is kept too.
+pub masters_redoing : (o : Opening) (log log' : LogStore) (pages pages' : PageStore) (old new : State) (front front' : List Entry) → IsRedoing o log pages old front → IsRedoing o log' pages' new front' → hi_of master_shape new.image.log ≡ hi_of master_shape old.image.log
+masters_redoing o log log' pages pages' old new front front' h h' = opened_masters o log' pages' new front' h' ∙ sym (opened_masters o log pages old front h)
+
+-- Calls that redo records make none.
+module _ {T E : Type 0} (r : Result T E) (o : Opening) (log log' : LogStore) (pages pages' : PageStore) (old new : State) (front front' : List Entry) (h : IsRedoing o log pages old front) where
+  pub skips_redoing : log'.geometry ≡ pages.flash.geometry → IsRedoing o log' pages' new front' → SkipsNone r pages.flash.geometry log log' old new 0 0
+  skips_redoing sizes h' =
+      let first = opened_end o log pages old front h in
+      let last = opened_end o log' pages' new front' h' in
+      skips_so_far r pages.flash.geometry log log' old new 0 sizes h'.ready.blocks.hi (omega (arith, first, last)) (masters_redoing o log log' pages pages' old new front front' h h')
+
+-- A touch while records are redone makes none, wherever it stops: no tail is sealed for it.
+module _ (laws : PageLaws) (redo : RedoLaws) (o : Opening) (log : LogStore) (pages : PageStore) (site : State) (front : List Entry) (h : IsRedoing o log pages site front) (sealing : Bool) (never : sealing ≡ false) (new : State) where
+  pub skips_touch : {T E : Type 0} (r : Result T E) (log' : LogStore) (pages' : PageStore) → LeavesOnly site new (LeavesPages pages.flash.geometry (current pages site.image) sealing (record { first = kept_by o.newest; blocks = o.blocks; tail = [] }) site) →
+      OnOk r (IsRedoing o log' pages' new front) → SkipsNone r pages.flash.geometry log log' site new 0 0
+  skips_touch r log' pages' leaves redone =
+      let list : LogList = record { first = kept_by o.newest; blocks = o.blocks; tail = [] } in
+      let now = holds_now site new (LeavesPages o.sizes (current pages site.image) false list site) (leaves_so laws redo o log pages site front h sealing never new leaves) in
+      let held = blocks_left laws redo o log pages site front h (snapshot_of new) now in
+      let first = opened_end o log pages site front h in
+      let next = held.next in
+      let same = masters_hi site.image new.image (now.rings Masters (λ is. cc) (λ is. cc)) in
+      skips_on r o.sizes pages.flash.geometry log log' site new 0 0 (sym h.geometry) (record {
+        log = ok_as r _ _ (λ after. let last = opened_end o log' pages' new front after in omega (arith, first, last)) redone;
+        blocks = omega (arith, first, next);
+        masters = omega (arith, same);
+        saved = ok_always r _ (let is : hi_of master_shape new.image.log ≡ hi_of master_shape site.image.log + 0 = omega (arith, same) in is);
+      })
