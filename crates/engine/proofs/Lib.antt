@@ -21,3 +21,4 @@ pub mod Starts
 pub mod Stats
 pub mod Writes
 pub mod Asking
+pub mod RingCounts

@@ -32,7 +32,7 @@ use Rattle.engine.specs.declared.restart.Restarted.{Restarted}
 use Rattle.engine.specs.Holding.{HasCheckpoint}
 use Rattle.engine.specs.Restarting.{IsReady, RestartedAs}
 
-abbrev tail_blocks : Bool → ℕ
+abbrev pub tail_blocks : Bool → ℕ
 tail_blocks b = if b then 1 else 0
 
 -- a log that has as many blocks, and had no tail, has none still

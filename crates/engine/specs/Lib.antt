@@ -4,6 +4,7 @@ pub mod Holding
 pub mod Image
 pub mod Leaves
 pub mod Listings
+pub mod Numbers
 pub mod OneWrite
 pub mod Paging
 pub mod Restarting

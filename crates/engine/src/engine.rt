@@ -27,7 +27,7 @@ ghost use Rattle.image_meaning.specs.Moments as moments;
 ghost use Rattle.redo_undo.specs.Holding.{blocks_to, IsLogWorn};
 ghost use Rattle.redo_undo.specs.Committing.{MayCommit};
 ghost use Rattle.engine.specs.Going.{MayWork, MayGoOn, sizes_of};
-ghost use Rattle.engine.specs.Image.{IsSound, Stands, Opens};
+ghost use Rattle.engine.specs.Image.{log_under, IsSound, Stands, Opens};
 ghost use Rattle.engine.specs.Holding.{Holds, IsInFront, shown_in};
 ghost use Rattle.engine.specs.OneWrite.{HasOneWrite};
 ghost use Rattle.engine.specs.Fits.{Fits, run, run_now, checkpointed_if, with_write, with_read, with_reads, Refuses, Accepts, IsFull};
@@ -41,6 +41,8 @@ ghost use Rattle.checkpoint.specs.declared.master.Master.{Master};
 ghost use Rattle.image_meaning.specs.Meaning.{picture_under};
 ghost use Rattle.engine.specs.Listings.{listing_of};
 ghost use Rattle.engine.specs.Scans.{first_busy, items_seen};
+ghost use Rattle.engine.specs.Numbers.{CountsOn, RestartsWithin, checkpoints_by};
+ghost use Rattle.redo_undo.specs.Numbers.{SkipsNone};
 
 use crate::restart::restart;
 use crate::scan::{add_item, first_busy};
@@ -87,6 +89,9 @@ impl Engine {
             → Stands g (S.state site.old).image table commits
             → LeavesOnly (S.state site.old) (S.state site.new)
             (LeavesTable g table commits (S.state site.old).told) }
+        ensures numbers { IsTrue (S.state site.old).honest → IsQuiet (S.state site.old)
+            → (g : Geometry) (newest : Option Master) (blocks : List (List LogRecord)) → IsSound newest g (S.state site.old).image blocks
+            → RestartsWithin result (λ engine. engine.store.log) g (log_under newest blocks) (S.state site.old) (S.state site.new) }
         ensures left { IsTrue (S.state site.old).honest
             → (S.state site.new).left ≡ (S.state site.old).left }
         ensures stays_quiet { IsTrue (S.state site.old).honest → IsQuiet (S.state site.old)
@@ -251,6 +256,9 @@ impl Engine {
             → IsQuiet (S.state site.old)
             → LeavesOnly (S.state site.old) (S.state site.new)
             (LeavesTable (sizes_of self.old.store) s.table s.commits (S.state site.old).told) }
+        ensures numbers { (s : State) → Fits self.old (S.state site.old) s
+            → IsQuiet (S.state site.old)
+            → CountsOn result self.old self.new (S.state site.old) (S.state site.new) s (checkpointed_if true s) 1 }
         ensures left { IsTrue (S.state site.old).honest
             → (S.state site.new).left ≡ (S.state site.old).left }
         ensures stays_quiet { IsTrue (S.state site.old).honest → IsQuiet (S.state site.old)
@@ -295,6 +303,9 @@ impl Engine {
             → IsQuiet (S.state site.old)
             → LeavesOnly (S.state site.old) (S.state site.new)
             (LeavesTable (sizes_of self.old.store) s.table s.commits (S.state site.old).told) }
+        ensures numbers { (s : State) → Fits self.old (S.state site.old) s
+            → IsQuiet (S.state site.old)
+            → CountsOn result self.old self.new (S.state site.old) (S.state site.new) s (checkpointed_if wanted s) (if wanted then 1 else 0) }
         ensures left { IsTrue (S.state site.old).honest
             → (S.state site.new).left ≡ (S.state site.old).left }
         ensures stays_quiet { IsTrue (S.state site.old).honest → IsQuiet (S.state site.old)
@@ -345,6 +356,9 @@ impl Engine {
             → IsQuiet (S.state site.old)
             → LeavesOnly (S.state site.old) (S.state site.new)
             (LeavesTable (sizes_of self.old.store) s.table s.commits (S.state site.old).told) }
+        ensures numbers { (s : State) → Fits self.old (S.state site.old) s
+            → IsQuiet (S.state site.old)
+            → CountsOn result self.old self.new (S.state site.old) (S.state site.new) s (run s Command.Checkpoint).after (checkpoints_by s Command.Checkpoint) }
         ensures left { IsTrue (S.state site.old).honest
             → (S.state site.new).left ≡ (S.state site.old).left }
         ensures stays_quiet { IsTrue (S.state site.old).honest → IsQuiet (S.state site.old)
@@ -414,6 +428,9 @@ impl Engine {
             → IsQuiet (S.state site.old)
             → LeavesOnly (S.state site.old) (S.state site.new)
             (LeavesTable (sizes_of self.old.store) s.table s.commits (S.state site.old).told) }
+        ensures numbers { (s : State) → Fits self.old (S.state site.old) s
+            → IsQuiet (S.state site.old)
+            → CountsOn result self.old self.new (S.state site.old) (S.state site.new) s (run_now s (Command.Begin session)).after 0 }
         ensures left { IsTrue (S.state site.old).honest
             → (S.state site.new).left ≡ (S.state site.old).left }
         ensures stays_quiet { IsTrue (S.state site.old).honest → IsQuiet (S.state site.old)
@@ -464,6 +481,9 @@ impl Engine {
             → IsQuiet (S.state site.old)
             → LeavesOnly (S.state site.old) (S.state site.new)
             (LeavesTable (sizes_of self.old.store) s.table s.commits (S.state site.old).told) }
+        ensures numbers { (s : State) → Fits self.old (S.state site.old) s
+            → IsQuiet (S.state site.old)
+            → CountsOn result self.old self.new (S.state site.old) (S.state site.new) s (run s (Command.Begin session)).after (checkpoints_by s (Command.Begin session)) }
         ensures left { IsTrue (S.state site.old).honest
             → (S.state site.new).left ≡ (S.state site.old).left }
         ensures stays_quiet { IsTrue (S.state site.old).honest → IsQuiet (S.state site.old)
@@ -515,6 +535,9 @@ impl Engine {
             → IsQuiet (S.state site.old)
             → LeavesOnly (S.state site.old) (S.state site.new)
             (LeavesTable (sizes_of self.old.store) s.table s.commits (S.state site.old).told) }
+        ensures numbers { (s : State) → Fits self.old (S.state site.old) s
+            → IsQuiet (S.state site.old)
+            → CountsOn result self.old self.new (S.state site.old) (S.state site.new) s (effect s (Command.Begin session)) 0 }
         ensures left { IsTrue (S.state site.old).honest
             → (S.state site.new).left ≡ (S.state site.old).left }
         ensures stays_quiet { IsTrue (S.state site.old).honest → IsQuiet (S.state site.old)
@@ -588,6 +611,9 @@ impl Engine {
             → IsQuiet (S.state site.old)
             → LeavesOnly (S.state site.old) (S.state site.new)
             (LeavesTable (sizes_of self.old.store) s.table s.commits (S.state site.old).told) }
+        ensures numbers { (s : State) → Fits self.old (S.state site.old) s
+            → IsQuiet (S.state site.old)
+            → CountsOn result self.old self.new (S.state site.old) (S.state site.new) s (run s (Command.Read session number)).after (checkpoints_by s (Command.Read session number)) }
         ensures left { IsTrue (S.state site.old).honest
             → (S.state site.new).left ≡ (S.state site.old).left }
         ensures stays_quiet { IsTrue (S.state site.old).honest → IsQuiet (S.state site.old)
@@ -652,6 +678,9 @@ impl Engine {
             → IsQuiet (S.state site.old)
             → LeavesOnly (S.state site.old) (S.state site.new)
             (LeavesTable (sizes_of self.old.store) s.table s.commits (S.state site.old).told) }
+        ensures numbers { (s : State) → Fits self.old (S.state site.old) s
+            → IsQuiet (S.state site.old)
+            → CountsOn result self.old self.new (S.state site.old) (S.state site.new) s (with_read s session number) 0 }
         ensures left { IsTrue (S.state site.old).honest
             → (S.state site.new).left ≡ (S.state site.old).left }
         ensures stays_quiet { IsTrue (S.state site.old).honest → IsQuiet (S.state site.old)
@@ -734,6 +763,9 @@ impl Engine {
             → IsQuiet (S.state site.old)
             → LeavesOnly (S.state site.old) (S.state site.new)
             (LeavesTable (sizes_of self.old.store) s.table s.commits (S.state site.old).told) }
+        ensures numbers { (s : State) → Fits self.old (S.state site.old) s
+            → IsQuiet (S.state site.old)
+            → CountsOn result self.old self.new (S.state site.old) (S.state site.new) s (run s (Command.Scan session number count)).after (checkpoints_by s (Command.Scan session number count)) }
         ensures left { IsTrue (S.state site.old).honest
             → (S.state site.new).left ≡ (S.state site.old).left }
         ensures stays_quiet { IsTrue (S.state site.old).honest → IsQuiet (S.state site.old)
@@ -800,6 +832,9 @@ impl Engine {
             → IsQuiet (S.state site.old)
             → LeavesOnly (S.state site.old) (S.state site.new)
             (LeavesTable (sizes_of self.old.store) s.table s.commits (S.state site.old).told) }
+        ensures numbers { (s : State) → Fits self.old (S.state site.old) s
+            → IsQuiet (S.state site.old)
+            → CountsOn result self.old self.new (S.state site.old) (S.state site.new) s (with_reads s session (range_with_len number count)) 0 }
         ensures left { IsTrue (S.state site.old).honest
             → (S.state site.new).left ≡ (S.state site.old).left }
         ensures stays_quiet { IsTrue (S.state site.old).honest → IsQuiet (S.state site.old)
@@ -861,6 +896,9 @@ impl Engine {
             → IsQuiet (S.state site.old)
             → LeavesOnly (S.state site.old) (S.state site.new)
             (LeavesTable (sizes_of self.old.store) s.table s.commits (S.state site.old).told) }
+        ensures numbers { (s : State) → Fits self.old (S.state site.old) s
+            → IsQuiet (S.state site.old)
+            → CountsOn result self.old self.new (S.state site.old) (S.state site.new) s (with_write s entry.session (number, after.now)) 0 }
         ensures left { IsTrue (S.state site.old).honest
             → (S.state site.new).left ≡ (S.state site.old).left }
         ensures stays_quiet { IsTrue (S.state site.old).honest → IsQuiet (S.state site.old)
@@ -966,6 +1004,9 @@ impl Engine {
             → IsQuiet (S.state site.old)
             → LeavesOnly (S.state site.old) (S.state site.new)
             (LeavesTable (sizes_of self.old.store) s.table s.commits (S.state site.old).told) }
+        ensures numbers { (s : State) → Fits self.old (S.state site.old) s
+            → IsQuiet (S.state site.old)
+            → CountsOn result self.old self.new (S.state site.old) (S.state site.new) s (run s (Command.Write session number value.now)).after (checkpoints_by s (Command.Write session number value.now)) }
         ensures left { IsTrue (S.state site.old).honest
             → (S.state site.new).left ≡ (S.state site.old).left }
         ensures stays_quiet { IsTrue (S.state site.old).honest → IsQuiet (S.state site.old)
@@ -1050,6 +1091,9 @@ impl Engine {
             → IsQuiet (S.state site.old)
             → LeavesOnly (S.state site.old) (S.state site.new)
             (LeavesTable (sizes_of self.old.store) s.table s.commits (S.state site.old).told) }
+        ensures numbers { (s : State) → Fits self.old (S.state site.old) s
+            → IsQuiet (S.state site.old)
+            → CountsOn result self.old self.new (S.state site.old) (S.state site.new) s (run s (Command.Erase session number)).after (checkpoints_by s (Command.Erase session number)) }
         ensures left { IsTrue (S.state site.old).honest
             → (S.state site.new).left ≡ (S.state site.old).left }
         ensures stays_quiet { IsTrue (S.state site.old).honest → IsQuiet (S.state site.old)
@@ -1126,6 +1170,9 @@ impl Engine {
             → IsQuiet (S.state site.old)
             → LeavesOnly (S.state site.old) (S.state site.new)
             (LeavesTable (sizes_of self.old.store) s.table s.commits (S.state site.old).told) }
+        ensures numbers { (s : State) → Fits self.old (S.state site.old) s
+            → IsQuiet (S.state site.old)
+            → CountsOn result self.old self.new (S.state site.old) (S.state site.new) s (run s (Command.Get number)).after (checkpoints_by s (Command.Get number)) }
         ensures left { IsTrue (S.state site.old).honest
             → (S.state site.new).left ≡ (S.state site.old).left }
         ensures stays_quiet { IsTrue (S.state site.old).honest → IsQuiet (S.state site.old)
@@ -1183,6 +1230,9 @@ impl Engine {
             → IsQuiet (S.state site.old)
             → LeavesOnly (S.state site.old) (S.state site.new)
             (LeavesTable (sizes_of self.old.store) s.table s.commits (S.state site.old).told) }
+        ensures numbers { (s : State) → Fits self.old (S.state site.old) s
+            → IsQuiet (S.state site.old)
+            → CountsOn result self.old self.new (S.state site.old) (S.state site.new) s s 0 }
         ensures left { IsTrue (S.state site.old).honest
             → (S.state site.new).left ≡ (S.state site.old).left }
         ensures stays_quiet { IsTrue (S.state site.old).honest → IsQuiet (S.state site.old)
@@ -1232,6 +1282,11 @@ impl Engine {
             → IsQuiet (S.state site.old)
             → LeavesOnly (S.state site.old) (S.state site.new)
             (moments.LeavesEitherFor (sizes_of self.old.store) table (table_with table (writes_in txn records)) commits (S.state site.old).told) }
+        ensures numbers { (newest : Option Master) (records : List Entry) (table : List Content) (commits : ℕ)
+            → Holds self.old.store (S.state site.old) newest records table commits
+            → MayCommit newest records txn (self.old.commits + 1) commits
+            → IsQuiet (S.state site.old)
+            → SkipsNone result (sizes_of self.old.store) self.old.store.log self.new.store.log (S.state site.old) (S.state site.new) 1 0 }
         ensures left { IsTrue (S.state site.old).honest
             → (S.state site.new).left ≡ (S.state site.old).left }
         ensures stays_quiet { IsTrue (S.state site.old).honest → IsQuiet (S.state site.old)
@@ -1292,6 +1347,9 @@ impl Engine {
             → IsQuiet (S.state site.old)
             → LeavesOnly (S.state site.old) (S.state site.new)
             (LeavesTable (sizes_of self.old.store) s.table s.commits (S.state site.old).told) }
+        ensures numbers { (s : State) → Fits self.old (S.state site.old) s
+            → IsQuiet (S.state site.old)
+            → SkipsNone result (sizes_of self.old.store) self.old.store.log self.new.store.log (S.state site.old) (S.state site.new) 2 0 }
         ensures left { IsTrue (S.state site.old).honest
             → (S.state site.new).left ≡ (S.state site.old).left }
         ensures stays_quiet { IsTrue (S.state site.old).honest → IsQuiet (S.state site.old)
@@ -1359,6 +1417,9 @@ impl Engine {
             → IsQuiet (S.state site.old)
             → LeavesOnly (S.state site.old) (S.state site.new)
             (LeavesEither (sizes_of self.old.store) s (making 3 (committed s ((number, after.now) ∷ []))) (S.state site.old).told) }
+        ensures numbers { (s : State) → Fits self.old (S.state site.old) s
+            → IsQuiet (S.state site.old)
+            → CountsOn result self.old self.new (S.state site.old) (S.state site.new) s (making 3 (committed s ((number, after.now) ∷ []))) 0 }
         ensures left { IsTrue (S.state site.old).honest
             → (S.state site.new).left ≡ (S.state site.old).left }
         ensures stays_quiet { IsTrue (S.state site.old).honest → IsQuiet (S.state site.old)
@@ -1433,6 +1494,9 @@ impl Engine {
             → IsQuiet (S.state site.old)
             → LeavesOnly (S.state site.old) (S.state site.new)
             (LeavesEither (sizes_of self.old.store) s (run_now s (Command.Set number value.now)).after (S.state site.old).told) }
+        ensures numbers { (s : State) → Fits self.old (S.state site.old) s
+            → IsQuiet (S.state site.old)
+            → CountsOn result self.old self.new (S.state site.old) (S.state site.new) s (run_now s (Command.Set number value.now)).after 0 }
         ensures left { IsTrue (S.state site.old).honest
             → (S.state site.new).left ≡ (S.state site.old).left }
         ensures stays_quiet { IsTrue (S.state site.old).honest → IsQuiet (S.state site.old)
@@ -1490,6 +1554,9 @@ impl Engine {
             → IsQuiet (S.state site.old)
             → LeavesOnly (S.state site.old) (S.state site.new)
             (LeavesEither (sizes_of self.old.store) s (run s (Command.Set number value.now)).after (S.state site.old).told) }
+        ensures numbers { (s : State) → Fits self.old (S.state site.old) s
+            → IsQuiet (S.state site.old)
+            → CountsOn result self.old self.new (S.state site.old) (S.state site.new) s (run s (Command.Set number value.now)).after (checkpoints_by s (Command.Set number value.now)) }
         ensures left { IsTrue (S.state site.old).honest
             → (S.state site.new).left ≡ (S.state site.old).left }
         ensures stays_quiet { IsTrue (S.state site.old).honest → IsQuiet (S.state site.old)
@@ -1542,6 +1609,9 @@ impl Engine {
             → IsQuiet (S.state site.old)
             → LeavesOnly (S.state site.old) (S.state site.new)
             (LeavesEither (sizes_of self.old.store) s (effect s (Command.Commit entry.session)) (S.state site.old).told) }
+        ensures numbers { (s : State) → Fits self.old (S.state site.old) s
+            → IsQuiet (S.state site.old)
+            → CountsOn result self.old self.new (S.state site.old) (S.state site.new) s (effect s (Command.Commit entry.session)) 0 }
         ensures left { IsTrue (S.state site.old).honest
             → (S.state site.new).left ≡ (S.state site.old).left }
         ensures stays_quiet { IsTrue (S.state site.old).honest → IsQuiet (S.state site.old)
@@ -1584,6 +1654,9 @@ impl Engine {
             → IsQuiet (S.state site.old)
             → LeavesOnly (S.state site.old) (S.state site.new)
             (LeavesEither (sizes_of self.old.store) s (run s (Command.Commit session)).after (S.state site.old).told) }
+        ensures numbers { (s : State) → Fits self.old (S.state site.old) s
+            → IsQuiet (S.state site.old)
+            → CountsOn result self.old self.new (S.state site.old) (S.state site.new) s (run s (Command.Commit session)).after (checkpoints_by s (Command.Commit session)) }
         ensures left { IsTrue (S.state site.old).honest
             → (S.state site.new).left ≡ (S.state site.old).left }
         ensures stays_quiet { IsTrue (S.state site.old).honest → IsQuiet (S.state site.old)
@@ -1633,6 +1706,9 @@ impl Engine {
             → IsQuiet (S.state site.old)
             → LeavesOnly (S.state site.old) (S.state site.new)
             (LeavesTable (sizes_of self.old.store) s.table s.commits (S.state site.old).told) }
+        ensures numbers { (s : State) → Fits self.old (S.state site.old) s
+            → IsQuiet (S.state site.old)
+            → CountsOn result self.old self.new (S.state site.old) (S.state site.new) s (effect s (Command.Abort entry.session)) 0 }
         ensures left { IsTrue (S.state site.old).honest
             → (S.state site.new).left ≡ (S.state site.old).left }
         ensures stays_quiet { IsTrue (S.state site.old).honest → IsQuiet (S.state site.old)
@@ -1681,6 +1757,9 @@ impl Engine {
             → IsQuiet (S.state site.old)
             → LeavesOnly (S.state site.old) (S.state site.new)
             (LeavesTable (sizes_of self.old.store) s.table s.commits (S.state site.old).told) }
+        ensures numbers { (s : State) → Fits self.old (S.state site.old) s
+            → IsQuiet (S.state site.old)
+            → CountsOn result self.old self.new (S.state site.old) (S.state site.new) s (run s (Command.Abort session)).after (checkpoints_by s (Command.Abort session)) }
         ensures left { IsTrue (S.state site.old).honest
             → (S.state site.new).left ≡ (S.state site.old).left }
         ensures stays_quiet { IsTrue (S.state site.old).honest → IsQuiet (S.state site.old)

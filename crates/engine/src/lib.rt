@@ -3,6 +3,7 @@
 #![tactic(auto)]
 
 mod engine;
+mod laws;
 mod restart;
 mod scan;
 mod sessions;
@@ -12,3 +13,4 @@ mod tests;
 mod values;
 
 pub use engine::Engine;
+pub use laws::rest_counts_nothing;

@@ -25,10 +25,11 @@ ghost use Rattle.page_store.specs.Stopping.{MayStop};
 ghost use Rattle.image_meaning.specs.Meaning.{picture_under};
 ghost use Rattle.redo_undo.specs.Holding.{blocks_to, IsLogWorn};
 ghost use Rattle.engine.specs.Going.{MayWork, sizes_of};
-ghost use Rattle.engine.specs.Image.{IsSound, Stands};
+ghost use Rattle.engine.specs.Image.{log_under, IsSound, Stands};
 ghost use Rattle.engine.specs.Leaves.{HasNoSizes, IsRefused, LeavesTable};
 ghost use Rattle.engine.specs.Restarting.{MayRecover, IsReady, RestartedAs};
 ghost use Rattle.engine.specs.Paging.{AsksFrom, cache_on, restart_works};
+ghost use Rattle.engine.specs.Numbers.{RestartsWithin};
 ghost use Rattle.page_store.specs.Caching.{cache_of, rules};
 ghost use Rattle.second_chance.specs.Machine.{rules_of};
 
@@ -203,6 +204,10 @@ fn recover<S: Site>(alloc: Global, site: &mut S, opened: Opened) -> Result<Resta
         → IsQuiet (S.state site.old)
         → LeavesOnly (S.state site.old) (S.state site.new)
         (LeavesTable opened.pages.flash.geometry table commits (S.state site.old).told) }
+    ensures numbers { (newest : Option Master) (blocks : List (List LogRecord)) (table : List Content) (commits : ℕ)
+        → IsReady opened (S.state site.old) newest blocks table commits
+        → IsQuiet (S.state site.old)
+        → RestartsWithin result (λ restarted. restarted.store.log) opened.pages.flash.geometry (log_under newest blocks) (S.state site.old) (S.state site.new) }
     ensures readable { (newest : Option Master) (blocks : List (List LogRecord)) (table : List Content) (commits : ℕ)
         → IsReady opened (S.state site.old) newest blocks table commits
         → IsErrOf result Stop.Foreign → ⊥ }
@@ -303,6 +308,9 @@ pub fn restart<S: Site>(alloc: Global, site: &mut S, pool: u32) -> Result<Restar
         → Stands g (S.state site.old).image table commits
         → LeavesOnly (S.state site.old) (S.state site.new)
         (LeavesTable g table commits (S.state site.old).told) }
+    ensures numbers { IsTrue (S.state site.old).honest → IsQuiet (S.state site.old)
+        → (g : Geometry) (newest : Option Master) (blocks : List (List LogRecord)) → IsSound newest g (S.state site.old).image blocks
+        → RestartsWithin result (λ restarted. restarted.store.log) g (log_under newest blocks) (S.state site.old) (S.state site.new) }
     ensures readable { IsTrue (S.state site.old).honest
         → (g : Geometry) (table : List Content) (commits : ℕ)
         → Stands g (S.state site.old).image table commits

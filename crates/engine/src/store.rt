@@ -28,6 +28,7 @@ ghost use Rattle.engine.specs.Going.{MayWork, sizes_of};
 ghost use Rattle.engine.specs.Holding.{Holds, HasCheckpoint, MayGrow, IsInFront, shown_in, update_by};
 ghost use Rattle.engine.specs.Rollback.{RollsBack};
 ghost use Rattle.engine.specs.Leaves.{LeavesTable};
+ghost use Rattle.redo_undo.specs.Numbers.{SkipsNone};
 ghost use Rattle.record_model.specs.Touches.{write_touch};
 ghost use Rattle.redo_undo.specs.Works.{Asks, one_touch, checkpoint_works};
 ghost use Rattle.page_store.specs.Caching.{cache_of, rules, with_change};
@@ -97,6 +98,10 @@ impl Store {
             → IsQuiet (S.state site.old)
             → LeavesOnly (S.state site.old) (S.state site.new)
             (LeavesTable (sizes_of self.old) table commits (S.state site.old).told) }
+        ensures numbers { (newest : Option Master) (records : List Entry) (table : List Content) (commits : ℕ)
+            → Holds self.old (S.state site.old) newest records table commits
+            → IsQuiet (S.state site.old)
+            → SkipsNone result (sizes_of self.old) self.old.log self.new.log (S.state site.old) (S.state site.new) 1 0 }
         ensures left { IsTrue (S.state site.old).honest
             → (S.state site.new).left ≡ (S.state site.old).left }
         ensures stays_quiet { IsTrue (S.state site.old).honest → IsQuiet (S.state site.old)
@@ -150,6 +155,10 @@ impl Store {
             → IsQuiet (S.state site.old)
             → LeavesOnly (S.state site.old) (S.state site.new)
             (LeavesTable (sizes_of self.old) table commits (S.state site.old).told) }
+        ensures numbers { (newest : Option Master) (records : List Entry) (table : List Content) (commits : ℕ)
+            → Holds self.old (S.state site.old) newest records table commits
+            → IsQuiet (S.state site.old)
+            → SkipsNone result (sizes_of self.old) self.old.log self.new.log (S.state site.old) (S.state site.new) 0 0 }
         ensures readable { (newest : Option Master) (records : List Entry) (table : List Content) (commits : ℕ)
             → Holds self.old (S.state site.old) newest records table commits
             → IsErrOf result Stop.Foreign → ⊥ }
@@ -234,6 +243,10 @@ impl Store {
             → IsQuiet (S.state site.old)
             → LeavesOnly (S.state site.old) (S.state site.new)
             (LeavesTable (sizes_of self.old) table commits (S.state site.old).told) }
+        ensures numbers { (newest : Option Master) (records : List Entry) (table : List Content) (commits : ℕ)
+            → Holds self.old (S.state site.old) newest records table commits
+            → IsQuiet (S.state site.old)
+            → SkipsNone result (sizes_of self.old) self.old.log self.new.log (S.state site.old) (S.state site.new) 1 0 }
         ensures readable { (newest : Option Master) (records : List Entry) (table : List Content) (commits : ℕ)
             → Holds self.old (S.state site.old) newest records table commits
             → IsErrOf result Stop.Foreign → ⊥ }
@@ -302,6 +315,11 @@ impl Store {
             → IsQuiet (S.state site.old)
             → LeavesOnly (S.state site.old) (S.state site.new)
             (LeavesEitherFor (sizes_of self.old) table (table_with table (writes_in txn records)) commits (S.state site.old).told) }
+        ensures numbers { (newest : Option Master) (records : List Entry) (table : List Content) (commits : ℕ)
+            → Holds self.old (S.state site.old) newest records table commits
+            → MayCommit newest records txn number commits
+            → IsQuiet (S.state site.old)
+            → SkipsNone result (sizes_of self.old) self.old.log self.new.log (S.state site.old) (S.state site.new) 1 0 }
         ensures left { IsTrue (S.state site.old).honest
             → (S.state site.new).left ≡ (S.state site.old).left }
         ensures stays_quiet { IsTrue (S.state site.old).honest → IsQuiet (S.state site.old)
@@ -359,6 +377,12 @@ impl Store {
             → IsQuiet (S.state site.old)
             → LeavesOnly (S.state site.old) (S.state site.new)
             (LeavesTable (sizes_of self.old) table commits (S.state site.old).told) }
+        ensures numbers { (newest : Option Master) (records : List Entry) (table : List Content) (commits : ℕ)
+            → Holds self.old (S.state site.old) newest records table commits
+            → (writes : List Write) → IsActive (master_of newest) records entry.begin entry.last writes
+            → length writes ≡ entry.writes
+            → IsQuiet (S.state site.old)
+            → SkipsNone result (sizes_of self.old) self.old.log self.new.log (S.state site.old) (S.state site.new) (entry.writes + 1) 0 }
         ensures readable { (newest : Option Master) (records : List Entry) (table : List Content) (commits : ℕ)
             → Holds self.old (S.state site.old) newest records table commits
             → (writes : List Write) → IsActive (master_of newest) records entry.begin entry.last writes
@@ -453,6 +477,11 @@ impl Store {
             → IsQuiet (S.state site.old)
             → LeavesOnly (S.state site.old) (S.state site.new)
             (LeavesTable (sizes_of self.old) table commits (S.state site.old).told) }
+        ensures numbers { (newest : Option Master) (records : List Entry) (table : List Content)
+            → both.Holds self.old.log self.old.pages (S.state site.old) newest records table commits
+            → MayBeMade self.old.masters (S.state site.old) records active
+            → IsQuiet (S.state site.old)
+            → SkipsNone result (sizes_of self.old) self.old.log self.new.log (S.state site.old) (S.state site.new) 0 1 }
         ensures left { IsTrue (S.state site.old).honest
             → (S.state site.new).left ≡ (S.state site.old).left }
         ensures stays_quiet { IsTrue (S.state site.old).honest → IsQuiet (S.state site.old)

@@ -20,6 +20,11 @@ use Rattle.engine.proofs.Asking.{asks_then, asks_stopped, asks_fails, from_ok, f
 use Rattle.engine.proofs.Moments.{and_then}
 use Rattle.engine.proofs.Openings.{same_stop, err_again}
 use Rattle.engine.proofs.Recovers.{no_tail_still, owed_found, commits_fit, commits_found, may_be_made, restarted_as}
+use Rattle.engine.proofs.RingCounts.{opened_next, restart_failed, restart_refused, restart_done}
+use Rattle.redo_undo.proofs.RingNumbers.{skips_on, then_skips}
+use Rattle.std.specs.Prelude.{Ok}
+use Rattle.analysis.specs.Open.{owed_for}
+use Rattle.analysis.specs.Table.{listed}
 use Rattle.engine.proofs.restart.recover.Goals as goal
 
 pub returns-in-Err-clause-any_moment : goal.returns-in-Err-clause-any_moment
@@ -410,3 +415,123 @@ returns-clause-worn g c newest blocks table commits h is =
     let stands = finds_kept c.args.opened.masters mid und c.requires.may.shape (c.in-Ok-undo_all.ensures.masters newest records table commits none holds read) ring in
     let may = may_be_made c.args.opened.masters und all c.new.result stands undone.none c.new.ensures in
     subst (λ (x : Geometry). IsWorn x new.image) (c.undo_all.ensures.geometry ∙ c.redo.ensures.geometry) (c.in-Err-checkpoint.ensures.worn newest all table held may (err_again c.in-Err-checkpoint.stop (Worn Flash) is))
+
+pub returns-in-Err-clause-numbers : goal.returns-in-Err-clause-numbers
+returns-in-Err-clause-numbers g c newest blocks table commits h quiet =
+    let old = g.S.Site.state c.args.site.now in
+    let mid = g.S.Site.state c.redo.new.site in
+    let k = c.args.opened.pages.flash.geometry in
+    let records = log_under newest blocks in
+    let next = opened_next c.args.opened old newest blocks table commits h c.requires.may.going.sizes c.requires.empty in
+    restart_failed c.in-Err.stop _ k records c.args.opened.log c.redo.new.log old mid 0 0 next (omega arith) (omega arith) (c.in-Err.ensures.numbers newest blocks table commits h.master h.opened_is quiet)
+
+pub returns-then-sealed_end-owed-clause-numbers : goal.returns-then-sealed_end-owed-clause-numbers
+returns-then-sealed_end-owed-clause-numbers g c newest blocks table commits h quiet =
+    let old = g.S.Site.state c.args.site.now in
+    let mid = g.S.Site.state c.redo.new.site in
+    let k = c.args.opened.pages.flash.geometry in
+    let records = log_under newest blocks in
+    let next = opened_next c.args.opened old newest blocks table commits h c.requires.may.going.sizes c.requires.empty in
+    restart_refused c.in-Ok.redone Foreign _ k records c.args.opened.log c.redo.new.log old mid 0 0 next (omega arith) (omega arith) (c.in-Ok.ensures.numbers newest blocks table commits h.master h.opened_is quiet)
+
+pub returns-in-Err-undo_all-clause-numbers : goal.returns-in-Err-undo_all-clause-numbers
+returns-in-Err-undo_all-clause-numbers g c newest blocks table commits h quiet =
+    let old = g.S.Site.state c.args.site.now in
+    let mid = g.S.Site.state c.redo.new.site in
+    let k = c.args.opened.pages.flash.geometry in
+    let records = log_under newest blocks in
+    let next = opened_next c.args.opened old newest blocks table commits h c.requires.may.going.sizes c.requires.empty in
+    let holds = c.in-Ok.ensures.holds newest blocks table commits h.master h.opened_is in
+    let read = c.in-Ok.ensures.unfinished newest blocks table commits h.master h.opened_is in
+    let none : has_tail c.redo.new.log ≡ false = no_tail_still c.args.opened.log c.redo.new.log c.requires.empty c.in-Ok.ensures.blocks c.in-Ok.ensures.rises in
+    let owes = owed_found c.recovery_laws.ensures.one c.recovery_laws.ensures.unfinished c.recovery_laws.ensures.owed newest k old.image blocks c.in-Ok.redone.found h.opened_is.sound read in
+    let n = owed_for (listed c.in-Ok.redone.found.table) in
+    let und = g.S.Site.state c.undo_all.new.site in
+    let quiet_mid = c.in-Ok.ensures.stays_quiet h.opened_is.ready.blocks.honest quiet in
+    let first = c.in-Ok.ensures.numbers newest blocks table commits h.master h.opened_is quiet in
+    let second = skips_on (Err c.in-Err-undo_all.stop) c.redo.new.pages.flash.geometry k c.redo.new.log c.undo_all.new.log mid und n 0 c.redo.ensures.geometry (c.in-Err-undo_all.ensures.numbers newest records table commits none holds read quiet_mid) in
+    let two = then_skips (Err c.in-Err-undo_all.stop) c.in-Ok.redone k c.args.opened.log c.redo.new.log c.undo_all.new.log old mid und 0 0 n 0 n 0 first second (omega arith) (omega arith) in
+    restart_failed c.in-Err-undo_all.stop _ k records c.args.opened.log c.undo_all.new.log old und n 0 next (omega (arith, owes)) (omega arith) two
+
+pub returns-then-commits-sealed_end-clause-numbers : goal.returns-then-commits-sealed_end-clause-numbers
+returns-then-commits-sealed_end-clause-numbers g c newest blocks table commits h quiet =
+    let old = g.S.Site.state c.args.site.now in
+    let mid = g.S.Site.state c.redo.new.site in
+    let k = c.args.opened.pages.flash.geometry in
+    let records = log_under newest blocks in
+    let next = opened_next c.args.opened old newest blocks table commits h c.requires.may.going.sizes c.requires.empty in
+    let holds = c.in-Ok.ensures.holds newest blocks table commits h.master h.opened_is in
+    let read = c.in-Ok.ensures.unfinished newest blocks table commits h.master h.opened_is in
+    let none : has_tail c.redo.new.log ≡ false = no_tail_still c.args.opened.log c.redo.new.log c.requires.empty c.in-Ok.ensures.blocks c.in-Ok.ensures.rises in
+    let owes = owed_found c.recovery_laws.ensures.one c.recovery_laws.ensures.unfinished c.recovery_laws.ensures.owed newest k old.image blocks c.in-Ok.redone.found h.opened_is.sound read in
+    let n = owed_for (listed c.in-Ok.redone.found.table) in
+    let und = g.S.Site.state c.undo_all.new.site in
+    let quiet_mid = c.in-Ok.ensures.stays_quiet h.opened_is.ready.blocks.honest quiet in
+    let first = c.in-Ok.ensures.numbers newest blocks table commits h.master h.opened_is quiet in
+    let second = skips_on (Ok c.in-Ok-undo_all.field-0) c.redo.new.pages.flash.geometry k c.redo.new.log c.undo_all.new.log mid und n 0 c.redo.ensures.geometry (c.in-Ok-undo_all.ensures.numbers newest records table commits none holds read quiet_mid) in
+    let two = then_skips (Ok c.in-Ok-undo_all.field-0) c.in-Ok.redone k c.args.opened.log c.redo.new.log c.undo_all.new.log old mid und 0 0 n 0 n 0 first second (omega arith) (omega arith) in
+    restart_refused c.in-Ok-undo_all.field-0 Foreign _ k records c.args.opened.log c.undo_all.new.log old und n 0 next (omega (arith, owes)) (omega arith) two
+
+pub returns-in-Ok-checkpoint-clause-numbers : goal.returns-in-Ok-checkpoint-clause-numbers
+returns-in-Ok-checkpoint-clause-numbers g c newest blocks table commits h quiet =
+    let old = g.S.Site.state c.args.site.now in
+    let mid = g.S.Site.state c.redo.new.site in
+    let k = c.args.opened.pages.flash.geometry in
+    let records = log_under newest blocks in
+    let next = opened_next c.args.opened old newest blocks table commits h c.requires.may.going.sizes c.requires.empty in
+    let holds = c.in-Ok.ensures.holds newest blocks table commits h.master h.opened_is in
+    let read = c.in-Ok.ensures.unfinished newest blocks table commits h.master h.opened_is in
+    let none : has_tail c.redo.new.log ≡ false = no_tail_still c.args.opened.log c.redo.new.log c.requires.empty c.in-Ok.ensures.blocks c.in-Ok.ensures.rises in
+    let owes = owed_found c.recovery_laws.ensures.one c.recovery_laws.ensures.unfinished c.recovery_laws.ensures.owed newest k old.image blocks c.in-Ok.redone.found h.opened_is.sound read in
+    let n = owed_for (listed c.in-Ok.redone.found.table) in
+    let und = g.S.Site.state c.undo_all.new.site in
+    let quiet_mid = c.in-Ok.ensures.stays_quiet h.opened_is.ready.blocks.honest quiet in
+    let first = c.in-Ok.ensures.numbers newest blocks table commits h.master h.opened_is quiet in
+    let second = skips_on (Ok c.in-Ok-undo_all.field-0) c.redo.new.pages.flash.geometry k c.redo.new.log c.undo_all.new.log mid und n 0 c.redo.ensures.geometry (c.in-Ok-undo_all.ensures.numbers newest records table commits none holds read quiet_mid) in
+    let two = then_skips (Ok c.in-Ok-undo_all.field-0) c.in-Ok.redone k c.args.opened.log c.redo.new.log c.undo_all.new.log old mid und 0 0 n 0 n 0 first second (omega arith) (omega arith) in
+    let undone = c.in-Ok-undo_all.ensures.undone newest records table commits none holds read in
+    let bounded = c.requires.may.going.log_going.usable.bounded in
+    let found = commits_found c.recovery_laws.ensures.commits c.args.opened old newest blocks table commits c.in-Ok.redone.found h (c.in-Ok.ensures.read newest blocks table commits h.master h.opened_is) bounded in
+    let all = records ++ undone.more in
+    let new = g.S.Site.state c.checkpoint.new.site in
+    let counted : c.commits-commits.result ≡ commits = c.commits-commits.ensures.commits ∙ c.undo_all.ensures.commits ∙ found in
+    let held = subst (both.Holds c.undo_all.new.log c.undo_all.new.pages und newest all table) (sym counted) undone.holds in
+    let ring = finds_kept c.args.opened.masters old mid c.requires.may.shape (c.in-Ok.ensures.masters newest blocks table commits h.master h.opened_is) h.masters in
+    let stands = finds_kept c.args.opened.masters mid und c.requires.may.shape (c.in-Ok-undo_all.ensures.masters newest records table commits none holds read) ring in
+    let may = may_be_made c.args.opened.masters und all c.new.result stands undone.none c.new.ensures in
+    let quiet_und = c.in-Ok-undo_all.ensures.stays_quiet holds.log_holds.ready.blocks.honest quiet_mid in
+    let third = skips_on (Ok c.in-Ok-checkpoint.field-0) c.undo_all.new.pages.flash.geometry k c.undo_all.new.log c.checkpoint.new.self.log und new 0 1 (c.undo_all.ensures.geometry ∙ c.redo.ensures.geometry) (c.in-Ok-checkpoint.ensures.numbers newest all table held may quiet_und) in
+    let three = then_skips (Ok c.in-Ok-checkpoint.field-0) c.in-Ok-undo_all.field-0 k c.args.opened.log c.undo_all.new.log c.checkpoint.new.self.log old und new n 0 0 1 n 1 two third (omega arith) (omega arith) in
+    restart_done c.in-Ok-checkpoint.field-0 _ _ k records c.args.opened.log c.checkpoint.new.self.log old new n next (omega (arith, owes)) refl three
+
+pub returns-clause-numbers : goal.returns-clause-numbers
+returns-clause-numbers g c newest blocks table commits h quiet =
+    let old = g.S.Site.state c.args.site.now in
+    let mid = g.S.Site.state c.redo.new.site in
+    let k = c.args.opened.pages.flash.geometry in
+    let records = log_under newest blocks in
+    let next = opened_next c.args.opened old newest blocks table commits h c.requires.may.going.sizes c.requires.empty in
+    let holds = c.in-Ok.ensures.holds newest blocks table commits h.master h.opened_is in
+    let read = c.in-Ok.ensures.unfinished newest blocks table commits h.master h.opened_is in
+    let none : has_tail c.redo.new.log ≡ false = no_tail_still c.args.opened.log c.redo.new.log c.requires.empty c.in-Ok.ensures.blocks c.in-Ok.ensures.rises in
+    let owes = owed_found c.recovery_laws.ensures.one c.recovery_laws.ensures.unfinished c.recovery_laws.ensures.owed newest k old.image blocks c.in-Ok.redone.found h.opened_is.sound read in
+    let n = owed_for (listed c.in-Ok.redone.found.table) in
+    let und = g.S.Site.state c.undo_all.new.site in
+    let quiet_mid = c.in-Ok.ensures.stays_quiet h.opened_is.ready.blocks.honest quiet in
+    let first = c.in-Ok.ensures.numbers newest blocks table commits h.master h.opened_is quiet in
+    let second = skips_on (Ok c.in-Ok-undo_all.field-0) c.redo.new.pages.flash.geometry k c.redo.new.log c.undo_all.new.log mid und n 0 c.redo.ensures.geometry (c.in-Ok-undo_all.ensures.numbers newest records table commits none holds read quiet_mid) in
+    let two = then_skips (Ok c.in-Ok-undo_all.field-0) c.in-Ok.redone k c.args.opened.log c.redo.new.log c.undo_all.new.log old mid und 0 0 n 0 n 0 first second (omega arith) (omega arith) in
+    let undone = c.in-Ok-undo_all.ensures.undone newest records table commits none holds read in
+    let bounded = c.requires.may.going.log_going.usable.bounded in
+    let found = commits_found c.recovery_laws.ensures.commits c.args.opened old newest blocks table commits c.in-Ok.redone.found h (c.in-Ok.ensures.read newest blocks table commits h.master h.opened_is) bounded in
+    let all = records ++ undone.more in
+    let new = g.S.Site.state c.checkpoint.new.site in
+    let counted : c.commits-commits.result ≡ commits = c.commits-commits.ensures.commits ∙ c.undo_all.ensures.commits ∙ found in
+    let held = subst (both.Holds c.undo_all.new.log c.undo_all.new.pages und newest all table) (sym counted) undone.holds in
+    let ring = finds_kept c.args.opened.masters old mid c.requires.may.shape (c.in-Ok.ensures.masters newest blocks table commits h.master h.opened_is) h.masters in
+    let stands = finds_kept c.args.opened.masters mid und c.requires.may.shape (c.in-Ok-undo_all.ensures.masters newest records table commits none holds read) ring in
+    let may = may_be_made c.args.opened.masters und all c.new.result stands undone.none c.new.ensures in
+    let quiet_und = c.in-Ok-undo_all.ensures.stays_quiet holds.log_holds.ready.blocks.honest quiet_mid in
+    let third = skips_on (Err c.in-Err-checkpoint.stop) c.undo_all.new.pages.flash.geometry k c.undo_all.new.log c.checkpoint.new.self.log und new 0 1 (c.undo_all.ensures.geometry ∙ c.redo.ensures.geometry) (c.in-Err-checkpoint.ensures.numbers newest all table held may quiet_und) in
+    let three = then_skips (Err c.in-Err-checkpoint.stop) c.in-Ok-undo_all.field-0 k c.args.opened.log c.undo_all.new.log c.checkpoint.new.self.log old und new n 0 0 1 n 1 two third (omega arith) (omega arith) in
+    restart_failed c.in-Err-checkpoint.stop _ k records c.args.opened.log c.checkpoint.new.self.log old new n 1 next (omega (arith, owes)) (omega arith) three

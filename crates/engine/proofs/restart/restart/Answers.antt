@@ -16,6 +16,7 @@ use Rattle.engine.specs.Image.{IsSound}
 use Rattle.engine.specs.Restarting.{IsReady, RestartedAs}
 use Rattle.engine.proofs.Moments.{err_again, and_then}
 use Rattle.engine.proofs.Openings.{if_ok_both, stands_still}
+use Rattle.engine.proofs.RingCounts.{restart_unmoved, restart_behind}
 use Rattle.engine.proofs.restart.restart.Goals as goal
 
 pub returns-in-Err-open-clause-any_moment : goal.returns-in-Err-open-clause-any_moment
@@ -114,3 +115,23 @@ returns-clause-asks g c honest k newest blocks sound =
     from_found _ _ _ (rules_of c.args.pool k.groups) _ (restart_works p) _ (cache_on k old.image) (2 * k.groups) old mid new
     (λ i. rules_of (c.in-Ok-open.ensures.pool i) (sizes i).groups) (λ i. restart_works (picture_under newest (sizes i) (unchanged.image i) blocks)) (c.in-Ok-open.ensures.cache honest newest blocks there ∙ ap (λ (x : Geometry). cache_on x old.image) same)
     (omega (arith, flash, groups)) c.open.ensures.disk_reads (c.recover.ensures.asks newest blocks (table_of p.log p.pages) (commit_count p) ready)
+
+pub returns-in-Err-clause-numbers : goal.returns-in-Err-clause-numbers
+returns-in-Err-clause-numbers g c honest quiet k newest blocks sound = absurd (c.in-Err.ensures.found k sound.octets.limits sound.octets.lengths).0
+
+pub returns-in-Err-open-clause-numbers : goal.returns-in-Err-open-clause-numbers
+returns-in-Err-open-clause-numbers g c honest quiet k newest blocks sound = restart_unmoved c.in-Err-open.stop _ k _ (g.S.Site.state c.args.site.now) (g.S.Site.state c.open.new.site) (c.open.ensures.same honest).image
+
+pub returns-clause-numbers : goal.returns-clause-numbers
+returns-clause-numbers g c honest quiet k newest blocks sound =
+    let old = g.S.Site.state c.args.site.now in
+    let mid = g.S.Site.state c.open.new.site in
+    let new = g.S.Site.state c.recover.new.site in
+    let same : c.in-Ok.geometry ≡ k = (c.in-Ok.ensures.found k sound.octets.limits sound.octets.lengths).1 in
+    let there = subst (λ (x : Geometry). IsSound newest x old.image blocks) (sym same) sound in
+    let p = picture_under newest k old.image blocks in
+    let means : Means (picture_under newest k old.image blocks) (table_of p.log p.pages) (commit_count p) = record { table_is = refl; count_is = refl } in
+    let ready : IsReady c.in-Ok-open.opened mid newest blocks (table_of p.log p.pages) (commit_count p) = c.in-Ok-open.ensures.ready honest newest blocks (table_of p.log p.pages) (commit_count p) there (subst (λ (x : Geometry). Means (picture_under newest x old.image blocks) (table_of p.log p.pages) (commit_count p)) (sym same) means) in
+    let unchanged = c.open.ensures.same honest in
+    let quiet_mid : IsQuiet mid = unchanged.loose ∙ quiet in
+    restart_behind c.recover.result _ c.in-Ok-open.opened.pages.flash.geometry k _ old mid new (c.in-Ok-open.ensures.sizes ∙ same) unchanged.image (c.recover.ensures.numbers newest blocks (table_of p.log p.pages) (commit_count p) ready quiet_mid)

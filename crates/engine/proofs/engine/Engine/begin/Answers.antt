@@ -1,5 +1,5 @@
-use Rattle.std.proofs.Common.{◌≡◌, sym, subst}
-use Rattle.std.specs.Prelude.{OnOk, IfOk}
+use Rattle.std.proofs.Common.{◌≡◌, sym, subst, arith}
+use Rattle.std.specs.Prelude.{OnOk, IfOk, Err, if◌then◌else◌}
 use Rattle.site.specs.declared.geometry.Geometry.{Geometry}
 use Rattle.record_model.specs.Step.{Outcome}
 use Rattle.record_model.specs.declared.words.Command.TheVariants.{Begin}
@@ -10,6 +10,7 @@ use Rattle.engine.specs.Fits.{Fits, checkpointed_if}
 use Rattle.engine.proofs.Moments.{and_then, err_again}
 use Rattle.engine.proofs.Asking.{asks_same, asks_then, asks_stopped, has_group}
 use Rattle.engine.proofs.Firsts.{step_where, touches_where}
+use Rattle.engine.proofs.RingCounts.{count_first, count_then, count_failed, run_makes}
 use Rattle.engine.proofs.engine.Engine.begin.Goals as goal
 
 pub returns-in-Ok-clause-reply : goal.returns-in-Ok-clause-reply
@@ -57,3 +58,22 @@ returns-in-Err-clause-worn_log g c s fits is = c.in-Err.ensures.worn_log s fits 
 
 pub returns-in-Err-clause-worn : goal.returns-in-Err-clause-worn
 returns-in-Err-clause-worn g c s fits is = c.in-Err.ensures.worn s fits (err_again _ _ is)
+
+pub returns-in-Ok-clause-numbers : goal.returns-in-Ok-clause-numbers
+returns-in-Ok-clause-numbers g c s fits quiet =
+    let old = g.S.Site.state c.args.site.now in
+    let wanted = c.wants_checkpoint_to_begin-wanted.result in
+    let known = c.wants_checkpoint_to_begin-wanted.ensures s old fits in
+    let first = c.in-Ok.ensures.numbers s fits quiet in
+    let second = c.begin_now.ensures.numbers (checkpointed_if wanted s) (c.in-Ok.ensures.after s fits) (c.in-Ok.ensures.stays_quiet fits.honest quiet) in
+    count_first c.begin_now.result c.args.self.now c.begin_now.new.self old (g.S.Site.state c.begin_now.new.site) s (Begin c.args.session) wanted known
+    (count_then c.begin_now.result c.in-Ok.field-0 c.args.self.now c.checkpoint_if.new.self c.begin_now.new.self old (g.S.Site.state c.checkpoint_if.new.site) (g.S.Site.state c.begin_now.new.site) s (checkpointed_if wanted s) _ (if wanted then 1 else 0) 0 (if wanted then 1 else 0) c.checkpoint_if.ensures.sizes first second (omega arith))
+
+pub returns-in-Err-clause-numbers : goal.returns-in-Err-clause-numbers
+returns-in-Err-clause-numbers g c s fits quiet =
+    let old = g.S.Site.state c.args.site.now in
+    let wanted = c.wants_checkpoint_to_begin-wanted.result in
+    let known = c.wants_checkpoint_to_begin-wanted.ensures s old fits in
+    let more = run_makes (checkpointed_if wanted s) (Begin c.args.session) in
+    count_first (Err c.in-Err.stop) c.args.self.now c.checkpoint_if.new.self old (g.S.Site.state c.checkpoint_if.new.site) s (Begin c.args.session) wanted known
+    (count_failed c.in-Err.stop c.args.self.now c.checkpoint_if.new.self c.checkpoint_if.new.self old (g.S.Site.state c.checkpoint_if.new.site) s (checkpointed_if wanted s) _ (if wanted then 1 else 0) more (c.in-Err.ensures.numbers s fits quiet))

@@ -1,8 +1,9 @@
 use Rattle.image_meaning.proofs.Leaving.{under_leaves_for}
 use Rattle.engine.proofs.Asking.{asks_same, asks_nothing}
-use Rattle.std.proofs.Common.{sym, ap, subst, ◌∙◌, [], refl}
+use Rattle.std.proofs.Common.{sym, ap, subst, ◌∙◌, [], refl, arith}
 use Rattle.engine.specs.Fits.{Fits}
 use Rattle.record_model.specs.Step.{Outcome}
+use Rattle.engine.proofs.RingCounts.{count_none, count_known, count_failed}
 use Rattle.engine.proofs.engine.Engine.begin_now.Goals as goal
 
 pub returns-in-Some-clause-reply : goal.returns-in-Some-clause-reply
@@ -28,3 +29,12 @@ returns-in-Ok-clause-asks g c s fits = asks_same _ _ _ _ _ _ _ (c.in_default.ens
 
 pub returns-in-Err-clause-asks : goal.returns-in-Err-clause-asks
 returns-in-Err-clause-asks g c s fits = asks_same _ _ _ _ _ _ _ (c.in_default.ensures.accepted s (g.S.Site.state c.args.site.now) fits).1 c.in-Err.ensures.asks
+
+pub returns-in-Some-clause-numbers : goal.returns-in-Some-clause-numbers
+returns-in-Some-clause-numbers g c s fits quiet = count_none _ c.args.self.now (g.S.Site.state c.args.site.now) s _ _ fits c.requires.going (c.in-Some.ensures.refused s (g.S.Site.state c.args.site.now) fits).0
+
+pub returns-in-Ok-clause-numbers : goal.returns-in-Ok-clause-numbers
+returns-in-Ok-clause-numbers g c s fits quiet = count_known _ _ _ _ _ s _ _ 0 (c.in_default.ensures.accepted s (g.S.Site.state c.args.site.now) fits).0 (c.in-Ok.ensures.numbers s fits quiet)
+
+pub returns-in-Err-clause-numbers : goal.returns-in-Err-clause-numbers
+returns-in-Err-clause-numbers g c s fits quiet = count_known _ _ _ _ _ s _ _ 0 (c.in_default.ensures.accepted s (g.S.Site.state c.args.site.now) fits).0 (count_failed c.in-Err.stop _ c.carry_out_begin.new.self _ _ _ s _ _ 0 (omega arith) (c.in-Err.ensures.numbers s fits quiet))

@@ -1,13 +1,14 @@
 use Rattle.record_model.specs.State.{Session, writes_of}
 use Rattle.record_model.specs.Touches.{write_touch, CacheWork}
 use Rattle.engine.proofs.Asking.{asks_same, asks_ok, asks_err}
-use Rattle.std.proofs.Common.{refl, sym, arith, ap, Option, Some, List, map, reverse}
+use Rattle.std.proofs.Common.{refl, sym, arith, ap, Option, Some, List, map, reverse, length, ◌+◌}
 use Rattle.site.specs.Laws.{stays_honest}
 use Rattle.engine.specs.declared.engine.Engine.{Engine}
 use Rattle.engine.proofs.Moments.{err_again}
 use Rattle.engine.proofs.Owing.{owes, entry_is}
 use Rattle.engine.proofs.Actives.{some_active}
 use Rattle.engine.proofs.Aborts.{aborted_fits}
+use Rattle.engine.proofs.RingCounts.{counts_answered, counts_failed}
 use Rattle.engine.proofs.engine.Engine.carry_out_abort.Goals as goal
 
 pub roll_back-requires-clause-few : goal.roll_back-requires-clause-few
@@ -94,3 +95,19 @@ pub returns-in-Err-clause-worn_log : goal.returns-in-Err-clause-worn_log
 returns-in-Err-clause-worn_log g c s fits is =
     let found = some_active fits.newest fits.records c.args.self.now.active s fits.sessions c.args.entry.session c.args.entry c.requires.active in
     c.in-Err.ensures.worn_log fits.newest fits.records s.table s.commits fits.holds found.session.writes found.under_way.is_active (err_again _ _ is)
+
+pub returns-in-Err-clause-numbers : goal.returns-in-Err-clause-numbers
+returns-in-Err-clause-numbers g c s fits quiet =
+    let engine = c.args.self.now in
+    let found = some_active fits.newest fits.records engine.active s fits.sessions c.args.entry.session c.args.entry c.requires.active in
+    let count = sym found.under_way.count in
+    let many = ap (λ (o : Option Session). length (writes_of o)) found.is in
+    counts_failed c.in-Err.stop engine _ _ _ s _ (c.args.entry.writes + 1) 0 (c.in-Err.ensures.numbers fits.newest fits.records s.table s.commits fits.holds found.session.writes found.under_way.is_active count quiet) (omega (arith, count, many))
+
+pub returns-in-Ok-clause-numbers : goal.returns-in-Ok-clause-numbers
+returns-in-Ok-clause-numbers g c s fits quiet =
+    let engine = c.args.self.now in
+    let found = some_active fits.newest fits.records engine.active s fits.sessions c.args.entry.session c.args.entry c.requires.active in
+    let count = sym found.under_way.count in
+    let many = ap (λ (o : Option Session). length (writes_of o)) found.is in
+    counts_answered c.in-Ok.field-0 _ engine _ _ _ s _ (c.args.entry.writes + 1) 0 (c.in-Ok.ensures.numbers fits.newest fits.records s.table s.commits fits.holds found.session.writes found.under_way.is_active count quiet) (omega (arith, count, many))

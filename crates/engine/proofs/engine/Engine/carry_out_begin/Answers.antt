@@ -7,6 +7,7 @@ use Rattle.engine.proofs.Settings.{begin_at, may_begin}
 use Rattle.engine.proofs.Actives.{begun, none_active}
 use Rattle.engine.proofs.Locks.{locks_stay, at_set}
 use Rattle.engine.proofs.Moments.{err_again}
+use Rattle.engine.proofs.RingCounts.{counts_answered, counts_failed}
 use Rattle.engine.proofs.engine.Engine.carry_out_begin.Goals as goal
 
 pub returns-in-Err-clause-any_moment : goal.returns-in-Err-clause-any_moment
@@ -53,3 +54,9 @@ returns-in-Err-clause-quiet g c s fits = c.in-Err.ensures.quiet fits.newest fits
 
 pub returns-in-Err-clause-worn_log : goal.returns-in-Err-clause-worn_log
 returns-in-Err-clause-worn_log g c s fits is = c.in-Err.ensures.worn_log fits.newest fits.records s.table s.commits fits.holds (err_again _ _ is)
+
+pub returns-in-Err-clause-numbers : goal.returns-in-Err-clause-numbers
+returns-in-Err-clause-numbers g c s fits quiet = counts_failed c.in-Err.stop c.args.self.now _ _ _ s _ 1 0 (c.in-Err.ensures.numbers fits.newest fits.records s.table s.commits fits.holds quiet) (omega arith)
+
+pub returns-clause-numbers : goal.returns-clause-numbers
+returns-clause-numbers g c s fits quiet = counts_answered c.in-Ok.begin _ c.args.self.now _ _ _ s _ 1 0 (c.in-Ok.ensures.numbers fits.newest fits.records s.table s.commits fits.holds quiet) (omega arith)

@@ -1,4 +1,4 @@
-use Rattle.std.proofs.Common.{ℕ, ◌≤◌, ◌+◌, List, refl, sym, subst}
+use Rattle.std.proofs.Common.{ℕ, ◌≤◌, ◌+◌, List, refl, sym, subst, arith}
 use Rattle.site.specs.Laws.{stays_honest}
 use Rattle.site.specs.Moments.{LeavesOnly}
 use Rattle.checkpoint.specs.declared.pairs.Pair.{Pair}
@@ -12,6 +12,7 @@ use Rattle.engine.specs.Leaves.{LeavesTable}
 use Rattle.engine.proofs.Moments.{err_again}
 use Rattle.engine.proofs.Keeping.{LetsGo, lets_go}
 use Rattle.engine.proofs.Checkpoints.{may_be_made, goes_on, fits_after}
+use Rattle.engine.proofs.RingCounts.{counts_answered, counts_failed}
 use Rattle.engine.proofs.engine.Engine.carry_out_checkpoint.Goals as goal
 
 pub checkpoint-requires-clause-first : goal.checkpoint-requires-clause-first
@@ -98,3 +99,19 @@ returns-in-Err-clause-worn g c s fits is =
     let holds = subst (λ (n : ℕ). both.Holds engine.store.log engine.store.pages old fits.newest fits.records s.table n) (sym fits.counts.commits) fits.holds.both in
     let may = subst (MayBeMade engine.store.masters old fits.records) (sym c.named-named.ensures.named) (may_be_made engine old s fits c.requires.going.table) in
     c.in-Err.ensures.worn fits.newest fits.records s.table holds may (err_again _ _ is)
+
+pub returns-in-Ok-clause-numbers : goal.returns-in-Ok-clause-numbers
+returns-in-Ok-clause-numbers g c s fits quiet =
+    let engine = c.args.self.now in
+    let old = g.S.Site.state c.args.site.now in
+    let holds = subst (λ (n : ℕ). both.Holds engine.store.log engine.store.pages old fits.newest fits.records s.table n) (sym fits.counts.commits) fits.holds.both in
+    let may = subst (MayBeMade engine.store.masters old fits.records) (sym c.named-named.ensures.named) (may_be_made engine old s fits c.requires.going.table) in
+    counts_answered c.in-Ok.field-0 tt engine _ _ _ s _ 0 1 (c.in-Ok.ensures.numbers fits.newest fits.records s.table holds may quiet) (omega arith)
+
+pub returns-in-Err-clause-numbers : goal.returns-in-Err-clause-numbers
+returns-in-Err-clause-numbers g c s fits quiet =
+    let engine = c.args.self.now in
+    let old = g.S.Site.state c.args.site.now in
+    let holds = subst (λ (n : ℕ). both.Holds engine.store.log engine.store.pages old fits.newest fits.records s.table n) (sym fits.counts.commits) fits.holds.both in
+    let may = subst (MayBeMade engine.store.masters old fits.records) (sym c.named-named.ensures.named) (may_be_made engine old s fits c.requires.going.table) in
+    counts_failed c.in-Err.stop engine _ _ _ s _ 0 1 (c.in-Err.ensures.numbers fits.newest fits.records s.table holds may quiet) (omega arith)

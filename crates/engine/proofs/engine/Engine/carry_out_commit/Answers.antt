@@ -4,6 +4,7 @@ use Rattle.site.specs.Laws.{stays_honest}
 use Rattle.engine.proofs.Owing.{owes}
 use Rattle.engine.proofs.Commits.{may_commit, commits_either, committed_fits}
 use Rattle.engine.proofs.Moments.{err_again}
+use Rattle.engine.proofs.RingCounts.{counts, counts_failed}
 use Rattle.engine.proofs.engine.Engine.carry_out_commit.Goals as goal
 
 pub seal_commit-requires-clause-room : goal.seal_commit-requires-clause-room
@@ -49,3 +50,11 @@ returns-in-Err-clause-quiet g c s fits = c.in-Err.ensures.quiet fits.newest fits
 
 pub returns-in-Err-clause-worn_log : goal.returns-in-Err-clause-worn_log
 returns-in-Err-clause-worn_log g c s fits is = c.in-Err.ensures.worn_log fits.newest fits.records s.table s.commits fits.holds (err_again _ _ is)
+
+pub returns-in-Err-clause-numbers : goal.returns-in-Err-clause-numbers
+returns-in-Err-clause-numbers g c s fits quiet =
+    counts_failed c.in-Err.stop c.args.self.now _ _ _ s _ 1 0 (c.in-Err.ensures.numbers fits.newest fits.records s.table s.commits fits.holds (may_commit c.args.self.now (g.S.Site.state c.args.site.now) s c.args.entry fits c.requires.active) quiet) (omega arith)
+
+pub returns-in-Ok-clause-numbers : goal.returns-in-Ok-clause-numbers
+returns-in-Ok-clause-numbers g c s fits quiet =
+    counts _ c.args.self.now _ _ _ s _ 1 0 (c.in-Ok.ensures.numbers fits.newest fits.records s.table s.commits fits.holds (may_commit c.args.self.now (g.S.Site.state c.args.site.now) s c.args.entry fits c.requires.active) quiet) (omega arith)

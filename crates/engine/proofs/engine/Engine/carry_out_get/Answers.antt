@@ -12,6 +12,7 @@ use Rattle.engine.specs.Fits.{Fits}
 use Rattle.engine.proofs.Moments.{err_again}
 use Rattle.engine.proofs.Meanings.{busy_read_is, got_is}
 use Rattle.engine.proofs.Writes.{touched_fits}
+use Rattle.engine.proofs.RingCounts.{counts_answered, counts_failed}
 use Rattle.engine.proofs.engine.Engine.carry_out_get.Goals as goal
 
 pub returns-in-Ok-clause-any_moment : goal.returns-in-Ok-clause-any_moment
@@ -66,3 +67,9 @@ returns-in-Ok-clause-asks g c = asks_ok c.in-Ok.field-0 _ (one_touch (c.args.num
 
 pub returns-in-Err-clause-worn_log : goal.returns-in-Err-clause-worn_log
 returns-in-Err-clause-worn_log g c s fits is = c.in-Err.ensures.worn_log fits.newest fits.records s.table s.commits fits.holds (err_again _ _ is)
+
+pub returns-in-Err-clause-numbers : goal.returns-in-Err-clause-numbers
+returns-in-Err-clause-numbers g c s fits quiet = counts_failed c.in-Err.stop c.args.self.now _ _ _ s _ 0 0 (c.in-Err.ensures.numbers fits.newest fits.records s.table s.commits fits.holds quiet) (omega arith)
+
+pub returns-in-Ok-clause-numbers : goal.returns-in-Ok-clause-numbers
+returns-in-Ok-clause-numbers g c s fits quiet = counts_answered c.in-Ok.field-0 _ c.args.self.now _ _ _ s _ 0 0 (c.in-Ok.ensures.numbers fits.newest fits.records s.table s.commits fits.holds quiet) (omega arith)

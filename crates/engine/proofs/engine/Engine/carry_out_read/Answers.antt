@@ -13,6 +13,7 @@ use Rattle.engine.proofs.Moments.{err_again}
 use Rattle.engine.proofs.Meanings.{busy_read_is, seen_is}
 use Rattle.engine.proofs.Replies.{has}
 use Rattle.engine.proofs.Writes.{read_fits, touched_fits}
+use Rattle.engine.proofs.RingCounts.{counts_answered, counts_failed, counts_refused}
 use Rattle.engine.proofs.engine.Engine.carry_out_read.Goals as goal
 
 pub returns-in-Ok-add-clause-any_moment : goal.returns-in-Ok-add-clause-any_moment
@@ -100,3 +101,12 @@ returns-in-Ok-add-clause-going g c =
       lasts = λ n entry at. let lasts = going.lasts n entry at in (lasts.0, omega (arith, lasts.1, rises));
       differ = going.differ;
     }
+
+pub returns-in-Err-clause-numbers : goal.returns-in-Err-clause-numbers
+returns-in-Err-clause-numbers g c s fits quiet = counts_failed c.in-Err.stop c.args.self.now _ _ _ s _ 0 0 (c.in-Err.ensures.numbers fits.newest fits.records s.table s.commits fits.holds quiet) (omega arith)
+
+pub returns-in-Err-add-clause-numbers : goal.returns-in-Err-add-clause-numbers
+returns-in-Err-add-clause-numbers g c s fits quiet = counts_refused c.in-Ok.field-0 Memory c.args.self.now _ _ _ s _ 0 0 (c.in-Ok.ensures.numbers fits.newest fits.records s.table s.commits fits.holds quiet) (omega arith)
+
+pub returns-in-Ok-add-clause-numbers : goal.returns-in-Ok-add-clause-numbers
+returns-in-Ok-add-clause-numbers g c s fits quiet = counts_answered c.in-Ok.field-0 _ c.args.self.now _ _ _ s _ 0 0 (c.in-Ok.ensures.numbers fits.newest fits.records s.table s.commits fits.holds quiet) (omega arith)

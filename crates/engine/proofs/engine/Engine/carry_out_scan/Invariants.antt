@@ -12,6 +12,8 @@ use Rattle.engine.specs.Leaves.{LeavesTable}
 use Rattle.engine.specs.Scans.{items_seen}
 use Rattle.record_model.specs.Touches.{read_touch}
 use Rattle.redo_undo.specs.Works.{Asks}
+use Rattle.site.specs.declared.outside.Stop.{Stop}
+use Rattle.engine.specs.Numbers.{CountsOn}
 use Rattle.engine.proofs.engine.Engine.carry_out_scan.Given as goal
 
 abbrev pub invariant-loop-offset : goal.invariant-loop-offset
@@ -31,4 +33,5 @@ invariant-loop-offset g l =
       items : (s : State) → Fits l.fn.self old s → l.items ≡ items_seen s l.session (range_with_len l.number l.offset);
       asks : Asks {T = Unit {0}} (Ok tt) (map read_touch (range_with_len l.number l.offset)) l.fn.self.store.pages l.self.store.pages old now;
       any_moment : (s : State) → Fits l.fn.self old s → IsQuiet old → LeavesOnly old now (LeavesTable (sizes_of l.fn.self.store) s.table s.commits old.told);
+      numbers : (s : State) → Fits l.fn.self old s → IsQuiet old → CountsOn {T = Unit {0}} {E = Stop} (Ok tt) l.fn.self l.self old now s s 0;
     }

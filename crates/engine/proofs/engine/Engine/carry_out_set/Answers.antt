@@ -11,6 +11,9 @@ use Rattle.engine.proofs.Moments.{err_again}
 use Rattle.engine.proofs.Settings.{may_commit_one, set_before, set_either, set_fits}
 use Rattle.redo_undo.specs.Holding.{IsLogWorn}
 use Rattle.engine.proofs.Apart.{AreApart}
+use Rattle.engine.proofs.RingCounts.{counts, counts_failed}
+use Rattle.redo_undo.proofs.RingNumbers.{skips_on, then_skips}
+use Rattle.std.specs.Prelude.{Ok, Err}
 use Rattle.engine.proofs.engine.Engine.carry_out_set.Goals as goal
 
 pub returns-in-Err-clause-any_moment : goal.returns-in-Err-clause-any_moment
@@ -124,3 +127,36 @@ returns-in-Err-seal_commit-clause-worn_log g c s fits is =
     let w = c.in-Ok.ensures.logged s fits in
     subst (λ (k : Geometry). IsLogWorn k (g.S.Site.state c.seal_commit.new.site).image) c.log_set.ensures.sizes
     (c.in-Err-seal_commit.ensures.worn_log fits.newest w.log s.table s.commits w.holds (err_again _ _ is))
+
+pub returns-in-Err-clause-numbers : goal.returns-in-Err-clause-numbers
+returns-in-Err-clause-numbers g c s fits quiet = counts_failed c.in-Err.stop c.args.self.now _ _ _ s _ 2 0 (c.in-Err.ensures.numbers s fits quiet) (omega arith)
+
+pub returns-in-Err-seal_commit-clause-numbers : goal.returns-in-Err-seal_commit-clause-numbers
+returns-in-Err-seal_commit-clause-numbers g c s fits quiet =
+    let engine = c.args.self.now in
+    let one = c.log_set.new.self in
+    let old = g.S.Site.state c.args.site.now in
+    let between = g.S.Site.state c.log_set.new.site in
+    let new = g.S.Site.state c.seal_commit.new.site in
+    let k = sizes_of engine.store in
+    let w = c.in-Ok.ensures.logged s fits in
+    let commits = ap (λ (x : Engine). x.commits) c.log_set.ensures.rest ∙ fits.counts.commits in
+    let may = may_commit_one one.store between fits.newest fits.records s.table s.commits c.in-Ok.txn c.args.number one.commits c.args.after.now w commits in
+    let first = c.in-Ok.ensures.numbers s fits quiet in
+    let second = skips_on (Err c.in-Err-seal_commit.stop) (sizes_of one.store) k one.store.log c.seal_commit.new.self.store.log between new 1 0 c.log_set.ensures.sizes (c.in-Err-seal_commit.ensures.numbers fits.newest w.log s.table s.commits w.holds may (c.in-Ok.ensures.stays_quiet fits.honest quiet)) in
+    counts (Err c.in-Err-seal_commit.stop) engine c.seal_commit.new.self old new s _ 3 0 (then_skips (Err c.in-Err-seal_commit.stop) c.in-Ok.txn k engine.store.log one.store.log c.seal_commit.new.self.store.log old between new 2 0 1 0 3 0 first second (omega arith) (omega arith)) (omega arith)
+
+pub returns-in-Ok-seal_commit-clause-numbers : goal.returns-in-Ok-seal_commit-clause-numbers
+returns-in-Ok-seal_commit-clause-numbers g c s fits quiet =
+    let engine = c.args.self.now in
+    let one = c.log_set.new.self in
+    let old = g.S.Site.state c.args.site.now in
+    let between = g.S.Site.state c.log_set.new.site in
+    let new = g.S.Site.state c.seal_commit.new.site in
+    let k = sizes_of engine.store in
+    let w = c.in-Ok.ensures.logged s fits in
+    let commits = ap (λ (x : Engine). x.commits) c.log_set.ensures.rest ∙ fits.counts.commits in
+    let may = may_commit_one one.store between fits.newest fits.records s.table s.commits c.in-Ok.txn c.args.number one.commits c.args.after.now w commits in
+    let first = c.in-Ok.ensures.numbers s fits quiet in
+    let second = skips_on (Ok c.in-Ok-seal_commit.reply) (sizes_of one.store) k one.store.log c.seal_commit.new.self.store.log between new 1 0 c.log_set.ensures.sizes (c.in-Ok-seal_commit.ensures.numbers fits.newest w.log s.table s.commits w.holds may (c.in-Ok.ensures.stays_quiet fits.honest quiet)) in
+    counts (Ok c.in-Ok-seal_commit.reply) engine c.seal_commit.new.self old new s _ 3 0 (then_skips (Ok c.in-Ok-seal_commit.reply) c.in-Ok.txn k engine.store.log one.store.log c.seal_commit.new.self.store.log old between new 2 0 1 0 3 0 first second (omega arith) (omega arith)) (omega arith)

@@ -17,6 +17,9 @@ use Rattle.engine.proofs.Moments.{and_then, err_again}
 use Rattle.engine.proofs.Owing.{entry_is, owes}
 use Rattle.engine.proofs.Writes.{touched_fits, may_write, write_fits}
 use Rattle.engine.proofs.Apart.{below_wrote, apart_wrote}
+use Rattle.engine.proofs.RingCounts.{counts_answered, counts_failed, counts_refused}
+use Rattle.redo_undo.proofs.RingNumbers.{skips_on, then_skips}
+use Rattle.std.specs.Prelude.{Ok, Err}
 use Rattle.engine.proofs.engine.Engine.carry_out_write.Goals as goal
 
 pub add-requires : goal.add-requires
@@ -161,3 +164,35 @@ pub returns-in-Err-update-clause-worn_log : goal.returns-in-Err-update-clause-wo
 returns-in-Err-update-clause-worn_log g c s fits is =
     subst (λ (k : Geometry). IsLogWorn k (g.S.Site.state c.update.new.site).image) c.touch.ensures.sizes
     (c.in-Err-update.ensures.worn_log fits.newest fits.records s.table s.commits (c.in-Ok.ensures.holds fits.newest fits.records s.table s.commits fits.holds) (err_again _ _ is))
+
+pub returns-in-Err-clause-numbers : goal.returns-in-Err-clause-numbers
+returns-in-Err-clause-numbers g c s fits quiet = counts_failed c.in-Err.stop c.args.self.now _ _ _ s _ 0 0 (c.in-Err.ensures.numbers fits.newest fits.records s.table s.commits fits.holds quiet) (omega arith)
+
+pub returns-in-Err-add-clause-numbers : goal.returns-in-Err-add-clause-numbers
+returns-in-Err-add-clause-numbers g c s fits quiet = counts_refused c.in-Ok.field-0 Memory c.args.self.now _ _ _ s _ 0 0 (c.in-Ok.ensures.numbers fits.newest fits.records s.table s.commits fits.holds quiet) (omega arith)
+
+pub returns-in-Err-update-clause-numbers : goal.returns-in-Err-update-clause-numbers
+returns-in-Err-update-clause-numbers g c s fits quiet =
+    let engine = c.args.self.now in
+    let old = g.S.Site.state c.args.site.now in
+    let mid = g.S.Site.state c.touch.new.site in
+    let new = g.S.Site.state c.update.new.site in
+    let k = sizes_of engine.store in
+    let first = c.in-Ok.ensures.numbers fits.newest fits.records s.table s.commits fits.holds quiet in
+    let holds = c.in-Ok.ensures.holds fits.newest fits.records s.table s.commits fits.holds in
+    let quiet_mid = c.in-Ok.ensures.stays_quiet fits.honest quiet in
+    let second = skips_on (Err c.in-Err-update.stop) (sizes_of c.touch.new.self) k _ _ mid new 1 0 c.touch.ensures.sizes (c.in-Err-update.ensures.numbers fits.newest fits.records s.table s.commits holds quiet_mid) in
+    counts_failed c.in-Err-update.stop engine _ old new s _ 1 0 (then_skips (Err c.in-Err-update.stop) c.in-Ok.field-0 k engine.store.log c.touch.new.self.log c.update.new.self.log old mid new 0 0 1 0 1 0 first second (omega arith) (omega arith)) (omega arith)
+
+pub returns-in-Ok-update-clause-numbers : goal.returns-in-Ok-update-clause-numbers
+returns-in-Ok-update-clause-numbers g c s fits quiet =
+    let engine = c.args.self.now in
+    let old = g.S.Site.state c.args.site.now in
+    let mid = g.S.Site.state c.touch.new.site in
+    let new = g.S.Site.state c.update.new.site in
+    let k = sizes_of engine.store in
+    let first = c.in-Ok.ensures.numbers fits.newest fits.records s.table s.commits fits.holds quiet in
+    let holds = c.in-Ok.ensures.holds fits.newest fits.records s.table s.commits fits.holds in
+    let quiet_mid = c.in-Ok.ensures.stays_quiet fits.honest quiet in
+    let second = skips_on (Ok c.in-Ok-update.lsn) (sizes_of c.touch.new.self) k _ _ mid new 1 0 c.touch.ensures.sizes (c.in-Ok-update.ensures.numbers fits.newest fits.records s.table s.commits holds quiet_mid) in
+    counts_answered c.in-Ok-update.lsn _ engine _ old new s _ 1 0 (then_skips (Ok c.in-Ok-update.lsn) c.in-Ok.field-0 k engine.store.log c.touch.new.self.log c.update.new.self.log old mid new 0 0 1 0 1 0 first second (omega arith) (omega arith)) (omega arith)

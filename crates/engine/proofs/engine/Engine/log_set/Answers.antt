@@ -10,6 +10,8 @@ use Rattle.flash_cache.specs.Held.{IsWorn}
 use Rattle.engine.proofs.Moments.{and_then, err_again, stop_is}
 use Rattle.engine.proofs.Settings.{begin_at, may_begin, may_update, one_write}
 use Rattle.redo_undo.specs.Holding.{IsLogWorn}
+use Rattle.redo_undo.proofs.RingNumbers.{skips_weaker, skips_on, then_skips, skips_again, skips_answered}
+use Rattle.std.specs.Prelude.{Ok, Err}
 use Rattle.engine.proofs.engine.Engine.log_set.Goals as goal
 
 pub returns-in-Err-clause-any_moment : goal.returns-in-Err-clause-any_moment
@@ -227,3 +229,70 @@ returns-in-Err-update-clause-worn_log g c s fits is =
 
 pub returns-in-Err-update-clause-worn : goal.returns-in-Err-update-clause-worn
 returns-in-Err-update-clause-worn g c s fits is = absurd (not_worn c.in-Err-update.stop c.in-Err-update.ensures.stops (stop_is c.in-Err-update.stop _ is))
+
+pub returns-in-Err-clause-numbers : goal.returns-in-Err-clause-numbers
+returns-in-Err-clause-numbers g c s fits quiet = skips_weaker _ _ _ _ _ _ 1 2 0 (omega arith) (c.in-Err.ensures.numbers fits.newest fits.records s.table s.commits fits.holds quiet)
+
+pub returns-in-Err-touch-clause-numbers : goal.returns-in-Err-touch-clause-numbers
+returns-in-Err-touch-clause-numbers g c s fits quiet =
+    let engine = c.args.self.now in
+    let old = g.S.Site.state c.args.site.now in
+    let one = g.S.Site.state c.begin.new.site in
+    let two = g.S.Site.state c.touch.new.site in
+    let k = sizes_of engine.store in
+    let going = c.requires.going in
+    let room = c.requires.room in
+    let behind = c.in-Ok.ensures.rises.0 in
+    let log = fits.records ++ begin_at c.in-Ok.txn ∷ [] in
+    let may = may_begin engine old s fits c.in-Ok.txn behind (omega (arith, room)) going.store.blocks going.cap in
+    let holds = c.in-Ok.ensures.holds fits.newest fits.records s.table s.commits fits.holds may in
+    let quiet_one = c.in-Ok.ensures.stays_quiet fits.honest quiet in
+    let first = c.in-Ok.ensures.numbers fits.newest fits.records s.table s.commits fits.holds quiet in
+    let touched = skips_on (Err c.in-Err-touch.stop) (sizes_of c.begin.new.self) k c.begin.new.self.log c.touch.new.self.log one two 0 0 c.begin.ensures.sizes (c.in-Err-touch.ensures.numbers fits.newest log s.table s.commits holds quiet_one) in
+    skips_again c.in-Err-touch.stop k _ _ old two 2 0 (then_skips (Err c.in-Err-touch.stop) c.in-Ok.txn k engine.store.log c.begin.new.self.log c.touch.new.self.log old one two 1 0 0 0 2 0 first touched (omega arith) (omega arith))
+
+pub returns-in-Err-update-clause-numbers : goal.returns-in-Err-update-clause-numbers
+returns-in-Err-update-clause-numbers g c s fits quiet =
+    let engine = c.args.self.now in
+    let old = g.S.Site.state c.args.site.now in
+    let one = g.S.Site.state c.begin.new.site in
+    let two = g.S.Site.state c.touch.new.site in
+    let k = sizes_of engine.store in
+    let going = c.requires.going in
+    let room = c.requires.room in
+    let behind = c.in-Ok.ensures.rises.0 in
+    let log = fits.records ++ begin_at c.in-Ok.txn ∷ [] in
+    let may = may_begin engine old s fits c.in-Ok.txn behind (omega (arith, room)) going.store.blocks going.cap in
+    let holds = c.in-Ok.ensures.holds fits.newest fits.records s.table s.commits fits.holds may in
+    let quiet_one = c.in-Ok.ensures.stays_quiet fits.honest quiet in
+    let first = c.in-Ok.ensures.numbers fits.newest fits.records s.table s.commits fits.holds quiet in
+    let three = g.S.Site.state c.update.new.site in
+    let held = c.in-Ok-touch.ensures.holds fits.newest log s.table s.commits holds in
+    let quiet_two = c.in-Ok-touch.ensures.stays_quiet (stays_honest old one c.begin.ensures.goes fits.honest) quiet_one in
+    let touched = skips_on (Ok c.in-Ok-touch.field-0) (sizes_of c.begin.new.self) k c.begin.new.self.log c.touch.new.self.log one two 0 0 c.begin.ensures.sizes (c.in-Ok-touch.ensures.numbers fits.newest log s.table s.commits holds quiet_one) in
+    let both = then_skips (Ok c.in-Ok-touch.field-0) c.in-Ok.txn k engine.store.log c.begin.new.self.log c.touch.new.self.log old one two 1 0 0 0 1 0 first touched (omega arith) (omega arith) in
+    let second = skips_on (Err c.in-Err-update.stop) (sizes_of c.touch.new.self) k c.touch.new.self.log c.update.new.self.log two three 1 0 (c.touch.ensures.sizes ∙ c.begin.ensures.sizes) (c.in-Err-update.ensures.numbers fits.newest log s.table s.commits held quiet_two) in
+    then_skips (Err c.in-Err-update.stop) c.in-Ok-touch.field-0 k engine.store.log c.touch.new.self.log c.update.new.self.log old two three 1 0 1 0 2 0 both second (omega arith) (omega arith)
+
+pub returns-in-Ok-update-clause-numbers : goal.returns-in-Ok-update-clause-numbers
+returns-in-Ok-update-clause-numbers g c s fits quiet =
+    let engine = c.args.self.now in
+    let old = g.S.Site.state c.args.site.now in
+    let one = g.S.Site.state c.begin.new.site in
+    let two = g.S.Site.state c.touch.new.site in
+    let k = sizes_of engine.store in
+    let going = c.requires.going in
+    let room = c.requires.room in
+    let behind = c.in-Ok.ensures.rises.0 in
+    let log = fits.records ++ begin_at c.in-Ok.txn ∷ [] in
+    let may = may_begin engine old s fits c.in-Ok.txn behind (omega (arith, room)) going.store.blocks going.cap in
+    let holds = c.in-Ok.ensures.holds fits.newest fits.records s.table s.commits fits.holds may in
+    let quiet_one = c.in-Ok.ensures.stays_quiet fits.honest quiet in
+    let first = c.in-Ok.ensures.numbers fits.newest fits.records s.table s.commits fits.holds quiet in
+    let three = g.S.Site.state c.update.new.site in
+    let held = c.in-Ok-touch.ensures.holds fits.newest log s.table s.commits holds in
+    let quiet_two = c.in-Ok-touch.ensures.stays_quiet (stays_honest old one c.begin.ensures.goes fits.honest) quiet_one in
+    let touched = skips_on (Ok c.in-Ok-touch.field-0) (sizes_of c.begin.new.self) k c.begin.new.self.log c.touch.new.self.log one two 0 0 c.begin.ensures.sizes (c.in-Ok-touch.ensures.numbers fits.newest log s.table s.commits holds quiet_one) in
+    let both = then_skips (Ok c.in-Ok-touch.field-0) c.in-Ok.txn k engine.store.log c.begin.new.self.log c.touch.new.self.log old one two 1 0 0 0 1 0 first touched (omega arith) (omega arith) in
+    let second = skips_on (Ok c.in-Ok-update.field-0) (sizes_of c.touch.new.self) k c.touch.new.self.log c.update.new.self.log two three 1 0 (c.touch.ensures.sizes ∙ c.begin.ensures.sizes) (c.in-Ok-update.ensures.numbers fits.newest log s.table s.commits held quiet_two) in
+    skips_answered c.in-Ok-update.field-0 c.in-Ok.txn k _ _ old three 2 0 (then_skips (Ok c.in-Ok-update.field-0) c.in-Ok-touch.field-0 k engine.store.log c.touch.new.self.log c.update.new.self.log old two three 1 0 1 0 2 0 both second (omega arith) (omega arith))

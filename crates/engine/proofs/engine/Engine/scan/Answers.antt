@@ -1,10 +1,11 @@
 use Rattle.image_meaning.proofs.Leaving.{under_leaves_for}
 use Rattle.engine.proofs.Moments.{err_again}
 use Rattle.engine.proofs.Asking.{asks_same, asks_nothing, asks_ok, asks_err}
-use Rattle.std.proofs.Common.{sym, ap, subst, ◌∙◌, [], refl}
+use Rattle.std.proofs.Common.{sym, ap, subst, ◌∙◌, [], refl, arith}
 use Rattle.record_model.specs.declared.words.Reply.TheVariants.{Items}
 use Rattle.record_model.specs.Step.{Outcome}
 use Rattle.engine.specs.Fits.{Fits}
+use Rattle.engine.proofs.RingCounts.{count_none, count_known, count_failed, count_answered}
 use Rattle.engine.proofs.engine.Engine.scan.Goals as goal
 
 pub returns-in-Some-clause-reply : goal.returns-in-Some-clause-reply
@@ -42,3 +43,12 @@ returns-in-Err-clause-worn_flash g c is = c.in-Err.ensures.asks.worn (err_again 
 
 pub returns-in-Err-clause-worn_log : goal.returns-in-Err-clause-worn_log
 returns-in-Err-clause-worn_log g c s fits is = c.in-Err.ensures.worn_log s fits (err_again _ _ is)
+
+pub returns-in-Some-clause-numbers : goal.returns-in-Some-clause-numbers
+returns-in-Some-clause-numbers g c s fits quiet = count_none _ c.args.self.now (g.S.Site.state c.args.site.now) s _ _ fits c.requires.going (c.in-Some.ensures.refused s (g.S.Site.state c.args.site.now) fits).0
+
+pub returns-in-Ok-clause-numbers : goal.returns-in-Ok-clause-numbers
+returns-in-Ok-clause-numbers g c s fits quiet = count_known _ _ _ _ _ s _ _ 0 (c.in_default.ensures.accepted s (g.S.Site.state c.args.site.now) fits).0 (count_answered c.in-Ok.items _ _ _ _ _ s _ 0 (c.in-Ok.ensures.numbers s fits quiet))
+
+pub returns-in-Err-clause-numbers : goal.returns-in-Err-clause-numbers
+returns-in-Err-clause-numbers g c s fits quiet = count_known _ _ _ _ _ s _ _ 0 (c.in_default.ensures.accepted s (g.S.Site.state c.args.site.now) fits).0 (count_failed c.in-Err.stop _ c.carry_out_scan.new.self _ _ _ s _ _ 0 (omega arith) (c.in-Err.ensures.numbers s fits quiet))

@@ -1,5 +1,5 @@
-use Rattle.std.proofs.Common.{◌≡◌, ◌/◌, inr, refl, sym, subst}
-use Rattle.std.specs.Prelude.{OnOk, IfOk}
+use Rattle.std.proofs.Common.{◌≡◌, ◌/◌, inr, refl, sym, subst, arith}
+use Rattle.std.specs.Prelude.{OnOk, IfOk, Err, if◌then◌else◌}
 use Rattle.site.specs.declared.geometry.Geometry.{Geometry}
 use Rattle.record_model.specs.Step.{Outcome}
 use Rattle.record_model.specs.declared.words.Command.TheVariants.{Set}
@@ -14,6 +14,7 @@ use Rattle.engine.proofs.Settings.{set_before}
 use Rattle.flash_cache.specs.Held.{IsWorn}
 use Rattle.page_store.specs.Caching.{cache_of, rules}
 use Rattle.redo_undo.specs.Works.{one_change}
+use Rattle.engine.proofs.RingCounts.{count_first, count_then, count_failed, run_makes}
 use Rattle.engine.proofs.engine.Engine.set.Goals as goal
 
 pub returns-in-Ok-clause-reply : goal.returns-in-Ok-clause-reply
@@ -81,3 +82,22 @@ returns-in-Err-clause-worn_flash g c is =
 
 pub returns-in-Ok-clause-foreign : goal.returns-in-Ok-clause-foreign
 returns-in-Ok-clause-foreign g c is s fits = c.set_now.ensures.foreign is (checkpointed_if c.wants_checkpoint_to_set-wanted.result s) (c.in-Ok.ensures.after s fits)
+
+pub returns-in-Ok-clause-numbers : goal.returns-in-Ok-clause-numbers
+returns-in-Ok-clause-numbers g c s fits quiet =
+    let old = g.S.Site.state c.args.site.now in
+    let wanted = c.wants_checkpoint_to_set-wanted.result in
+    let known = c.wants_checkpoint_to_set-wanted.ensures s old fits in
+    let first = c.in-Ok.ensures.numbers s fits quiet in
+    let second = c.set_now.ensures.numbers (checkpointed_if wanted s) (c.in-Ok.ensures.after s fits) (c.in-Ok.ensures.stays_quiet fits.honest quiet) in
+    count_first c.set_now.result c.args.self.now c.set_now.new.self old (g.S.Site.state c.set_now.new.site) s (Set c.args.number c.args.value.now) wanted known
+    (count_then c.set_now.result c.in-Ok.field-0 c.args.self.now c.checkpoint_if.new.self c.set_now.new.self old (g.S.Site.state c.checkpoint_if.new.site) (g.S.Site.state c.set_now.new.site) s (checkpointed_if wanted s) _ (if wanted then 1 else 0) 0 (if wanted then 1 else 0) c.checkpoint_if.ensures.sizes first second (omega arith))
+
+pub returns-in-Err-clause-numbers : goal.returns-in-Err-clause-numbers
+returns-in-Err-clause-numbers g c s fits quiet =
+    let old = g.S.Site.state c.args.site.now in
+    let wanted = c.wants_checkpoint_to_set-wanted.result in
+    let known = c.wants_checkpoint_to_set-wanted.ensures s old fits in
+    let more = run_makes (checkpointed_if wanted s) (Set c.args.number c.args.value.now) in
+    count_first (Err c.in-Err.stop) c.args.self.now c.checkpoint_if.new.self old (g.S.Site.state c.checkpoint_if.new.site) s (Set c.args.number c.args.value.now) wanted known
+    (count_failed c.in-Err.stop c.args.self.now c.checkpoint_if.new.self c.checkpoint_if.new.self old (g.S.Site.state c.checkpoint_if.new.site) s (checkpointed_if wanted s) _ (if wanted then 1 else 0) more (c.in-Err.ensures.numbers s fits quiet))

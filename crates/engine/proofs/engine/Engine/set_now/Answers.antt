@@ -1,7 +1,7 @@
 use Rattle.image_meaning.proofs.Leaving.{under_leaves_for}
 use Rattle.engine.proofs.Moments.{err_again}
 use Rattle.engine.proofs.Asking.{asks_same, asks_nothing}
-use Rattle.std.proofs.Common.{◌∷◌, [], inl, sym, ap, subst, ◌∙◌, refl}
+use Rattle.std.proofs.Common.{◌∷◌, [], inl, sym, ap, subst, ◌∙◌, refl, arith}
 use Rattle.site.specs.Moments.{LeavesOnly}
 use Rattle.site.specs.Laws.{leaves_weaker}
 use Rattle.record_model.specs.State.{Content}
@@ -9,6 +9,7 @@ use Rattle.record_model.specs.Step.{Outcome, making, committed}
 use Rattle.engine.specs.Going.{sizes_of}
 use Rattle.engine.specs.Fits.{Fits}
 use Rattle.engine.specs.Leaves.{LeavesTable, LeavesEither}
+use Rattle.engine.proofs.RingCounts.{count_none, count_known, count_failed, count_same}
 use Rattle.engine.proofs.engine.Engine.set_now.Goals as goal
 
 pub returns-in-Some-clause-reply : goal.returns-in-Some-clause-reply
@@ -59,3 +60,12 @@ returns-in-Err-clause-asks g c s fits = asks_same _ _ _ _ _ _ _ (c.in_default.en
 
 pub returns-in-Err-clause-worn_flash : goal.returns-in-Err-clause-worn_flash
 returns-in-Err-clause-worn_flash g c is = c.in-Err.ensures.asks.worn (err_again _ _ is)
+
+pub returns-in-Some-clause-numbers : goal.returns-in-Some-clause-numbers
+returns-in-Some-clause-numbers g c s fits quiet = count_none _ c.args.self.now (g.S.Site.state c.args.site.now) s _ _ fits c.requires.going (c.in-Some.ensures.refused s (g.S.Site.state c.args.site.now) fits).0
+
+pub returns-in-Ok-clause-numbers : goal.returns-in-Ok-clause-numbers
+returns-in-Ok-clause-numbers g c s fits quiet = count_known _ _ _ _ _ s _ _ 0 (c.in_default.ensures.accepted s (g.S.Site.state c.args.site.now) fits).0 (count_same _ _ _ _ _ s (making 3 (committed s ((c.args.number, c.value_of-after.result) ∷ []))) _ 0 refl (c.in-Ok.ensures.numbers s fits quiet))
+
+pub returns-in-Err-clause-numbers : goal.returns-in-Err-clause-numbers
+returns-in-Err-clause-numbers g c s fits quiet = count_known _ _ _ _ _ s _ _ 0 (c.in_default.ensures.accepted s (g.S.Site.state c.args.site.now) fits).0 (count_failed c.in-Err.stop _ c.carry_out_set.new.self _ _ _ s (making 3 (committed s ((c.args.number, c.value_of-after.result) ∷ []))) _ 0 (omega arith) (c.in-Err.ensures.numbers s fits quiet))

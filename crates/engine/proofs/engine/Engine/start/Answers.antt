@@ -6,6 +6,7 @@ use Rattle.site.specs.declared.outside.Dev.TheVariants.{Log, Flash}
 use Rattle.site.specs.declared.outside.Stop.TheVariants.{Worn, Foreign}
 use Rattle.engine.proofs.Openings.{err_again}
 use Rattle.engine.proofs.Starts.{started}
+use Rattle.engine.proofs.RingCounts.{restart_again, restart_stopped, restart_answered}
 use Rattle.engine.proofs.engine.Engine.start.Goals as goal
 
 pub returns-clause-opens : goal.returns-clause-opens
@@ -33,3 +34,12 @@ returns-in-Err-new-clause-asks g c honest k newest blocks sound = from_other_fai
 
 pub returns-clause-asks : goal.returns-clause-asks
 returns-clause-asks g c honest k newest blocks sound = from_other c.in-Ok.restarted _ _ _ _ _ _ _ _ _ refl (c.in-Ok.ensures.asks honest k newest blocks sound)
+
+pub returns-in-Err-clause-numbers : goal.returns-in-Err-clause-numbers
+returns-in-Err-clause-numbers g c honest quiet k newest blocks sound = restart_again c.in-Err.stop _ _ k _ _ _ (c.in-Err.ensures.numbers honest quiet k newest blocks sound)
+
+pub returns-in-Err-new-clause-numbers : goal.returns-in-Err-new-clause-numbers
+returns-in-Err-new-clause-numbers g c honest quiet k newest blocks sound = restart_stopped c.in-Ok.restarted c.in-Err-new.stop _ _ k _ _ _ (c.in-Ok.ensures.numbers honest quiet k newest blocks sound)
+
+pub returns-clause-numbers : goal.returns-clause-numbers
+returns-clause-numbers g c honest quiet k newest blocks sound = restart_answered c.in-Ok.restarted _ _ _ k _ _ _ refl (c.in-Ok.ensures.numbers honest quiet k newest blocks sound)

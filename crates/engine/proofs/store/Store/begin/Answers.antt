@@ -6,6 +6,7 @@ use Rattle.site.specs.declared.outside.Dev.TheVariants.{Log}
 use Rattle.site.specs.declared.outside.Stop.TheVariants.{Worn}
 use Rattle.redo_undo.specs.Holding.{IsLogWorn}
 use Rattle.redo_undo.proofs.Saved.{finds_kept}
+use Rattle.redo_undo.proofs.RingNumbers.{skips_on}
 use Rattle.engine.proofs.store.Store.begin.Goals as goal
 
 pub returns-in-Ok-clause-holds : goal.returns-in-Ok-clause-holds
@@ -35,3 +36,9 @@ pub returns-in-Err-clause-worn_log : goal.returns-in-Err-clause-worn_log
 returns-in-Err-clause-worn_log g c newest records table commits h is =
     let same : c.in-Err.stop ≡ Worn Log = cc in
     subst (λ (x : Geometry). IsLogWorn x (g.S.Site.state c.log_record.new.site).image) c.requires.going.both.sizes (c.in-Err.ensures.worn_log_end c.args.self.now.pages newest records table commits h.both (ap Err same))
+
+pub returns-in-Ok-clause-numbers : goal.returns-in-Ok-clause-numbers
+returns-in-Ok-clause-numbers g c newest records table commits h quiet = skips_on _ c.args.self.now.log.geometry _ _ _ _ _ 1 0 c.requires.going.both.sizes (c.in-Ok.ensures.numbers c.args.self.now.pages newest records table commits c.requires.going.both h.both quiet)
+
+pub returns-in-Err-clause-numbers : goal.returns-in-Err-clause-numbers
+returns-in-Err-clause-numbers g c newest records table commits h quiet = skips_on _ c.args.self.now.log.geometry _ _ _ _ _ 1 0 c.requires.going.both.sizes (c.in-Err.ensures.numbers c.args.self.now.pages newest records table commits c.requires.going.both h.both quiet)

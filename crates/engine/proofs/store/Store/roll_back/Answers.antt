@@ -1,13 +1,14 @@
 use Rattle.image_meaning.proofs.Leaving.{under_leaves_for}
 use Rattle.engine.proofs.Asking.{asks_same, asks_err, asks_ok, asks_fails}
 use Rattle.site.specs.declared.outside.Dev.TheVariants.{Log, Flash}
-use Rattle.std.proofs.Common.{◌≡◌, ◌+◌, Err, refl, ap, ◌∙◌, arith, sym}
+use Rattle.std.proofs.Common.{◌≡◌, ◌+◌, Err, refl, ap, ◌∙◌, arith, sym, length}
 use Rattle.site.specs.declared.geometry.Geometry.{Geometry}
 use Rattle.site.specs.declared.outside.Stop.TheVariants.{Worn, Foreign}
 use Rattle.redo_undo.proofs.Saved.{finds_kept}
 use Rattle.engine.specs.declared.store.Store.{Store}
 use Rattle.engine.specs.Rollback.{RollsBack}
 use Rattle.engine.proofs.Rollbacks.{active_left, rolls_back, has_room}
+use Rattle.redo_undo.proofs.RingNumbers.{skips_weaker, skips_again, skips_refused, skips_answered}
 use Rattle.engine.proofs.store.Store.roll_back.Goals as goal
 
 pub returns-clause-undone : goal.returns-clause-undone
@@ -122,3 +123,23 @@ returns-clause-asks g c newest records table commits h writes active =
     let old = g.S.Site.state c.args.site.now in
     asks_same _ _ _ _ _ _ _ (sym (c.sessions_are_undone.ensures newest records c.args.entry.begin c.args.entry.last writes active))
     (asks_ok c.in-Ok.field-0 _ _ _ _ _ _ (c.in-Ok.ensures.asks newest records table commits _ h.both (active_left c.args.self.now old newest records table commits c.args.entry.begin c.args.entry.last writes h active) refl refl))
+
+pub returns-in-Err-clause-numbers : goal.returns-in-Err-clause-numbers
+returns-in-Err-clause-numbers g c newest records table commits h writes active count quiet =
+    let unfinished = active_left c.args.self.now (g.S.Site.state c.args.site.now) newest records table commits c.args.entry.begin c.args.entry.last writes h active in
+    skips_weaker _ _ _ _ _ _ (length writes + 1) (c.args.entry.writes + 1) 0 (omega (arith, count)) (skips_again c.in-Err.stop _ _ _ _ _ (length writes + 1) 0 (c.in-Err.ensures.numbers newest records table commits _ h.both unfinished refl refl quiet))
+
+pub returns-then-blocks-before-clause-numbers : goal.returns-then-blocks-before-clause-numbers
+returns-then-blocks-before-clause-numbers g c newest records table commits h writes active count quiet =
+    let unfinished = active_left c.args.self.now (g.S.Site.state c.args.site.now) newest records table commits c.args.entry.begin c.args.entry.last writes h active in
+    skips_weaker _ _ _ _ _ _ (length writes + 1) (c.args.entry.writes + 1) 0 (omega (arith, count)) (skips_refused c.in-Ok.field-0 Foreign _ _ _ _ _ (length writes + 1) 0 (c.in-Ok.ensures.numbers newest records table commits _ h.both unfinished refl refl quiet))
+
+pub returns-then-blocks-owed-clause-numbers : goal.returns-then-blocks-owed-clause-numbers
+returns-then-blocks-owed-clause-numbers g c newest records table commits h writes active count quiet =
+    let unfinished = active_left c.args.self.now (g.S.Site.state c.args.site.now) newest records table commits c.args.entry.begin c.args.entry.last writes h active in
+    skips_weaker _ _ _ _ _ _ (length writes + 1) (c.args.entry.writes + 1) 0 (omega (arith, count)) (skips_refused c.in-Ok.field-0 Foreign _ _ _ _ _ (length writes + 1) 0 (c.in-Ok.ensures.numbers newest records table commits _ h.both unfinished refl refl quiet))
+
+pub returns-clause-numbers : goal.returns-clause-numbers
+returns-clause-numbers g c newest records table commits h writes active count quiet =
+    let unfinished = active_left c.args.self.now (g.S.Site.state c.args.site.now) newest records table commits c.args.entry.begin c.args.entry.last writes h active in
+    skips_weaker _ _ _ _ _ _ (length writes + 1) (c.args.entry.writes + 1) 0 (omega (arith, count)) (skips_answered c.in-Ok.field-0 tt _ _ _ _ _ (length writes + 1) 0 (c.in-Ok.ensures.numbers newest records table commits _ h.both unfinished refl refl quiet))

@@ -23,3 +23,6 @@ returns-clause-worn g c newest records table commits h = c.touch.ensures.worn_en
 
 pub returns-clause-worn_log : goal.returns-clause-worn_log
 returns-clause-worn_log g c newest records table commits h = c.touch.ensures.worn_log_end newest records table commits h.both
+
+pub returns-clause-numbers : goal.returns-clause-numbers
+returns-clause-numbers g c newest records table commits h quiet = c.touch.ensures.numbers newest records table commits h.both quiet

@@ -40,3 +40,9 @@ pub returns-in-Err-clause-worn_log : goal.returns-in-Err-clause-worn_log
 returns-in-Err-clause-worn_log g c newest records table commits h is =
     let same : c.in-Err.stop ≡ Worn Log = cc in
     c.in-Err.ensures.worn_log_end newest records table commits h.both (ap Err same)
+
+pub returns-in-Ok-clause-numbers : goal.returns-in-Ok-clause-numbers
+returns-in-Ok-clause-numbers g c newest records table commits h quiet = c.in-Ok.ensures.numbers newest records table commits h.both quiet
+
+pub returns-in-Err-clause-numbers : goal.returns-in-Err-clause-numbers
+returns-in-Err-clause-numbers g c newest records table commits h quiet = c.in-Err.ensures.numbers newest records table commits h.both quiet

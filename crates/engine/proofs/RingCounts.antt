@@ -1,0 +1,225 @@
+-- The numbers of the rings' units, over the calls of the database.
+use Rattle.std.proofs.Common.{◌≡◌, ℕ, ◌+◌, ◌≤◌, Bool, true, false, List, [], Option, None, Some, sym, ap, subst, arith}
+use Rattle.std.specs.Prelude.{Result, Ok, Err, IfOk, if◌then◌else◌}
+use Rattle.site.specs.declared.outside.Stop.{Stop}
+use Rattle.site.specs.declared.geometry.Geometry.{Geometry}
+use Rattle.site.specs.State.{State as Site, Image}
+use Rattle.sealed_ring.specs.Ring.{hi_of}
+use Rattle.image_changes.specs.Rings.{log_shape, master_shape}
+use Rattle.record_model.specs.State.{Content, State}
+use Rattle.record_model.specs.declared.words.Command.{Command}
+use Rattle.record_model.specs.declared.words.Command.TheVariants.{Begin, Write, Erase, Commit, Abort, Set}
+use Rattle.record_model.specs.declared.words.Reply.{Reply}
+use Rattle.record_model.specs.Step.{Outcome, refusal, outcome, effect, answer, full, lacks_room, makes_checkpoint}
+use Rattle.log_records.specs.declared.log_record.LogRecord.{LogRecord}
+use Rattle.log_records.specs.Log.{Entry}
+use Rattle.log_records.specs.Unfinished.{owed}
+use Rattle.log_store.specs.declared.store.LogStore.{LogStore}
+use Rattle.log_store.specs.Held.{has_tail}
+use Rattle.checkpoint.specs.declared.master.Master.{Master}
+use Rattle.redo_undo.specs.Holding.{blocks_to}
+use Rattle.redo_undo.specs.Numbers.{SkipsNone}
+use Rattle.redo_undo.proofs.RingNumbers.{ok_as, skips_again, skips_refused, skips_answered, skips_nothing, hi_on}
+use Rattle.engine.specs.declared.engine.Engine.{Engine}
+use Rattle.engine.specs.declared.restart.Opened.{Opened}
+use Rattle.engine.specs.Fits.{Fits, run, run_now, checkpointed_if}
+use Rattle.engine.specs.Going.{MayGoOn, sizes_of}
+use Rattle.engine.specs.Restarting.{IsReady}
+use Rattle.engine.specs.Numbers.{CountsOn, RestartsWithin, RestCountsNothing, checkpoints_by}
+use Rattle.engine.proofs.Firsts.{step_where}
+use Rattle.engine.proofs.Openings.{no_tail}
+use Rattle.engine.proofs.Recovers.{tail_blocks}
+
+-- Calls on log and pages, as calls of the database.
+
+-- a call that makes no more records than the model counts
+pub counts : {T E : Type 0} (r : Result T E) (old new : Engine) (before now : Site) (s after : State) (n m : ℕ) → SkipsNone r (sizes_of old.store) old.store.log new.store.log before now n m → s.made + n ≤ after.made → CountsOn r old new before now s after m
+counts r old new before now s after n m first few = record {
+  log = ok_as r _ _ (λ more. omega (arith, more, few)) first.log;
+  blocks = let more = first.blocks in omega (arith, more, few);
+  masters = first.masters;
+  saved = first.saved;
+}
+
+-- another value of its caller
+pub counts_answered : {T E A F : Type 0} (x : A) (y : T) (old new : Engine) (before now : Site) (s after : State) (n m : ℕ) → SkipsNone {T = A} {E = F} (Ok x) (sizes_of old.store) old.store.log new.store.log before now n m → s.made + n ≤ after.made
+    → CountsOn {T = T} {E = E} (Ok y) old new before now s after m
+counts_answered x y old new before now s after n m first few =
+    counts (Ok y) old new before now s after n m (skips_answered x y (sizes_of old.store) old.store.log new.store.log before now n m first) few
+
+-- the error of a call is the error of its caller
+pub counts_failed : {T E A : Type 0} (e : E) (old new : Engine) (before now : Site) (s after : State) (n m : ℕ) → SkipsNone {T = A} {E = E} (Err e) (sizes_of old.store) old.store.log new.store.log before now n m → s.made + n ≤ after.made
+    → CountsOn {T = T} {E = E} (Err e) old new before now s after m
+counts_failed e old new before now s after n m first few =
+    counts (Err e) old new before now s after n m (skips_again e (sizes_of old.store) old.store.log new.store.log before now n m first) few
+
+-- an error of its caller behind a call that was Ok
+pub counts_refused : {T E A F : Type 0} (x : A) (e : E) (old new : Engine) (before now : Site) (s after : State) (n m : ℕ) → SkipsNone {T = A} {E = F} (Ok x) (sizes_of old.store) old.store.log new.store.log before now n m → s.made + n ≤ after.made
+    → CountsOn {T = T} {E = E} (Err e) old new before now s after m
+counts_refused x e old new before now s after n m first few =
+    counts (Err e) old new before now s after n m (skips_refused x e (sizes_of old.store) old.store.log new.store.log before now n m first) few
+
+-- Calls of the database, one within the other.
+
+-- another value of the caller
+pub count_answered : {T E A F : Type 0} (x : A) (y : T) (old new : Engine) (before now : Site) (s after : State) (m : ℕ) → CountsOn {T = A} {E = F} (Ok x) old new before now s after m → CountsOn {T = T} {E = E} (Ok y) old new before now s after m
+count_answered x y old new before now s after m first = record { log = first.log; blocks = first.blocks; masters = first.masters; saved = first.saved }
+
+-- the error of a call is the error of its caller, whatever that leaves in memory and the model counts more
+pub count_failed : {T E A : Type 0} (e : E) (old new new' : Engine) (before now : Site) (s u after : State) (m : ℕ) → u.made ≤ after.made → CountsOn {T = A} {E = E} (Err e) old new before now s u m → CountsOn {T = T} {E = E} (Err e) old new' before now s after m
+count_failed e old new new' before now s u after m few first = record { log = tt; blocks = let more = first.blocks in omega (arith, more, few); masters = first.masters; saved = tt }
+
+-- an error of the caller behind a call that was Ok
+pub count_refused : {T E A F : Type 0} (x : A) (e : E) (old new new' : Engine) (before now : Site) (s after : State) (m : ℕ) → CountsOn {T = A} {E = F} (Ok x) old new before now s after m → CountsOn {T = T} {E = E} (Err e) old new' before now s after m
+count_refused x e old new new' before now s after m first = record { log = tt; blocks = first.blocks; masters = first.masters; saved = tt }
+
+-- a call behind one that was Ok
+pub count_then : {T E A B : Type 0} (r : Result T E) (x : A) (old mid new : Engine) (before middle now : Site) (s u after : State) (m m' k : ℕ) → sizes_of mid.store ≡ sizes_of old.store → CountsOn {T = A} {E = B} (Ok x) old mid before middle s u m → CountsOn r mid new middle now u after m'
+    → m + m' ≡ k → CountsOn r old new before now s after k
+count_then r x old mid new before middle now s u after m m' k same first second is =
+    let ring : hi_of (log_shape (sizes_of mid.store)) now.image.log ≡ hi_of (log_shape (sizes_of old.store)) now.image.log = ap (λ (g : Geometry). hi_of (log_shape g) now.image.log) same in
+    let before_log = first.log in
+    let before_saved = first.saved in
+    record {
+      log = ok_as r _ _ (λ more. omega (arith, more, before_log)) second.log;
+      blocks = let more = second.blocks in omega (arith, more, before_log, ring);
+      masters = let more = second.masters in omega (arith, more, before_saved, is);
+      saved = ok_as r _ _ (λ more. let all : hi_of master_shape now.image.log ≡ hi_of master_shape before.image.log + k = omega (arith, more, before_saved, is) in all) second.saved;
+    }
+
+-- the model counts as many records
+pub count_same : {T E : Type 0} (r : Result T E) (old new : Engine) (before now : Site) (s u after : State) (m : ℕ) → u.made ≡ after.made → CountsOn r old new before now s u m → CountsOn r old new before now s after m
+count_same r old new before now s u after m same first = record {
+  log = ok_as r _ _ (λ more. omega (arith, more, same)) first.log;
+  blocks = let more = first.blocks in omega (arith, more, same);
+  masters = first.masters;
+  saved = first.saved;
+}
+
+-- what a command leaves is known
+pub count_known : {T E : Type 0} (r : Result T E) (old new : Engine) (before now : Site) (s : State) (o known : Outcome) (m : ℕ) → o ≡ known → CountsOn r old new before now s known.after m → CountsOn r old new before now s o.after m
+count_known r old new before now s o known m is first = subst (λ (x : Outcome). CountsOn r old new before now s x.after m) (sym is) first
+
+-- Nothing is called.
+
+-- the ring's next number is the one that stands there
+next_there : (engine : Engine) (site : Site) (s : State) → Fits engine site s → MayGoOn engine site → engine.store.log.ring.hi ≡ hi_of (log_shape (sizes_of engine.store)) site.image.log
+next_there engine site s fits going = hi_on engine.store.log.geometry (sizes_of engine.store) engine.store.log site.image going.store.both.sizes fits.holds.both.log_holds.ready.blocks.hi
+
+pub count_nothing : {T E : Type 0} (r : Result T E) (engine : Engine) (site : Site) (s after : State) → Fits engine site s → MayGoOn engine site → s.made ≤ after.made → CountsOn r engine engine site site s after 0
+count_nothing r engine site s after fits going few =
+    counts r engine engine site site s after 0 0 (skips_nothing r (sizes_of engine.store) engine.store.log site 0 (next_there engine site s fits going)) (omega (arith, few))
+
+-- a command is refused
+pub count_none : {T E : Type 0} (r : Result T E) (engine : Engine) (site : Site) (s : State) (o : Outcome) (answered : Reply) → Fits engine site s → MayGoOn engine site → o ≡ record { after = s; reply = answered } → CountsOn r engine engine site site s o.after 0
+count_none r engine site s o answered fits going is = count_known r engine engine site site s o (record { after = s; reply = answered }) 0 is (count_nothing r engine site s s fits going (omega arith))
+
+pub rest_counts : RestCountsNothing
+rest_counts result engine site s fits going = count_nothing result engine site s s fits going (omega arith)
+
+-- A checkpoint comes first.
+
+-- no command lets the count of records fall
+effect_makes : (s : State) (command : Command) → s.made ≤ (effect s command).made
+effect_makes s (Begin n) = omega arith
+effect_makes s (Write n number value) = omega arith
+effect_makes s (Erase n number) = omega arith
+effect_makes s (Commit n) = omega arith
+effect_makes s (Abort n) = omega arith
+effect_makes s (Set number value) = omega arith
+effect_makes s _ = omega arith
+
+-- what a command that its tests let through leaves, by whether it lacks room
+abbrev through : State → Command → Bool → Outcome
+through s command lacks = if lacks then record { after = s; reply = full s } else record { after = effect s command; reply = answer s command [] }
+
+pub run_makes : (s : State) (command : Command) → s.made ≤ (run_now s command).after.made
+run_makes s command = by (refusal s command)
+  where
+    either : (lacks : Bool) → s.made ≤ (through s command lacks).after.made
+    either true = omega arith
+    either false = effect_makes s command
+
+    by : (o : Option Reply) → s.made ≤ (outcome false s command [] o).after.made
+    by (Some r) = omega arith
+    by None = either (lacks_room s command)
+
+-- a command counts what it counts where its checkpoint was made before, and that checkpoint
+pub count_first : {T E : Type 0} (r : Result T E) (old new : Engine) (before now : Site) (s : State) (command : Command) (wanted : Bool) → wanted ≡ makes_checkpoint true s command
+    → CountsOn r old new before now s (run_now (checkpointed_if wanted s) command).after (if wanted then 1 else 0) → CountsOn r old new before now s (run s command).after (checkpoints_by s command)
+count_first r old new before now s command wanted known first =
+    subst (λ (b : Bool). CountsOn r old new before now s (run s command).after (if b then 1 else 0)) known
+    (count_known r old new before now s (run s command) (run_now (checkpointed_if wanted s) command) (if wanted then 1 else 0) (step_where s command wanted known) first)
+
+-- A restart.
+
+if_ok_as : {A E : Type 0} (r : Result A E) (P Q : A → Type 0) → ((x : A) → P x → Q x) → IfOk r P → IfOk r Q
+if_ok_as (Ok x) P Q f p = f x p
+if_ok_as (Err e) P Q f p = tt
+
+-- where nothing of the log is unsealed, its blocks are those of the ring
+pub opened_next : (opened : Opened) (site : Site) (newest : Option Master) (blocks : List (List LogRecord)) (table : List Content) (commits : ℕ) → IsReady opened site newest blocks table commits → opened.log.geometry ≡ opened.pages.flash.geometry → opened.log.used ≡ 2
+    → blocks_to opened.log ≡ hi_of (log_shape opened.pages.flash.geometry) site.image.log
+opened_next opened site newest blocks table commits h same empty =
+    let hi = hi_on opened.log.geometry opened.pages.flash.geometry opened.log site.image same h.opened_is.ready.blocks.hi in
+    let none : tail_blocks (has_tail opened.log) ≡ 0 = ap tail_blocks (no_tail opened.log empty) in
+    omega (arith, hi, none)
+
+-- it stops
+pub restart_failed : {T A : Type 0} (e : Stop) (f : T → LogStore) (g : Geometry) (records : List Entry) (old new : LogStore) (before now : Site) (n m : ℕ) → blocks_to old ≡ hi_of (log_shape g) before.image.log → n ≤ owed records → m ≤ 1
+    → SkipsNone {T = A} {E = Stop} (Err e) g old new before now n m → RestartsWithin {T = T} (Err e) f g records before now
+restart_failed e f g records old new before now n m is few one first = record {
+  log = tt;
+  blocks = let more = first.blocks in omega (arith, more, is, few);
+  masters = let more = first.masters in omega (arith, more, one);
+  saved = tt;
+}
+
+pub restart_refused : {T A F : Type 0} (x : A) (e : Stop) (f : T → LogStore) (g : Geometry) (records : List Entry) (old new : LogStore) (before now : Site) (n m : ℕ) → blocks_to old ≡ hi_of (log_shape g) before.image.log → n ≤ owed records → m ≤ 1
+    → SkipsNone {T = A} {E = F} (Ok x) g old new before now n m → RestartsWithin {T = T} (Err e) f g records before now
+restart_refused {A = A} x e f g records old new before now n m is few one first = restart_failed {A = A} e f g records old new before now n m is few one (skips_refused x e g old new before now n m first)
+
+-- it is done
+pub restart_done : {T A F : Type 0} (x : A) (y : T) (f : T → LogStore) (g : Geometry) (records : List Entry) (old new : LogStore) (before now : Site) (n : ℕ) → blocks_to old ≡ hi_of (log_shape g) before.image.log → n ≤ owed records → f y ≡ new
+    → SkipsNone {T = A} {E = F} (Ok x) g old new before now n 1 → RestartsWithin {T = T} (Ok y) f g records before now
+restart_done x y f g records old new before now n is few last first = record {
+  log = let more = first.log in let same = ap blocks_to last in omega (arith, more, is, few, same);
+  blocks = let more = first.blocks in omega (arith, more, is, few);
+  masters = first.masters;
+  saved = first.saved;
+}
+
+-- a restart within a call
+pub restart_again : {T A : Type 0} (e : Stop) (f : A → LogStore) (h : T → LogStore) (g : Geometry) (records : List Entry) (before now : Site) → RestartsWithin {T = A} (Err e) f g records before now → RestartsWithin {T = T} (Err e) h g records before now
+restart_again e f h g records before now first = record { log = tt; blocks = first.blocks; masters = first.masters; saved = tt }
+
+pub restart_stopped : {T A : Type 0} (x : A) (e : Stop) (f : A → LogStore) (h : T → LogStore) (g : Geometry) (records : List Entry) (before now : Site) → RestartsWithin {T = A} (Ok x) f g records before now → RestartsWithin {T = T} (Err e) h g records before now
+restart_stopped x e f h g records before now first = record { log = tt; blocks = first.blocks; masters = first.masters; saved = tt }
+
+pub restart_answered : {T A : Type 0} (x : A) (y : T) (f : A → LogStore) (h : T → LogStore) (g : Geometry) (records : List Entry) (before now : Site) → h y ≡ f x → RestartsWithin {T = A} (Ok x) f g records before now → RestartsWithin {T = T} (Ok y) h g records before now
+restart_answered x y f h g records before now same first = record {
+  log = let more = first.log in let last = ap blocks_to same in omega (arith, more, last);
+  blocks = first.blocks;
+  masters = first.masters;
+  saved = first.saved;
+}
+
+-- only reads before it stops
+pub restart_unmoved : {T : Type 0} (e : Stop) (f : T → LogStore) (g : Geometry) (records : List Entry) (before now : Site) → now.image ≡ before.image → RestartsWithin {T = T} (Err e) f g records before now
+restart_unmoved e f g records before now same =
+    let blocks : hi_of (log_shape g) now.image.log ≡ hi_of (log_shape g) before.image.log = ap (λ (i : Image). hi_of (log_shape g) i.log) same in
+    let masters : hi_of master_shape now.image.log ≡ hi_of master_shape before.image.log = ap (λ (i : Image). hi_of master_shape i.log) same in
+    record { log = tt; blocks = omega (arith, blocks); masters = omega (arith, masters); saved = tt }
+
+-- only reads before it
+pub restart_behind : {T : Type 0} (r : Result T Stop) (f : T → LogStore) (g g' : Geometry) (records : List Entry) (before middle now : Site) → g ≡ g' → middle.image ≡ before.image → RestartsWithin r f g records middle now → RestartsWithin r f g' records before now
+restart_behind r f g g' records before middle now sizes same first =
+    let all : RestartsWithin r f g' records middle now = subst (λ (k : Geometry). RestartsWithin r f k records middle now) sizes first in
+    let blocks : hi_of (log_shape g') middle.image.log ≡ hi_of (log_shape g') before.image.log = ap (λ (i : Image). hi_of (log_shape g') i.log) same in
+    let masters : hi_of master_shape middle.image.log ≡ hi_of master_shape before.image.log = ap (λ (i : Image). hi_of master_shape i.log) same in
+    record {
+      log = if_ok_as r _ _ (λ x more. omega (arith, more, blocks)) all.log;
+      blocks = let more = all.blocks in omega (arith, more, blocks);
+      masters = let more = all.masters in omega (arith, more, masters);
+      saved = ok_as r _ _ (λ more. let is : hi_of master_shape now.image.log ≡ hi_of master_shape before.image.log + 1 = omega (arith, more, masters) in is) all.saved;
+    }
