@@ -22,12 +22,15 @@ use Rattle.engine.specs.declared.engine.Engine.{Engine}
 use Rattle.engine.specs.Fits.{Fits}
 use Rattle.engine.specs.Going.{MayGoOn, sizes_of}
 use Rattle.engine.specs.Leaves.{LeavesEither}
+use Rattle.engine.specs.Numbers.{CountsOn}
 use Rattle.face.specs.declared.halt.Halt.{Halt}
 use Rattle.face.specs.declared.halt.Halt.TheVariants as halt
 use Rattle.face.specs.Causes.{AnswerFailsBy}
 use Rattle.face.specs.Going.{Serves}
 use Rattle.face.specs.Loads.{CarriesOut, LeavesSome}
-use Rattle.face.specs.Run.{StandsFor, after_lines, step, works_of}
+use Rattle.face.specs.Run.{StandsFor, after_lines, checkpoints_of, step, works_of}
+use Rattle.engine.specs.Numbers.{RestCountsNothing}
+use Rattle.face.proofs.Counted.{checkpoints_join, counts_join, counts_none, counts_some, counts_then, some_checkpoints, some_made}
 use Rattle.face.proofs.Logs.{fits_stands}
 use Rattle.face.proofs.Stated.{after_join, works_join}
 
@@ -72,8 +75,8 @@ if_err (Ok x) P Q f p = tt
 if_err (Err h) P Q f p = f h p
 
 -- no line
-pub carries_none : {T : Type 0} (x : T) (engine : Engine) (site : Site) → MayGoOn engine site → CarriesOut (Ok x) [] engine engine site site
-carries_none {T} x engine site going = record {
+pub carries_none : {T : Type 0} (x : T) (engine : Engine) (site : Site) → RestCountsNothing → MayGoOn engine site → CarriesOut (Ok x) [] engine engine site site
+carries_none {T} x engine site rest going = record {
   any_moment = λ s fits quiet. no_call site (Leaves (LeavesSome (sizes_of engine.store) s [] site.told)) (λ snapshot left. record {
     done = 0;
     few = omega arith;
@@ -82,6 +85,7 @@ carries_none {T} x engine site going = record {
   });
   fits = λ s fits. fits;
   serves = λ s fits. record { machine = refl; worn = λ is. absurd (no_error is); rules_are = refl };
+  numbers = λ s fits quiet. counts_none (Ok x) engine site s rest fits going;
   left = λ honest. refl;
   stays_quiet = λ honest quiet. quiet;
   quiet = λ s fits quiet. tt;
@@ -100,6 +104,7 @@ carries_with {T} {U} x y lines a b old new one = record {
   any_moment = one.any_moment;
   fits = one.fits;
   serves = λ s fits. let serves = one.serves s fits in record { machine = serves.machine; worn = λ is. absurd (no_error is); rules_are = serves.rules_are };
+  numbers = λ s fits quiet. counts_then x (Ok y) a b old new new s _ _ refl (one.numbers s fits quiet);
   left = one.left;
   stays_quiet = one.stays_quiet;
   quiet = λ s fits quiet. tt;
@@ -139,11 +144,19 @@ module _ {T U : Type 0} (add : WorksAddUp) (x : T) (result : Result U Halt) (fir
         rules_are = back.rules_are ∙ front.rules_are;
       }
 
+  numbers_join : (s : State) → Fits a old s → IsQuiet old → CountsOn result a c old new s (after_lines s (first ++ later) []) (checkpoints_of s (first ++ later))
+  numbers_join s fits quiet =
+      let then = after_lines s first [] in
+      subst (λ (n : ℕ). CountsOn result a c old new s (after_lines s (first ++ later) []) n) (sym (checkpoints_join s first later))
+      (subst (λ (x : State). CountsOn result a c old new s x (checkpoints_of s first + checkpoints_of then later)) (sym (after_join s first later))
+      (counts_join x result a b c old mid new s then (after_lines then later []) (checkpoints_of s first) (checkpoints_of then later) one.sizes (one.numbers s fits quiet) (two.numbers then (one.fits s fits) (one.stays_quiet fits.honest quiet))))
+
   pub carries_more : CarriesOut result (first ++ later) a c old new
   carries_more = record {
     any_moment = moments_join;
     fits = λ s fits. subst (λ (x : State). OnOk result (Fits c new x)) (sym (after_join s first later)) (two.fits (after_lines s first []) (one.fits s fits));
     serves = serves_join;
+    numbers = numbers_join;
     left = λ honest. two.left (stays_honest old mid one.goes honest) ∙ one.left honest;
     stays_quiet = λ honest quiet. two.stays_quiet (stays_honest old mid one.goes honest) (one.stays_quiet honest quiet);
     quiet = λ s fits quiet. two.quiet (after_lines s first []) (one.fits s fits) (one.stays_quiet fits.honest quiet);
@@ -167,6 +180,7 @@ carries_some {T} {U} more h first later a b old new one = record {
             (more (rules a.store.pages) (works_of s first) (works_of (after_lines s first []) later) (cache_of a.store.pages) (omega (arith, least)) (serves.worn (again is)));
         rules_are = serves.rules_are;
       };
+  numbers = λ s fits quiet. counts_some h h a b old new s (after_lines s first []) (after_lines s (first ++ later) []) _ _ (some_made s first later) (some_checkpoints s first later) (one.numbers s fits quiet);
   left = one.left;
   stays_quiet = λ honest quiet. tt;
   quiet = one.quiet;

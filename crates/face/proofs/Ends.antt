@@ -22,7 +22,7 @@ use Rattle.engine.specs.declared.engine.Engine.{Engine}
 use Rattle.face.specs.Causes.{HasCause, AnswerFailsBy}
 use Rattle.face.specs.Lines.{HasEnded, to_hear, total, IsSource, HearsLine, Hears, IsCutOff}
 use Rattle.site.specs.declared.outside.Dev.TheVariants.{Log, Flash, Disk}
-use Rattle.face.specs.Run.{Run, HasHeard, StopsTaking, Stops, Works, Outgrows, HasGroupsFor}
+use Rattle.face.specs.Run.{Run, HasHeard, StopsTaking, Stops, Works, Outgrows, HasGroupsFor, SkipsNoneUpTo}
 use Rattle.face.specs.Going.{Going}
 use Rattle.face.proofs.Cuts.{Cut, has_heard_all, input_failed, over_limit, taken_by, heard_line, quit_is_last}
 use Rattle.face.proofs.Works.{stopped, ended}
@@ -39,9 +39,9 @@ same_halt : {T : Type 0} (h is : Halt) → IsErrOf {T = T} (Err h) is → h ≡ 
 same_halt h is same = cc
 
 -- before the first line
-pub never_opened : {T : Type 0} (pool : ℕ) (run : Run) (old new : Site) (h : Halt) → Stops run 0 old new h → (h ≢ halt.Input) × (h ≢ halt.Limit) → new.left ≡ old.left → (h ≡ halt.Stop (Worn Flash) → Outgrows pool run old.image 0) →
+pub never_opened : {T : Type 0} (pool : ℕ) (run : Run) (old new : Site) (h : Halt) → Stops run 0 old new h → (h ≢ halt.Input) × (h ≢ halt.Limit) → new.left ≡ old.left → (h ≡ halt.Stop (Worn Flash) → Outgrows pool run old.image 0) → SkipsNoneUpTo run 0 old.image new.image →
     Works {T = T} pool run old new (Err h)
-never_opened {T} pool run old new h stops ne left worn = record {
+never_opened {T} pool run old new h stops ne left worn numbers = record {
   heard = 0;
   octets = [];
   ended = false;
@@ -50,14 +50,15 @@ never_opened {T} pool run old new h stops ne left worn = record {
   done = tt;
   worn = λ is. worn (same_halt {T = T} h (halt.Stop (Worn Flash)) is);
   room = tt;
+  numbers = numbers;
 }
 
 module _ (pool : ℕ) (run : Run) (old mid new : Site) (engine : Engine) (source : Source) (i : ℕ) (cut : Cut old.left source mid i) (is_source : IsSource source) (going : Going run old new engine i) where
   -- taking failed within a line
-  pub taking_failed : {T : Type 0} (h : Halt) → (h ≡ halt.Input) ⊎ (h ≡ halt.Limit) → IsCutOff h source.ended (total source mid) (to_hear source mid) new.left → Works {T = T} pool run old new (Err h)
-  taking_failed (halt.Stop stop) which off = ⊎_elim (λ e. absurd cc) (λ e. absurd cc) which
-  taking_failed halt.Output which off = ⊎_elim (λ e. absurd cc) (λ e. absurd cc) which
-  taking_failed halt.Input which off =
+  pub taking_failed : {T : Type 0} (h : Halt) → (h ≡ halt.Input) ⊎ (h ≡ halt.Limit) → IsCutOff h source.ended (total source mid) (to_hear source mid) new.left → SkipsNoneUpTo run i old.image new.image → Works {T = T} pool run old new (Err h)
+  taking_failed (halt.Stop stop) which off numbers = ⊎_elim (λ e. absurd cc) (λ e. absurd cc) which
+  taking_failed halt.Output which off numbers = ⊎_elim (λ e. absurd cc) (λ e. absurd cc) which
+  taking_failed halt.Input which off numbers =
       let f = input_failed old.left source mid i cut is_source new.left off.octets off.rest off.none off.all_of_it off.going old new refl refl off.ends.0 off.ends.1 in
       record {
         heard = i;
@@ -68,8 +69,9 @@ module _ (pool : ℕ) (run : Run) (old mid new : Site) (engine : Engine) (source
         done = tt;
         worn = λ is. cc;
         room = tt;
+        numbers = numbers;
       }
-  taking_failed halt.Limit which off =
+  taking_failed halt.Limit which off numbers =
       let f = over_limit old.left source mid i cut is_source new.left off.octets off.rest off.none off.all_of_it off.going off.ends.0 off.ends.1 off.ends.2 old new refl refl in
       record {
         heard = i;
@@ -80,11 +82,12 @@ module _ (pool : ℕ) (run : Run) (old mid new : Site) (engine : Engine) (source
         done = tt;
         worn = λ is. cc;
         room = tt;
+        numbers = numbers;
       }
 
   -- there are no more lines
-  pub finished : {T : Type 0} (x : T) → to_hear source mid ≡ [] → new.left ≡ [] → HasGroupsFor pool run old.image i → Works pool run old new (Ok x)
-  finished x none left room =
+  pub finished : {T : Type 0} (x : T) → to_hear source mid ≡ [] → new.left ≡ [] → HasGroupsFor pool run old.image i → SkipsNoneUpTo run i old.image new.image → Works pool run old new (Ok x)
+  finished x none left room numbers =
       let f = has_heard_all old.left source mid i cut is_source old new refl none left in
       record {
         heard = i;
@@ -95,6 +98,7 @@ module _ (pool : ℕ) (run : Run) (old mid new : Site) (engine : Engine) (source
         done = (inl refl, f.1, going.moments, ended run old new engine i going);
         worn = λ is. cc;
         room = room;
+        numbers = numbers;
       }
 
 module _ (pool : ℕ) (run : Run) (old mid next new : Site) (source source' : Source) (i : ℕ) (cut : Cut old.left source mid i) (is_source : IsSource source) (line : Line) (h : HearsLine line source.ended source'.ended (to_hear source mid) (to_hear source' next))
@@ -103,8 +107,8 @@ module _ (pool : ℕ) (run : Run) (old mid next new : Site) (source source' : So
   has_heard_it = heard_line old.left source mid i cut is_source source' next line h last is' old new refl left
 
   -- a line's answer failed
-  pub answer_failed : {T : Type 0} (fault : Halt) → Stops run (suc i) old new fault → (fault ≢ halt.Input) × (fault ≢ halt.Limit) → (fault ≡ halt.Stop (Worn Flash) → Outgrows pool run old.image (suc i)) → Works {T = T} pool run old new (Err fault)
-  answer_failed {T} fault stops ne worn = record {
+  pub answer_failed : {T : Type 0} (fault : Halt) → Stops run (suc i) old new fault → (fault ≢ halt.Input) × (fault ≢ halt.Limit) → (fault ≡ halt.Stop (Worn Flash) → Outgrows pool run old.image (suc i)) → SkipsNoneUpTo run (suc i) old.image new.image → Works {T = T} pool run old new (Err fault)
+  answer_failed {T} fault stops ne worn numbers = record {
     heard = suc i;
     octets = taken_by old.left source mid i cut is_source source' next line h last is';
     ended = source'.ended;
@@ -113,11 +117,12 @@ module _ (pool : ℕ) (run : Run) (old mid next new : Site) (source source' : So
     done = tt;
     worn = λ is. worn (same_halt {T = T} fault (halt.Stop (Worn Flash)) is);
     room = tt;
+    numbers = numbers;
   }
 
   -- a quit was answered
-  pub quitted : {T : Type 0} (x : T) (engine : Engine) → is_quit line ≡ true → Going run old new engine (suc i) → HasGroupsFor pool run old.image (suc i) → Works pool run old new (Ok x)
-  quitted x engine quits going room =
+  pub quitted : {T : Type 0} (x : T) (engine : Engine) → is_quit line ≡ true → Going run old new engine (suc i) → HasGroupsFor pool run old.image (suc i) → SkipsNoneUpTo run (suc i) old.image new.image → Works pool run old new (Ok x)
+  quitted x engine quits going room numbers =
       let all = quit_is_last old.left source mid i cut is_source source' next line h last is' quits in
       record {
         heard = suc i;
@@ -128,6 +133,7 @@ module _ (pool : ℕ) (run : Run) (old mid next new : Site) (source source' : So
         done = (inr all.1, all.0, going.moments, ended run old new engine (suc i) going);
         worn = λ is. cc;
         room = room;
+        numbers = numbers;
       }
 
 -- what was heard

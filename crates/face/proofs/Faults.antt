@@ -5,7 +5,7 @@ use Rattle.std.proofs.lemmas.List.{append-nil, take_all, take_at}
 use Rattle.site.specs.State.{State as Site, Snapshot}
 use Rattle.site.specs.Moments.{Leaves, LeavesOnly, EachMoment}
 use Rattle.site.specs.Laws.{in_sequence, leaves_weaker, told_is, tell_leaves}
-use Rattle.site.specs.Telling.{TellsPart}
+use Rattle.site.specs.Telling.{SameDevices, TellsPart}
 use Rattle.site.specs.declared.geometry.Geometry.{Geometry}
 use Rattle.site.specs.declared.outside.Stop.TheVariants.{Device, Memory, Worn, Foreign}
 use Rattle.record_model.specs.declared.words.CacheLine.{CacheLine}
@@ -23,6 +23,7 @@ use Rattle.face.specs.Causes.{HasCause, HasCauses, NoFaultRose, HasLogRoom, Ends
 use Rattle.face.specs.Lines.{commands_of, up_to_quit, answered_of, limit}
 use Rattle.face.specs.Run.{Run, told_after, StandsFor, StandsAt, StandsNear, IsAccounted, IsBetween, Begins, HasHeard, HasTakenAll, Stops, StopsTaking, Works}
 use Rattle.face.specs.Range.{run_of, run_text, StandsAfter, IsLeft, WearsOut, NeverWears}
+use Rattle.face.proofs.Counted.{skips_no_number, skips_still}
 use Rattle.face.proofs.Pagings.{wears_out, never_wears, wears_out_all}
 use Rattle.face.specs.Headline.{IsGood, IsToldWhole, Headline}
 use Rattle.face.proofs.Fronts.{accounted, told_same, state_same, take_within, up_append, no_quits, first_commands}
@@ -167,20 +168,20 @@ module _ (more : OverflowsWithMore) (pool : ℕ) (g : Geometry) (opening : State
   over_by halt.Input heard octets mid s e = absurd (omega (arith, e))
   over_by halt.Limit heard octets mid s e = (s.1, s.0.no_quit)
 
-  pub halted : {T : Type 0} (mid new : Site) (h : Halt) → IsGood g opening old → Works {T = T} pool run old mid (Err h) → EachMoment mid new (TellsPart (fault_line h) mid) → new.left ≡ mid.left → new.loose ≡ mid.loose → HasCause h old new → (status : ℕ) → status ≡ status_of h → Headline pool g opening old new status
-  halted mid new h good works tells left loose cause status is =
+  pub halted : {T : Type 0} (mid new : Site) (h : Halt) → IsGood g opening old → Works {T = T} pool run old mid (Err h) → EachMoment mid new (TellsPart (fault_line h) mid) → SameDevices mid new → HasCause h old new → (status : ℕ) → status ≡ status_of h → Headline pool g opening old new status
+  halted mid new h good works tells same_devices cause status is =
       let heard = works.has_heard in
       let now = tells.now.told 0 in
       record {
         octets = works.octets;
         ended = works.ended;
         listings = listings;
-        taken = heard.taken ∙ ap (λ (l : List ℕ). works.octets ++ l) (sym left);
-        end = λ e. left ∙ heard.end e;
+        taken = heard.taken ∙ ap (λ (l : List ℕ). works.octets ++ l) (sym same_devices.left);
+        end = λ e. same_devices.left ∙ heard.end e;
         fault = fault_line h;
         of_status = inr (h, is, refl, cause);
         any_moment = left_by g opening listings old mid works.heard works.octets works.ended heard new (fault_line h) (inr (h, refl)) (with_fault run works.heard old mid new h works.stops.0 tells);
-        quiet = λ ne. loose ∙ works.stops.0.quiet (λ e. ne (is ∙ e));
+        quiet = λ ne. same_devices.loose ∙ works.stops.0.quiet (λ e. ne (is ∙ e));
         heard = λ zero. absurd (not_zero h (sym is ∙ zero));
         done = λ zero. absurd (not_zero h (sym is ∙ zero));
         taking = λ which. told_whole_lines g opening listings old mid works.heard works.octets works.ended heard new (fault_line h)
@@ -190,6 +191,8 @@ module _ (more : OverflowsWithMore) (pool : ℕ) (g : Geometry) (opening : State
         worn = λ eight. ⊎_elim (λ flash. inl (wears_out pool g opening listings old.image works.ended works.octets more run refl refl works.heard heard.same (works.worn flash))) (λ log. inr log)
             (worn_by g opening h old new good cause (sym is ∙ eight));
         room = λ zero. absurd (not_zero h (sym is ∙ zero));
+        numbers = skips_still (run_of g opening works.ended works.octets listings) old.image mid.image new.image same_devices.image
+            (skips_no_number g opening listings (commands_of true old.left) (commands_of works.ended works.octets) works.heard heard.same old.image mid.image works.numbers);
       }
 
   pub finished : {T : Type 0} (new : Site) (x : T) → Works pool run old new (Ok x) → Headline pool g opening old new 0
@@ -220,6 +223,7 @@ module _ (more : OverflowsWithMore) (pool : ℕ) (g : Geometry) (opening : State
         over = λ e. absurd (omega (arith, e));
         worn = λ e. absurd (omega (arith, e));
         room = λ zero. never_wears pool g opening listings old.image works.ended works.octets run refl refl works.heard count same works.room;
+        numbers = skips_no_number g opening listings (commands_of true old.left) lines works.heard same old.image new.image works.numbers;
       }
 
 true_not_false : true ≡ false → ⊥

@@ -2,6 +2,7 @@ mod CauseLaws
 mod ClapInverse
 mod ClapLaws
 mod CommandLaws
+mod Counted
 mod Courses
 mod Cuts
 mod Ends

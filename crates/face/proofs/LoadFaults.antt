@@ -20,6 +20,7 @@ use Rattle.face.specs.Range.{NeverWears, StandsAfter, WearsOut, all_commits}
 use Rattle.face.specs.Run.{IsFront, Run}
 use Rattle.face.specs.Texts.{fault_line, status_of}
 use Rattle.face.specs.Workload.{load_run, opening_text, summary_text}
+use Rattle.face.proofs.Counted.{skips_still}
 use Rattle.face.proofs.Faults.{not_zero, worn_by}
 use Rattle.face.proofs.Meanings.{stands_by}
 
@@ -62,6 +63,7 @@ module _ (pool : ℕ) (run : Run) (summary : List ℕ) (old : Site) where
     done = tt;
     worn = λ is. works.worn (ap Err (same_halt {T = U} h (halt.Stop (Worn Flash)) is));
     room = tt;
+    numbers = works.numbers;
     left = works.left;
   }
 
@@ -94,6 +96,7 @@ module _ (pool : ℕ) (run : Run) (summary : List ℕ) (old : Site) where
       };
       worn = λ is. absurd (no_error y (halt.Stop (Worn Flash)) is);
       room = works.room;
+      numbers = skips_still run old.image mid.image new.image same.image works.numbers;
       left = same.left ∙ works.left;
     }
 
@@ -104,6 +107,7 @@ module _ (pool : ℕ) (run : Run) (summary : List ℕ) (old : Site) where
       done = tt;
       worn = λ is. absurd (other (same_halt {T = U} halt.Output (halt.Stop (Worn Flash)) is));
       room = tt;
+      numbers = skips_still run old.image mid.image new.image same.image works.numbers;
       left = same.left ∙ works.left;
     }
       where
@@ -172,6 +176,7 @@ module _ (load : Load) (g : Geometry) (opening : State) (old : Site) (good : IsG
     done = λ zero. absurd (not_zero h (sym is ∙ zero));
     worn = λ eight. ⊎_elim (λ flash. inl (works.worn flash)) (λ log. inr log) (worn_by {T = T} g opening h old new good cause (sym is ∙ eight));
     room = λ zero. absurd (not_zero h (sym is ∙ zero));
+    numbers = skips_still run' old.image mid.image new.image same.image works.numbers;
     left = same.left ∙ works.left;
   }
 
@@ -184,6 +189,7 @@ module _ (load : Load) (g : Geometry) (opening : State) (old : Site) (good : IsG
     done = λ zero. works.done.whole;
     worn = λ eight. absurd (omega (arith, eight));
     room = λ zero. works.room;
+    numbers = works.numbers;
     left = works.left;
   }
 

@@ -19,17 +19,20 @@ use Rattle.page_store.specs.Caching.{cache_of, rules}
 use Rattle.redo_undo.specs.Works.{next_group, Overflows, OverflowsWithMore, WorksAddUp}
 use Rattle.engine.specs.declared.engine.Engine.{Engine}
 use Rattle.engine.specs.Going.{sizes_of}
-use Rattle.engine.specs.Image.{IsSound}
+use Rattle.engine.specs.Image.{IsSound, log_under}
+use Rattle.engine.specs.Numbers.{CountsOn}
 use Rattle.engine.specs.Paging.{cache_on, restart_works}
 use Rattle.face.specs.declared.halt.Halt.{Halt}
 use Rattle.face.specs.declared.halt.Halt.TheVariants as halt
 use Rattle.face.specs.declared.request.Load.{Load}
-use Rattle.face.specs.Going.{Going, IsPaged}
+use Rattle.face.specs.Going.{Going, IsCounted, IsPaged}
+use Rattle.face.specs.Lines.{commands_of}
 use Rattle.face.specs.Loads.{CarriesOut, IsLeftOf, IsOpened, IsUntold, LeavesSome, LoadStops, LoadWorks}
-use Rattle.face.specs.Range.{StandsAfter, WearsOut, all_commits, all_works, run_of, turns_of}
-use Rattle.face.specs.Run.{IsAccounted, IsFront, IsPart, Outgrows, Run, StandsFor, StandsNear, Stops, after_lines, answered, asked_after, text_at, told_after, works_of}
+use Rattle.face.specs.Range.{SkipsNoNumber, StandsAfter, WearsOut, all_commits, all_works, run_of, turns_of}
+use Rattle.face.specs.Run.{IsAccounted, IsFront, IsPart, Outgrows, Run, SkipsNoneUpTo, StandsFor, StandsNear, Stops, after_lines, answered, asked_after, checkpoints_of, text_at, told_after, works_of}
 use Rattle.face.specs.Texts.{status_of}
 use Rattle.face.specs.Workload.{get_line, load_run, numbers_of, opening_text, set_line, set_lines, get_lines}
+use Rattle.face.proofs.Counted.{skips_course, skips_no_number}
 use Rattle.face.proofs.Logs.{fits_stands}
 use Rattle.face.proofs.Pagings.{turns_ask}
 use Rattle.face.proofs.Ranges.{all_among, stands_after}
@@ -132,9 +135,9 @@ module _ (g : Geometry) (opening : State) (load : Load) where
         ap (λ (w : List CacheWork). restart ++ w) (turns_ask opening run.lines [] ∙ ap (works_of opening) all_lines)
         ∙ ap (λ (w : List CacheWork). w ++ works_of opening run.lines) (sym (append-nil restart))
 
-    pub load_never_opened : {T : Type 0} → OverflowsWithMore → (new : Site) (h : Halt) → Stops opening_run 0 old new h → (h ≡ halt.Stop (Worn Flash) → Outgrows load.pool opening_run old.image 0) → new.left ≡ old.left →
+    pub load_never_opened : {T : Type 0} → OverflowsWithMore → (new : Site) (h : Halt) → Stops opening_run 0 old new h → (h ≡ halt.Stop (Worn Flash) → Outgrows load.pool opening_run old.image 0) → SkipsNoneUpTo opening_run 0 old.image new.image → new.left ≡ old.left →
         LoadWorks {T = T} load.pool run [] old new (Err h)
-    load_never_opened {T} more new h stops worn left = record {
+    load_never_opened {T} more new h stops worn numbers left = record {
       stops = never_opened new h stops;
       done = tt;
       worn = λ is newest blocks sound.
@@ -142,12 +145,14 @@ module _ (g : Geometry) (opening : State) (load : Load) where
           subst (λ (w : List CacheWork). Overflows (rules_of load.pool g.groups) w (cache_on g old.image)) (sym (all_asked newest old.image blocks))
           (more (rules_of load.pool g.groups) (asked_after opening_run newest old.image blocks 0) (works_of opening run.lines) (cache_on g old.image) (omega (arith, least)) (worn (same_halt {T = T} h (halt.Stop (Worn Flash)) is) newest blocks sound));
       room = tt;
+      numbers = skips_no_number g opening [] (commands_of true old.left) run.lines 0 refl old.image new.image numbers;
       left = left;
     }
 
     -- Once it is told.
     module _ (add : WorksAddUp) (mid new : Site) (before after : Engine) (going : Going opening_run old mid before 0)
         (paged : (newest : Option Master) (blocks : List (List LogRecord)) → IsSound newest g old.image blocks → IsPaged load.pool opening_run newest old.image blocks before 0)
+        (counted : (newest : Option Master) (blocks : List (List LogRecord)) → IsSound newest g old.image blocks → IsCounted opening_run (log_under newest blocks) old.image mid.image before 0)
         (left : mid.left ≡ old.left) where
       told_mid : mid.told ≡ old.told ++ opening_text run
       told_mid = going.told ∙ ap (λ (l : List ℕ). old.told ++ l) (append-nil (opening_text run))
@@ -184,6 +189,12 @@ module _ (g : Geometry) (opening : State) (load : Load) where
         worn_out : IsErrOf result (halt.Stop (Worn Flash)) → WearsOut load.pool run old.image
         worn_out is newest blocks sound = subst (λ (c : Cache). 2 ^ 40 < next_group c) (next_is newest blocks sound) ((course.serves opening going.fits).worn is)
 
+        numbers_are : SkipsNoNumber run old.image new.image
+        numbers_are newest blocks sound =
+            let so_far = counted newest blocks sound in
+            skips_course result run (log_under newest blocks) before after old.image mid new going.geometry so_far.log (let masters = so_far.numbers.masters in omega (arith, masters))
+            (subst (λ (l : List Line). CountsOn result before after mid new opening (after_lines opening l []) (checkpoints_of opening l)) (sym all_lines) (course.numbers opening going.fits going.quiet))
+
         left_new : new.left ≡ old.left
         left_new = course.left going.fits.honest ∙ left
 
@@ -201,6 +212,7 @@ module _ (g : Geometry) (opening : State) (load : Load) where
         done = tt;
         worn = λ is. worn_out (Err h) course (ap Err (same_halt {T = T} h (halt.Stop (Worn Flash)) is));
         room = tt;
+        numbers = numbers_are (Err h) course;
         left = left_new (Err h) course;
       }
 
@@ -220,5 +232,6 @@ module _ (g : Geometry) (opening : State) (load : Load) where
             let next = course.going.store.both.pages_going.flash.next in
             let bounded = course.going.store.both.pages_going.flash.usable.bounded in
             subst (λ (c : Cache). next_group c ≤ 2 ^ 40) ((course.serves opening going.fits).machine ∙ next_is (Ok x) course newest blocks sound) (omega (arith, next, bounded));
+        numbers = numbers_are (Ok x) course;
         left = left_new (Ok x) course;
       }

@@ -19,6 +19,7 @@ use Rattle.face.specs.Range.{run_of}
 use Rattle.face.specs.declared.request.Load.{Load}
 use Rattle.face.specs.Loads.{LoadHeadline, LoadWorks}
 use Rattle.face.specs.Workload.{load_run, summary_text}
+use Rattle.face.proofs.Counted.{counts_nothing}
 use Rattle.face.proofs.LoadFaults.{load_halted, stopped_before}
 use Rattle.face.proofs.Loadings.{load_never_opened}
 use Rattle.face.proofs.CauseLaws.{status_causes}
@@ -46,8 +47,8 @@ pub lacked_headline : OverflowsWithMore → (pool : ℕ) (g : Geometry) (opening
 lacked_headline more pool g opening old new good tells same =
     let run = run_of g opening true old.left [] in
     let stops = not_opened run old old (still g opening old good) lacks (λ ne. good.quiet) in
-    let works : Works {T = ℕ} pool run old old (Err lacks) = never_opened pool run old old lacks stops (λ e. cc, λ e. cc) refl (λ e. cc) in
-    halted more pool g opening [] old old new lacks good works tells same.left same.loose tt 4 refl
+    let works : Works {T = ℕ} pool run old old (Err lacks) = never_opened pool run old old lacks stops (λ e. cc, λ e. cc) refl (λ e. cc) (counts_nothing run old.image) in
+    halted more pool g opening [] old old new lacks good works tells same tt 4 refl
 
 -- the same of a load
 pub lacked_load : OverflowsWithMore → (load : Load) (g : Geometry) (opening : State) (old new : Site) → IsGood g opening old → EachMoment old new (TellsPart memory_fault old) → SameDevices old new → LoadHeadline load g opening old new 4
@@ -55,7 +56,7 @@ lacked_load more load g opening old new good tells same =
     let run = load_run g opening load in
     let stops = not_opened (run_of g opening true old.left []) old old (still g opening old good) lacks (λ ne. good.quiet) in
     let works : LoadWorks {T = ℕ} load.pool run (summary_text run load) old old (Err lacks) =
-    stopped_before load.pool run (summary_text run load) old {T = ℕ} old lacks (load_never_opened g opening load old more old lacks stops (λ e. cc) refl) in
+    stopped_before load.pool run (summary_text run load) old {T = ℕ} old lacks (load_never_opened g opening load old more old lacks stops (λ e. cc) (counts_nothing (run_of g opening true old.left []) old.image) refl) in
     load_halted load g opening old good old new lacks works tells same tt 4 refl
 
 module _ (status : ℕ) (old new : Site) (l : LacksMemory status old new) where

@@ -42,7 +42,7 @@ plain_after s (line ∷ lines) = plain_after (step s line []).after lines
 abbrev chosen : State → Command → List CacheLine → Bool → Outcome
 chosen s command listing lacks = if lacks then record { after = s; reply = full s } else record { after = effect s command; reply = answer s command listing }
 
-after_same : (s : State) (line : Line) (listing other : List CacheLine) → (step s line listing).after ≡ (step s line other).after
+pub after_same : (s : State) (line : Line) (listing other : List CacheLine) → (step s line listing).after ≡ (step s line other).after
 after_same s None listing other = refl
 after_same s (Some command) listing other = by (refusal s command)
   where
@@ -59,6 +59,9 @@ unfolding plain_after
 plain_is s [] listings = refl
 plain_is s (line ∷ lines) listings =
     plain_is (step s line []).after lines (later_listings line listings) ∙ ap (λ (x : State). after_lines x lines (later_listings line listings)) (after_same s line [] (next_listing listings))
+
+pub same_after : (s : State) (lines : List Line) (listings other : List (List CacheLine)) → after_lines s lines listings ≡ after_lines s lines other
+same_after s lines listings other = sym (plain_is s lines listings) ∙ plain_is s lines other
 
 works_more : (s : State) (lines : List Line) (i : ℕ) (line : Line) (rest : List Line) → drop i lines ≡ line ∷ rest → works_of s (take (suc i) lines) ≡ works_of s (take i lines) ++ line_touches true (plain_after s (take i lines)) line
 unfolding plain_after

@@ -18,7 +18,12 @@ use Rattle.redo_undo.specs.Works.{Overflows}
 use Rattle.engine.specs.Paging.{cache_on}
 use Rattle.face.specs.declared.halt.Halt.{Halt}
 use Rattle.face.specs.declared.halt.Halt.TheVariants.{Stop}
-use Rattle.face.specs.Run.{asked_after, Run, Begins, answered, told_after, state_at, listings_left, IsAccounted}
+use Rattle.sealed_ring.specs.Ring.{hi_of}
+use Rattle.image_changes.specs.Rings.{log_shape}
+use Rattle.log_records.specs.Log.{Entry}
+use Rattle.log_records.specs.Unfinished.{owed}
+use Rattle.redo_undo.specs.Holding.{blocks_to}
+use Rattle.face.specs.Run.{CountsUpTo, asked_after, Run, Begins, answered, told_after, state_at, listings_left, IsAccounted}
 
 -- so many lines of the run were answered
 pub record Going (run : Run) (entry now : Site) (engine : Engine) (lines : ℕ) : Type 0 where
@@ -42,6 +47,12 @@ pub record IsUnderWay (entry now : Site) (engine : Engine) (lines : ℕ) : Type 
 pub record IsPaged (pool : ℕ) (run : Run) (newest : Option Master) (image : Image) (blocks : List (List LogRecord)) (engine : Engine) (lines : ℕ) : Type 0 where
   pub machine : cache_of engine.store.pages ≡ after_works (rules_of pool run.geometry.groups) (asked_after run newest image blocks lines) (cache_on run.geometry image)
   pub rules_are : rules engine.store.pages ≡ rules_of pool run.geometry.groups
+
+-- The rings on the log's device have no more numbers than the run has records and checkpoints so far, over an image whose log has these
+-- records.
+pub record IsCounted (run : Run) (records : List Entry) (old now : Image) (engine : Engine) (lines : ℕ) : Type 0 where
+  pub log : blocks_to engine.store.log ≤ hi_of (log_shape run.geometry) old.log + owed records + (state_at run lines).made
+  pub numbers : CountsUpTo run records lines old now
 
 -- A line asks for this work.
 pub record Serves {T : Type 0} (result : Result T Halt) (works : List CacheWork) (old new : PageStore) : Type 0 where

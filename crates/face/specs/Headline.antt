@@ -14,7 +14,7 @@ use Rattle.std.specs.List.{list_any}
 use Rattle.record_model.specs.Run.{is_quit}
 use Rattle.face.specs.Lines.{HeardAll, limit, commands_of}
 use Rattle.face.specs.Run.{Run, IsFront}
-use Rattle.face.specs.Range.{run_of, run_text, all_commits, StandsAfter, IsLeft, WearsOut, NeverWears}
+use Rattle.face.specs.Range.{run_of, run_text, all_commits, StandsAfter, IsLeft, WearsOut, NeverWears, SkipsNoNumber}
 
 -- an honest and quiet site, whose image is sound, and over which a run opens with this state
 pub record IsGood (g : Geometry) (opening : State) (site : Site) : Type 0 where
@@ -64,3 +64,5 @@ pub record Headline (pool : ℕ) (g : Geometry) (opening : State) (old new : Sit
   -- is appended there
   pub worn : status ≡ 8 → WearsOut pool (run_of g opening ended octets listings) old.image ⊎ IsLogWorn g new.image
   pub room : status ≡ 0 → NeverWears pool (run_of g opening ended octets listings) old.image
+  -- no ring number is skipped on the log's device, whatever the status
+  pub numbers : SkipsNoNumber (run_of g opening ended octets listings) old.image new.image

@@ -19,8 +19,9 @@ use Rattle.face.specs.declared.request.Load.{Load}
 use Rattle.face.specs.Causes.{AnswerFailsBy}
 use Rattle.face.specs.Going.{Serves}
 use Rattle.face.specs.Headline.{IsFaultOf}
-use Rattle.face.specs.Range.{all_commits, StandsAfter, WearsOut, NeverWears}
-use Rattle.face.specs.Run.{Run, IsFront, StandsFor, after_lines, works_of}
+use Rattle.face.specs.Range.{all_commits, StandsAfter, WearsOut, NeverWears, SkipsNoNumber}
+use Rattle.face.specs.Run.{Run, IsFront, StandsFor, after_lines, works_of, checkpoints_of}
+use Rattle.engine.specs.Numbers.{CountsOn}
 use Rattle.face.specs.Texts.{status_of}
 use Rattle.face.specs.Workload.{committed_in, checkpoints_in, found_in, load_run, load_turns, opening_text, summary_text}
 
@@ -59,6 +60,8 @@ pub record LoadHeadline (load : Load) (g : Geometry) (opening : State) (old new 
   -- appended there
   pub worn : status ≡ 8 → WearsOut load.pool (load_run g opening load) old.image ⊎ IsLogWorn g new.image
   pub room : status ≡ 0 → NeverWears load.pool (load_run g opening load) old.image
+  -- no ring number is skipped on the log's device, whatever the status
+  pub numbers : SkipsNoNumber (load_run g opening load) old.image new.image
   -- no input is taken
   pub left : new.left ≡ old.left
 
@@ -90,6 +93,7 @@ pub record LoadWorks {T : Type 0} (pool : ℕ) (run : Run) (summary : List ℕ) 
   -- flash is worn only where the load asks for more groups than the ring can have
   pub worn : IsErrOf result (Stop (Worn Flash)) → WearsOut pool run old.image
   pub room : OnOk result (NeverWears pool run old.image)
+  pub numbers : SkipsNoNumber run old.image new.image
   pub left : new.left ≡ old.left
 
 -- what was counted is what the turns of the record model say
@@ -117,6 +121,7 @@ pub record CarriesOut {T : Type 0} (result : Result T Halt) (lines : List Line) 
   pub any_moment : (s : State) → Fits before old s → IsQuiet old → LeavesOnly old new (LeavesSome (sizes_of before.store) s lines old.told)
   pub fits : (s : State) → Fits before old s → OnOk result (Fits after new (after_lines s lines []))
   pub serves : (s : State) → Fits before old s → Serves result (works_of s lines) before.store.pages after.store.pages
+  pub numbers : (s : State) → Fits before old s → IsQuiet old → CountsOn result before after old new s (after_lines s lines []) (checkpoints_of s lines)
   pub left : IsTrue old.honest → new.left ≡ old.left
   pub stays_quiet : IsTrue old.honest → IsQuiet old → OnOk result (IsQuiet new)
   pub quiet : (s : State) → Fits before old s → IsQuiet old → IfErr result (λ halt. ((d : Dev) → halt ≢ Stop (Device d)) → IsQuiet new)

@@ -4,7 +4,7 @@ use Rattle.site.specs.State.{Snapshot, Image}
 use Rattle.site.specs.declared.geometry.Geometry.{Geometry}
 use Rattle.record_model.specs.declared.words.CacheLine.{CacheLine}
 use Rattle.record_model.specs.State.{State}
-use Rattle.record_model.specs.Run.{Turn, turns, commit_marks, after_commits, IsInRange}
+use Rattle.record_model.specs.Run.{Turn, turns, state_at, commit_marks, after_commits, IsInRange}
 use Rattle.record_model.specs.Touches.{CacheWork, run_touches}
 use Rattle.log_records.specs.declared.log_record.LogRecord.{LogRecord}
 use Rattle.checkpoint.specs.declared.master.Master.{Master}
@@ -12,7 +12,12 @@ use Rattle.image_meaning.specs.Meaning.{picture_under}
 use Rattle.second_chance.specs.Machine.{rules_of, after_works}
 use Rattle.redo_undo.specs.Works.{next_group, Overflows}
 use Rattle.engine.specs.Paging.{restart_works, cache_on}
-use Rattle.engine.specs.Image.{IsSound, Stands}
+use Rattle.engine.specs.Image.{IsSound, Stands, log_under}
+use Rattle.sealed_ring.specs.Ring.{hi_of}
+use Rattle.image_changes.specs.Rings.{log_shape, master_shape}
+use Rattle.log_records.specs.Log.{Entry}
+use Rattle.log_records.specs.Unfinished.{owed}
+use Rattle.face.specs.Workload.{checkpoints_in}
 use Rattle.shell_text.specs.Runs.{texts as run_texts}
 use Rattle.face.specs.Lines.{commands_of}
 use Rattle.face.specs.Run.{Run, IsFront}
@@ -56,6 +61,23 @@ pub record IsLeft (run : Run) (so_far fault : List ℕ) (snapshot : Snapshot) : 
   pub k : ℕ
   pub in_range : IsInRange told (texts run) (commit_marks (turns_of run)) k
   pub stands : StandsAfter run k snapshot.image
+
+-- how many log records the run makes, by the record model, and how many checkpoints
+abbrev pub all_made : Run → ℕ
+all_made run = (state_at (turns_of run) run.opening (length (turns_of run))).made
+
+abbrev pub all_checkpoints : Run → ℕ
+all_checkpoints run = checkpoints_in (turns_of run)
+
+-- Over an image whose log has these records the run gives the ring of the log's blocks at most one number more for each record that the
+-- restart and the lines make, and the ring of the master units at most one for each checkpoint, the restart's with them.
+pub record GivesNumbers (run : Run) (records : List Entry) (old now : Image) : Type 0 where
+  pub blocks : hi_of (log_shape run.geometry) now.log ≤ hi_of (log_shape run.geometry) old.log + owed records + all_made run
+  pub masters : hi_of master_shape now.log ≤ hi_of master_shape old.log + 1 + all_checkpoints run
+
+-- so it skips no number of the rings on the log's device
+abbrev pub SkipsNoNumber : Run → Image → Image → Type 0
+SkipsNoNumber run old now = (newest : Option Master) (blocks : List (List LogRecord)) → IsSound newest run.geometry old blocks → GivesNumbers run (log_under newest blocks) old now
 
 -- all that the run asks of the page cache over this image: the restart's work, then that of its lines
 abbrev pub all_works : Run → Option Master → Image → List (List LogRecord) → List CacheWork

@@ -1,5 +1,5 @@
 -- A run: its texts, and what a crash may leave of it.
-use Rattle.std.specs.Prelude.{◌≡◌, ◌⊎◌, ℕ, ◌+◌, ◌-◌, ◌<◌, List, [], ◌∷◌, ◌++◌, ◌≤◌, length, take, flat_map, slice_index_or, IsTrue, Result, IfErr, OnOk, IsErrOf, ◌≢◌, ◌^◌, Bool, true, false, Option, ⊤}
+use Rattle.std.specs.Prelude.{◌≡◌, ◌⊎◌, ℕ, ◌+◌, ◌-◌, ◌<◌, List, [], ◌∷◌, ◌++◌, ◌≤◌, length, take, flat_map, slice_index_or, IsTrue, Result, IfErr, OnOk, IsErrOf, ◌≢◌, ◌^◌, Bool, true, false, Option, Some, None, ⊤}
 use Rattle.site.specs.State.{State as Site, Snapshot, Image, MayLeave, now_of, no_loose}
 use Rattle.site.specs.Moments.{LeavesOnly}
 use Rattle.site.specs.declared.geometry.Geometry.{Geometry}
@@ -21,7 +21,12 @@ use Rattle.redo_undo.specs.Works.{next_group, Overflows}
 use Rattle.engine.specs.Paging.{restart_works, cache_on}
 use Rattle.shell_text.specs.Texts.{open_text, reply_text}
 use Rattle.face.specs.Texts.{status_of}
-use Rattle.engine.specs.Image.{IsSound, Stands, Opens}
+use Rattle.engine.specs.Image.{IsSound, Stands, Opens, log_under}
+use Rattle.engine.specs.Numbers.{checkpoints_by}
+use Rattle.sealed_ring.specs.Ring.{hi_of}
+use Rattle.image_changes.specs.Rings.{log_shape, master_shape}
+use Rattle.log_records.specs.Log.{Entry}
+use Rattle.log_records.specs.Unfinished.{owed}
 use Rattle.face.specs.Lines.{commands_of, up_to_quit, answered_of, HeardAll, limit}
 
 -- what a line is answered, and the state that it leaves, where the cache has this listing
@@ -93,6 +98,24 @@ Outgrows pool run image lines =
 abbrev pub HasGroupsFor : ℕ → Run → Image → ℕ → Type 0
 HasGroupsFor pool run image lines =
     (newest : Option Master) (blocks : List (List LogRecord)) → IsSound newest run.geometry image blocks → next_group (after_works (rules_of pool run.geometry.groups) (asked_after run newest image blocks lines) (cache_on run.geometry image)) ≤ 2 ^ 40
+
+-- how many checkpoints a line makes, and how many lines make, whatever the cache lists
+abbrev pub line_checkpoints : State → Line → ℕ
+line_checkpoints s None = 0
+line_checkpoints s (Some command) = checkpoints_by s command
+
+abbrev pub checkpoints_of : State → List Line → ℕ
+checkpoints_of s [] = 0
+checkpoints_of s (line ∷ lines) = line_checkpoints s line + checkpoints_of (step s line []).after lines
+
+-- With so many lines, over an image whose log has these records, the ring of the log's blocks has at most one number more for each record
+-- that the restart and the lines make, and the ring of the master units at most one for each checkpoint, the restart's with them.
+pub record CountsUpTo (run : Run) (records : List Entry) (lines : ℕ) (old now : Image) : Type 0 where
+  pub blocks : hi_of (log_shape run.geometry) now.log ≤ hi_of (log_shape run.geometry) old.log + owed records + (state_at run lines).made
+  pub masters : hi_of master_shape now.log ≤ hi_of master_shape old.log + 1 + checkpoints_of run.opening (take lines (answered run))
+
+abbrev pub SkipsNoneUpTo : Run → ℕ → Image → Image → Type 0
+SkipsNoneUpTo run lines old now = (newest : Option Master) (blocks : List (List LogRecord)) → IsSound newest run.geometry old blocks → CountsUpTo run (log_under newest blocks) lines old now
 
 -- the devices stand for the table and the count of a state
 abbrev pub StandsFor : Geometry → Image → State → Type 0
@@ -186,3 +209,5 @@ pub record Works {T : Type 0} (pool : ℕ) (run : Run) (old new : Site) (result 
   -- flash is worn only where the lines that were heard ask for more groups than the ring can have
   pub worn : IsErrOf result (Stop (Worn Flash)) → Outgrows pool run old.image heard
   pub room : OnOk result (HasGroupsFor pool run old.image heard)
+  -- no ring number is skipped on the log's device
+  pub numbers : SkipsNoneUpTo run heard old.image new.image

@@ -1,5 +1,5 @@
 // A line is carried out, and its reply is told.
-ghost use Rattle.std.specs.Prelude.{◌≡◌, ◌≢◌, true, ◌++◌, List, IfErr, IsTrue, OnOk};
+ghost use Rattle.std.specs.Prelude.{◌≡◌, ◌≢◌, true, [], ◌++◌, List, IfErr, IsTrue, OnOk};
 ghost use Rattle.site.specs.State.{IsQuiet};
 ghost use Rattle.site.specs.Calls.{Goes};
 ghost use Rattle.site.specs.Moments.{LeavesOnly};
@@ -10,9 +10,10 @@ ghost use Rattle.record_model.specs.State.{State};
 ghost use Rattle.engine.specs.Going.{MayGoOn, sizes_of};
 ghost use Rattle.engine.specs.Fits.{Fits};
 ghost use Rattle.engine.specs.Listings.{listing_of};
+ghost use Rattle.engine.specs.Numbers.{CountsOn};
 ghost use Rattle.face.specs.Causes.{AnswerFailsBy};
 ghost use Rattle.shell_text.specs.Texts.{reply_text};
-ghost use Rattle.face.specs.Run.{step, IsAsked, LeavesAnswer};
+ghost use Rattle.face.specs.Run.{step, IsAsked, LeavesAnswer, line_checkpoints};
 ghost use Rattle.record_model.specs.Touches.{line_touches};
 ghost use Rattle.face.specs.Going.{Serves};
 
@@ -46,6 +47,9 @@ pub fn answer<S: Site>(engine: &mut Engine, site: &mut S, line: Option<Command>)
         → IfErr result (λ halt. halt ≢ Halt.Output → (S.state site.new).told ≡ (S.state site.old).told) }
     ensures asks { (s : State) → Fits engine.old (S.state site.old) s
         → Serves result (line_touches true s line) engine.old.store.pages engine.new.store.pages }
+    ensures numbers { (s : State) → Fits engine.old (S.state site.old) s
+        → IsQuiet (S.state site.old)
+        → CountsOn result engine.old engine.new (S.state site.old) (S.state site.new) s (step s line []).after (line_checkpoints s line) }
     ensures left { IsTrue (S.state site.old).honest → (S.state site.new).left ≡ (S.state site.old).left }
     ensures stays_quiet { IsTrue (S.state site.old).honest → IsQuiet (S.state site.old)
         → OnOk result (IsQuiet (S.state site.new)) }

@@ -12,12 +12,13 @@ ghost use Rattle.engine.specs.Going.{MayGoOn, sizes_of};
 ghost use Rattle.engine.specs.Fits.{Fits};
 ghost use Rattle.engine.specs.Leaves.{LeavesEither};
 ghost use Rattle.engine.specs.Listings.{listing_of};
+ghost use Rattle.engine.specs.Numbers.{CountsOn};
 ghost use Rattle.face.specs.Causes.{FailsBy};
-ghost use Rattle.face.specs.Run.{step, IsAsked};
+ghost use Rattle.face.specs.Run.{step, IsAsked, line_checkpoints};
 ghost use Rattle.record_model.specs.Touches.{line_touches};
 ghost use Rattle.redo_undo.specs.Works.{Asks};
 
-use engine::Engine;
+use engine::{Engine, rest_counts_nothing};
 use record_model::{Command, Reply, Why};
 use site::{Site, Stop};
 
@@ -42,6 +43,9 @@ fn carry_out_plain<S: Site>(
     ensures asks { (s : State) → Fits engine.old (S.state site.old) s
         → Asks result (line_touches true s line) engine.old.store.pages engine.new.store.pages
         (S.state site.old) (S.state site.new) }
+    ensures numbers { (s : State) → Fits engine.old (S.state site.old) s
+        → IsQuiet (S.state site.old)
+        → CountsOn result engine.old engine.new (S.state site.old) (S.state site.new) s (step s line []).after (line_checkpoints s line) }
     ensures left { IsTrue (S.state site.old).honest
         → (S.state site.new).left ≡ (S.state site.old).left }
     ensures stays_quiet { IsTrue (S.state site.old).honest → IsQuiet (S.state site.old)
@@ -57,6 +61,7 @@ fn carry_out_plain<S: Site>(
     ensures sizes { sizes_of engine.new.store ≡ sizes_of engine.old.store }
     ensures goes { Goes (S.state site.old) (S.state site.new) }
 {
+    rest_counts_nothing();
     let Some(command) = line else {
         return Ok(Reply::Refused(Why::BadLine));
     };
@@ -115,6 +120,9 @@ pub fn carry_out<S: Site>(
     ensures asks { (s : State) → Fits engine.old (S.state site.old) s
         → Asks result (line_touches true s line) engine.old.store.pages engine.new.store.pages
         (S.state site.old) (S.state site.new) }
+    ensures numbers { (s : State) → Fits engine.old (S.state site.old) s
+        → IsQuiet (S.state site.old)
+        → CountsOn result engine.old engine.new (S.state site.old) (S.state site.new) s (step s line []).after (line_checkpoints s line) }
     ensures left { IsTrue (S.state site.old).honest
         → (S.state site.new).left ≡ (S.state site.old).left }
     ensures stays_quiet { IsTrue (S.state site.old).honest → IsQuiet (S.state site.old)
@@ -130,6 +138,7 @@ pub fn carry_out<S: Site>(
     ensures sizes { sizes_of engine.new.store ≡ sizes_of engine.old.store }
     ensures goes { Goes (S.state site.old) (S.state site.new) }
 {
+    rest_counts_nothing();
     if asks_for_listing(&line) {
         return engine.cache();
     }

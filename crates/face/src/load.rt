@@ -25,7 +25,7 @@ use crate::fault_lines::tell_halt;
 use crate::halt::Halt;
 use crate::opening::open;
 use crate::request::Load;
-use engine::Engine;
+use engine::{Engine, rest_counts_nothing};
 use record_model::{Command, Reply};
 use redo_undo::works_add_up;
 use shell_text::Line;
@@ -112,6 +112,7 @@ fn make_sets<S: Site>(
     ensures made { (s : State) → Fits engine.old (S.state site.old) s → IfOk result (λ made. HasMade (model.turns true s (set_lines (32 * pages) load.now.seed load.now.count) []) made.committed made.checkpoints) }
 {
     works_add_up();
+    rest_counts_nothing();
     let mut x = load.seed;
     let mut committed = 0;
     let mut checkpoints = 0;
@@ -145,6 +146,7 @@ fn make_gets<S: Site>(
     ensures count { (s : State) → Fits engine.old (S.state site.old) s → IfOk result (λ count. count ≡ found_in (model.turns true s (get_lines (32 * pages) load.now.seed load.now.count) [])) }
 {
     works_add_up();
+    rest_counts_nothing();
     let mut x = load.seed;
     let mut found = 0;
     for _get in 0..load.count {

@@ -11,6 +11,8 @@ mod laws;
 mod load;
 mod new_database;
 mod opening;
+#[cfg(test)]
+mod random_tests;
 mod request;
 #[cfg(test)]
 mod session_tests;

@@ -4,7 +4,7 @@ ghost use Rattle.site.specs.Calls.{Goes};
 ghost use Rattle.face.specs.declared.halt.Halt.{Halt};
 ghost use Rattle.site.specs.declared.geometry.Geometry.{Geometry};
 ghost use Rattle.record_model.specs.State.{State, Content};
-ghost use Rattle.engine.specs.Image.{IsSound, Stands};
+ghost use Rattle.engine.specs.Image.{IsSound, Stands, log_under};
 ghost use Rattle.site.specs.declared.outside.Dev.{Dev};
 ghost use Rattle.site.specs.declared.outside.Stop.{Stop};
 ghost use Rattle.checkpoint.specs.declared.master.Master.{Master};
@@ -13,8 +13,8 @@ ghost use Rattle.engine.specs.Fits.{Fits};
 ghost use Rattle.engine.specs.Going.{MayGoOn, sizes_of};
 ghost use Rattle.engine.specs.Leaves.{HasNoSizes};
 ghost use Rattle.face.specs.Causes.{HasCause, Halts};
-ghost use Rattle.face.specs.Run.{Run, Begins, Stops, Outgrows};
-ghost use Rattle.face.specs.Going.{Going, IsPaged};
+ghost use Rattle.face.specs.Run.{Run, Begins, Stops, Outgrows, SkipsNoneUpTo};
+ghost use Rattle.face.specs.Going.{Going, IsPaged, IsCounted};
 
 use crate::halt::Halt;
 use engine::Engine;
@@ -32,6 +32,9 @@ pub fn open<S: Site>(alloc: Global, pool: u32, site: &mut S) -> Result<Engine, H
     // The page cache has done the restart's work.
     ensures paged { (run : Run) → Begins run (S.state site.old) → (newest : Option Master) (blocks : List (List LogRecord)) → IsSound newest run.geometry (S.state site.old).image blocks → IfOk result (λ engine. IsPaged pool run newest (S.state site.old).image blocks engine 0) }
     ensures worn { (run : Run) → Begins run (S.state site.old) → IsErrOf result (Halt.Stop (Stop.Worn Dev.Flash)) → Outgrows pool run (S.state site.old).image 0 }
+    // No ring number is skipped.
+    ensures counted { (run : Run) → Begins run (S.state site.old) → (newest : Option Master) (blocks : List (List LogRecord)) → IsSound newest run.geometry (S.state site.old).image blocks → IfOk result (λ engine. IsCounted run (log_under newest blocks) (S.state site.old).image (S.state site.new).image engine 0) }
+    ensures numbers { (run : Run) → Begins run (S.state site.old) → SkipsNoneUpTo run 0 (S.state site.old).image (S.state site.new).image }
     ensures left { IsTrue (S.state site.old).honest → (S.state site.new).left ≡ (S.state site.old).left }
     ensures goes_on { IfOk result (λ engine. MayGoOn engine (S.state site.new)) }
     ensures halts { IfErr result (λ halt. (halt ≢ Halt.Input) × (halt ≢ Halt.Limit)) }

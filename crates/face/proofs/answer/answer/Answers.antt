@@ -1,3 +1,4 @@
+use Rattle.face.proofs.Counted.{counts_err, counts_then}
 use Rattle.face.proofs.Pagings.{serves_ok, serves_err, serves_lost}
 use Rattle.std.proofs.Common.{◌++◌, List, ℕ, refl, ap, subst, ◌∙◌}
 use Rattle.site.specs.declared.geometry.Geometry.{Geometry}
@@ -78,3 +79,16 @@ returns-in-Ok-tell_reply-clause-asks g c s fits = serves_ok c.in-Ok.reply _ _ _ 
 
 pub returns-clause-asks : goal.returns-clause-asks
 returns-clause-asks g c s fits = serves_lost c.in-Ok.reply _ _ _ _ _ (c.in-Ok.ensures.asks s fits)
+
+pub returns-in-Err-clause-numbers : goal.returns-in-Err-clause-numbers
+returns-in-Err-clause-numbers g c s fits quiet = counts_err c.in-Err.stop (halt.Stop c.in-Err.stop) _ _ _ _ s _ _ (c.in-Err.ensures.numbers s fits quiet)
+
+pub returns-in-Ok-tell_reply-clause-numbers : goal.returns-in-Ok-tell_reply-clause-numbers
+returns-in-Ok-tell_reply-clause-numbers g c s fits quiet =
+    let same = c.tell_reply.ensures.same (c.in-Ok.ensures.after s (listing_of c.args.engine.now) (λ asks. refl) fits).honest in
+    counts_then c.in-Ok.reply _ _ _ _ _ _ s _ _ same.image (c.in-Ok.ensures.numbers s fits quiet)
+
+pub returns-clause-numbers : goal.returns-clause-numbers
+returns-clause-numbers g c s fits quiet =
+    let same = c.tell_reply.ensures.same (c.in-Ok.ensures.after s (listing_of c.args.engine.now) (λ asks. refl) fits).honest in
+    counts_then c.in-Ok.reply _ _ _ _ _ _ s _ _ same.image (c.in-Ok.ensures.numbers s fits quiet)

@@ -1,7 +1,7 @@
 use Rattle.face.proofs.Pagings.{listing_asks}
 use Rattle.redo_undo.specs.Works.{Asks}
 use Rattle.record_model.specs.Touches.{line_touches}
-use Rattle.std.proofs.Common.{◌≡◌, ◌∙◌, List, IfOk, OnOk, sym, subst, true}
+use Rattle.std.proofs.Common.{◌≡◌, ◌∙◌, List, IfOk, OnOk, sym, ap, subst, true, []}
 use Rattle.site.specs.Moments.{LeavesOnly}
 use Rattle.record_model.specs.declared.words.CacheLine.{CacheLine}
 use Rattle.record_model.specs.declared.words.Reply.TheVariants as reply
@@ -10,7 +10,8 @@ use Rattle.record_model.specs.Step.{Outcome}
 use Rattle.engine.specs.Fits.{Fits}
 use Rattle.engine.specs.Going.{sizes_of}
 use Rattle.engine.specs.Leaves.{LeavesEither}
-use Rattle.face.specs.Run.{step}
+use Rattle.face.specs.Run.{line_checkpoints, step}
+use Rattle.face.proofs.Counted.{counts_idle}
 use Rattle.face.proofs.Logs.{fits_stands}
 use Rattle.face.proofs.Quiet.{no_change}
 use Rattle.face.proofs.Listed.{cache_line, same_step, memory_fails, on_ok}
@@ -61,3 +62,8 @@ returns-then-asks_for_listing-clause-asks g c s fits =
     let asks = sym c.asks_for_listing.ensures ∙ c.if-asks_for_listing.true in
     subst (λ (l : Line). Asks c.cache.result (line_touches true s l) c.args.engine.now.store.pages c.args.engine.now.store.pages (g.S.Site.state c.args.site.now) (g.S.Site.state c.args.site.now)) (sym (cache_line c.args.line asks))
     (listing_asks c.cache.result c.args.engine.now.store.pages (g.S.Site.state c.args.site.now) c.cache.ensures.stops)
+
+pub returns-then-asks_for_listing-clause-numbers : goal.returns-then-asks_for_listing-clause-numbers
+returns-then-asks_for_listing-clause-numbers g c s fits quiet =
+    let line = cache_line c.args.line (sym c.asks_for_listing.ensures ∙ c.if-asks_for_listing.true) in
+    counts_idle c.cache.result c.args.line c.args.engine.now (g.S.Site.state c.args.site.now) s c.rest_counts_nothing.ensures fits c.requires.going (ap (λ (l : Line). (step s l []).after) line) (ap (line_checkpoints s) line)

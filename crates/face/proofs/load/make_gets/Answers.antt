@@ -14,7 +14,7 @@ use Rattle.face.proofs.load.make_gets.Goals as goal
 pub loop-get-init : goal.loop-get-init
 loop-get-init g c = record {
   number = refl;
-  course = carries_none 0 c.args.engine.now (g.S.Site.state c.args.site.now) c.requires.going;
+  course = carries_none 0 c.args.engine.now (g.S.Site.state c.args.site.now) c.rest_counts_nothing.ensures c.requires.going;
   found = λ s fits. refl;
   few = omega arith;
 }

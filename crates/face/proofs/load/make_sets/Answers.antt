@@ -15,7 +15,7 @@ use Rattle.face.proofs.load.make_sets.Goals as goal
 pub loop-set-init : goal.loop-set-init
 loop-set-init g c = record {
   number = refl;
-  course = carries_none 0 c.args.engine.now (g.S.Site.state c.args.site.now) c.requires.going;
+  course = carries_none 0 c.args.engine.now (g.S.Site.state c.args.site.now) c.rest_counts_nothing.ensures c.requires.going;
   made = λ s fits. record { committed_is = refl; checkpoints_are = refl };
   committed = omega arith;
   checkpoints = omega arith;

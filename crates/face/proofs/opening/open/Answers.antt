@@ -1,8 +1,10 @@
 use Rattle.site.specs.declared.outside.Dev.TheVariants.{Flash}
 use Rattle.site.specs.declared.outside.Stop.TheVariants.{Worn}
+use Rattle.engine.specs.Image.{log_under}
+use Rattle.face.proofs.Counted.{first_counted, restart_fails}
 use Rattle.face.proofs.Pagings.{first_paged, never_paged}
 use Rattle.std.specs.Prelude.{Err}
-use Rattle.std.proofs.Common.{◌∙◌, ap, ◌≡◌}
+use Rattle.std.proofs.Common.{◌∙◌, ap, ◌≡◌, refl}
 use Rattle.site.specs.Laws.{stays_honest}
 use Rattle.shell_text.specs.Texts.{open_text}
 use Rattle.face.specs.Texts.{status_of}
@@ -69,3 +71,26 @@ returns-in-Err-clause-worn g c run begins is newest blocks sound =
 
 pub returns-in-Err-tell_all-clause-worn : goal.returns-in-Err-tell_all-clause-worn
 returns-in-Err-tell_all-clause-worn g c run begins is newest blocks sound = absurd cc
+
+pub returns-in-Ok-tell_all-clause-counted : goal.returns-in-Ok-tell_all-clause-counted
+returns-in-Ok-tell_all-clause-counted g c run begins newest blocks sound =
+    let entry = g.S.Site.state c.args.site.now in
+    let mid = g.S.Site.state c.start.new.site in
+    let same = c.tell_all.ensures.same (stays_honest entry mid c.start.ensures.goes begins.honest) in
+    first_counted run (log_under newest blocks) entry c.in-Ok.engine mid (g.S.Site.state c.tell_all.new.site) same.image (c.in-Ok.ensures.numbers begins.honest begins.quiet run.geometry newest blocks sound)
+
+pub returns-in-Ok-tell_all-clause-numbers : goal.returns-in-Ok-tell_all-clause-numbers
+returns-in-Ok-tell_all-clause-numbers g c run begins newest blocks sound = (returns-in-Ok-tell_all-clause-counted g c run begins newest blocks sound).numbers
+
+pub returns-in-Err-tell_all-clause-numbers : goal.returns-in-Err-tell_all-clause-numbers
+returns-in-Err-tell_all-clause-numbers g c run begins newest blocks sound =
+    let entry = g.S.Site.state c.args.site.now in
+    let mid = g.S.Site.state c.start.new.site in
+    let same = c.tell_all.ensures.same (stays_honest entry mid c.start.ensures.goes begins.honest) in
+    restart_fails run (log_under newest blocks) entry c.start.result _ mid (g.S.Site.state c.tell_all.new.site) same.image (c.start.ensures.numbers begins.honest begins.quiet run.geometry newest blocks sound)
+
+pub returns-in-Err-clause-numbers : goal.returns-in-Err-clause-numbers
+returns-in-Err-clause-numbers g c run begins newest blocks sound =
+    let entry = g.S.Site.state c.args.site.now in
+    let mid = g.S.Site.state c.start.new.site in
+    restart_fails run (log_under newest blocks) entry c.start.result _ mid mid refl (c.start.ensures.numbers begins.honest begins.quiet run.geometry newest blocks sound)

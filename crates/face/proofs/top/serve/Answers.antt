@@ -22,7 +22,7 @@ returns-in-Err-clause-headline g c geometry opening good =
     let same = c.tell_halt.ensures.devices honest in
     let works = c.in-Err.ensures.works in
     halted c.works_add_up.ensures.overflow c.args.pool geometry opening works.0 old mid new c.in-Err.halt good (works.1 _ (begins geometry opening works.0 old good) refl)
-    (c.tell_halt.ensures.any_moment honest) same.left same.loose
+    (c.tell_halt.ensures.any_moment honest) same
     (cause_then c.in-Err.halt old mid new c.in-Err.ensures.cause c.tell_halt.ensures.goes (λ h. same)) c.status.result c.status.ensures
 
 pub returns-in-Err-clause-causes : goal.returns-in-Err-clause-causes

@@ -3,7 +3,9 @@ use Rattle.std.proofs.lemmas.List.{append-nil}
 use Rattle.std.specs.Prelude.{Err}
 use Rattle.site.specs.Laws.{stays_honest, goes_in_sequence}
 use Rattle.record_model.specs.Run.{Line}
-use Rattle.face.specs.Going.{Going, IsPaged}
+use Rattle.face.specs.Going.{Going, IsCounted, IsPaged}
+use Rattle.engine.specs.Image.{log_under}
+use Rattle.face.proofs.Counted.{counted_on, counts_next, counts_still, next_counted}
 use Rattle.face.proofs.Pagings.{next_paged, next_worn, paged_room}
 use Rattle.engine.specs.Listings.{listing_of}
 use Rattle.face.specs.Lines.{up_to_quit}
@@ -17,7 +19,7 @@ use Rattle.face.proofs.Logs.{still_fits, goes_on as engine_goes_on}
 use Rattle.face.proofs.top.work.Goals as goal
 
 pub returns-in-Err-clause-works : goal.returns-in-Err-clause-works
-returns-in-Err-clause-works g c = ([], λ run begins same. never_opened c.args.pool run (g.S.Site.state c.args.site.now) (g.S.Site.state c.open.new.site) c.in-Err.halt (c.in-Err.ensures.stops run begins) c.in-Err.ensures.halts (c.open.ensures.left begins.honest) (λ is. c.in-Err.ensures.worn run begins (ap Err is)))
+returns-in-Err-clause-works g c = ([], λ run begins same. never_opened c.args.pool run (g.S.Site.state c.args.site.now) (g.S.Site.state c.open.new.site) c.in-Err.halt (c.in-Err.ensures.stops run begins) c.in-Err.ensures.halts (c.open.ensures.left begins.honest) (λ is. c.in-Err.ensures.worn run begins (ap Err is)) (c.in-Err.ensures.numbers run begins))
 
 pub answer-requires : goal.answer-requires
 answer-requires g c = record { going = engine_goes_on c.loop-line.engine (g.S.Site.state c.loop-line.site) (g.S.Site.state c.next.new.site) c.loop-line.invariant.engine c.next.ensures.goes }
@@ -31,6 +33,7 @@ loop-line-init g c = record {
   fits = c.in-Ok.ensures.fits;
   under_way = record { listings = []; left = λ run later begins is. is; going = λ run later begins is. c.in-Ok.ensures.going run begins };
   paged = c.in-Ok.ensures.paged;
+  counted = c.in-Ok.ensures.counted;
 }
 
 pub returns-in-Err-next-clause-works : goal.returns-in-Err-next-clause-works
@@ -44,7 +47,8 @@ returns-in-Err-next-clause-works g c =
           let cut = c.loop-line.invariant.cut begins.honest in
           let so_far = under_way.going run [] begins (same ∙ sym (append-nil under_way.listings)) in
           let going = moved run entry mid next c.loop-line.engine c.loop-line._line so_far c.next.ensures.goes (c.next.ensures.same so_far.fits.honest) in
-          taking_failed c.args.pool run entry mid next c.loop-line.engine c.loop-line.source c.loop-line._line cut c.loop-line.invariant.source going c.in-Err-next.halt c.in-Err-next.ensures.halts (c.in-Err-next.ensures.cut_off so_far.fits.honest cut.ended),
+          taking_failed c.args.pool run entry mid next c.loop-line.engine c.loop-line.source c.loop-line._line cut c.loop-line.invariant.source going c.in-Err-next.halt c.in-Err-next.ensures.halts (c.in-Err-next.ensures.cut_off so_far.fits.honest cut.ended)
+          (λ newest blocks sound. counts_still run (log_under newest blocks) entry mid next c.loop-line._line (c.next.ensures.same so_far.fits.honest).image (c.loop-line.invariant.counted run begins newest blocks sound).numbers),
     )
 
 pub returns-in-Err-next-clause-cause : goal.returns-in-Err-next-clause-cause
@@ -69,7 +73,8 @@ returns-in-End-clause-works g c =
           let going = moved run entry mid next c.loop-line.engine c.loop-line._line so_far c.next.ensures.goes (c.next.ensures.same honest) in
           let end = heard_end c.in-Ok-next.heard _ _ _ _ (c.in-Ok-next.ensures.heard honest cut.ended) c.in-End.is in
           finished c.args.pool run entry mid next c.loop-line.engine c.loop-line.source c.loop-line._line cut c.loop-line.invariant.source going _ end.0 (c.in-Ok-next.ensures.ended honest cut.ended end.1)
-          (λ newest blocks sound. paged_room c.args.pool run newest entry.image blocks c.loop-line.engine mid c.loop-line._line (c.loop-line.invariant.paged run begins newest blocks sound) c.loop-line.invariant.engine),
+          (λ newest blocks sound. paged_room c.args.pool run newest entry.image blocks c.loop-line.engine mid c.loop-line._line (c.loop-line.invariant.paged run begins newest blocks sound) c.loop-line.invariant.engine)
+          (λ newest blocks sound. counts_still run (log_under newest blocks) entry mid next c.loop-line._line (c.next.ensures.same honest).image (c.loop-line.invariant.counted run begins newest blocks sound).numbers),
     )
 
 pub returns-in-Err-answer-clause-works : goal.returns-in-Err-answer-clause-works
@@ -95,7 +100,8 @@ returns-in-Err-answer-clause-works g c =
           let stops = cut_short run entry next c.loop-line.engine i going new c.in-Line.line _ is (c.answer.ensures.any_moment (state_at run i) (listing_at run i) asked going.fits going.quiet) c.in-Err-answer.halt
           (λ ne. c.in-Err-answer.ensures.quiet _ going.fits going.quiet (λ d e. ne (ap status_of e))) (c.in-Err-answer.ensures.untold _ going.fits going.quiet) in
           answer_failed c.args.pool run entry mid next new c.loop-line.source c.next.new.self i cut c.loop-line.invariant.source c.in-Line.line hears ended c.next.ensures.source (c.answer.ensures.left going.fits.honest) c.in-Err-answer.halt stops (answer_takes_nothing c.in-Err-answer.halt c.loop-line.engine next new c.in-Err-answer.ensures.cause)
-          (λ worn newest blocks sound. next_worn c.args.pool run newest entry.image blocks c.works_add_up.ensures.works i c.in-Line.line _ is c.loop-line.engine (c.loop-line.invariant.paged run begins newest blocks sound) ((c.in-Err-answer.ensures.asks (state_at run i) going.fits).worn (ap Err worn))),
+          (λ worn newest blocks sound. next_worn c.args.pool run newest entry.image blocks c.works_add_up.ensures.works i c.in-Line.line _ is c.loop-line.engine (c.loop-line.invariant.paged run begins newest blocks sound) ((c.in-Err-answer.ensures.asks (state_at run i) going.fits).worn (ap Err worn)))
+          (λ newest blocks sound. counts_next run (log_under newest blocks) entry mid next new c.loop-line.engine c.answer.new.engine i c.in-Line.line _ is (c.next.ensures.same honest).image going.geometry (c.loop-line.invariant.counted run begins newest blocks sound) _ (c.in-Err-answer.ensures.numbers (state_at run i) going.fits going.quiet)),
     )
 
 pub loop-line-preserved : goal.loop-line-preserved
@@ -159,6 +165,20 @@ loop-line-preserved g c =
           let is = ap (λ (l : List Line). drop i (up_to_quit l)) begins.lines ∙ line_is entry.left c.loop-line.source mid i cut c.loop-line.invariant.source c.next.new.self next c.in-Line.line hears ended c.next.ensures.source in
           let paged = next_paged c.args.pool own newest entry.image blocks c.works_add_up.ensures.works i c.in-Line.line _ is c.loop-line.engine (c.loop-line.invariant.paged own starts newest blocks sound) c.in_default.field-0 c.answer.new.engine (c.in_default.ensures.asks (state_at own i) going.fits) in
           subst (IsPaged c.args.pool run newest entry.image blocks c.answer.new.engine) (sym (add-one i)) (record { machine = paged.machine; rules_are = paged.rules_are });
+      counted = λ run begins newest blocks sound.
+          let under_way = c.loop-line.invariant.under_way in
+          let with = with_line entry mid c.loop-line.engine i under_way c.in-Line.line in
+          let own : Run = record run { listings = with } in
+          let starts : Begins own entry = record { honest = begins.honest; quiet = begins.quiet; opens = begins.opens; lines = begins.lines } in
+          let cut = c.loop-line.invariant.cut begins.honest in
+          let so_far = going_before entry mid c.loop-line.engine i under_way c.in-Line.line own [] starts (sym (append-nil with)) in
+          let honest = so_far.fits.honest in
+          let going = moved own entry mid next c.loop-line.engine i so_far c.next.ensures.goes (c.next.ensures.same honest) in
+          let hears = line_heard c.in-Ok-next.heard c.in-Line.line _ _ _ _ (c.in-Ok-next.ensures.heard honest cut.ended) c.in-Line.is in
+          let ended = c.in-Ok-next.ensures.ended honest cut.ended in
+          let is = ap (λ (l : List Line). drop i (up_to_quit l)) begins.lines ∙ line_is entry.left c.loop-line.source mid i cut c.loop-line.invariant.source c.next.new.self next c.in-Line.line hears ended c.next.ensures.source in
+          let counted = next_counted own (log_under newest blocks) entry mid next new c.loop-line.engine c.answer.new.engine i c.in-Line.line _ is (c.next.ensures.same honest).image going.geometry (c.loop-line.invariant.counted own starts newest blocks sound) c.in_default.field-0 (c.in_default.ensures.numbers (state_at own i) going.fits going.quiet) in
+          subst (IsCounted run (log_under newest blocks) entry.image new.image c.answer.new.engine) (sym (add-one i)) (counted_on run with (log_under newest blocks) entry.image new.image c.answer.new.engine (suc i) counted);
     }
 
 pub returns-then-last-clause-works : goal.returns-then-last-clause-works
@@ -185,7 +205,8 @@ returns-then-last-clause-works g c =
           c.answer.new.engine c.answer.ensures.sizes c.in_default.ensures.going.store.both.sizes (c.in_default.ensures.fits (state_at run i) (listing_at run i) asked going.fits) (c.in_default.ensures.stays_quiet going.fits.honest going.quiet) (c.in_default.ensures.told (state_at run i) (listing_at run i) asked going.fits going.quiet) in
           quitted c.args.pool run entry mid next new c.loop-line.source c.next.new.self i cut c.loop-line.invariant.source c.in-Line.line hears ended c.next.ensures.source (c.answer.ensures.left going.fits.honest) _ c.answer.new.engine (sym c.quits-last.ensures ∙ c.if-last.true) gone
           (λ newest blocks sound. paged_room c.args.pool run newest entry.image blocks c.answer.new.engine new (suc i)
-          (next_paged c.args.pool run newest entry.image blocks c.works_add_up.ensures.works i c.in-Line.line _ is c.loop-line.engine (c.loop-line.invariant.paged run begins newest blocks sound) c.in_default.field-0 c.answer.new.engine (c.in_default.ensures.asks (state_at run i) going.fits)) c.in_default.ensures.going),
+          (next_paged c.args.pool run newest entry.image blocks c.works_add_up.ensures.works i c.in-Line.line _ is c.loop-line.engine (c.loop-line.invariant.paged run begins newest blocks sound) c.in_default.field-0 c.answer.new.engine (c.in_default.ensures.asks (state_at run i) going.fits)) c.in_default.ensures.going)
+          (λ newest blocks sound. (next_counted run (log_under newest blocks) entry mid next new c.loop-line.engine c.answer.new.engine i c.in-Line.line _ is (c.next.ensures.same honest).image going.geometry (c.loop-line.invariant.counted run begins newest blocks sound) c.in_default.field-0 (c.in_default.ensures.numbers (state_at run i) going.fits going.quiet)).numbers),
     )
 
 pub returns-clause-works : goal.returns-clause-works

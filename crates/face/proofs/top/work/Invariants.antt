@@ -2,10 +2,10 @@ use Rattle.std.proofs.Common.{◌≡◌, IsTrue, List, Option, ℕ}
 use Rattle.checkpoint.specs.declared.master.Master.{Master}
 use Rattle.site.specs.declared.geometry.Geometry.{Geometry}
 use Rattle.record_model.specs.State.{State, Content}
-use Rattle.engine.specs.Image.{IsSound, Stands}
+use Rattle.engine.specs.Image.{IsSound, Stands, log_under}
 use Rattle.engine.specs.Fits.{Fits}
 use Rattle.site.specs.Calls.{Goes}
-use Rattle.face.specs.Going.{IsUnderWay, IsPaged}
+use Rattle.face.specs.Going.{IsUnderWay, IsPaged, IsCounted}
 use Rattle.face.specs.Run.{Run, Begins}
 use Rattle.log_records.specs.declared.log_record.LogRecord.{LogRecord}
 use Rattle.engine.specs.Going.{MayGoOn, sizes_of}
@@ -25,4 +25,5 @@ invariant-loop-line g l =
       fits : IsTrue old.honest → (g : Geometry) (table : List Content) (commits : ℕ) → Stands g old.image table commits → ((s : State) × Fits l.engine now s) × (sizes_of l.engine.store ≡ g);
       under_way : IsUnderWay old now l.engine l._line;
       paged : (run : Run) → Begins run old → (newest : Option Master) (blocks : List (List LogRecord)) → IsSound newest run.geometry old.image blocks → IsPaged l.pool run newest old.image blocks l.engine l._line;
+      counted : (run : Run) → Begins run old → (newest : Option Master) (blocks : List (List LogRecord)) → IsSound newest run.geometry old.image blocks → IsCounted run (log_under newest blocks) old.image now.image l.engine l._line;
     }

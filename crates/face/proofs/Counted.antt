@@ -1,0 +1,320 @@
+-- How many numbers a run gives to the rings on the log's device, line by line.
+use Rattle.std.proofs.Common.{◌≡◌, ℕ, zero, suc, ◌+◌, ◌≤◌, Bool, true, false, List, [], ◌∷◌, ◌++◌, length, take, drop, refl, sym, ◌∙◌, ap, subst, arith}
+use Rattle.std.specs.Prelude.{Result, Ok, Err, OnOk, Option, Some, None, if◌then◌else◌}
+use Rattle.std.proofs.lemmas.List.{take_all}
+use Rattle.site.specs.declared.geometry.Geometry.{Geometry}
+use Rattle.site.specs.declared.outside.Stop.{Stop}
+use Rattle.site.specs.State.{State as Site, Image}
+use Rattle.sealed_ring.specs.Ring.{hi_of}
+use Rattle.image_changes.specs.Rings.{log_shape, master_shape}
+use Rattle.record_model.specs.declared.words.CacheLine.{CacheLine}
+use Rattle.record_model.specs.declared.words.Command.{Command}
+use Rattle.record_model.specs.declared.words.Command.TheVariants.{Begin, Read, Write, Erase, Scan, Commit, Abort, Get, Set, Checkpoint, Cache, Stat, Quit}
+use Rattle.record_model.specs.declared.words.Reply.{Reply}
+use Rattle.record_model.specs.declared.words.Reply.TheVariants as reply
+use Rattle.record_model.specs.State.{State}
+use Rattle.record_model.specs.Step.{Outcome, answer, effect, full, lacks_room, outcome, ready, refusal}
+use Rattle.record_model.specs.Run.{Line, Turn, is_quit, later_listings, next_listing, turn, turns}
+use Rattle.log_records.specs.Log.{Entry}
+use Rattle.log_records.specs.Unfinished.{owed}
+use Rattle.log_store.specs.declared.store.LogStore.{LogStore}
+use Rattle.redo_undo.specs.Holding.{blocks_to}
+use Rattle.engine.specs.declared.engine.Engine.{Engine}
+use Rattle.engine.specs.Fits.{Fits}
+use Rattle.engine.specs.Going.{MayGoOn, sizes_of}
+use Rattle.engine.specs.Image.{log_under}
+use Rattle.engine.specs.Numbers.{CountsOn, RestartsWithin}
+use Rattle.face.specs.Going.{IsCounted}
+use Rattle.face.specs.Lines.{up_to_quit}
+use Rattle.face.specs.Range.{GivesNumbers, SkipsNoNumber, all_checkpoints, all_made, turns_of}
+use Rattle.face.specs.Run.{CountsUpTo, Run, SkipsNoneUpTo, after_lines, answered, checkpoints_of, line_checkpoints, listing_at, state_at, step}
+use Rattle.face.specs.Workload.{checkpoints_in, makes_one}
+use Rattle.engine.specs.Numbers.{RestCountsNothing}
+use Rattle.face.proofs.Pagings.{after_same, same_after}
+use Rattle.face.proofs.Runs.{state_next}
+use Rattle.face.proofs.Stated.{after_cons, after_join, count_join, count_one}
+use Rattle.face.proofs.Turns.{states_are, turns_count}
+
+-- Calls.
+
+ok_as : {T E : Type 0} (r : Result T E) (P Q : Type 0) → (P → Q) → OnOk r P → OnOk r Q
+ok_as (Ok x) P Q f p = f p
+ok_as (Err e) P Q f p = tt
+
+ok_always : {T E : Type 0} (r : Result T E) (P : Type 0) → P → OnOk r P
+ok_always (Ok x) P p = p
+ok_always (Err e) P p = tt
+
+-- a call that was Ok, and whatever its caller answers where the image stays as it is
+pub counts_then : {A B E F : Type 0} (x : A) (r : Result B F) (old new : Engine) (before mid now : Site) (s after : State) (n : ℕ) → now.image ≡ mid.image → CountsOn {T = A} {E = E} (Ok x) old new before mid s after n → CountsOn r old new before now s after n
+counts_then x r old new before mid now s after n same c =
+    let blocks : hi_of (log_shape (sizes_of old.store)) now.image.log ≡ hi_of (log_shape (sizes_of old.store)) mid.image.log = ap (λ (i : Image). hi_of (log_shape (sizes_of old.store)) i.log) same in
+    let masters : hi_of master_shape now.image.log ≡ hi_of master_shape mid.image.log = ap (λ (i : Image). hi_of master_shape i.log) same in
+    record {
+      log = ok_always r _ c.log;
+      blocks = let few = c.blocks in omega (arith, few, blocks);
+      masters = let few = c.masters in omega (arith, few, masters);
+      saved = ok_always r _ (masters ∙ c.saved);
+    }
+
+-- the error of a call is one of its caller
+pub counts_err : {A B E F : Type 0} (e : E) (f : F) (old new : Engine) (before now : Site) (s after : State) (n : ℕ) → CountsOn {T = A} {E = E} (Err e) old new before now s after n → CountsOn {T = B} {E = F} (Err f) old new before now s after n
+counts_err e f old new before now s after n c = record { log = tt; blocks = c.blocks; masters = c.masters; saved = tt }
+
+-- a call behind one that was Ok
+pub counts_join : {A T E F : Type 0} (x : A) (r : Result T F) (a b c : Engine) (before mid now : Site) (s t u : State) (n m : ℕ) → sizes_of b.store ≡ sizes_of a.store → CountsOn {T = A} {E = E} (Ok x) a b before mid s t n → CountsOn r b c mid now t u m → CountsOn r a c before now s u (n + m)
+counts_join x r a b c before mid now s t u n m sizes first second =
+    let shape : hi_of (log_shape (sizes_of b.store)) now.image.log ≡ hi_of (log_shape (sizes_of a.store)) now.image.log = ap (λ (g : Geometry). hi_of (log_shape g) now.image.log) sizes in
+    let log = first.log in
+    let saved = first.saved in
+    record {
+      log = ok_as r _ _ (λ more. omega (arith, more, log)) second.log;
+      blocks = let more = second.blocks in omega (arith, more, log, shape);
+      masters = let more = second.masters in omega (arith, more, saved);
+      saved = ok_as r _ _ (λ more. let all : hi_of master_shape now.image.log ≡ hi_of master_shape before.image.log + (n + m) = omega (arith, more, saved) in all) second.saved;
+    }
+
+-- a call that failed is counted among more, too
+pub counts_some : {A B E F : Type 0} (e : E) (f : F) (a b : Engine) (before now : Site) (s t u : State) (n k : ℕ) → t.made ≤ u.made → n ≤ k → CountsOn {T = A} {E = E} (Err e) a b before now s t n → CountsOn {T = B} {E = F} (Err f) a b before now s u k
+counts_some e f a b before now s t u n k made few c = record {
+  log = tt;
+  blocks = let blocks = c.blocks in omega (arith, blocks, made);
+  masters = let masters = c.masters in omega (arith, masters, few);
+  saved = tt;
+}
+
+-- no call
+pub counts_none : {T F : Type 0} (r : Result T F) (engine : Engine) (site : Site) (s : State) → RestCountsNothing → Fits engine site s → MayGoOn engine site → CountsOn r engine engine site site s s 0
+counts_none r engine site s rest fits going = counts_then {E = Stop} reply.Done r engine engine site site site s s 0 refl (rest (Ok reply.Done) engine site s fits going)
+
+-- a line that asks for no call
+pub counts_idle : (r : Result Reply Stop) (line : Line) (engine : Engine) (site : Site) (s : State) → RestCountsNothing → Fits engine site s → MayGoOn engine site → (step s line []).after ≡ s → line_checkpoints s line ≡ 0 → CountsOn r engine engine site site s (step s line []).after (line_checkpoints s line)
+counts_idle r line engine site s rest fits going stays none =
+    subst (λ (n : ℕ). CountsOn r engine engine site site s (step s line []).after n) (sym none) (subst (λ (a : State). CountsOn r engine engine site site s a 0) (sym stays) (rest r engine site s fits going))
+
+-- a call, for the line that it carries out
+pub counts_line : {T E : Type 0} (r : Result T E) (line : Line) (a b : Engine) (before now : Site) (s : State) → CountsOn r a b before now s (step s line []).after (line_checkpoints s line) → CountsOn r a b before now s (after_lines s (line ∷ []) []) (checkpoints_of s (line ∷ []))
+counts_line r line a b before now s c =
+    let one : line_checkpoints s line ≡ checkpoints_of s (line ∷ []) = omega arith in
+    subst (λ (n : ℕ). CountsOn r a b before now s (step s line []).after n) one c
+
+-- Lines never take a record or a checkpoint back.
+
+abbrev chosen : State → Command → List CacheLine → Bool → Outcome
+chosen s command listing lacks = if lacks then record { after = s; reply = full s } else record { after = effect s command; reply = answer s command listing }
+
+effect_adds : (s : State) (command : Command) → s.made ≤ (effect s command).made
+effect_adds s (Begin n) = omega arith
+effect_adds s (Read n number) = omega arith
+effect_adds s (Write n number value) = omega arith
+effect_adds s (Erase n number) = omega arith
+effect_adds s (Scan n number count) = omega arith
+effect_adds s (Commit n) = omega arith
+effect_adds s (Abort n) = omega arith
+effect_adds s (Get number) = omega arith
+effect_adds s (Set number value) = omega arith
+effect_adds s Checkpoint = omega arith
+effect_adds s Cache = omega arith
+effect_adds s Stat = omega arith
+effect_adds s Quit = omega arith
+
+pub step_adds : (s : State) (line : Line) (listing : List CacheLine) → s.made ≤ (step s line listing).after.made
+step_adds s None listing = omega arith
+step_adds s (Some command) listing = by (refusal s command)
+  where
+    way : (b : Bool) → s.made ≤ (chosen (ready true s command) command listing b).after.made
+    way true = omega arith
+    way false = effect_adds (ready true s command) command
+
+    by : (o : Option Reply) → s.made ≤ (outcome true s command listing o).after.made
+    by (Some refused) = omega arith
+    by None = way (lacks_room (ready true s command) command)
+
+lines_add : (s : State) (lines : List Line) (listings : List (List CacheLine)) → s.made ≤ (after_lines s lines listings).made
+lines_add s [] listings = omega arith
+lines_add s (line ∷ lines) listings =
+    let one = step_adds s line (next_listing listings) in
+    let all = lines_add (step s line (next_listing listings)).after lines (later_listings line listings) in
+    omega (arith, one, all)
+
+made_first : (s : State) (lines : List Line) (listings : List (List CacheLine)) (i : ℕ) → (after_lines s (take i lines) listings).made ≤ (after_lines s lines listings).made
+made_first s lines listings zero = lines_add s lines listings
+made_first s [] listings (suc i) = omega arith
+made_first s (line ∷ lines) listings (suc i) = made_first (step s line (next_listing listings)).after lines (later_listings line listings) i
+
+checkpoints_first : (s : State) (lines : List Line) (i : ℕ) → checkpoints_of s (take i lines) ≤ checkpoints_of s lines
+checkpoints_first s lines zero = omega arith
+checkpoints_first s [] (suc i) = omega arith
+checkpoints_first s (line ∷ lines) (suc i) = let few = checkpoints_first (step s line []).after lines i in omega (arith, few)
+
+-- the checkpoints of some lines, and of those behind them
+pub checkpoints_join : (s : State) (first later : List Line) → checkpoints_of s (first ++ later) ≡ checkpoints_of s first + checkpoints_of (after_lines s first []) later
+checkpoints_join s [] later = omega arith
+checkpoints_join s (line ∷ first) later =
+    let rest = checkpoints_join (step s line []).after first later in
+    let same = ap (λ (x : State). checkpoints_of x later) (after_cons s line first) in
+    omega (arith, rest, same)
+
+checkpoints_more : (s : State) (lines : List Line) (i : ℕ) (line : Line) (rest : List Line) → drop i lines ≡ line ∷ rest → checkpoints_of s (take (suc i) lines) ≡ checkpoints_of s (take i lines) + line_checkpoints (after_lines s (take i lines) []) line
+checkpoints_more s [] zero line rest is = cc
+checkpoints_more s [] (suc i) line rest is = cc
+checkpoints_more s (x ∷ lines) zero line rest is =
+    let same : x ≡ line = cc in
+    let one = ap (line_checkpoints s) same in
+    omega (arith, one)
+checkpoints_more s (x ∷ lines) (suc i) line rest is =
+    let so_far = checkpoints_more (step s x []).after lines i line rest is in
+    let same = ap (λ (b : State). line_checkpoints b line) (after_cons s x (take i lines)) in
+    omega (arith, so_far, same)
+
+-- lines that are carried out in part
+pub some_made : (s : State) (first later : List Line) → (after_lines s first []).made ≤ (after_lines s (first ++ later) []).made
+some_made s first later =
+    let same = ap (λ (x : State). x.made) (after_join s first later) in
+    let more = lines_add (after_lines s first []) later [] in
+    omega (arith, same, more)
+
+pub some_checkpoints : (s : State) (first later : List Line) → checkpoints_of s first ≤ checkpoints_of s (first ++ later)
+some_checkpoints s first later = let all = checkpoints_join s first later in omega (arith, all)
+
+-- A run, line by line.
+
+module _ (run : Run) (records : List Entry) (entry : Site) where
+  -- where the restart fails
+  pub restart_fails : {T : Type 0} (result : Result T Stop) (log_of : T → LogStore) (mid now : Site) → now.image ≡ mid.image → RestartsWithin result log_of run.geometry records entry mid → CountsUpTo run records 0 entry.image now.image
+  restart_fails result log_of mid now same within =
+      let blocks : hi_of (log_shape run.geometry) now.image.log ≡ hi_of (log_shape run.geometry) mid.image.log = ap (λ (i : Image). hi_of (log_shape run.geometry) i.log) same in
+      let masters : hi_of master_shape now.image.log ≡ hi_of master_shape mid.image.log = ap (λ (i : Image). hi_of master_shape i.log) same in
+      record {
+        blocks = let few = within.blocks in omega (arith, few, blocks);
+        masters = let few = within.masters in omega (arith, few, masters);
+      }
+
+  -- and where it doesn't
+  pub first_counted : (engine : Engine) (mid now : Site) → now.image ≡ mid.image → RestartsWithin {T = Engine} (Ok engine) (λ e. e.store.log) run.geometry records entry mid → IsCounted run records entry.image now.image engine 0
+  first_counted engine mid now same within = record {
+    log = let few = within.log in omega (arith, few);
+    numbers = restart_fails (Ok engine) (λ e. e.store.log) mid now same within;
+  }
+
+  -- while the image stays as it is
+  pub counts_still : (mid now : Site) (i : ℕ) → now.image ≡ mid.image → CountsUpTo run records i entry.image mid.image → CountsUpTo run records i entry.image now.image
+  counts_still mid now i same counts = subst (λ (x : Image). CountsUpTo run records i entry.image x) (sym same) counts
+
+  module _ (mid next new : Site) (engine engine' : Engine) (i : ℕ) (line : Line) (rest : List Line) (is : drop i (answered run) ≡ line ∷ rest) (same : next.image ≡ mid.image) (sizes : sizes_of engine.store ≡ run.geometry)
+      (counted : IsCounted run records entry.image mid.image engine i) where
+    made_next : (state_at run (suc i)).made ≡ (step (state_at run i) line []).after.made
+    made_next = ap (λ (s : State). s.made) (state_next run i line rest is ∙ after_same (state_at run i) line (listing_at run i) [])
+
+    checkpoints_next : checkpoints_of run.opening (take (suc i) (answered run)) ≡ checkpoints_of run.opening (take i (answered run)) + line_checkpoints (state_at run i) line
+    checkpoints_next =
+        checkpoints_more run.opening (answered run) i line rest is
+        ∙ ap (λ (s : State). checkpoints_of run.opening (take i (answered run)) + line_checkpoints s line) (same_after run.opening (take i (answered run)) [] run.listings)
+
+    -- a line was heard, however its answer ends
+    pub counts_next : {T E : Type 0} (result : Result T E) → CountsOn result engine engine' next new (state_at run i) (step (state_at run i) line []).after (line_checkpoints (state_at run i) line) → CountsUpTo run records (suc i) entry.image new.image
+    counts_next result c =
+        let shape : hi_of (log_shape (sizes_of engine.store)) new.image.log ≡ hi_of (log_shape run.geometry) new.image.log = ap (λ (g : Geometry). hi_of (log_shape g) new.image.log) sizes in
+        let stays : hi_of master_shape next.image.log ≡ hi_of master_shape mid.image.log = ap (λ (x : Image). hi_of master_shape x.log) same in
+        let made = made_next in
+        let checkpoints = checkpoints_next in
+        let log = counted.log in
+        let masters = counted.numbers.masters in
+        record {
+          blocks = let few = c.blocks in omega (arith, few, log, shape, made);
+          masters = let few = c.masters in omega (arith, few, masters, stays, checkpoints);
+        }
+
+    -- it was answered
+    pub next_counted : {T E : Type 0} (x : T) → CountsOn {T = T} {E = E} (Ok x) engine engine' next new (state_at run i) (step (state_at run i) line []).after (line_checkpoints (state_at run i) line) → IsCounted run records entry.image new.image engine' (suc i)
+    next_counted {T} {E} x c =
+        let made = made_next in
+        let log = counted.log in
+        record {
+          log = let few = c.log in omega (arith, few, log, made);
+          numbers = counts_next (Ok x) c;
+        }
+
+-- it doesn't depend on what the cache lists
+pub counted_on : (run : Run) (listings : List (List CacheLine)) (records : List Entry) (old now : Image) (engine : Engine) (i : ℕ) → IsCounted (record run { listings = listings }) records old now engine i → IsCounted run records old now engine i
+counted_on run listings records old now engine i counted =
+    let made = ap (λ (s : State). s.made) (same_after run.opening (take i (answered run)) listings run.listings) in
+    record {
+      log = let log = counted.log in omega (arith, log, made);
+      numbers = record {
+        blocks = let blocks = counted.numbers.blocks in omega (arith, blocks, made);
+        masters = counted.numbers.masters;
+      };
+    }
+
+-- Whole runs.
+
+-- the records of all turns, and their checkpoints
+pub all_made_are : (run : Run) → all_made run ≡ (after_lines run.opening (answered run) run.listings).made
+all_made_are run =
+    let count = turns_count run.opening run.lines run.listings in
+    ap (λ (s : State). s.made) (states_are run.opening run.lines run.listings (length (turns_of run)) ∙ ap (λ (l : List Line). after_lines run.opening l run.listings) (take_all (length (turns_of run)) (answered run) (omega (arith, count))))
+
+one_makes : (s : State) (line : Line) → (if makes_one s line then 1 else 0) ≡ line_checkpoints s line
+one_makes s None = refl
+one_makes s (Some command) = refl
+
+turns_make : (s : State) (lines : List Line) (listings : List (List CacheLine)) → checkpoints_in (turns true s lines listings) ≡ checkpoints_of s (up_to_quit lines)
+turns_make s [] listings = refl
+turns_make s (line ∷ lines) listings =
+    let more : List Turn = if is_quit line then [] else turns true (step s line (next_listing listings)).after lines (later_listings line listings) in
+    let one : checkpoints_in (turn true s line (next_listing listings) ∷ []) ≡ line_checkpoints s line = count_one (λ t. makes_one t.before t.line) (turn true s line (next_listing listings)) ∙ one_makes s line in
+    let rest : checkpoints_in more ≡ checkpoints_of (step s line []).after (if is_quit line then [] else up_to_quit lines) =
+    by (is_quit line) (turns_make (step s line (next_listing listings)).after lines (later_listings line listings) ∙ ap (λ (x : State). checkpoints_of x (up_to_quit lines)) (after_same s line (next_listing listings) [])) in
+    count_join (λ t. makes_one t.before t.line) (turn true s line (next_listing listings) ∷ []) more ∙ (λ i. one i + rest i)
+  where
+    by : (b : Bool) → checkpoints_in (turns true (step s line (next_listing listings)).after lines (later_listings line listings)) ≡ checkpoints_of (step s line []).after (up_to_quit lines) →
+        checkpoints_in (if b then [] else turns true (step s line (next_listing listings)).after lines (later_listings line listings)) ≡ checkpoints_of (step s line []).after (if b then [] else up_to_quit lines)
+    by true later = refl
+    by false later = later
+
+pub all_checkpoints_are : (run : Run) → all_checkpoints run ≡ checkpoints_of run.opening (answered run)
+all_checkpoints_are run = turns_make run.opening run.lines run.listings
+
+-- What the first lines of all give is no more than what those give that were taken, of which they are the first.
+module _ (g : Geometry) (opening : State) (listings : List (List CacheLine)) (lines own : List Line) (heard : ℕ) (front : take heard (up_to_quit own) ≡ take heard (up_to_quit lines)) where
+  abbrev all : Run
+  all = record { geometry = g; opening = opening; lines = lines; listings = listings }
+
+  abbrev taken : Run
+  taken = record { geometry = g; opening = opening; lines = own; listings = listings }
+
+  pub skips_no_number : (old now : Image) → SkipsNoneUpTo all heard old now → SkipsNoNumber taken old now
+  skips_no_number old now skips newest blocks sound =
+      let counts = skips newest blocks sound in
+      let made = all_made_are taken in
+      let checkpoints = all_checkpoints_are taken in
+      let same_made = ap (λ (l : List Line). (after_lines opening l listings).made) front in
+      let same_checkpoints = ap (checkpoints_of opening) front in
+      let made_few = made_first opening (up_to_quit own) listings heard in
+      let checkpoints_few = checkpoints_first opening (up_to_quit own) heard in
+      record {
+        blocks = let few = counts.blocks in omega (arith, few, made, same_made, made_few);
+        masters = let few = counts.masters in omega (arith, few, checkpoints, same_checkpoints, checkpoints_few);
+      }
+
+-- what nothing was done to
+pub counts_nothing : (run : Run) (old : Image) → SkipsNoneUpTo run 0 old old
+counts_nothing run old newest blocks sound = record { blocks = omega arith; masters = omega arith }
+
+-- the devices stay as they are
+pub skips_still : (run : Run) (old mid now : Image) → now ≡ mid → SkipsNoNumber run old mid → SkipsNoNumber run old now
+skips_still run old mid now same skips newest blocks sound = subst (λ (x : Image). GivesNumbers run (log_under newest blocks) old x) (sym same) (skips newest blocks sound)
+
+-- a run that opens, and then answers all of its lines or stops
+pub skips_course : {T E : Type 0} (result : Result T E) (run : Run) (records : List Entry) (a b : Engine) (old : Image) (mid now : Site) → sizes_of a.store ≡ run.geometry →
+    blocks_to a.store.log ≤ hi_of (log_shape run.geometry) old.log + owed records + run.opening.made → hi_of master_shape mid.image.log ≤ hi_of master_shape old.log + 1 →
+    CountsOn result a b mid now run.opening (after_lines run.opening (answered run) run.listings) (checkpoints_of run.opening (answered run)) → GivesNumbers run records old now.image
+skips_course result run records a b old mid now sizes log masters c =
+    let shape : hi_of (log_shape (sizes_of a.store)) now.image.log ≡ hi_of (log_shape run.geometry) now.image.log = ap (λ (g : Geometry). hi_of (log_shape g) now.image.log) sizes in
+    let made = all_made_are run in
+    let checkpoints = all_checkpoints_are run in
+    record {
+      blocks = let few = c.blocks in omega (arith, few, log, shape, made);
+      masters = let few = c.masters in omega (arith, few, masters, checkpoints);
+    }
