@@ -7,7 +7,8 @@ FOLDER is where the files are made, in a folder of their own that is removed at 
 is the number of sets, and of gets, of each size (2,000 where it isn't given). FACE names another program than the one that is
 built here. It prints one table of all figures: commits, gets and pairs of a load's set and get per second at several sizes, of
 which one is changed at a time; the rate of the commits to that of the bare calls; the time of a restart; and the instructions of
-a set with its get, where valgrind is installed."""
+a set with its get, where valgrind is installed. Two more tables have the time of a restart by the blocks of the live log and by the
+groups of the queue on flash, each the median of five."""
 import os
 import random
 import re
@@ -32,6 +33,10 @@ SIZES = [
     (1024, 1024, 4096, 1),
     (1024, 1024, 4096, 4096),
 ]
+
+# how many sets stand in the log behind the last checkpoint, each a block of its own, and how many groups stand in the queue
+LIVE_SETS = [0, 1000, 4000, 16000]
+LIVE_GROUPS = [0, 1000, 4000, 16000]
 
 
 def program():
@@ -109,6 +114,27 @@ def instructions(face, size):
     return (totals[1] - totals[0]) // 200
 
 
+def restart_by_log(face, sets):
+    """A restart over so many sets on one page that no checkpoint has let go. A restart lets them go, so each has its own copy."""
+    made(face, (16, 8, 131072, 16))
+    timed([face, "run", "16"], "set 0 0102030405060708\n" * sets)
+    times = []
+    for _ in range(5):
+        shutil.copy("face.log", "kept.log")
+        shutil.copy("face.flash", "kept.flash")
+        times.append(timed([face, "run", "16"])[0])
+        os.replace("kept.log", "face.log")
+        os.replace("kept.flash", "face.flash")
+    return sorted(times)[2]
+
+
+def restart_by_groups(face, groups):
+    """A restart over a queue of so many groups: reads of one page after the other, with one page in memory, append one each."""
+    made(face, (65536, 16384, 64, 1))
+    timed([face, "run", "1"], "".join(f"get {32 * page}\n" for page in range(groups + 1)) if groups else "")
+    return sorted(timed([face, "run", "1"])[0] for _ in range(5))[2]
+
+
 def main():
     if len(sys.argv) < 2:
         raise SystemExit(__doc__)
@@ -127,6 +153,12 @@ def main():
             sqlite, steps = sqlite_rate(), instructions(face, size)
             print("| " + " | ".join(str(n) for n in size) + f" | {commits:.0f} | {bare:.0f} | {commits / bare:.2f} | {f'{sqlite:.0f}' if sqlite else 'not installed'} | {gets:.0f} | {pairs:.0f}"
                   f" | {checkpoints} | {after_sets:.3f} s | {at_once:.3f} s | {steps if steps else 'not installed'} |", flush=True)
+        print("\n| blocks of the live log | restart |\n|---|---|")
+        for sets in LIVE_SETS:
+            print(f"| {sets} | {restart_by_log(face, sets):.3f} s |", flush=True)
+        print("\n| groups in the queue | restart |\n|---|---|")
+        for groups in LIVE_GROUPS:
+            print(f"| {groups} | {restart_by_groups(face, groups):.3f} s |", flush=True)
     finally:
         os.chdir("/")
         shutil.rmtree(folder)
