@@ -12,6 +12,7 @@ pub mod Moments
 pub mod Namings
 pub mod Openings
 pub mod Owing
+pub mod Queues
 pub mod Recovers
 pub mod Replies
 pub mod Rollbacks

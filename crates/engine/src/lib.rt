@@ -13,4 +13,4 @@ mod tests;
 mod values;
 
 pub use engine::Engine;
-pub use laws::rest_counts_nothing;
+pub use laws::{queue_is_on_flash, rest_counts_nothing};
