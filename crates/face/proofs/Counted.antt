@@ -1,19 +1,15 @@
 -- How many numbers a run gives to the rings on the log's device, line by line.
-use Rattle.std.proofs.Common.{◌≡◌, ℕ, zero, suc, ◌+◌, ◌≤◌, Bool, true, false, List, [], ◌∷◌, ◌++◌, length, take, drop, refl, sym, ◌∙◌, ap, subst, arith}
-use Rattle.std.specs.Prelude.{Result, Ok, Err, OnOk, Option, Some, None, if◌then◌else◌}
-use Rattle.std.proofs.lemmas.List.{take_all}
+use Rattle.std.proofs.Common.{◌≡◌, ℕ, zero, suc, ◌+◌, ◌≤◌, Bool, true, false, List, [], ◌∷◌, ◌++◌, take, drop, refl, sym, ◌∙◌, ap, subst, arith}
+use Rattle.std.specs.Prelude.{Result, Ok, Err, OnOk, Some, None, if◌then◌else◌}
 use Rattle.site.specs.declared.geometry.Geometry.{Geometry}
 use Rattle.site.specs.declared.outside.Stop.{Stop}
 use Rattle.site.specs.State.{State as Site, Image}
 use Rattle.sealed_ring.specs.Ring.{hi_of}
 use Rattle.image_changes.specs.Rings.{log_shape, master_shape}
 use Rattle.record_model.specs.declared.words.CacheLine.{CacheLine}
-use Rattle.record_model.specs.declared.words.Command.{Command}
-use Rattle.record_model.specs.declared.words.Command.TheVariants.{Begin, Read, Write, Erase, Scan, Commit, Abort, Get, Set, Checkpoint, Cache, Stat, Quit}
 use Rattle.record_model.specs.declared.words.Reply.{Reply}
 use Rattle.record_model.specs.declared.words.Reply.TheVariants as reply
 use Rattle.record_model.specs.State.{State}
-use Rattle.record_model.specs.Step.{Outcome, answer, effect, full, lacks_room, outcome, ready, refusal}
 use Rattle.record_model.specs.Run.{Line, Turn, is_quit, later_listings, next_listing, turn, turns}
 use Rattle.log_records.specs.Log.{Entry}
 use Rattle.log_records.specs.Unfinished.{owed}
@@ -26,14 +22,14 @@ use Rattle.engine.specs.Image.{log_under}
 use Rattle.engine.specs.Numbers.{CountsOn, RestartsWithin}
 use Rattle.face.specs.Going.{IsCounted}
 use Rattle.face.specs.Lines.{up_to_quit}
-use Rattle.face.specs.Range.{GivesNumbers, SkipsNoNumber, all_checkpoints, all_made, turns_of}
+use Rattle.face.specs.Range.{GivesNumbers, SkipsNoNumber, made_by, turns_of}
 use Rattle.face.specs.Run.{CountsUpTo, Run, SkipsNoneUpTo, after_lines, answered, checkpoints_of, line_checkpoints, listing_at, state_at, step}
 use Rattle.face.specs.Workload.{checkpoints_in, makes_one}
 use Rattle.engine.specs.Numbers.{RestCountsNothing}
 use Rattle.face.proofs.Pagings.{after_same, same_after}
 use Rattle.face.proofs.Runs.{state_next}
-use Rattle.face.proofs.Stated.{after_cons, after_join, count_join, count_one}
-use Rattle.face.proofs.Turns.{states_are, turns_count}
+use Rattle.face.proofs.Stated.{after_cons, count_join, count_one}
+use Rattle.face.proofs.Turns.{first_answered, first_turns, states_are}
 
 -- Calls.
 
@@ -74,15 +70,6 @@ counts_join x r a b c before mid now s t u n m sizes first second =
       saved = ok_as r _ _ (λ more. let all : hi_of master_shape now.image.log ≡ hi_of master_shape before.image.log + (n + m) = omega (arith, more, saved) in all) second.saved;
     }
 
--- a call that failed is counted among more, too
-pub counts_some : {A B E F : Type 0} (e : E) (f : F) (a b : Engine) (before now : Site) (s t u : State) (n k : ℕ) → t.made ≤ u.made → n ≤ k → CountsOn {T = A} {E = E} (Err e) a b before now s t n → CountsOn {T = B} {E = F} (Err f) a b before now s u k
-counts_some e f a b before now s t u n k made few c = record {
-  log = tt;
-  blocks = let blocks = c.blocks in omega (arith, blocks, made);
-  masters = let masters = c.masters in omega (arith, masters, few);
-  saved = tt;
-}
-
 -- no call
 pub counts_none : {T F : Type 0} (r : Result T F) (engine : Engine) (site : Site) (s : State) → RestCountsNothing → Fits engine site s → MayGoOn engine site → CountsOn r engine engine site site s s 0
 counts_none r engine site s rest fits going = counts_then {E = Stop} reply.Done r engine engine site site site s s 0 refl (rest (Ok reply.Done) engine site s fits going)
@@ -98,54 +85,7 @@ counts_line r line a b before now s c =
     let one : line_checkpoints s line ≡ checkpoints_of s (line ∷ []) = omega arith in
     subst (λ (n : ℕ). CountsOn r a b before now s (step s line []).after n) one c
 
--- Lines never take a record or a checkpoint back.
-
-abbrev chosen : State → Command → List CacheLine → Bool → Outcome
-chosen s command listing lacks = if lacks then record { after = s; reply = full s } else record { after = effect s command; reply = answer s command listing }
-
-effect_adds : (s : State) (command : Command) → s.made ≤ (effect s command).made
-effect_adds s (Begin n) = omega arith
-effect_adds s (Read n number) = omega arith
-effect_adds s (Write n number value) = omega arith
-effect_adds s (Erase n number) = omega arith
-effect_adds s (Scan n number count) = omega arith
-effect_adds s (Commit n) = omega arith
-effect_adds s (Abort n) = omega arith
-effect_adds s (Get number) = omega arith
-effect_adds s (Set number value) = omega arith
-effect_adds s Checkpoint = omega arith
-effect_adds s Cache = omega arith
-effect_adds s Stat = omega arith
-effect_adds s Quit = omega arith
-
-pub step_adds : (s : State) (line : Line) (listing : List CacheLine) → s.made ≤ (step s line listing).after.made
-step_adds s None listing = omega arith
-step_adds s (Some command) listing = by (refusal s command)
-  where
-    way : (b : Bool) → s.made ≤ (chosen (ready true s command) command listing b).after.made
-    way true = omega arith
-    way false = effect_adds (ready true s command) command
-
-    by : (o : Option Reply) → s.made ≤ (outcome true s command listing o).after.made
-    by (Some refused) = omega arith
-    by None = way (lacks_room (ready true s command) command)
-
-lines_add : (s : State) (lines : List Line) (listings : List (List CacheLine)) → s.made ≤ (after_lines s lines listings).made
-lines_add s [] listings = omega arith
-lines_add s (line ∷ lines) listings =
-    let one = step_adds s line (next_listing listings) in
-    let all = lines_add (step s line (next_listing listings)).after lines (later_listings line listings) in
-    omega (arith, one, all)
-
-made_first : (s : State) (lines : List Line) (listings : List (List CacheLine)) (i : ℕ) → (after_lines s (take i lines) listings).made ≤ (after_lines s lines listings).made
-made_first s lines listings zero = lines_add s lines listings
-made_first s [] listings (suc i) = omega arith
-made_first s (line ∷ lines) listings (suc i) = made_first (step s line (next_listing listings)).after lines (later_listings line listings) i
-
-checkpoints_first : (s : State) (lines : List Line) (i : ℕ) → checkpoints_of s (take i lines) ≤ checkpoints_of s lines
-checkpoints_first s lines zero = omega arith
-checkpoints_first s [] (suc i) = omega arith
-checkpoints_first s (line ∷ lines) (suc i) = let few = checkpoints_first (step s line []).after lines i in omega (arith, few)
+-- The checkpoints of lines.
 
 -- the checkpoints of some lines, and of those behind them
 pub checkpoints_join : (s : State) (first later : List Line) → checkpoints_of s (first ++ later) ≡ checkpoints_of s first + checkpoints_of (after_lines s first []) later
@@ -166,16 +106,6 @@ checkpoints_more s (x ∷ lines) (suc i) line rest is =
     let so_far = checkpoints_more (step s x []).after lines i line rest is in
     let same = ap (λ (b : State). line_checkpoints b line) (after_cons s x (take i lines)) in
     omega (arith, so_far, same)
-
--- lines that are carried out in part
-pub some_made : (s : State) (first later : List Line) → (after_lines s first []).made ≤ (after_lines s (first ++ later) []).made
-some_made s first later =
-    let same = ap (λ (x : State). x.made) (after_join s first later) in
-    let more = lines_add (after_lines s first []) later [] in
-    omega (arith, same, more)
-
-pub some_checkpoints : (s : State) (first later : List Line) → checkpoints_of s first ≤ checkpoints_of s (first ++ later)
-some_checkpoints s first later = let all = checkpoints_join s first later in omega (arith, all)
 
 -- A run, line by line.
 
@@ -249,11 +179,9 @@ counted_on run listings records old now engine i counted =
 
 -- Whole runs.
 
--- the records of all turns, and their checkpoints
-pub all_made_are : (run : Run) → all_made run ≡ (after_lines run.opening (answered run) run.listings).made
-all_made_are run =
-    let count = turns_count run.opening run.lines run.listings in
-    ap (λ (s : State). s.made) (states_are run.opening run.lines run.listings (length (turns_of run)) ∙ ap (λ (l : List Line). after_lines run.opening l run.listings) (take_all (length (turns_of run)) (answered run) (omega (arith, count))))
+-- the records of the first turns
+pub made_are : (run : Run) (lines : ℕ) → made_by run lines ≡ (state_at run lines).made
+made_are run lines = ap (λ (s : State). s.made) (states_are run.opening run.lines run.listings lines)
 
 one_makes : (s : State) (line : Line) → (if makes_one s line then 1 else 0) ≡ line_checkpoints s line
 one_makes s None = refl
@@ -273,10 +201,13 @@ turns_make s (line ∷ lines) listings =
     by true later = refl
     by false later = later
 
-pub all_checkpoints_are : (run : Run) → all_checkpoints run ≡ checkpoints_of run.opening (answered run)
-all_checkpoints_are run = turns_make run.opening run.lines run.listings
+-- and their checkpoints
+pub checkpoints_are : (run : Run) (lines : ℕ) → checkpoints_in (take lines (turns_of run)) ≡ checkpoints_of run.opening (take lines (answered run))
+checkpoints_are run lines =
+    ap checkpoints_in (first_turns lines run.opening run.lines run.listings)
+    ∙ turns_make run.opening (take lines (answered run)) run.listings ∙ ap (checkpoints_of run.opening) (first_answered lines run.lines)
 
--- What the first lines of all give is no more than what those give that were taken, of which they are the first.
+-- The first lines of all give what those give that were taken, of which they are the first.
 module _ (g : Geometry) (opening : State) (listings : List (List CacheLine)) (lines own : List Line) (heard : ℕ) (front : take heard (up_to_quit own) ≡ take heard (up_to_quit lines)) where
   abbrev all : Run
   all = record { geometry = g; opening = opening; lines = lines; listings = listings }
@@ -284,18 +215,16 @@ module _ (g : Geometry) (opening : State) (listings : List (List CacheLine)) (li
   abbrev taken : Run
   taken = record { geometry = g; opening = opening; lines = own; listings = listings }
 
-  pub skips_no_number : (old now : Image) → SkipsNoneUpTo all heard old now → SkipsNoNumber taken old now
+  pub skips_no_number : (old now : Image) → SkipsNoneUpTo all heard old now → SkipsNoNumber taken heard old now
   skips_no_number old now skips newest blocks sound =
       let counts = skips newest blocks sound in
-      let made = all_made_are taken in
-      let checkpoints = all_checkpoints_are taken in
+      let made = made_are taken heard in
+      let checkpoints = checkpoints_are taken heard in
       let same_made = ap (λ (l : List Line). (after_lines opening l listings).made) front in
       let same_checkpoints = ap (checkpoints_of opening) front in
-      let made_few = made_first opening (up_to_quit own) listings heard in
-      let checkpoints_few = checkpoints_first opening (up_to_quit own) heard in
       record {
-        blocks = let few = counts.blocks in omega (arith, few, made, same_made, made_few);
-        masters = let few = counts.masters in omega (arith, few, checkpoints, same_checkpoints, checkpoints_few);
+        blocks = let few = counts.blocks in omega (arith, few, made, same_made);
+        masters = let few = counts.masters in omega (arith, few, checkpoints, same_checkpoints);
       }
 
 -- what nothing was done to
@@ -303,17 +232,17 @@ pub counts_nothing : (run : Run) (old : Image) → SkipsNoneUpTo run 0 old old
 counts_nothing run old newest blocks sound = record { blocks = omega arith; masters = omega arith }
 
 -- the devices stay as they are
-pub skips_still : (run : Run) (old mid now : Image) → now ≡ mid → SkipsNoNumber run old mid → SkipsNoNumber run old now
-skips_still run old mid now same skips newest blocks sound = subst (λ (x : Image). GivesNumbers run (log_under newest blocks) old x) (sym same) (skips newest blocks sound)
+pub skips_still : (run : Run) (lines : ℕ) (old mid now : Image) → now ≡ mid → SkipsNoNumber run lines old mid → SkipsNoNumber run lines old now
+skips_still run lines old mid now same skips newest blocks sound = subst (λ (x : Image). GivesNumbers run lines (log_under newest blocks) old x) (sym same) (skips newest blocks sound)
 
--- a run that opens, and then answers all of its lines or stops
-pub skips_course : {T E : Type 0} (result : Result T E) (run : Run) (records : List Entry) (a b : Engine) (old : Image) (mid now : Site) → sizes_of a.store ≡ run.geometry →
+-- a run that opens, and then carries its first lines out or stops within them
+pub skips_course : {T E : Type 0} (result : Result T E) (run : Run) (lines : ℕ) (records : List Entry) (a b : Engine) (old : Image) (mid now : Site) → sizes_of a.store ≡ run.geometry →
     blocks_to a.store.log ≤ hi_of (log_shape run.geometry) old.log + owed records + run.opening.made → hi_of master_shape mid.image.log ≤ hi_of master_shape old.log + 1 →
-    CountsOn result a b mid now run.opening (after_lines run.opening (answered run) run.listings) (checkpoints_of run.opening (answered run)) → GivesNumbers run records old now.image
-skips_course result run records a b old mid now sizes log masters c =
+    CountsOn result a b mid now run.opening (state_at run lines) (checkpoints_of run.opening (take lines (answered run))) → GivesNumbers run lines records old now.image
+skips_course result run lines records a b old mid now sizes log masters c =
     let shape : hi_of (log_shape (sizes_of a.store)) now.image.log ≡ hi_of (log_shape run.geometry) now.image.log = ap (λ (g : Geometry). hi_of (log_shape g) now.image.log) sizes in
-    let made = all_made_are run in
-    let checkpoints = all_checkpoints_are run in
+    let made = made_are run lines in
+    let checkpoints = checkpoints_are run lines in
     record {
       blocks = let few = c.blocks in omega (arith, few, log, shape, made);
       masters = let few = c.masters in omega (arith, few, masters, checkpoints);

@@ -1,23 +1,23 @@
 -- Lines that are carried out while nothing is told: none, some and some more, and some of all.
-use Rattle.std.proofs.Common.{◌≡◌, ⊎_elim, true, suc, ℕ, ◌+◌, ◌<◌, ◌^◌, List, [], ◌∷◌, ◌++◌, length, take, refl, sym, ◌∙◌, ap, subst, arith, length-append}
+use Rattle.std.proofs.Common.{◌≡◌, ⊎_elim, true, suc, ℕ, ◌+◌, ◌<◌, ◌≤◌, ◌^◌, List, [], ◌∷◌, ◌++◌, length, take, refl, sym, ◌∙◌, ap, subst, arith, length-append}
 use Rattle.std.specs.Prelude.{Result, Ok, Err, IfErr, OnOk, IsErrOf}
-use Rattle.std.proofs.lemmas.List.{append-nil, take-append-le}
+use Rattle.std.proofs.lemmas.List.{append-nil, take-append-le, take_all}
 use Rattle.site.specs.declared.geometry.Geometry.{Geometry}
 use Rattle.site.specs.declared.outside.Dev.TheVariants.{Log, Flash, Disk}
 use Rattle.site.specs.declared.outside.Stop.TheVariants.{Device, Memory, Worn, Foreign}
-use Rattle.site.specs.State.{State as Site, Image, Snapshot, IsQuiet, now_of, faults_of}
+use Rattle.site.specs.State.{State as Site, Image, Snapshot, MayLeave, IsQuiet, now_of, faults_of}
 use Rattle.site.specs.Calls.{Goes}
 use Rattle.site.specs.Moments.{Leaves, LeavesOnly}
 use Rattle.site.specs.Laws.{goes_in_sequence, goes_nowhere, holds_now, image_is, in_sequence, leaves_weaker, no_call, rose_since, stays_honest, told_is}
 use Rattle.record_model.specs.State.{State}
 use Rattle.record_model.specs.Run.{Line}
 use Rattle.record_model.specs.Touches.{CacheWork, line_touches}
-use Rattle.second_chance.specs.Machine.{Cache, after_works}
+use Rattle.second_chance.specs.Machine.{Cache, Rules, after_works}
 use Rattle.page_store.specs.declared.store.PageStore.{PageStore}
 use Rattle.page_store.specs.Caching.{cache_of, rules}
 use Rattle.flash_cache.specs.Held.{IsWorn}
 use Rattle.redo_undo.specs.Holding.{IsLogWorn}
-use Rattle.redo_undo.specs.Works.{next_group, Overflows, WorksAddUp, OverflowsWithMore}
+use Rattle.redo_undo.specs.Works.{next_group, ReadsAddUp, ReadsFor, WorksAddUp}
 use Rattle.engine.specs.declared.engine.Engine.{Engine}
 use Rattle.engine.specs.Fits.{Fits}
 use Rattle.engine.specs.Going.{MayGoOn, sizes_of}
@@ -27,15 +27,15 @@ use Rattle.face.specs.declared.halt.Halt.{Halt}
 use Rattle.face.specs.declared.halt.Halt.TheVariants as halt
 use Rattle.face.specs.Causes.{AnswerFailsBy}
 use Rattle.face.specs.Going.{Serves}
-use Rattle.face.specs.Loads.{CarriesOut, LeavesSome}
+use Rattle.face.specs.Loads.{CarriesFirst, CarriesOut, LeavesSome}
 use Rattle.face.specs.Run.{StandsFor, after_lines, checkpoints_of, step, works_of}
 use Rattle.engine.specs.Numbers.{RestCountsNothing}
-use Rattle.face.proofs.Counted.{checkpoints_join, counts_join, counts_none, counts_some, counts_then, some_checkpoints, some_made}
+use Rattle.face.proofs.Counted.{checkpoints_join, counts_err, counts_join, counts_none, counts_then}
 use Rattle.face.proofs.Logs.{fits_stands}
 use Rattle.face.proofs.Stated.{after_join, works_join}
 
 -- what is left of some lines is left of more
-leaves_first : (g : Geometry) (s : State) (first later : List Line) (told : List ℕ) (snapshot : Snapshot) → LeavesSome g s first told snapshot → LeavesSome g s (first ++ later) told snapshot
+pub leaves_first : (g : Geometry) (s : State) (first later : List Line) (told : List ℕ) (snapshot : Snapshot) → LeavesSome g s first told snapshot → LeavesSome g s (first ++ later) told snapshot
 leaves_first g s first later told snapshot l = record {
   done = l.done;
   few = let few = l.few in let long = length-append first later in omega (arith, few, long);
@@ -83,8 +83,9 @@ carries_none {T} x engine site rest going = record {
     stands = subst (λ (i : Image). StandsFor (sizes_of engine.store) i s) (sym (image_is (now_of site) snapshot quiet left)) (fits_stands engine site s going.store.both.sizes fits);
     told = told_is site snapshot left;
   });
+  last = λ s fits quiet snapshot left. (0, omega arith, subst (λ (i : Image). StandsFor (sizes_of engine.store) i s) (sym (image_is (now_of site) snapshot quiet left)) (fits_stands engine site s going.store.both.sizes fits));
   fits = λ s fits. fits;
-  serves = λ s fits. record { machine = refl; worn = λ is. absurd (no_error is); rules_are = refl };
+  serves = λ s fits. record { machine = refl; worn = λ is. absurd (no_error is); reads = record { flash = omega arith; disk = omega arith }; rules_are = refl };
   numbers = λ s fits quiet. counts_none (Ok x) engine site s rest fits going;
   left = λ honest. refl;
   stays_quiet = λ honest quiet. quiet;
@@ -102,8 +103,9 @@ carries_none {T} x engine site rest going = record {
 pub carries_with : {T U : Type 0} (x : T) (y : U) (lines : List Line) (a b : Engine) (old new : Site) → CarriesOut (Ok x) lines a b old new → CarriesOut (Ok y) lines a b old new
 carries_with {T} {U} x y lines a b old new one = record {
   any_moment = one.any_moment;
+  last = one.last;
   fits = one.fits;
-  serves = λ s fits. let serves = one.serves s fits in record { machine = serves.machine; worn = λ is. absurd (no_error is); rules_are = serves.rules_are };
+  serves = λ s fits. let serves = one.serves s fits in record { machine = serves.machine; worn = λ is. absurd (no_error is); reads = serves.reads; rules_are = serves.rules_are };
   numbers = λ s fits quiet. counts_then x (Ok y) a b old new new s _ _ refl (one.numbers s fits quiet);
   left = one.left;
   stays_quiet = one.stays_quiet;
@@ -118,7 +120,7 @@ carries_with {T} {U} x y lines a b old new one = record {
     no_error is = cc
 
 -- some lines, and then some more
-module _ {T U : Type 0} (add : WorksAddUp) (x : T) (result : Result U Halt) (first later : List Line) (a b c : Engine) (old mid new : Site) (one : CarriesOut (Ok x) first a b old mid) (two : CarriesOut result later b c mid new) where
+module _ {T U : Type 0} (add : WorksAddUp) (reads_add : ReadsAddUp) (x : T) (result : Result U Halt) (first later : List Line) (a b c : Engine) (old mid new : Site) (one : CarriesOut (Ok x) first a b old mid) (two : CarriesOut result later b c mid new) where
   moments_join : (s : State) → Fits a old s → IsQuiet old → LeavesOnly old new (LeavesSome (sizes_of a.store) s (first ++ later) old.told)
   moments_join s fits quiet =
       let so_far = one.any_moment s fits quiet in
@@ -130,7 +132,18 @@ module _ {T U : Type 0} (add : WorksAddUp) (x : T) (result : Result U Halt) (fir
       (λ snapshot l. leaves_later (sizes_of a.store) s first later old.told snapshot
       (subst (λ (g : Geometry). LeavesSome g (after_lines s first []) later old.told snapshot) one.sizes (subst (λ (t : List ℕ). LeavesSome (sizes_of b.store) (after_lines s first []) later t snapshot) untold l))) then)
 
-  serves_join : (s : State) → Fits a old s → Serves result (works_of s (first ++ later)) a.store.pages c.store.pages
+  last_join : (s : State) → Fits a old s → IsQuiet old → (snapshot : Snapshot) → MayLeave (now_of new) snapshot → (done : ℕ) × (length (first ++ later) ≤ done + 1) × StandsFor (sizes_of a.store) snapshot.image (after_lines s (take done (first ++ later)) [])
+  last_join s fits quiet snapshot left =
+      let l = two.last (after_lines s first []) (one.fits s fits) (one.stays_quiet fits.honest quiet) snapshot left in
+      let few = l.1 in
+      let long = length-append first later in (
+        length first + l.0,
+        omega (arith, few, long),
+        subst (λ (x : State). StandsFor (sizes_of a.store) snapshot.image x) (sym (ap (λ (x : List Line). after_lines s x []) (take_over first later l.0) ∙ after_join s first (take l.0 later)))
+            (subst (λ (g : Geometry). StandsFor g snapshot.image (after_lines (after_lines s first []) (take l.0 later) [])) one.sizes l.2),
+      )
+
+  serves_join : (s : State) → Fits a old s → Serves result (works_of s (first ++ later)) a.store.pages c.store.pages old new
   serves_join s fits =
       let front = one.serves s fits in
       let back = two.serves (after_lines s first []) (one.fits s fits) in
@@ -141,6 +154,10 @@ module _ {T U : Type 0} (add : WorksAddUp) (x : T) (result : Result U Halt) (fir
       record {
         machine = subst (λ (z : Cache). OnOk result (cache_of c.store.pages ≡ z)) same back.machine;
         worn = λ is. subst (λ (z : Cache). 2 ^ 40 < next_group z) same (back.worn is);
+        reads = subst (λ (w : List CacheWork). ReadsFor (rules a.store.pages) w (cache_of a.store.pages) old new) (sym (works_join s first later))
+            (reads_add (rules a.store.pages) (works_of s first) (works_of (after_lines s first []) later) (cache_of a.store.pages) old mid new front.reads
+            (subst (λ (z : Cache). ReadsFor (rules a.store.pages) (works_of (after_lines s first []) later) z mid new) front.machine
+            (subst (λ (r : Rules). ReadsFor r (works_of (after_lines s first []) later) (cache_of b.store.pages) mid new) front.rules_are back.reads)));
         rules_are = back.rules_are ∙ front.rules_are;
       }
 
@@ -154,6 +171,7 @@ module _ {T U : Type 0} (add : WorksAddUp) (x : T) (result : Result U Halt) (fir
   pub carries_more : CarriesOut result (first ++ later) a c old new
   carries_more = record {
     any_moment = moments_join;
+    last = last_join;
     fits = λ s fits. subst (λ (x : State). OnOk result (Fits c new x)) (sym (after_join s first later)) (two.fits (after_lines s first []) (one.fits s fits));
     serves = serves_join;
     numbers = numbers_join;
@@ -166,21 +184,14 @@ module _ {T U : Type 0} (add : WorksAddUp) (x : T) (result : Result U Halt) (fir
     sizes = two.sizes ∙ one.sizes;
   }
 
--- lines that aren't all carried out
-pub carries_some : {T U : Type 0} → OverflowsWithMore → (h : Halt) (first later : List Line) (a b : Engine) (old new : Site) → CarriesOut {T = T} (Err h) first a b old new → CarriesOut {T = U} (Err h) (first ++ later) a b old new
-carries_some {T} {U} more h first later a b old new one = record {
-  any_moment = λ s fits quiet. leaves_weaker old new (LeavesSome (sizes_of a.store) s first old.told) (LeavesSome (sizes_of a.store) s (first ++ later) old.told) (leaves_first (sizes_of a.store) s first later old.told) (one.any_moment s fits quiet);
+-- an error of one call is that of another
+carries_err : {T U : Type 0} (h : Halt) (lines : List Line) (a b : Engine) (old new : Site) → CarriesOut {T = T} (Err h) lines a b old new → CarriesOut {T = U} (Err h) lines a b old new
+carries_err {T} {U} h lines a b old new one = record {
+  any_moment = one.any_moment;
+  last = one.last;
   fits = λ s fits. tt;
-  serves = λ s fits.
-      let serves = one.serves s fits in
-      let least = fits.holds.both.log_holds.rings.limits.groups in
-      record {
-        machine = tt;
-        worn = λ is. subst (λ (w : List CacheWork). Overflows (rules a.store.pages) w (cache_of a.store.pages)) (sym (works_join s first later))
-            (more (rules a.store.pages) (works_of s first) (works_of (after_lines s first []) later) (cache_of a.store.pages) (omega (arith, least)) (serves.worn (again is)));
-        rules_are = serves.rules_are;
-      };
-  numbers = λ s fits quiet. counts_some h h a b old new s (after_lines s first []) (after_lines s (first ++ later) []) _ _ (some_made s first later) (some_checkpoints s first later) (one.numbers s fits quiet);
+  serves = λ s fits. let serves = one.serves s fits in record { machine = tt; worn = λ is. serves.worn (ap Err (same_halt is)); reads = serves.reads; rules_are = serves.rules_are };
+  numbers = λ s fits quiet. counts_err h h a b old new s _ _ (one.numbers s fits quiet);
   left = one.left;
   stays_quiet = λ honest quiet. tt;
   quiet = one.quiet;
@@ -193,8 +204,51 @@ carries_some {T} {U} more h first later a b old new one = record {
     same_halt : IsErrOf {T = U} (Err h) (halt.Stop (Worn Flash)) → h ≡ halt.Stop (Worn Flash)
     same_halt is = cc
 
-    again : IsErrOf {T = U} (Err h) (halt.Stop (Worn Flash)) → IsErrOf {T = T} (Err h) (halt.Stop (Worn Flash))
-    again is = ap Err (same_halt is)
+-- All lines, or the first ones.
+
+pub carries_all : {T : Type 0} (x : T) (lines : List Line) (a b : Engine) (old new : Site) → CarriesOut (Ok x) lines a b old new → CarriesFirst (Ok x) lines a b old new
+carries_all x lines a b old new one = record {
+  begun = length lines;
+  few = omega arith;
+  all = refl;
+  course = subst (λ (l : List Line). CarriesOut (Ok x) l a b old new) (sym (take_all (length lines) lines (omega arith))) one;
+}
+
+pub all_carried : {T : Type 0} (x : T) (lines : List Line) (a b : Engine) (old new : Site) → CarriesFirst (Ok x) lines a b old new → CarriesOut (Ok x) lines a b old new
+all_carried x lines a b old new f = subst (λ (l : List Line). CarriesOut (Ok x) l a b old new) (take_all f.begun lines (let same = f.all in omega (arith, same))) f.course
+
+-- where it fails within some lines, it does so within more
+pub some_carried : {T U : Type 0} (h : Halt) (first later : List Line) (a b : Engine) (old new : Site) → CarriesFirst {T = T} (Err h) first a b old new → CarriesFirst {T = U} (Err h) (first ++ later) a b old new
+some_carried {T} {U} h first later a b old new f = record {
+  begun = f.begun;
+  few = let few = f.few in let long = length-append first later in omega (arith, few, long);
+  all = tt;
+  course = subst (λ (l : List Line). CarriesOut {T = U} (Err h) l a b old new) (sym (take-append-le f.begun first later f.few)) (carries_err h (take f.begun first) a b old new f.course);
+}
+
+-- and where the last of them was under way
+pub carries_some : {T U : Type 0} (h : Halt) (first later : List Line) (a b : Engine) (old new : Site) → CarriesOut {T = T} (Err h) first a b old new → CarriesFirst {T = U} (Err h) (first ++ later) a b old new
+carries_some {T} h first later a b old new one = some_carried h first later a b old new (record {
+  begun = length first;
+  few = omega arith;
+  all = tt;
+  course = subst (λ (l : List Line). CarriesOut {T = T} (Err h) l a b old new) (sym (take_all (length first) first (omega arith))) one;
+})
+
+if_ok : {T : Type 0} (result : Result T Halt) (P Q : Type 0) → (P → Q) → OnOk result P → OnOk result Q
+if_ok (Ok x) P Q f p = f p
+if_ok (Err h) P Q f p = tt
+
+-- behind lines that were carried out
+pub carries_on : {T U : Type 0} (add : WorksAddUp) (reads_add : ReadsAddUp) (x : T) (result : Result U Halt) (first later : List Line) (a b c : Engine) (old mid new : Site) → CarriesOut (Ok x) first a b old mid → CarriesFirst result later b c mid new → CarriesFirst result (first ++ later) a c old new
+carries_on add reads_add x result first later a b c old mid new one f =
+    let long = length-append first later in
+    record {
+      begun = length first + f.begun;
+      few = let few = f.few in omega (arith, few, long);
+      all = if_ok result (f.begun ≡ length later) (length first + f.begun ≡ length (first ++ later)) (λ same. omega (arith, same, long)) f.all;
+      course = subst (λ (l : List Line). CarriesOut result l a c old new) (sym (take_over first later f.begun)) (carries_more add reads_add x result first (take f.begun later) a b c old mid new one f.course);
+    }
 
 -- one line
 pub leaves_line : (g : Geometry) (s : State) (line : Line) (old new : Site) → LeavesOnly old new (LeavesEither g s (step s line []).after old.told) → LeavesOnly old new (LeavesSome g s (line ∷ []) old.told)
@@ -203,5 +257,8 @@ leaves_line g s line old new leaves =
     (λ before. record { done = 0; few = omega arith; stands = before; told = e.told })
     (λ after. record { done = 1; few = omega arith; stands = after; told = e.told }) e.stands) leaves
 
-pub serves_line : {T : Type 0} (result : Result T Halt) (s : State) (line : Line) (old new : PageStore) → Serves result (line_touches true s line) old new → Serves result (works_of s (line ∷ [])) old new
-serves_line result s line old new serves = subst (λ (w : List CacheWork). Serves result w old new) (sym (append-nil (line_touches true s line))) serves
+pub last_line : (g : Geometry) (s : State) (line : Line) (old new : Site) → LeavesOnly old new (LeavesEither g s (step s line []).after old.told) → (snapshot : Snapshot) → MayLeave (now_of new) snapshot → (done : ℕ) × (length (line ∷ []) ≤ done + 1) × StandsFor g snapshot.image (after_lines s (take done (line ∷ [])) [])
+last_line g s line old new leaves snapshot left = let l = (leaves_line g s line old new leaves).now snapshot left in (l.done, omega arith, l.stands)
+
+pub serves_line : {T : Type 0} (result : Result T Halt) (s : State) (line : Line) (old new : PageStore) (before now : Site) → Serves result (line_touches true s line) old new before now → Serves result (works_of s (line ∷ [])) old new before now
+serves_line result s line old new before now serves = subst (λ (w : List CacheWork). Serves result w old new before now) (sym (append-nil (line_touches true s line))) serves

@@ -3,6 +3,7 @@ use Rattle.std.proofs.Common.{◌≡◌, ◌≢◌, ◌⊎◌, inl, inr, ⊎_eli
 use Rattle.std.specs.Prelude.{Err, Ok, IsErrOf}
 use Rattle.std.proofs.lemmas.List.{append-nil, take_all, take_at}
 use Rattle.site.specs.State.{State as Site, Snapshot}
+use Rattle.site.specs.Calls.{SameReads}
 use Rattle.site.specs.Moments.{Leaves, LeavesOnly, EachMoment}
 use Rattle.site.specs.Laws.{in_sequence, leaves_weaker, told_is, tell_leaves}
 use Rattle.site.specs.Telling.{SameDevices, TellsPart}
@@ -23,8 +24,9 @@ use Rattle.face.specs.Causes.{HasCause, HasCauses, NoFaultRose, HasLogRoom, Ends
 use Rattle.face.specs.Lines.{commands_of, up_to_quit, answered_of, limit}
 use Rattle.face.specs.Run.{Run, told_after, StandsFor, StandsAt, StandsNear, IsAccounted, IsBetween, Begins, HasHeard, HasTakenAll, Stops, StopsTaking, Works}
 use Rattle.face.specs.Range.{run_of, run_text, StandsAfter, IsLeft, WearsOut, NeverWears}
+use Rattle.face.proofs.Begun.{has_begun, lists_the_machine}
 use Rattle.face.proofs.Counted.{skips_no_number, skips_still}
-use Rattle.face.proofs.Pagings.{wears_out, never_wears, wears_out_all}
+use Rattle.face.proofs.Pagings.{leaves_its_queue, reads_no_more, reads_still, wears_out, never_wears, wears_out_all}
 use Rattle.face.specs.Headline.{IsGood, IsToldWhole, Headline}
 use Rattle.face.proofs.Fronts.{accounted, told_same, state_same, take_within, up_append, no_quits, first_commands}
 use Rattle.face.proofs.Meanings.{stands_by}
@@ -145,7 +147,7 @@ worn_by g opening halt.Input old new good cause e = absurd (omega (arith, e))
 worn_by g opening halt.Output old new good cause e = absurd (omega (arith, e))
 worn_by g opening halt.Limit old new good cause e = absurd (omega (arith, e))
 
-module _ (more : OverflowsWithMore) (pool : ℕ) (g : Geometry) (opening : State) (listings : List (List CacheLine)) (old : Site) where
+module _ (pool : ℕ) (g : Geometry) (opening : State) (listings : List (List CacheLine)) (old : Site) where
   abbrev run : Run
   run = run_of g opening true old.left listings
 
@@ -168,10 +170,12 @@ module _ (more : OverflowsWithMore) (pool : ℕ) (g : Geometry) (opening : State
   over_by halt.Input heard octets mid s e = absurd (omega (arith, e))
   over_by halt.Limit heard octets mid s e = (s.1, s.0.no_quit)
 
-  pub halted : {T : Type 0} (mid new : Site) (h : Halt) → IsGood g opening old → Works {T = T} pool run old mid (Err h) → EachMoment mid new (TellsPart (fault_line h) mid) → SameDevices mid new → HasCause h old new → (status : ℕ) → status ≡ status_of h → Headline pool g opening old new status
-  halted mid new h good works tells same_devices cause status is =
+  pub halted : {T : Type 0} (mid new : Site) (h : Halt) → IsGood g opening old → Works {T = T} pool run old mid (Err h) → EachMoment mid new (TellsPart (fault_line h) mid) → SameDevices mid new → SameReads mid new → HasCause h old new → (status : ℕ) → status ≡ status_of h → Headline pool g opening old new status
+  halted mid new h good works tells same_devices same_reads cause status is =
       let heard = works.has_heard in
       let now = tells.now.told 0 in
+      let lines = commands_of works.ended works.octets in
+      let own = run_of g opening works.ended works.octets listings in
       record {
         octets = works.octets;
         ended = works.ended;
@@ -188,11 +192,16 @@ module _ (more : OverflowsWithMore) (pool : ℕ) (g : Geometry) (opening : State
             (taken_by h works.heard works.octets mid works.stops.1 (⊎_elim (λ e. inl (sym is ∙ e)) (λ e. inr (sym is ∙ e)) which))
             (now.0, sym (append-nil new.told) ∙ now.1);
         over = λ seven. over_by h works.heard works.octets mid works.stops.1 (sym is ∙ seven);
-        worn = λ eight. ⊎_elim (λ flash. inl (wears_out pool g opening listings old.image works.ended works.octets more run refl refl works.heard heard.same (works.worn flash))) (λ log. inr log)
+        begun = works.heard;
+        has_begun = has_begun pool g opening listings (commands_of true old.left) lines works.heard heard.same old mid new (fault_line h) now.0 (sym (append-nil new.told) ∙ now.1) heard.enough works.begun;
+        worn = λ eight. ⊎_elim (λ flash. inl (wears_out pool g opening listings old.image works.ended works.octets run refl refl works.heard heard.same (works.worn flash))) (λ log. inr log)
             (worn_by g opening h old new good cause (sym is ∙ eight));
         room = λ zero. absurd (not_zero h (sym is ∙ zero));
-        numbers = skips_still (run_of g opening works.ended works.octets listings) old.image mid.image new.image same_devices.image
-            (skips_no_number g opening listings (commands_of true old.left) (commands_of works.ended works.octets) works.heard heard.same old.image mid.image works.numbers);
+        frames = λ zero. absurd (not_zero h (sym is ∙ zero));
+        numbers = skips_still own works.heard old.image mid.image new.image same_devices.image
+            (skips_no_number g opening listings (commands_of true old.left) lines works.heard heard.same old.image mid.image works.numbers);
+        reads = λ newest blocks sound. reads_still _ _ _ _ mid new same_reads (reads_no_more pool g opening listings old.image works.ended works.octets run refl refl works.heard heard.same old mid refl works.reads newest blocks sound);
+        listed = lists_the_machine pool g opening listings (commands_of true old.left) lines works.heard heard.same old.image works.listed;
       }
 
   pub finished : {T : Type 0} (new : Site) (x : T) → Works pool run old new (Ok x) → Headline pool g opening old new 0
@@ -221,9 +230,14 @@ module _ (more : OverflowsWithMore) (pool : ℕ) (g : Geometry) (opening : State
         };
         taking = λ which. ⊎_elim (λ e. absurd (omega (arith, e))) (λ e. absurd (omega (arith, e))) which;
         over = λ e. absurd (omega (arith, e));
+        begun = works.heard;
+        has_begun = has_begun pool g opening listings (commands_of true old.left) lines works.heard same old new new [] 0 (sym (append-nil new.told)) heard.enough works.begun;
         worn = λ e. absurd (omega (arith, e));
-        room = λ zero. never_wears pool g opening listings old.image works.ended works.octets run refl refl works.heard count same works.room;
+        room = λ zero. never_wears pool g opening listings old.image works.ended works.octets run refl refl works.heard same count works.room;
+        frames = λ zero. leaves_its_queue pool g opening listings old.image works.ended works.octets run refl refl works.heard same count new.image works.queue;
         numbers = skips_no_number g opening listings (commands_of true old.left) lines works.heard same old.image new.image works.numbers;
+        reads = reads_no_more pool g opening listings old.image works.ended works.octets run refl refl works.heard same old new refl works.reads;
+        listed = lists_the_machine pool g opening listings (commands_of true old.left) lines works.heard same old.image works.listed;
       }
 
 true_not_false : true ≡ false → ⊥
@@ -254,11 +268,11 @@ complete more pool g opening old new status good none room log_room ends causes 
     in_time : (length h.octets ≡ limit + 1) × (list_any is_quit (commands_of false (take limit h.octets)) ≡ false) → ⊥
     in_time over = not_over limit old.left h.octets new.left h.taken ends over.0 over.1
 
-    never : WearsOut pool (run_of g opening h.ended h.octets h.listings) old.image → ⊥
+    never : WearsOut pool (run_of g opening h.ended h.octets h.listings) h.begun old.image → ⊥
     never over =
         let newest = good.opens.newest in
         let blocks = good.opens.blocks in
         let sound = good.opens.sound in
-        let all = wears_out_all pool g opening h.listings old.image h.ended h.octets more old.left new.left h.taken h.end over newest blocks sound in
+        let all = wears_out_all pool g opening h.listings old.image h.ended h.octets more old.left new.left h.taken h.end h.begun over newest blocks sound in
         let few = room newest blocks sound in
         omega (arith, all, few)

@@ -24,7 +24,7 @@ take_within (suc w) zero xs le = absurd (omega (arith, le))
 take_within (suc w) (suc n) [] le = refl
 take_within (suc w) (suc n) (x ∷ xs) le = ap (λ l. x ∷ l) (take_within w n xs (omega (arith, le)))
 
-get_within : {X : Type 0} (i n : ℕ) (xs : List X) (d : X) → i < n → get_or (take n xs) i d ≡ get_or xs i d
+pub get_within : {X : Type 0} (i n : ℕ) (xs : List X) (d : X) → i < n → get_or (take n xs) i d ≡ get_or xs i d
 get_within i zero xs d less = absurd (omega (arith, less))
 get_within i (suc n) [] d less = refl
 get_within zero (suc n) (x ∷ xs) d less = refl
@@ -41,7 +41,7 @@ module _ (run : Run) (lines : List Line) (n : ℕ) (same : take n (up_to_quit li
   told_same w le =
       ap (flat_map (λ (x : List ℕ). x)) (sym (take_within w (suc n) (line_texts other) (omega (arith, le))) ∙ ap (take w) texts_same ∙ take_within w (suc n) (line_texts run) (omega (arith, le)))
 
-  text_same : (w : ℕ) → w ≤ n → text_at other w ≡ text_at run w
+  pub text_same : (w : ℕ) → w ≤ n → text_at other w ≡ text_at run w
   text_same w le = sym (get_within w (suc n) (line_texts other) [] (omega (arith, le))) ∙ ap (λ (l : List (List ℕ)). get_or l w []) texts_same ∙ get_within w (suc n) (line_texts run) [] (omega (arith, le))
 
   pub state_same : (w : ℕ) → w ≤ n → state_at other w ≡ state_at run w

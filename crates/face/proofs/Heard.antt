@@ -132,7 +132,7 @@ pub cut_off : (halt : Halt) (was : Bool) (all here : ℕ) (before mid left line 
 cut_off halt was all here before mid left line len heard h same ends going = record { octets = h.octets; none = h.none; rest = mid; all_of_it = h.all; ends = subst (λ (n : ℕ). CutsOff halt n mid left) same ends; going = going }
 
 pub hears_then : (a b c : State) → HearsOnly a b → HearsOnly b c → HearsOnly a c
-hears_then a b c f s = record { image = s.image ∙ f.image; loose = s.loose ∙ f.loose; told = s.told ∙ f.told; past = s.past ∙ f.past }
+hears_then a b c f s = record { image = s.image ∙ f.image; loose = s.loose ∙ f.loose; told = s.told ∙ f.told; past = s.past ∙ f.past; reads = λ dev. s.reads dev ∙ f.reads dev }
 
 -- the octets that were taken
 

@@ -1,3 +1,4 @@
+mod Begun
 mod CauseLaws
 mod ClapInverse
 mod ClapLaws

@@ -1,6 +1,7 @@
 -- Lines that ask for the listing of the cache, and lines that don't.
-use Rattle.std.proofs.Common.{◌≡◌, ℕ, suc, Bool, true, false, true≢false, List, [], ◌∷◌, ◌++◌, drop, Option, None, Some, refl, sym, ap, subst, ◌∙◌, append_assoc}
+use Rattle.std.proofs.Common.{◌≡◌, ⊎_elim, ℕ, zero, suc, Bool, true, false, true≢false, List, [], ◌∷◌, ◌++◌, drop, get_or, arith, Option, None, Some, refl, sym, ap, subst, ◌∙◌, append_assoc}
 use Rattle.std.specs.Prelude.{Result, Ok, Err, IfErr, OnOk, if◌then◌else◌}
+use Rattle.std.proofs.lemmas.Bool.{cases_lt}
 use Rattle.site.specs.declared.outside.Stop.{Stop}
 use Rattle.site.specs.declared.outside.Stop.TheVariants.{Memory}
 use Rattle.site.specs.State.{State as Site}
@@ -12,10 +13,15 @@ use Rattle.record_model.specs.State.{State}
 use Rattle.record_model.specs.Step.{refusal, outcome}
 use Rattle.record_model.specs.Run.{Line, is_cache, next_listing, later_listings}
 use Rattle.engine.specs.declared.engine.Engine.{Engine}
+use Rattle.engine.specs.Image.{IsSound}
 use Rattle.engine.specs.Listings.{listing_of}
+use Rattle.engine.specs.Paging.{cache_on}
+use Rattle.checkpoint.specs.declared.master.Master.{Master}
+use Rattle.log_records.specs.declared.log_record.LogRecord.{LogRecord}
+use Rattle.second_chance.specs.Machine.{after_works, listing, rules_of}
 use Rattle.face.specs.Causes.{FailsBy}
-use Rattle.face.specs.Run.{Run, Begins, IsAsked, step, answered, listings_left, listing_at}
-use Rattle.face.specs.Going.{Going, IsUnderWay}
+use Rattle.face.specs.Run.{Run, Begins, IsAsked, ListsUpTo, step, answered, asked_after, listings_left, listing_at}
+use Rattle.face.specs.Going.{Going, IsPaged, IsUnderWay}
 use Rattle.face.proofs.Runs.{left_next}
 
 -- Which lines ask for it.
@@ -64,7 +70,13 @@ rest_asked line listing later = by (is_cache line)
     by true = refl
     by false = refl
 
-module _ (entry mid : Site) (engine : Engine) (i : ℕ) (so_far : IsUnderWay entry mid engine i) (line : Line) where
+at_place : {X : Type 0} (xs : List X) (i : ℕ) (x : X) (rest : List X) (d : X) → drop i xs ≡ x ∷ rest → get_or xs i d ≡ x
+at_place [] zero x rest d is = cc
+at_place [] (suc i) x rest d is = cc
+at_place (y ∷ xs) zero x rest d is = cc
+at_place (y ∷ xs) (suc i) x rest d is = at_place xs i x rest d is
+
+module _ (pool : ℕ) (entry mid : Site) (engine : Engine) (i : ℕ) (so_far : IsUnderWay pool entry mid engine i) (line : Line) where
   -- the listings with the line's own
   abbrev pub with_line : List (List CacheLine)
   with_line = so_far.listings ++ asked line (listing_of engine)
@@ -78,6 +90,15 @@ module _ (entry mid : Site) (engine : Engine) (i : ℕ) (so_far : IsUnderWay ent
 
     pub is_asked : IsAsked line (listing_of engine) (listing_at run i)
     is_asked = λ asks. ap next_listing (so_far.left run (asked line (listing_of engine) ++ later) begins before) ∙ first_asked line (listing_of engine) later asks
+
+    -- where the cache has done what was asked so far, the line's own is the machine's too
+    pub listed_next : (rest : List Line) → drop i (answered run) ≡ line ∷ rest → ((newest : Option Master) (blocks : List (List LogRecord)) → IsSound newest run.geometry entry.image blocks → IsPaged pool run newest entry.image blocks engine i) → ListsUpTo pool run (suc i) entry.image
+    listed_next rest at paged newest blocks sound j less asks = ⊎_elim
+        (λ earlier. so_far.listed run (asked line (listing_of engine) ++ later) begins before newest blocks sound j earlier asks)
+        (λ most. let same : i ≡ j = omega (arith, less, most) in
+        subst (λ (n : ℕ). is_cache (get_or (answered run) n None) ≡ true → listing_at run n ≡ listing (after_works (rules_of pool run.geometry.groups) (asked_after run newest entry.image blocks n) (cache_on run.geometry entry.image))) same
+        (λ own. is_asked (sym (ap is_cache (at_place (answered run) i line rest None at)) ∙ own) ∙ ap listing (paged newest blocks sound).machine) asks)
+        (cases_lt j i)
 
     pub left_after : (rest : List Line) → drop i (answered run) ≡ line ∷ rest → listings_left run (suc i) ≡ later
     left_after rest at =

@@ -1,27 +1,35 @@
 -- A load that halts with its fault line, and one that is summed up.
-use Rattle.std.proofs.Common.{◌≡◌, ◌≢◌, ◌⊎◌, inl, inr, ⊎_elim, ℕ, ◌≤◌, List, [], ◌++◌, take, refl, sym, ◌∙◌, ap, subst, arith, append_assoc}
+use Rattle.std.proofs.Common.{◌≡◌, ◌≢◌, ◌⊎◌, inl, inr, ⊎_elim, ℕ, ◌-◌, ◌≤◌, true, List, [], ◌∷◌, ◌++◌, take, drop, refl, sym, ◌∙◌, ap, subst, arith, append_assoc, take-append-drop}
 use Rattle.std.specs.Prelude.{Ok, Err, IsErrOf}
 use Rattle.std.proofs.lemmas.List.{append-nil, take_all}
 use Rattle.site.specs.declared.geometry.Geometry.{Geometry}
 use Rattle.site.specs.declared.outside.Dev.TheVariants.{Flash}
 use Rattle.site.specs.declared.outside.Stop.TheVariants.{Device, Memory, Worn, Foreign}
-use Rattle.site.specs.State.{State as Site, Snapshot, now_of}
+use Rattle.site.specs.State.{State as Site, Image, Snapshot, now_of}
+use Rattle.site.specs.Calls.{SameReads}
 use Rattle.site.specs.Moments.{EachMoment, Leaves, LeavesOnly}
 use Rattle.site.specs.Laws.{image_is, in_sequence, leaves_weaker, tell_leaves, told_is}
 use Rattle.site.specs.Telling.{SameDevices, TellsPart}
 use Rattle.record_model.specs.State.{State}
+use Rattle.record_model.specs.Run.{Turn, commit_marks, commits_among}
+use Rattle.record_model.specs.Touches.{CacheWork, line_touches, run_touches}
+use Rattle.image_meaning.specs.Meaning.{picture_under}
+use Rattle.second_chance.specs.Machine.{rules_of}
+use Rattle.redo_undo.specs.Works.{Overflows, OverflowsWithMore}
+use Rattle.engine.specs.Paging.{cache_on, restart_works}
 use Rattle.face.specs.declared.halt.Halt.{Halt}
 use Rattle.face.specs.declared.halt.Halt.TheVariants as halt
 use Rattle.face.specs.declared.request.Load.{Load}
 use Rattle.face.specs.Causes.{HasCause, HasCauses, HasLogRoom, NoFaultRose}
 use Rattle.face.specs.Headline.{IsGood}
-use Rattle.face.specs.Loads.{Allows, IsLeftOf, IsOpened, IsUntold, LoadHeadline, LoadStops, LoadWorks}
-use Rattle.face.specs.Range.{NeverWears, StandsAfter, WearsOut, all_commits}
+use Rattle.face.specs.Loads.{Allows, HasBegunLoad, IsLeftOf, IsOpened, IsUntold, LoadHeadline, LoadStops, LoadWorks}
+use Rattle.face.specs.Range.{NeverWears, StandsAfter, WearsOut, all_commits, turns_of, works_by}
 use Rattle.face.specs.Run.{IsFront, Run}
 use Rattle.face.specs.Texts.{fault_line, status_of}
 use Rattle.face.specs.Workload.{load_run, opening_text, summary_text}
 use Rattle.face.proofs.Counted.{skips_still}
 use Rattle.face.proofs.Faults.{not_zero, worn_by}
+use Rattle.face.proofs.Pagings.{reads_still}
 use Rattle.face.proofs.Meanings.{stands_by}
 
 no_text : (rest text : List ℕ) → IsFront rest [] → IsFront rest text
@@ -45,6 +53,20 @@ fault_allowed run summary fault told k (inr (inr all)) = inr (inr all)
 fault_left : (run : Run) (summary fault so_far : List ℕ) (s : Snapshot) → IsLeftOf run summary [] so_far s → IsLeftOf run summary fault so_far s
 fault_left run summary fault so_far s l = record { told = l.told; told_is = l.told_is; k = l.k; allowed = fault_allowed run summary fault l.told l.k l.allowed; stands = l.stands }
 
+-- more is told behind the lines that were begun
+still_begun : (run : Run) (begun : ℕ) (text : List ℕ) (old mid new : Site) → EachMoment mid new (TellsPart text mid) → HasBegunLoad run begun old mid → HasBegunLoad run begun old new
+still_begun run begun text old mid new tells b =
+    let now = tells.now.told 0 in
+    let more = take now.0 text in
+    record {
+      few = b.few;
+      opened = λ some. let o = b.opened some in (
+        o.0 ++ more,
+        sym (append-nil new.told) ∙ now.1 ∙ ap (λ (l : List ℕ). l ++ more) o.1 ∙ append_assoc old.told (opening_text run ++ o.0) more ∙ ap (λ (l : List ℕ). old.told ++ l) (append_assoc (opening_text run) o.0 more),
+      );
+      stands = λ s left. ((tell_leaves (λ image. (k : ℕ) × (commits_among (begun - 1) (commit_marks (turns_of run)) ≤ k) × StandsAfter run k image) text mid new b.stands tells).now s left).1;
+    }
+
 no_error : {T : Type 0} (x : T) (h : Halt) → IsErrOf {T = T} (Ok x) h → ⊥
 no_error x h is = cc
 
@@ -61,13 +83,17 @@ module _ (pool : ℕ) (run : Run) (summary : List ℕ) (old : Site) where
       quiet = works.stops.quiet;
     };
     done = tt;
+    begun = works.begun;
+    has_begun = works.has_begun;
     worn = λ is. works.worn (ap Err (same_halt {T = U} h (halt.Stop (Worn Flash)) is));
     room = tt;
+    frames = tt;
     numbers = works.numbers;
+    reads = works.reads;
     left = works.left;
   }
 
-  module _ {T : Type 0} (x : T) (mid new : Site) (works : LoadWorks pool run [] old mid (Ok x)) (tells : EachMoment mid new (TellsPart summary mid)) (same : SameDevices mid new) where
+  module _ {T : Type 0} (x : T) (mid new : Site) (works : LoadWorks pool run [] old mid (Ok x)) (tells : EachMoment mid new (TellsPart summary mid)) (same : SameDevices mid new) (read : SameReads mid new) where
     told_mid : mid.told ≡ old.told ++ opening_text run
     told_mid = works.done.whole.told ∙ ap (λ (l : List ℕ). old.told ++ l) (append-nil (opening_text run))
 
@@ -94,9 +120,13 @@ module _ (pool : ℕ) (run : Run) (summary : List ℕ) (old : Site) where
         };
         quiet = same.loose ∙ works.done.quiet;
       };
+      begun = works.begun;
+      has_begun = still_begun run works.begun summary old mid new tells works.has_begun;
       worn = λ is. absurd (no_error y (halt.Stop (Worn Flash)) is);
       room = works.room;
-      numbers = skips_still run old.image mid.image new.image same.image works.numbers;
+      frames = λ newest blocks sound. ap (λ (x : Image). cache_on run.geometry x) same.image ∙ works.frames newest blocks sound;
+      numbers = skips_still run works.begun old.image mid.image new.image same.image works.numbers;
+      reads = λ newest blocks sound. reads_still _ _ _ _ mid new read (works.reads newest blocks sound);
       left = same.left ∙ works.left;
     }
 
@@ -105,9 +135,13 @@ module _ (pool : ℕ) (run : Run) (summary : List ℕ) (old : Site) where
     summary_lost {U} = record {
       stops = record { any_moment = summing; between = λ ne. absurd (ne refl); quiet = λ ne. same.loose ∙ works.done.quiet };
       done = tt;
+      begun = works.begun;
+      has_begun = still_begun run works.begun summary old mid new tells works.has_begun;
       worn = λ is. absurd (other (same_halt {T = U} halt.Output (halt.Stop (Worn Flash)) is));
       room = tt;
-      numbers = skips_still run old.image mid.image new.image same.image works.numbers;
+      frames = tt;
+      numbers = skips_still run works.begun old.image mid.image new.image same.image works.numbers;
+      reads = λ newest blocks sound. reads_still _ _ _ _ mid new read (works.reads newest blocks sound);
       left = same.left ∙ works.left;
     }
       where
@@ -159,6 +193,12 @@ module _ (run : Run) (summary : List ℕ) (old mid new : Site) (h : Halt) (stops
   with_fault = in_sequence old mid new (Leaves (IsLeftOf run summary (fault_line h) old.told)) before
       (⊎_elim fault_none (λ ne. ⊎_elim fault_untold fault_opened (stops.between ne)) (output_or_not h))
 
+-- the work of some turns and of those behind them
+touches_join : (first later : List Turn) → run_touches true (first ++ later) ≡ run_touches true first ++ run_touches true later
+touches_join [] later = refl
+touches_join (t ∷ first) later =
+    ap (λ (w : List CacheWork). line_touches true t.before t.line ++ w) (touches_join first later) ∙ sym (append_assoc (line_touches true t.before t.line) (run_touches true first) (run_touches true later))
+
 -- The headline.
 module _ (load : Load) (g : Geometry) (opening : State) (old : Site) (good : IsGood g opening old) where
   abbrev run' : Run
@@ -167,16 +207,20 @@ module _ (load : Load) (g : Geometry) (opening : State) (old : Site) (good : IsG
   abbrev summary' : List ℕ
   summary' = summary_text run' load
 
-  pub load_halted : {T : Type 0} (mid new : Site) (h : Halt) → LoadWorks {T = T} load.pool run' summary' old mid (Err h) → EachMoment mid new (TellsPart (fault_line h) mid) → SameDevices mid new → HasCause h old new → (status : ℕ) → status ≡ status_of h → LoadHeadline load g opening old new status
-  load_halted {T} mid new h works tells same cause status is = record {
+  pub load_halted : {T : Type 0} (mid new : Site) (h : Halt) → LoadWorks {T = T} load.pool run' summary' old mid (Err h) → EachMoment mid new (TellsPart (fault_line h) mid) → SameDevices mid new → SameReads mid new → HasCause h old new → (status : ℕ) → status ≡ status_of h → LoadHeadline load g opening old new status
+  load_halted {T} mid new h works tells same read cause status is = record {
     fault = fault_line h;
     of_status = inr (h, is, refl, cause);
     any_moment = with_fault run' summary' old mid new h works.stops tells;
     quiet = λ ne. same.loose ∙ works.stops.quiet (λ e. ne (is ∙ e));
     done = λ zero. absurd (not_zero h (sym is ∙ zero));
+    begun = works.begun;
+    has_begun = still_begun run' works.begun (fault_line h) old mid new tells works.has_begun;
     worn = λ eight. ⊎_elim (λ flash. inl (works.worn flash)) (λ log. inr log) (worn_by {T = T} g opening h old new good cause (sym is ∙ eight));
     room = λ zero. absurd (not_zero h (sym is ∙ zero));
-    numbers = skips_still run' old.image mid.image new.image same.image works.numbers;
+    frames = λ zero. absurd (not_zero h (sym is ∙ zero));
+    numbers = skips_still run' works.begun old.image mid.image new.image same.image works.numbers;
+    reads = λ newest blocks sound. reads_still _ _ _ _ mid new read (works.reads newest blocks sound);
     left = same.left ∙ works.left;
   }
 
@@ -187,24 +231,38 @@ module _ (load : Load) (g : Geometry) (opening : State) (old : Site) (good : IsG
     any_moment = works.done.any_moment;
     quiet = λ ne. works.done.quiet;
     done = λ zero. works.done.whole;
+    begun = works.begun;
+    has_begun = works.has_begun;
     worn = λ eight. absurd (omega (arith, eight));
     room = λ zero. works.room;
+    frames = λ zero. works.frames;
     numbers = works.numbers;
+    reads = works.reads;
     left = works.left;
   }
 
   -- where nothing fails, and no ring is too short, it is done, or memory was wanted
-  pub load_complete : (new : Site) (status : ℕ) → NoFaultRose old new → NeverWears load.pool run' old.image → HasLogRoom g new → (status ≢ 5) × (status ≢ 7) → HasCauses status old new → LoadHeadline load g opening old new status → (status ≡ 0) ⊎ (status ≡ 4)
-  load_complete new status none room log_room untaken causes h =
+  pub load_complete : OverflowsWithMore → (new : Site) (status : ℕ) → NoFaultRose old new → NeverWears load.pool run' old.image → HasLogRoom g new → (status ≢ 5) × (status ≢ 7) → HasCauses status old new → LoadHeadline load g opening old new status → (status ≡ 0) ⊎ (status ≡ 4)
+  load_complete more new status none room log_room untaken causes h =
       ⊎_elim (λ e. inl e) (⊎_elim (λ e. let c = causes.device e in absurd (none.devices c.0 c.1)) (⊎_elim (λ e. inr e) (⊎_elim (λ e. absurd (untaken.0 e))
       (⊎_elim (λ e. absurd (none.output (causes.output e))) (⊎_elim (λ e. absurd (untaken.1 e))
       (⊎_elim (λ e. absurd (⊎_elim never log_room (h.worn e))) (λ e. absurd (causes.foreign e good.honest g opening.table opening.commits (stands_by g old.image opening good.opens))))))))) causes.others
     where
-      never : WearsOut load.pool run' old.image → ⊥
+      never : WearsOut load.pool run' h.begun old.image → ⊥
       never over =
-          let all = over good.opens.newest good.opens.blocks good.opens.sound in
-          let few = room good.opens.newest good.opens.blocks good.opens.sound in
-          omega (arith, all, few)
+          let newest = good.opens.newest in
+          let blocks = good.opens.blocks in
+          let sound = good.opens.sound in
+          let least = sound.octets.limits.groups in
+          let front = take h.begun (turns_of run') in
+          let later = drop h.begun (turns_of run') in
+          let all : works_by run' front newest old.image blocks ++ run_touches true later ≡ works_by run' (turns_of run') newest old.image blocks =
+          append_assoc (restart_works (picture_under newest g old.image blocks)) (run_touches true front) (run_touches true later)
+          ∙ ap (λ (w : List CacheWork). restart_works (picture_under newest g old.image blocks) ++ w) (sym (touches_join front later) ∙ ap (run_touches true) (take-append-drop h.begun (turns_of run'))) in
+          let many = subst (λ (w : List CacheWork). Overflows (rules_of load.pool g.groups) w (cache_on g old.image)) all
+          (more (rules_of load.pool g.groups) (works_by run' front newest old.image blocks) (run_touches true later) (cache_on g old.image) (omega (arith, least)) (over newest blocks sound)) in
+          let few = room newest blocks sound in
+          omega (arith, many, few)
 
 -- a status of none that speaks of input
 pub not_taken : (h : Halt) (status : ℕ) → status ≡ status_of h → (h ≢ halt.Input) × (h ≢ halt.Limit) → (status ≢ 5) × (status ≢ 7)

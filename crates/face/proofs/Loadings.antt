@@ -1,7 +1,8 @@
 -- What a load leaves: while it opens, while its lines are carried out, and when they are done.
-use Rattle.std.proofs.Common.{◌≡◌, ◌⊎◌, inl, inr, ⊎_elim, ℕ, zero, suc, ◌+◌, ◌*◌, ◌<◌, ◌≤◌, ◌^◌, Bool, true, List, [], ◌++◌, length, take, drop, refl, sym, ◌∙◌, ap, subst, arith, take-append-drop}
+use Rattle.std.proofs.Common.{◌≡◌, ◌⊎◌, inl, inr, ⊎_elim, ℕ, zero, suc, ◌+◌, ◌-◌, ◌*◌, ◌<◌, ◌≤◌, ◌^◌, Bool, true, List, [], ◌++◌, length, take, drop, refl, sym, ◌∙◌, ap, subst, arith, take-append-drop}
 use Rattle.std.specs.Prelude.{Option, Result, Ok, Err, IsErrOf, count_by}
-use Rattle.std.proofs.lemmas.List.{append-nil, take_all}
+use Rattle.std.proofs.lemmas.Bool.{cases_lt}
+use Rattle.std.proofs.lemmas.List.{append-nil, length-take-le, take_all}
 use Rattle.site.specs.declared.geometry.Geometry.{Geometry}
 use Rattle.site.specs.declared.outside.Dev.TheVariants.{Flash}
 use Rattle.site.specs.declared.outside.Stop.TheVariants.{Worn}
@@ -9,17 +10,18 @@ use Rattle.site.specs.State.{State as Site, Image, Snapshot, MayLeave, now_of}
 use Rattle.site.specs.Moments.{Leaves, LeavesOnly}
 use Rattle.site.specs.Laws.{holds_now, in_sequence, leaves_weaker}
 use Rattle.record_model.specs.State.{State}
-use Rattle.record_model.specs.Run.{Line, commit_marks, commits_among}
+use Rattle.record_model.specs.Run.{Line, Turn, commit_marks, commits_among}
 use Rattle.record_model.specs.Touches.{CacheWork}
 use Rattle.checkpoint.specs.declared.master.Master.{Master}
 use Rattle.log_records.specs.declared.log_record.LogRecord.{LogRecord}
 use Rattle.image_meaning.specs.Meaning.{picture_under}
-use Rattle.second_chance.specs.Machine.{Cache, after_works, rules_of}
+use Rattle.second_chance.specs.Machine.{Cache, Rules, after_works, opened, rules_of}
 use Rattle.page_store.specs.Caching.{cache_of, rules}
-use Rattle.redo_undo.specs.Works.{next_group, Overflows, OverflowsWithMore, WorksAddUp}
+use Rattle.redo_undo.specs.Works.{next_group, Overflows, ReadsAddUp, ReadsFor, WorksAddUp}
 use Rattle.engine.specs.declared.engine.Engine.{Engine}
 use Rattle.engine.specs.Going.{sizes_of}
 use Rattle.engine.specs.Image.{IsSound, log_under}
+use Rattle.engine.specs.Listings.{QueueIsOnFlash}
 use Rattle.engine.specs.Numbers.{CountsOn}
 use Rattle.engine.specs.Paging.{cache_on, restart_works}
 use Rattle.face.specs.declared.halt.Halt.{Halt}
@@ -27,17 +29,20 @@ use Rattle.face.specs.declared.halt.Halt.TheVariants as halt
 use Rattle.face.specs.declared.request.Load.{Load}
 use Rattle.face.specs.Going.{Going, IsCounted, IsPaged}
 use Rattle.face.specs.Lines.{commands_of}
-use Rattle.face.specs.Loads.{CarriesOut, IsLeftOf, IsOpened, IsUntold, LeavesSome, LoadStops, LoadWorks}
-use Rattle.face.specs.Range.{SkipsNoNumber, StandsAfter, WearsOut, all_commits, all_works, run_of, turns_of}
-use Rattle.face.specs.Run.{IsAccounted, IsFront, IsPart, Outgrows, Run, SkipsNoneUpTo, StandsFor, StandsNear, Stops, after_lines, answered, asked_after, checkpoints_of, text_at, told_after, works_of}
+use Rattle.face.specs.Loads.{CarriesFirst, CarriesOut, HasBegunLoad, IsLeftOf, IsOpened, IsUntold, LeavesSome, LoadStops, LoadWorks}
+use Rattle.face.specs.Range.{ReadsNoMore, SkipsNoNumber, StandsAfter, WearsOut, all_commits, cache_by, run_of, turns_of, works_by}
+use Rattle.face.specs.Run.{IsAccounted, IsFront, IsPart, Outgrows, ReadsFew, ReadsUpTo, Run, SkipsNoneUpTo, StandsFor, StandsNear, Stops, after_lines, answered, asked_after, checkpoints_of, text_at, told_after, works_of}
 use Rattle.face.specs.Texts.{status_of}
 use Rattle.face.specs.Workload.{get_line, load_run, numbers_of, opening_text, set_line, set_lines, get_lines}
 use Rattle.face.proofs.Counted.{skips_course, skips_no_number}
 use Rattle.face.proofs.Logs.{fits_stands}
-use Rattle.face.proofs.Pagings.{turns_ask}
+use Rattle.face.proofs.Courses.{carries_all, leaves_first}
+use Rattle.face.proofs.Fronts.{take_within}
+use Rattle.face.proofs.Pagings.{first_ask}
 use Rattle.face.proofs.Ranges.{all_among, stands_after}
 use Rattle.face.proofs.Stated.{NoneQuits, all_answered, count_join, none_quits_join, none_quits_map}
 use Rattle.face.proofs.Tallies.{get_goes, set_goes}
+use Rattle.face.proofs.Turns.{turns_count}
 
 -- no more commits among some turns than among all
 few_among : (i : ℕ) (marks : List Bool) → commits_among i marks ≤ count_by (λ mark. mark) marks
@@ -46,8 +51,9 @@ few_among i marks =
     ap (count_by (λ (mark : Bool). mark)) (sym (take-append-drop i marks)) ∙ count_join (λ mark. mark) (take i marks) (drop i marks) in
     omega (arith, all)
 
-nothing_front : (rest : List ℕ) → IsFront rest [] → rest ≡ []
-nothing_front rest front = front.1 ∙ take_all front.0 [] (omega arith)
+-- the more turns, the more commits
+more_among : (i j : ℕ) (marks : List Bool) → i ≤ j → commits_among i marks ≤ commits_among j marks
+more_among i j marks le = subst (λ (l : List Bool). count_by (λ (mark : Bool). mark) l ≤ commits_among j marks) (take_within i j marks le) (few_among i (take j marks))
 
 module _ (g : Geometry) (opening : State) (load : Load) where
   abbrev run : Run
@@ -128,31 +134,44 @@ module _ (g : Geometry) (opening : State) (load : Load) where
     same_halt : {T : Type 0} (h is : Halt) → IsErrOf {T = T} (Err h) is → h ≡ is
     same_halt h is same = cc
 
-    -- all that the load asks, behind what the restart has asked
-    all_asked : (newest : Option Master) (image : Image) (blocks : List (List LogRecord)) → all_works run newest image blocks ≡ asked_after opening_run newest image blocks 0 ++ works_of opening run.lines
-    all_asked newest image blocks =
+    -- what its first lines ask, behind what the restart has asked
+    first_asked : (n : ℕ) (newest : Option Master) (image : Image) (blocks : List (List LogRecord)) → works_by run (take n (turns_of run)) newest image blocks ≡ asked_after opening_run newest image blocks 0 ++ works_of opening (take n run.lines)
+    first_asked n newest image blocks =
         let restart = restart_works (picture_under newest g image blocks) in
-        ap (λ (w : List CacheWork). restart ++ w) (turns_ask opening run.lines [] ∙ ap (works_of opening) all_lines)
-        ∙ ap (λ (w : List CacheWork). w ++ works_of opening run.lines) (sym (append-nil restart))
+        ap (λ (w : List CacheWork). restart ++ w) (first_ask n opening run.lines [] ∙ ap (λ (l : List Line). works_of opening (take n l)) all_lines)
+        ∙ ap (λ (w : List CacheWork). w ++ works_of opening (take n run.lines)) (sym (append-nil restart))
 
-    pub load_never_opened : {T : Type 0} → OverflowsWithMore → (new : Site) (h : Halt) → Stops opening_run 0 old new h → (h ≡ halt.Stop (Worn Flash) → Outgrows load.pool opening_run old.image 0) → SkipsNoneUpTo opening_run 0 old.image new.image → new.left ≡ old.left →
+    -- where it never opened no line was begun
+    none_begun : (new : Site) (h : Halt) → Stops opening_run 0 old new h → HasBegunLoad run 0 old new
+    none_begun new h stops = record {
+      few = omega arith;
+      opened = λ some. absurd (omega (arith, some));
+      stands = λ s left. let a = stops.any_moment.now s left in let begun = a.begun in (0, omega arith, stands_first s.image (opens_at a.whole s.image (omega (arith, begun)) a.stands));
+    }
+
+    pub load_never_opened : {T : Type 0} (new : Site) (h : Halt) → Stops opening_run 0 old new h → (h ≡ halt.Stop (Worn Flash) → Outgrows load.pool opening_run old.image 0) → SkipsNoneUpTo opening_run 0 old.image new.image → ReadsUpTo load.pool opening_run 0 old new → new.left ≡ old.left →
         LoadWorks {T = T} load.pool run [] old new (Err h)
-    load_never_opened {T} more new h stops worn numbers left = record {
+    load_never_opened {T} new h stops worn numbers reads left = record {
       stops = never_opened new h stops;
       done = tt;
+      begun = 0;
+      has_begun = none_begun new h stops;
+      frames = tt;
       worn = λ is newest blocks sound.
-          let least = sound.octets.limits.groups in
-          subst (λ (w : List CacheWork). Overflows (rules_of load.pool g.groups) w (cache_on g old.image)) (sym (all_asked newest old.image blocks))
-          (more (rules_of load.pool g.groups) (asked_after opening_run newest old.image blocks 0) (works_of opening run.lines) (cache_on g old.image) (omega (arith, least)) (worn (same_halt {T = T} h (halt.Stop (Worn Flash)) is) newest blocks sound));
+          subst (λ (w : List CacheWork). Overflows (rules_of load.pool g.groups) w (cache_on g old.image)) (sym (first_asked 0 newest old.image blocks ∙ append-nil (asked_after opening_run newest old.image blocks 0)))
+          (worn (same_halt {T = T} h (halt.Stop (Worn Flash)) is) newest blocks sound);
       room = tt;
       numbers = skips_no_number g opening [] (commands_of true old.left) run.lines 0 refl old.image new.image numbers;
+      reads = λ newest blocks sound.
+          subst (λ (w : List CacheWork). ReadsFew load.pool g w old new) (sym (first_asked 0 newest old.image blocks ∙ append-nil (asked_after opening_run newest old.image blocks 0))) (reads newest blocks sound);
       left = left;
     }
 
     -- Once it is told.
-    module _ (add : WorksAddUp) (mid new : Site) (before after : Engine) (going : Going opening_run old mid before 0)
+    module _ (add : WorksAddUp) (reads_add : ReadsAddUp) (mid new : Site) (before after : Engine) (going : Going opening_run old mid before 0)
         (paged : (newest : Option Master) (blocks : List (List LogRecord)) → IsSound newest g old.image blocks → IsPaged load.pool opening_run newest old.image blocks before 0)
         (counted : (newest : Option Master) (blocks : List (List LogRecord)) → IsSound newest g old.image blocks → IsCounted opening_run (log_under newest blocks) old.image mid.image before 0)
+        (read : ReadsUpTo load.pool opening_run 0 old mid)
         (left : mid.left ≡ old.left) where
       told_mid : mid.told ≡ old.told ++ opening_text run
       told_mid = going.told ∙ ap (λ (l : List ℕ). old.told ++ l) (append-nil (opening_text run))
@@ -166,9 +185,16 @@ module _ (g : Geometry) (opening : State) (load : Load) where
         stands = some_lines l.done s.image (subst (λ (x : Geometry). StandsFor x s.image (after_lines opening (take l.done run.lines) [])) going.geometry l.stands);
       }
 
-      module _ {T : Type 0} (result : Result T Halt) (course : CarriesOut result run.lines before after mid new) where
+      module _ {T : Type 0} (result : Result T Halt) (some : CarriesFirst result run.lines before after mid new) where
+        abbrev first : List Line
+        first = take some.begun run.lines
+
         meanwhile : LeavesOnly mid new (LeavesSome (sizes_of before.store) opening run.lines mid.told)
-        meanwhile = course.any_moment opening going.fits going.quiet
+        meanwhile =
+            let later = drop some.begun run.lines in
+            subst (λ (l : List Line). LeavesOnly mid new (LeavesSome (sizes_of before.store) opening l mid.told)) (take-append-drop some.begun run.lines)
+            (leaves_weaker mid new (LeavesSome (sizes_of before.store) opening first mid.told) (LeavesSome (sizes_of before.store) opening (first ++ later) mid.told) (leaves_first (sizes_of before.store) opening first later mid.told)
+            (some.course.any_moment opening going.fits going.quiet))
 
         moments : LeavesOnly old new (IsLeftOf run [] [] old.told)
         moments = in_sequence old mid new (Leaves (IsLeftOf run [] [] old.told))
@@ -178,60 +204,107 @@ module _ (g : Geometry) (opening : State) (load : Load) where
         told_new : new.told ≡ old.told ++ opening_text run
         told_new = (holds_now mid new (LeavesSome (sizes_of before.store) opening run.lines mid.told) meanwhile).told ∙ told_mid
 
+        -- some of the first lines, all but one or all, are the first of all
+        last_lines : (done : ℕ) → length first ≤ done + 1 → (i : ℕ) × (some.begun ≤ i + 1) × (take done first ≡ take i run.lines)
+        last_lines done few =
+            let long = length-take-le some.begun run.lines some.few in
+            ⊎_elim
+            (λ less. (done, omega (arith, few, long), take_within done some.begun run.lines (omega (arith, less))))
+            (λ most. (some.begun, omega arith, take_all done first (omega (arith, long, most))))
+            (cases_lt done some.begun)
+
+        has_begun : HasBegunLoad run some.begun old new
+        has_begun = record {
+          few = let count = turns_count opening run.lines [] in let same = ap length all_lines in let few = some.few in omega (arith, count, same, few);
+          opened = λ any. ([], told_new ∙ ap (λ (l : List ℕ). old.told ++ l) (sym (append-nil (opening_text run))));
+          stands = λ s left.
+              let l = some.course.last opening going.fits going.quiet s left in
+              let last = last_lines l.0 l.1 in
+              let few = last.1 in (
+                commits_among last.0 marks,
+                more_among (some.begun - 1) last.0 marks (omega (arith, few)),
+                some_lines last.0 s.image (subst (λ (x : List Line). StandsFor g s.image (after_lines opening x [])) last.2
+                    (subst (λ (x : Geometry). StandsFor x s.image (after_lines opening (take l.0 first) [])) going.geometry l.2)),
+              );
+        }
+
         next_is : (newest : Option Master) (blocks : List (List LogRecord)) → IsSound newest g old.image blocks →
-            after_works (rules before.store.pages) (works_of opening run.lines) (cache_of before.store.pages) ≡ after_works (rules_of load.pool g.groups) (all_works run newest old.image blocks) (cache_on g old.image)
+            after_works (rules before.store.pages) (works_of opening first) (cache_of before.store.pages) ≡ cache_by load.pool run (take some.begun (turns_of run)) newest old.image blocks
         next_is newest blocks sound =
             let p = paged newest blocks sound in
-            (λ j. after_works (p.rules_are j) (works_of opening run.lines) (p.machine j))
-            ∙ sym (add (rules_of load.pool g.groups) (asked_after opening_run newest old.image blocks 0) (works_of opening run.lines) (cache_on g old.image))
-            ∙ ap (λ (w : List CacheWork). after_works (rules_of load.pool g.groups) w (cache_on g old.image)) (sym (all_asked newest old.image blocks))
+            (λ j. after_works (p.rules_are j) (works_of opening first) (p.machine j))
+            ∙ sym (add (rules_of load.pool g.groups) (asked_after opening_run newest old.image blocks 0) (works_of opening first) (cache_on g old.image))
+            ∙ ap (λ (w : List CacheWork). after_works (rules_of load.pool g.groups) w (cache_on g old.image)) (sym (first_asked some.begun newest old.image blocks))
 
-        worn_out : IsErrOf result (halt.Stop (Worn Flash)) → WearsOut load.pool run old.image
-        worn_out is newest blocks sound = subst (λ (c : Cache). 2 ^ 40 < next_group c) (next_is newest blocks sound) ((course.serves opening going.fits).worn is)
+        worn_out : IsErrOf result (halt.Stop (Worn Flash)) → WearsOut load.pool run some.begun old.image
+        worn_out is newest blocks sound = subst (λ (c : Cache). 2 ^ 40 < next_group c) (next_is newest blocks sound) ((some.course.serves opening going.fits).worn is)
 
-        numbers_are : SkipsNoNumber run old.image new.image
+        numbers_are : SkipsNoNumber run some.begun old.image new.image
         numbers_are newest blocks sound =
             let so_far = counted newest blocks sound in
-            skips_course result run (log_under newest blocks) before after old.image mid new going.geometry so_far.log (let masters = so_far.numbers.masters in omega (arith, masters))
-            (subst (λ (l : List Line). CountsOn result before after mid new opening (after_lines opening l []) (checkpoints_of opening l)) (sym all_lines) (course.numbers opening going.fits going.quiet))
+            skips_course result run some.begun (log_under newest blocks) before after old.image mid new going.geometry so_far.log (let masters = so_far.numbers.masters in omega (arith, masters))
+            (subst (λ (l : List Line). CountsOn result before after mid new opening (after_lines opening (take some.begun l) []) (checkpoints_of opening (take some.begun l))) (sym all_lines) (some.course.numbers opening going.fits going.quiet))
+
+        reads_are : ReadsNoMore load.pool run some.begun old new
+        reads_are newest blocks sound =
+            let p = paged newest blocks sound in
+            let r = rules_of load.pool g.groups in
+            let opening_works = asked_after opening_run newest old.image blocks 0 in
+            subst (λ (w : List CacheWork). ReadsFew load.pool g w old new) (sym (first_asked some.begun newest old.image blocks))
+            (reads_add r opening_works (works_of opening first) (cache_on g old.image) (record old { flash_reads = old.flash_reads + 2 * g.groups }) mid new (read newest blocks sound)
+            (subst (λ (c : Cache). ReadsFor r (works_of opening first) c mid new) p.machine
+            (subst (λ (x : Rules). ReadsFor x (works_of opening first) (cache_of before.store.pages) mid new) p.rules_are (some.course.serves opening going.fits).reads)))
 
         left_new : new.left ≡ old.left
-        left_new = course.left going.fits.honest ∙ left
+        left_new = some.course.left going.fits.honest ∙ left
 
-      pub load_stopped : {T U : Type 0} (h : Halt) → CarriesOut {T = U} (Err h) run.lines before after mid new → LoadWorks {T = T} load.pool run [] old new (Err h)
-      load_stopped {T} {U} h course = record {
+      pub load_stopped : {T U : Type 0} (h : Halt) → CarriesFirst {T = U} (Err h) run.lines before after mid new → LoadWorks {T = T} load.pool run [] old new (Err h)
+      load_stopped {T} {U} h some = record {
         stops = record {
-          any_moment = moments (Err h) course;
+          any_moment = moments (Err h) some;
           between = λ ne. inr (record {
-            told = told_new (Err h) course;
-            stands = λ s l. let some = (meanwhile (Err h) course).now s l in
-                (commits_among some.done marks, few_among some.done marks, some_lines some.done s.image (subst (λ (x : Geometry). StandsFor x s.image (after_lines opening (take some.done run.lines) [])) going.geometry some.stands));
+            told = told_new (Err h) some;
+            stands = λ s l. let left = (meanwhile (Err h) some).now s l in
+                (commits_among left.done marks, few_among left.done marks, some_lines left.done s.image (subst (λ (x : Geometry). StandsFor x s.image (after_lines opening (take left.done run.lines) [])) going.geometry left.stands));
           });
-          quiet = λ ne. course.quiet opening going.fits going.quiet (λ d is. ne (ap status_of is));
+          quiet = λ ne. some.course.quiet opening going.fits going.quiet (λ d is. ne (ap status_of is));
         };
         done = tt;
-        worn = λ is. worn_out (Err h) course (ap Err (same_halt {T = T} h (halt.Stop (Worn Flash)) is));
+        begun = some.begun;
+        has_begun = has_begun (Err h) some;
+        worn = λ is. worn_out (Err h) some (ap Err (same_halt {T = T} h (halt.Stop (Worn Flash)) is));
         room = tt;
-        numbers = numbers_are (Err h) course;
-        left = left_new (Err h) course;
+        frames = tt;
+        numbers = numbers_are (Err h) some;
+        reads = reads_are (Err h) some;
+        left = left_new (Err h) some;
       }
 
-      pub load_finished : {T : Type 0} (x : T) → CarriesOut (Ok x) run.lines before after mid new → LoadWorks {T = T} load.pool run [] old new (Ok x)
-      load_finished {T} x course = record {
-        stops = tt;
-        done = record {
-          any_moment = moments (Ok x) course;
-          whole = record {
-            told = told_new (Ok x) course ∙ ap (λ (l : List ℕ). old.told ++ l) (sym (append-nil (opening_text run)));
-            stands = stands_last new.image (subst (λ (y : Geometry). StandsFor y new.image (after_lines opening run.lines [])) (course.sizes ∙ going.geometry) (fits_stands after new (after_lines opening run.lines []) course.going.store.both.sizes (course.fits opening going.fits)));
-          };
-          quiet = course.stays_quiet going.fits.honest going.quiet;
-        };
-        worn = worn_out (Ok x) course;
-        room = λ newest blocks sound.
-            let next = course.going.store.both.pages_going.flash.next in
-            let bounded = course.going.store.both.pages_going.flash.usable.bounded in
-            subst (λ (c : Cache). next_group c ≤ 2 ^ 40) ((course.serves opening going.fits).machine ∙ next_is (Ok x) course newest blocks sound) (omega (arith, next, bounded));
-        numbers = numbers_are (Ok x) course;
-        left = left_new (Ok x) course;
-      }
+      pub load_finished : {T : Type 0} → QueueIsOnFlash → (x : T) → CarriesOut (Ok x) run.lines before after mid new → LoadWorks {T = T} load.pool run [] old new (Ok x)
+      load_finished {T} law x course =
+          let some = carries_all x run.lines before after mid new course in
+          let whole : take some.begun (turns_of run) ≡ turns_of run = take_all some.begun (turns_of run) (let count = turns_count opening run.lines [] in let same = ap length all_lines in omega (arith, count, same)) in
+          record {
+            stops = tt;
+            done = record {
+              any_moment = moments (Ok x) some;
+              whole = record {
+                told = told_new (Ok x) some ∙ ap (λ (l : List ℕ). old.told ++ l) (sym (append-nil (opening_text run)));
+                stands = stands_last new.image (subst (λ (y : Geometry). StandsFor y new.image (after_lines opening run.lines [])) (course.sizes ∙ going.geometry) (fits_stands after new (after_lines opening run.lines []) course.going.store.both.sizes (course.fits opening going.fits)));
+              };
+              quiet = course.stays_quiet going.fits.honest going.quiet;
+            };
+            begun = some.begun;
+            has_begun = has_begun (Ok x) some;
+            worn = worn_out (Ok x) some;
+            room = λ newest blocks sound.
+                let next = course.going.store.both.pages_going.flash.next in
+                let bounded = course.going.store.both.pages_going.flash.usable.bounded in
+                subst (λ (c : Cache). next_group c ≤ 2 ^ 40) ((some.course.serves opening going.fits).machine ∙ next_is (Ok x) some newest blocks sound ∙ ap (λ (l : List Turn). cache_by load.pool run l newest old.image blocks) whole) (omega (arith, next, bounded));
+            frames = λ newest blocks sound.
+                ap (λ (y : Geometry). cache_on y new.image) (sym (course.sizes ∙ going.geometry)) ∙ law after new (after_lines opening run.lines []) (course.fits opening going.fits)
+                ∙ ap (λ (c : Cache). opened c.queue) ((some.course.serves opening going.fits).machine ∙ next_is (Ok x) some newest blocks sound ∙ ap (λ (l : List Turn). cache_by load.pool run l newest old.image blocks) whole);
+            numbers = numbers_are (Ok x) some;
+            reads = reads_are (Ok x) some;
+            left = left_new (Ok x) some;
+          }

@@ -10,8 +10,10 @@ use Rattle.record_model.specs.State.{State}
 use Rattle.face.specs.declared.halt.Halt.{Halt}
 use Rattle.face.specs.declared.halt.Halt.TheVariants as halt
 use Rattle.face.specs.Headline.{IsGood, Headline}
-use Rattle.redo_undo.specs.Works.{OverflowsWithMore}
-use Rattle.face.specs.Run.{Works}
+use Rattle.face.specs.Run.{ReadsUpTo, Run, Works}
+use Rattle.face.proofs.Pagings.{none_read}
+use Rattle.redo_undo.specs.Works.{NumbersRise}
+use Rattle.site.specs.Calls.{SameReads}
 use Rattle.face.specs.Causes.{HasCauses}
 use Rattle.face.specs.New.{New, NewCauses}
 use Rattle.face.specs.Words.{LacksMemory, memory_fault}
@@ -43,21 +45,25 @@ still g opening old good =
       stands = subst (λ (x : Image). Stands g x opening.table opening.commits) (sym (image_is (now_of old) s good.quiet left)) (stands_by g old.image opening good.opens);
     })
 
-pub lacked_headline : OverflowsWithMore → (pool : ℕ) (g : Geometry) (opening : State) (old new : Site) → IsGood g opening old → EachMoment old new (TellsPart memory_fault old) → SameDevices old new → Headline pool g opening old new 4
-lacked_headline more pool g opening old new good tells same =
+-- nothing was read
+reads_nothing : NumbersRise → (pool : ℕ) (run : Run) (site : Site) → ReadsUpTo pool run 0 site site
+reads_nothing rise pool run site newest blocks sound = none_read _ _ _ _ site rise (let least = sound.octets.limits.groups in omega (arith, least))
+
+pub lacked_headline : NumbersRise → (pool : ℕ) (g : Geometry) (opening : State) (old new : Site) → IsGood g opening old → EachMoment old new (TellsPart memory_fault old) → SameDevices old new → SameReads old new → Headline pool g opening old new 4
+lacked_headline rise pool g opening old new good tells same reads =
     let run = run_of g opening true old.left [] in
     let stops = not_opened run old old (still g opening old good) lacks (λ ne. good.quiet) in
-    let works : Works {T = ℕ} pool run old old (Err lacks) = never_opened pool run old old lacks stops (λ e. cc, λ e. cc) refl (λ e. cc) (counts_nothing run old.image) in
-    halted more pool g opening [] old old new lacks good works tells same tt 4 refl
+    let works : Works {T = ℕ} pool run old old (Err lacks) = never_opened pool run old old lacks stops (λ e. cc, λ e. cc) refl (λ e. cc) (counts_nothing run old.image) (reads_nothing rise pool run old) in
+    halted pool g opening [] old old new lacks good works tells same reads tt 4 refl
 
 -- the same of a load
-pub lacked_load : OverflowsWithMore → (load : Load) (g : Geometry) (opening : State) (old new : Site) → IsGood g opening old → EachMoment old new (TellsPart memory_fault old) → SameDevices old new → LoadHeadline load g opening old new 4
-lacked_load more load g opening old new good tells same =
+pub lacked_load : NumbersRise → (load : Load) (g : Geometry) (opening : State) (old new : Site) → IsGood g opening old → EachMoment old new (TellsPart memory_fault old) → SameDevices old new → SameReads old new → LoadHeadline load g opening old new 4
+lacked_load rise load g opening old new good tells same reads =
     let run = load_run g opening load in
     let stops = not_opened (run_of g opening true old.left []) old old (still g opening old good) lacks (λ ne. good.quiet) in
     let works : LoadWorks {T = ℕ} load.pool run (summary_text run load) old old (Err lacks) =
-    stopped_before load.pool run (summary_text run load) old {T = ℕ} old lacks (load_never_opened g opening load old more old lacks stops (λ e. cc) (counts_nothing (run_of g opening true old.left []) old.image) refl) in
-    load_halted load g opening old good old new lacks works tells same tt 4 refl
+    stopped_before load.pool run (summary_text run load) old {T = ℕ} old lacks (load_never_opened g opening load old old lacks stops (λ e. cc) (counts_nothing (run_of g opening true old.left []) old.image) (reads_nothing rise load.pool (run_of g opening true old.left []) old) refl) in
+    load_halted load g opening old good old new lacks works tells same reads tt 4 refl
 
 module _ (status : ℕ) (old new : Site) (l : LacksMemory status old new) where
   abbrev is : status ≡ 4

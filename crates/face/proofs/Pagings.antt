@@ -1,13 +1,14 @@
 -- What a run asks of the page cache, line by line.
-use Rattle.std.proofs.Common.{◌≡◌, ℕ, zero, suc, ◌^◌, ◌<◌, ◌≤◌, Bool, true, false, List, [], ◌∷◌, ◌++◌, length, take, drop, arith, refl, sym, ap, subst, ◌∙◌, append_assoc, take-append-drop}
+use Rattle.std.proofs.Common.{◌≡◌, ℕ, zero, suc, ◌+◌, ◌*◌, ◌^◌, ◌<◌, ◌≤◌, Bool, true, false, List, [], ◌∷◌, ◌++◌, length, take, drop, arith, refl, sym, ap, subst, ◌∙◌, append_assoc, take-append-drop}
 use Rattle.std.specs.Prelude.{Result, Ok, Err, Option, Some, None, IfErr, IsErrOf, if◌then◌else◌}
 use Rattle.std.proofs.lemmas.List.{append-nil, take_all}
-use Rattle.site.specs.declared.outside.Dev.TheVariants.{Flash}
+use Rattle.site.specs.Calls.{SameReads}
+use Rattle.site.specs.declared.outside.Dev.TheVariants.{Flash, Disk}
 use Rattle.site.specs.declared.outside.Stop.{Stop}
 use Rattle.site.specs.declared.outside.Stop.TheVariants.{Worn, Memory}
 use Rattle.site.specs.State.{State as Site, Image}
 use Rattle.record_model.specs.State.{State}
-use Rattle.record_model.specs.Run.{Line, is_quit, turns, next_listing, later_listings}
+use Rattle.record_model.specs.Run.{Line, Turn, is_quit, turns, next_listing, later_listings}
 use Rattle.record_model.specs.Step.{Outcome, refusal, outcome, ready, effect, answer, full, lacks_room}
 use Rattle.record_model.specs.declared.words.CacheLine.{CacheLine}
 use Rattle.record_model.specs.declared.words.Reply.{Reply}
@@ -16,21 +17,24 @@ use Rattle.record_model.specs.Touches.{CacheWork, line_touches, run_touches}
 use Rattle.log_records.specs.declared.log_record.LogRecord.{LogRecord}
 use Rattle.checkpoint.specs.declared.master.Master.{Master}
 use Rattle.image_meaning.specs.Meaning.{picture_under}
-use Rattle.second_chance.specs.Machine.{Rules, Cache, rules_of, after_works}
+use Rattle.second_chance.specs.Machine.{Rules, Cache, rules_of, after_works, opened}
 use Rattle.page_store.specs.declared.store.PageStore.{PageStore}
 use Rattle.page_store.specs.Caching.{cache_of, rules}
-use Rattle.redo_undo.specs.Works.{next_group, Overflows, Asks, WorksAddUp, OverflowsWithMore}
+use Rattle.redo_undo.specs.Works.{next_group, Overflows, Asks, NumbersRise, ReadsAddUp, ReadsFor, WorksAddUp, OverflowsWithMore}
 use Rattle.engine.specs.declared.engine.Engine.{Engine}
-use Rattle.engine.specs.Going.{MayGoOn}
+use Rattle.engine.specs.Fits.{Fits}
+use Rattle.engine.specs.Going.{MayGoOn, sizes_of}
+use Rattle.engine.specs.Listings.{QueueIsOnFlash}
 use Rattle.engine.specs.Image.{IsSound}
 use Rattle.engine.specs.Paging.{AsksFrom, restart_works, cache_on}
 use Rattle.face.specs.declared.halt.Halt.TheVariants as halt
 use Rattle.face.specs.Lines.{commands_of, up_to_quit}
 use Rattle.face.proofs.Fronts.{first_commands}
+use Rattle.face.proofs.Turns.{first_answered, first_turns, turns_count}
 use Rattle.site.specs.declared.geometry.Geometry.{Geometry}
 use Rattle.face.specs.Going.{IsPaged, Serves}
-use Rattle.face.specs.Range.{run_of, all_works, WearsOut, NeverWears}
-use Rattle.face.specs.Run.{Run, answered, step, after_lines, state_at, works_of, asked_after, Outgrows, HasGroupsFor}
+use Rattle.face.specs.Range.{run_of, turns_of, works_by, cache_by, LeavesItsQueue, ReadsNoMore, WearsOut, NeverWears}
+use Rattle.face.specs.Run.{Run, answered, step, after_lines, state_at, works_of, asked_after, Outgrows, HasGroupsFor, HasQueueAt, ReadsFew, ReadsUpTo}
 
 -- Lines. What they ask doesn't depend on what the cache lists.
 
@@ -98,6 +102,28 @@ turns_ask s (line ∷ lines) listings =
     by true later = refl
     by false later = ap (λ (w : List CacheWork). line_touches true s line ++ w) later
 
+-- and its first turns for what its first lines do
+pub first_ask : (n : ℕ) (s : State) (lines : List Line) (listings : List (List CacheLine)) → run_touches true (take n (turns true s lines listings)) ≡ works_of s (take n (up_to_quit lines))
+first_ask n s lines listings = ap (run_touches true) (first_turns n s lines listings) ∙ turns_ask s (take n (up_to_quit lines)) listings ∙ ap (works_of s) (first_answered n lines)
+
+-- Reads.
+
+-- where nothing is read
+pub reads_still : (r : Rules) (works : List CacheWork) (cache : Cache) (before mid now : Site) → SameReads mid now → ReadsFor r works cache before mid → ReadsFor r works cache before now
+reads_still r works cache before mid now same few =
+    let flash : now.flash_reads ≡ mid.flash_reads = same Flash in
+    let disk : now.disk_reads ≡ mid.disk_reads = same Disk in
+    record {
+      flash = let some = few.flash in omega (arith, some, flash);
+      disk = let some = few.disk in omega (arith, some, disk);
+    }
+
+pub none_read : (r : Rules) (works : List CacheWork) (cache : Cache) (extra : ℕ) (site : Site) → NumbersRise → 1 ≤ r.groups → ReadsFor r works cache (record site { flash_reads = site.flash_reads + extra }) site
+none_read r works cache extra site rise some = record {
+  flash = let more = rise r works cache some in omega (arith, more);
+  disk = omega arith;
+}
+
 -- Calls.
 
 module _ (pool : ℕ) (run : Run) (newest : Option Master) (image : Image) (blocks : List (List LogRecord)) where
@@ -112,6 +138,13 @@ module _ (pool : ℕ) (run : Run) (newest : Option Master) (image : Image) (bloc
     rules_are = asks.machine.1;
   }
 
+  pub first_reads : {T : Type 0} (result : Result T Stop) (pages : T → PageStore) (old mid new : Site) → SameReads mid new → AsksFrom result pages r (restart_works (picture_under newest run.geometry image blocks)) (cache_on run.geometry old.image) (2 * run.geometry.groups) old mid →
+      ReadsFew pool run.geometry (asked_after run newest image blocks 0) old new
+  first_reads result pages old mid new same asks =
+      let restart = restart_works (picture_under newest run.geometry image blocks) in
+      subst (λ (w : List CacheWork). ReadsFew pool run.geometry w old new) (sym (append-nil restart))
+      (reads_still r restart (cache_on run.geometry old.image) (record old { flash_reads = old.flash_reads + 2 * run.geometry.groups }) mid new same (record { flash = asks.flash; disk = asks.disk }))
+
   pub never_paged : Overflows r (restart_works (picture_under newest run.geometry image blocks)) (cache_on run.geometry image) → Overflows r (asked_after run newest image blocks 0) (cache_on run.geometry image)
   never_paged over = subst (λ (w : List CacheWork). Overflows r w (cache_on run.geometry image)) (sym (append-nil (restart_works (picture_under newest run.geometry image blocks)))) over
 
@@ -124,8 +157,21 @@ module _ (pool : ℕ) (run : Run) (newest : Option Master) (image : Image) (bloc
         ∙ ap (λ (w : List CacheWork). after_works r w (cache_on run.geometry image)) (sym (asked_next run newest image blocks i line rest is))
 
     -- it is answered
-    pub next_paged : {T : Type 0} (x : T) (engine' : Engine) → Serves {T = T} (Ok x) (line_touches true (state_at run i) line) engine.store.pages engine'.store.pages → IsPaged pool run newest image blocks engine' (suc i)
-    next_paged x engine' serves = record { machine = serves.machine ∙ next_is; rules_are = serves.rules_are ∙ paged.rules_are }
+    pub next_paged : {T : Type 0} (x : T) (engine' : Engine) (before now : Site) → Serves {T = T} (Ok x) (line_touches true (state_at run i) line) engine.store.pages engine'.store.pages before now → IsPaged pool run newest image blocks engine' (suc i)
+    next_paged x engine' before now serves = record { machine = serves.machine ∙ next_is; rules_are = serves.rules_are ∙ paged.rules_are }
+
+    -- however that ends, no more is read than it asks for
+    pub next_reads : ReadsAddUp → (entry mid next new : Site) → entry.image ≡ image → SameReads mid next → ReadsFew pool run.geometry (asked_after run newest image blocks i) entry mid → ReadsFor (rules engine.store.pages) (line_touches true (state_at run i) line) (cache_of engine.store.pages) next new →
+        ReadsFew pool run.geometry (asked_after run newest image blocks (suc i)) entry new
+    next_reads reads_add entry mid next new at same so_far later =
+        let before : Site = record entry { flash_reads = entry.flash_reads + 2 * run.geometry.groups } in
+        let first = reads_still r (asked_after run newest image blocks i) (cache_on run.geometry entry.image) before mid next same so_far in
+        let there : cache_of engine.store.pages ≡ after_works r (asked_after run newest image blocks i) (cache_on run.geometry entry.image) =
+        paged.machine ∙ ap (λ (x : Image). after_works r (asked_after run newest image blocks i) (cache_on run.geometry x)) (sym at) in
+        let own : ReadsFor r (line_touches true (state_at run i) line) (after_works r (asked_after run newest image blocks i) (cache_on run.geometry entry.image)) next new =
+        subst (λ (c : Cache). ReadsFor r (line_touches true (state_at run i) line) c next new) there (subst (λ (x : Rules). ReadsFor x (line_touches true (state_at run i) line) (cache_of engine.store.pages) next new) paged.rules_are later) in
+        subst (λ (w : List CacheWork). ReadsFew pool run.geometry w entry new) (sym (asked_next run newest image blocks i line rest is))
+        (reads_add r (asked_after run newest image blocks i) (line_touches true (state_at run i) line) (cache_on run.geometry entry.image) before next new first own)
 
     -- it isn't, since flash is worn
     pub next_worn : Overflows (rules engine.store.pages) (line_touches true (state_at run i) line) (cache_of engine.store.pages) → Overflows r (asked_after run newest image blocks (suc i)) (cache_on run.geometry image)
@@ -137,6 +183,12 @@ module _ (pool : ℕ) (run : Run) (newest : Option Master) (image : Image) (bloc
       let next = may.store.both.pages_going.flash.next in
       let bounded = may.store.both.pages_going.flash.usable.bounded in
       subst (λ (c : Cache). next_group c ≤ 2 ^ 40) paged.machine (omega (arith, next, bounded))
+
+  -- its queue is on flash
+  pub paged_queue : QueueIsOnFlash → (engine : Engine) (site : Site) (s : State) (i : ℕ) → Fits engine site s → sizes_of engine.store ≡ run.geometry → IsPaged pool run newest image blocks engine i →
+      cache_on run.geometry site.image ≡ opened (after_works r (asked_after run newest image blocks i) (cache_on run.geometry image)).queue
+  paged_queue law engine site s i fits sizes paged =
+      ap (λ (g : Geometry). cache_on g site.image) (sym sizes) ∙ law engine site s fits ∙ ap (λ (c : Cache). opened c.queue) paged.machine
 
 -- a line that asks for nothing
 pub idle_asks : {T : Type 0} (x : T) (pages : PageStore) (now : Site) → Asks {T = T} (Ok x) [] pages pages now now
@@ -162,20 +214,20 @@ listing_asks (Ok x) pages now stops = idle_asks x pages now
 listing_asks (Err stop) pages now stops = idle_stops stop pages now stops
 
 -- a call of the engine, as a line is served
-pub serves_ok : {A B : Type 0} (a : A) (b : B) (works : List CacheWork) (old new : PageStore) (before now : Site) → Asks {T = A} (Ok a) works old new before now → Serves {T = B} (Ok b) works old new
-serves_ok {A} {B} a b works old new before now asks = record { machine = asks.machine; worn = λ is. absurd (no_error is); rules_are = asks.rules_are }
+pub serves_ok : {A B : Type 0} (a : A) (b : B) (works : List CacheWork) (old new : PageStore) (before mid now : Site) → SameReads mid now → Asks {T = A} (Ok a) works old new before mid → Serves {T = B} (Ok b) works old new before now
+serves_ok {A} {B} a b works old new before mid now same asks = record { machine = asks.machine; worn = λ is. absurd (no_error is); reads = reads_still (rules old) works (cache_of old) before mid now same asks.reads; rules_are = asks.rules_are }
   where
     no_error : IsErrOf {T = B} (Ok b) (halt.Stop (Worn Flash)) → ⊥
     no_error is = cc
 
-pub serves_err : {A B : Type 0} (stop : Stop) (works : List CacheWork) (old new : PageStore) (before now : Site) → Asks {T = A} (Err stop) works old new before now → Serves {T = B} (Err (halt.Stop stop)) works old new
-serves_err {A} {B} stop works old new before now asks = record { machine = tt; worn = λ is. asks.worn (ap Err (same is)); rules_are = asks.rules_are }
+pub serves_err : {A B : Type 0} (stop : Stop) (works : List CacheWork) (old new : PageStore) (before now : Site) → Asks {T = A} (Err stop) works old new before now → Serves {T = B} (Err (halt.Stop stop)) works old new before now
+serves_err {A} {B} stop works old new before now asks = record { machine = tt; worn = λ is. asks.worn (ap Err (same is)); reads = asks.reads; rules_are = asks.rules_are }
   where
     same : IsErrOf {T = B} (Err (halt.Stop stop)) (halt.Stop (Worn Flash)) → stop ≡ Worn Flash
     same is = cc
 
-pub serves_lost : {A B : Type 0} (a : A) (works : List CacheWork) (old new : PageStore) (before now : Site) → Asks {T = A} (Ok a) works old new before now → Serves {T = B} (Err halt.Output) works old new
-serves_lost {A} {B} a works old new before now asks = record { machine = tt; worn = λ is. absurd (no_error is); rules_are = asks.rules_are }
+pub serves_lost : {A B : Type 0} (a : A) (works : List CacheWork) (old new : PageStore) (before mid now : Site) → SameReads mid now → Asks {T = A} (Ok a) works old new before mid → Serves {T = B} (Err halt.Output) works old new before now
+serves_lost {A} {B} a works old new before mid now same asks = record { machine = tt; worn = λ is. absurd (no_error is); reads = reads_still (rules old) works (cache_of old) before mid now same asks.reads; rules_are = asks.rules_are }
   where
     no_error : IsErrOf {T = B} (Err halt.Output) (halt.Stop (Worn Flash)) → ⊥
     no_error is = cc
@@ -209,46 +261,64 @@ module _ (pool : ℕ) (g : Geometry) (opening : State) (listings : List (List Ca
   abbrev restart : Option Master → List (List LogRecord) → List CacheWork
   restart newest blocks = restart_works (picture_under newest g image blocks)
 
-  -- what a front of its lines asks for is the front of what it asks for
-  all_asked : (newest : Option Master) (blocks : List (List LogRecord)) (front later : List Line) → answered taken ≡ front ++ later →
-      all_works taken newest image blocks ≡ (restart newest blocks ++ works_of opening front) ++ works_of (plain_after opening front) later
-  all_asked newest blocks front later is =
-      ap (λ (w : List CacheWork). restart newest blocks ++ w) (turns_ask opening (commands_of ended octets) listings ∙ ap (works_of opening) is ∙ works_join opening front later)
-      ∙ sym (append_assoc (restart newest blocks) (works_of opening front) (works_of (plain_after opening front) later))
-
   has_one : (newest : Option Master) (blocks : List (List LogRecord)) → IsSound newest g image blocks → 1 ≤ (rules_of pool g.groups).groups
   has_one newest blocks sound = let least = sound.octets.limits.groups in omega (arith, least)
 
-  -- with so many of the first lines of all it wears out, so it does with those that were taken
-  pub wears_out : OverflowsWithMore → (all : Run) → all.geometry ≡ g → all.opening ≡ opening → (heard : ℕ) → take heard (answered taken) ≡ take heard (answered all) → Outgrows pool all image heard → WearsOut pool taken image
-  wears_out more all same_sizes same_opening heard same over newest blocks sound =
-      let front = take heard (answered taken) in
-      let later = drop heard (answered taken) in
-      let asked : asked_after all newest image blocks heard ≡ restart newest blocks ++ works_of opening front =
-      λ i. restart_works (picture_under newest (same_sizes i) image blocks) ++ works_of (same_opening i) (sym same i) in
-      let there : Overflows (rules_of pool g.groups) (restart newest blocks ++ works_of opening front) (cache_on g image) =
-      subst (λ (w : List CacheWork). Overflows (rules_of pool g.groups) w (cache_on g image)) asked
-      (subst (λ (x : Geometry). Overflows (rules_of pool x.groups) (asked_after all newest image blocks heard) (cache_on x image)) same_sizes (over newest blocks (subst (λ (x : Geometry). IsSound newest x image blocks) (sym same_sizes) sound))) in
-      subst (λ (w : List CacheWork). Overflows (rules_of pool g.groups) w (cache_on g image)) (sym (all_asked newest blocks front later (sym (take-append-drop heard (answered taken)))))
-      (more (rules_of pool g.groups) (restart newest blocks ++ works_of opening front) (works_of (plain_after opening front) later) (cache_on g image) (has_one newest blocks sound) there)
+  -- what its first lines ask for
+  asked_first : (heard : ℕ) (newest : Option Master) (blocks : List (List LogRecord)) → works_by taken (take heard (turns_of taken)) newest image blocks ≡ restart newest blocks ++ works_of opening (take heard (answered taken))
+  asked_first heard newest blocks = ap (λ (w : List CacheWork). restart newest blocks ++ w) (first_ask heard opening (commands_of ended octets) listings)
 
-  -- where all that was taken was heard there was room for it
-  pub never_wears : (all : Run) → all.geometry ≡ g → all.opening ≡ opening → (heard : ℕ) → length (answered taken) ≡ heard → take heard (answered taken) ≡ take heard (answered all) → HasGroupsFor pool all image heard → NeverWears pool taken image
-  never_wears all same_sizes same_opening heard count same room newest blocks sound =
-      let whole : take heard (answered taken) ≡ answered taken = take_all heard (answered taken) (omega (arith, count)) in
-      let asked : asked_after all newest image blocks heard ≡ restart newest blocks ++ works_of opening (answered taken) =
-      (λ i. restart_works (picture_under newest (same_sizes i) image blocks) ++ works_of (same_opening i) (sym same i)) ∙ ap (λ (l : List Line). restart newest blocks ++ works_of opening l) whole in
-      let own : all_works taken newest image blocks ≡ restart newest blocks ++ works_of opening (answered taken) = ap (λ (w : List CacheWork). restart newest blocks ++ w) (turns_ask opening (commands_of ended octets) listings) in
-      subst (λ (w : List CacheWork). next_group (after_works (rules_of pool g.groups) w (cache_on g image)) ≤ 2 ^ 40) (asked ∙ sym own)
-      (subst (λ (x : Geometry). next_group (after_works (rules_of pool x.groups) (asked_after all newest image blocks heard) (cache_on x image)) ≤ 2 ^ 40) same_sizes (room newest blocks (subst (λ (x : Geometry). IsSound newest x image blocks) (sym same_sizes) sound)))
+  module _ (all : Run) (same_sizes : all.geometry ≡ g) (same_opening : all.opening ≡ opening) (heard : ℕ) (same : take heard (answered taken) ≡ take heard (answered all)) where
+    -- the first lines of all ask for the same
+    same_asked : (newest : Option Master) (blocks : List (List LogRecord)) → asked_after all newest image blocks heard ≡ works_by taken (take heard (turns_of taken)) newest image blocks
+    same_asked newest blocks =
+        (λ i. restart_works (picture_under newest (same_sizes i) image blocks) ++ works_of (same_opening i) (sym same i)) ∙ sym (asked_first heard newest blocks)
 
-  -- where what was taken wears out, so does all that is left
-  pub wears_out_all : OverflowsWithMore → (left rest : List ℕ) → left ≡ octets ++ rest → (ended ≡ true → rest ≡ []) → WearsOut pool taken image → WearsOut pool (run_of g opening true left []) image
-  wears_out_all more left rest is none over newest blocks sound =
+    same_sound : (newest : Option Master) (blocks : List (List LogRecord)) → IsSound newest g image blocks → IsSound newest all.geometry image blocks
+    same_sound newest blocks sound = subst (λ (x : Geometry). IsSound newest x image blocks) (sym same_sizes) sound
+
+    -- where all that was taken was heard its queue is left
+    pub leaves_its_queue : length (answered taken) ≡ heard → (now : Image) → HasQueueAt pool all heard image now → LeavesItsQueue pool taken image now
+    leaves_its_queue count now queue newest blocks sound =
+        let long = turns_count opening (commands_of ended octets) listings in
+        let whole : take heard (turns_of taken) ≡ turns_of taken = take_all heard (turns_of taken) (omega (arith, long, count)) in
+        subst (λ (w : List CacheWork). cache_on g now ≡ opened (after_works (rules_of pool g.groups) w (cache_on g image)).queue) (same_asked newest blocks ∙ ap (λ (l : List Turn). works_by taken l newest image blocks) whole)
+        (subst (λ (x : Geometry). cache_on x now ≡ opened (after_works (rules_of pool x.groups) (asked_after all newest image blocks heard) (cache_on x image)).queue) same_sizes (queue newest blocks (same_sound newest blocks sound)))
+
+    -- no more is read than they ask for
+    pub reads_no_more : (old new : Site) → old.image ≡ image → ReadsUpTo pool all heard old new → ReadsNoMore pool taken heard old new
+    reads_no_more old new at few newest blocks sound =
+        let own = subst (λ (x : Image). IsSound newest g x blocks) at sound in
+        subst (λ (x : Image). ReadsFew pool g (works_by taken (take heard (turns_of taken)) newest x blocks) old new) (sym at)
+        (subst (λ (w : List CacheWork). ReadsFew pool g w old new) (same_asked newest blocks)
+        (subst (λ (x : Geometry). ReadsFew pool x (asked_after all newest image blocks heard) old new) same_sizes
+        (subst (λ (x : Image). ReadsFew pool all.geometry (asked_after all newest x blocks heard) old new) at
+        (few newest blocks (subst (λ (x : Image). IsSound newest all.geometry x blocks) (sym at) (same_sound newest blocks own))))))
+
+    pub wears_out : Outgrows pool all image heard → WearsOut pool taken heard image
+    wears_out over newest blocks sound =
+        subst (λ (w : List CacheWork). Overflows (rules_of pool g.groups) w (cache_on g image)) (same_asked newest blocks)
+        (subst (λ (x : Geometry). Overflows (rules_of pool x.groups) (asked_after all newest image blocks heard) (cache_on x image)) same_sizes (over newest blocks (same_sound newest blocks sound)))
+
+    -- where all that was taken was heard there was room for it
+    pub never_wears : length (answered taken) ≡ heard → HasGroupsFor pool all image heard → NeverWears pool taken image
+    never_wears count room newest blocks sound =
+        let long = turns_count opening (commands_of ended octets) listings in
+        let whole : take heard (turns_of taken) ≡ turns_of taken = take_all heard (turns_of taken) (omega (arith, long, count)) in
+        subst (λ (w : List CacheWork). next_group (after_works (rules_of pool g.groups) w (cache_on g image)) ≤ 2 ^ 40) (same_asked newest blocks ∙ ap (λ (l : List Turn). works_by taken l newest image blocks) whole)
+        (subst (λ (x : Geometry). next_group (after_works (rules_of pool x.groups) (asked_after all newest image blocks heard) (cache_on x image)) ≤ 2 ^ 40) same_sizes (room newest blocks (same_sound newest blocks sound)))
+
+  -- where the first lines of what was taken wear out, so does all that is left
+  pub wears_out_all : OverflowsWithMore → (left rest : List ℕ) → left ≡ octets ++ rest → (ended ≡ true → rest ≡ []) → (heard : ℕ) → WearsOut pool taken heard image →
+      (newest : Option Master) (blocks : List (List LogRecord)) → IsSound newest g image blocks → 2 ^ 40 < next_group (cache_by pool (run_of g opening true left []) (turns_of (run_of g opening true left [])) newest image blocks)
+  wears_out_all more left rest is none heard over newest blocks sound =
       let first = taken_first ended left octets rest is none in
-      let all : all_works (run_of g opening true left []) newest image blocks ≡ all_works taken newest image blocks ++ works_of (plain_after opening (answered taken)) first.0 =
-      ap (λ (w : List CacheWork). restart newest blocks ++ w) (turns_ask opening (commands_of true left) [] ∙ ap (works_of opening) first.1 ∙ works_join opening (answered taken) first.0)
-      ∙ sym (append_assoc (restart newest blocks) (works_of opening (answered taken)) (works_of (plain_after opening (answered taken)) first.0))
-      ∙ ap (λ (w : List CacheWork). (restart newest blocks ++ w) ++ works_of (plain_after opening (answered taken)) first.0) (sym (turns_ask opening (commands_of ended octets) listings)) in
+      let front = take heard (answered taken) in
+      let later = drop heard (answered taken) ++ first.0 in
+      let lines : up_to_quit (commands_of true left) ≡ front ++ later = first.1 ∙ ap (λ (l : List Line). l ++ first.0) (sym (take-append-drop heard (answered taken))) ∙ append_assoc front (drop heard (answered taken)) first.0 in
+      let all : works_by (run_of g opening true left []) (turns_of (run_of g opening true left [])) newest image blocks ≡ works_by taken (take heard (turns_of taken)) newest image blocks ++ works_of (plain_after opening front) later =
+      ap (λ (w : List CacheWork). restart newest blocks ++ w) (turns_ask opening (commands_of true left) [] ∙ ap (works_of opening) lines ∙ works_join opening front later)
+      ∙ sym (append_assoc (restart newest blocks) (works_of opening front) (works_of (plain_after opening front) later))
+      ∙ ap (λ (w : List CacheWork). w ++ works_of (plain_after opening front) later) (sym (asked_first heard newest blocks)) in
       subst (λ (w : List CacheWork). Overflows (rules_of pool g.groups) w (cache_on g image)) (sym all)
-      (more (rules_of pool g.groups) (all_works taken newest image blocks) (works_of (plain_after opening (answered taken)) first.0) (cache_on g image) (has_one newest blocks sound) (over newest blocks sound))
+      (more (rules_of pool g.groups) (works_by taken (take heard (turns_of taken)) newest image blocks) (works_of (plain_after opening front) later) (cache_on g image) (has_one newest blocks sound) (over newest blocks sound))

@@ -138,7 +138,7 @@ one_up s (line ∷ lines) ls (suc i) = one_up (step s line (next_listing ls)).af
 
 module _ (run : Run) where
   -- the texts of the turns are those of the lines
-  texts_same : texts run ≡ line_texts run
+  pub texts_same : texts run ≡ line_texts run
   texts_same = ap (λ (l : List (List ℕ)). open_text run.opening.commits ∷ l) (texts_are run.opening run.lines run.listings)
 
   abbrev marks : List Bool

@@ -1,6 +1,6 @@
 -- A run from its restart to its end.
-use Rattle.std.proofs.Common.{◌≡◌, ◌≢◌, inr, ⊎_elim, ℕ, suc, List, [], ◌∷◌, ◌++◌, take, drop, refl, sym, ◌∙◌, ap, subst, arith, append_assoc, add-one}
-use Rattle.std.proofs.lemmas.List.{append-nil}
+use Rattle.std.proofs.Common.{◌≡◌, ◌≢◌, inr, ⊎_elim, ℕ, suc, List, [], ◌∷◌, ◌++◌, length, take, drop, refl, sym, ◌∙◌, ap, subst, arith, append_assoc, add-one}
+use Rattle.std.proofs.lemmas.List.{append-nil, take_all}
 use Rattle.site.specs.State.{State as Site, Image, Snapshot, MayLeave, now_of, no_loose, IsQuiet}
 use Rattle.site.specs.Calls.{Goes}
 use Rattle.site.specs.Moments.{Leaves, LeavesOnly, EachMoment}
@@ -18,7 +18,7 @@ use Rattle.face.specs.declared.halt.Halt.{Halt}
 use Rattle.face.specs.declared.halt.Halt.TheVariants.{Output}
 use Rattle.face.specs.Texts.{status_of}
 use Rattle.face.specs.Lines.{HearsOnly}
-use Rattle.face.specs.Run.{Run, answered, step, text_at, told_after, state_at, listing_at, StandsFor, StandsAt, IsAccounted, LeavesAnswer, Stops, IsDone}
+use Rattle.face.specs.Run.{Run, answered, step, text_at, told_after, state_at, listing_at, StandsFor, StandsAt, HasToldUpTo, IsAccounted, LeavesAnswer, Stops, IsDone}
 use Rattle.face.specs.Going.{Going}
 use Rattle.face.proofs.Logs.{still_fits, fits_stands}
 use Rattle.face.proofs.Runs.{below, told_more, state_next, text_next, near_after, between, within, answer_more}
@@ -104,6 +104,15 @@ module _ (run : Run) (entry mid : Site) (engine : Engine) (i : ℕ) (going : Goi
     quiet = λ ne. going.quiet;
   }
 
+  -- what is told before the reply of the last line
+  pub begun_before : HasToldUpTo run i entry mid
+  begun_before =
+      let few = going.few in
+      let whole : text_at run i ≡ take (length (text_at run i)) (text_at run i) = sym (take_all (length (text_at run i)) (text_at run i) (omega arith)) in (
+        length (text_at run i),
+        going.told ∙ ap (λ (n : ℕ). entry.told ++ told_after run n) (add-one i) ∙ ap (λ (l : List ℕ). entry.told ++ l) (told_more run i (omega (arith, few)) ∙ ap (λ (l : List ℕ). told_after run i ++ l) whole),
+      )
+
   -- there are no more lines
   pub ended : IsDone run i entry mid
   ended = record { told = going.told; quiet = going.quiet; stands = going_stands run entry mid engine i going }
@@ -119,6 +128,13 @@ module _ (run : Run) (entry mid : Site) (engine : Engine) (i : ℕ) (going : Goi
 
     moments' : LeavesOnly entry new (IsAccounted run (suc i) entry.told [])
     moments' = answer_more run entry.told i line rest entry mid new is told_suc going.moments leaves'
+
+    -- however that ends, what was told stays so
+    pub begun_after : HasToldUpTo run (suc i) entry new
+    begun_after =
+        let text = reply_text (step (state_at run i) line (listing_at run i)).reply in
+        let front = (holds_now mid new (LeavesAnswer run.geometry (state_at run i) (step (state_at run i) line (listing_at run i)).after text mid.told) leaves').front in
+        (front.0, front.1 ∙ ap (λ (l : List ℕ). l ++ take front.0 text) told_suc ∙ append_assoc entry.told (told_after run (suc i)) (take front.0 text) ∙ ap (λ (l : List ℕ). entry.told ++ (told_after run (suc i) ++ take front.0 l)) (sym (text_next run i line rest is)))
 
     pub cut_short : (halt : Halt) → (status_of halt ≢ 3 → new.loose ≡ no_loose) → (halt ≢ Output → new.told ≡ mid.told) → Stops run (suc i) entry new halt
     cut_short halt quiet untold = record {

@@ -14,7 +14,7 @@ use Rattle.std.specs.List.{list_any}
 use Rattle.record_model.specs.Run.{is_quit}
 use Rattle.face.specs.Lines.{HeardAll, limit, commands_of}
 use Rattle.face.specs.Run.{Run, IsFront}
-use Rattle.face.specs.Range.{run_of, run_text, all_commits, StandsAfter, IsLeft, WearsOut, NeverWears, SkipsNoNumber}
+use Rattle.face.specs.Range.{run_of, run_text, all_commits, StandsAfter, IsLeft, WearsOut, NeverWears, LeavesItsQueue, SkipsNoNumber, ReadsNoMore, ListsTheMachine, HasBegun}
 
 -- an honest and quiet site, whose image is sound, and over which a run opens with this state
 pub record IsGood (g : Geometry) (opening : State) (site : Site) : Type 0 where
@@ -60,9 +60,18 @@ pub record Headline (pool : ℕ) (g : Geometry) (opening : State) (old new : Sit
   pub taking : (status ≡ 5) ⊎ (status ≡ 7) → IsToldWhole (run_of g opening false (take limit octets) listings) fault old new
   -- and with 7 there was no quit among these, and one octet more was taken
   pub over : status ≡ 7 → (length octets ≡ limit + 1) × (list_any is_quit (commands_of false (take limit octets)) ≡ false)
-  -- with 8 what was heard appends to a ring of groups that stands at its end, or a ring on the log's device stands there; with 0 no group
-  -- is appended there
-  pub worn : status ≡ 8 → WearsOut pool (run_of g opening ended octets listings) old.image ⊎ IsLogWorn g new.image
+  -- how many lines were begun, the one under way with them
+  pub begun : ℕ
+  pub has_begun : HasBegun (run_of g opening ended octets listings) begun fault old new
+  -- with 8 these append to a ring of groups that stands at its end, or a ring on the log's device stands there; with 0 no group is appended
+  -- there
+  pub worn : status ≡ 8 → WearsOut pool (run_of g opening ended octets listings) begun old.image ⊎ IsLogWorn g new.image
   pub room : status ≡ 0 → NeverWears pool (run_of g opening ended octets listings) old.image
-  -- no ring number is skipped on the log's device, whatever the status
-  pub numbers : SkipsNoNumber (run_of g opening ended octets listings) old.image new.image
+  -- with 0 the frames on flash are those that the cache machine has in its queue
+  pub frames : status ≡ 0 → LeavesItsQueue pool (run_of g opening ended octets listings) old.image new.image
+  -- whatever the status, with these lines no ring number is skipped on the log's device
+  pub numbers : SkipsNoNumber (run_of g opening ended octets listings) begun old.image new.image
+  -- no more pages are read than they ask for
+  pub reads : ReadsNoMore pool (run_of g opening ended octets listings) begun old new
+  -- and what they are told of the cache is what the machine lists
+  pub listed : ListsTheMachine pool (run_of g opening ended octets listings) begun old.image

@@ -2,6 +2,7 @@
 use Rattle.std.specs.Prelude.{◌≡◌, ◌≢◌, ◌⊎◌, ℕ, ◌+◌, ◌-◌, ◌^◌, ◌≤◌, Bool, true, false, List, [], ◌∷◌, ◌++◌, length, take, drop, map, Option, Some, None, if◌then◌else◌, ⊤}
 use Rattle.std.specs.List.{AllByRecursion, list_any}
 use Rattle.site.specs.State.{State}
+use Rattle.site.specs.Calls.{SameReads}
 use Rattle.record_model.specs.Run.{Line, is_quit}
 use Rattle.shell_text.specs.Reading.{line_of}
 use Rattle.shell_text.specs.Runs.{lines_of}
@@ -62,6 +63,7 @@ pub record HearsOnly (old new : State) : Type 0 where
   pub loose : new.loose ≡ old.loose
   pub told : new.told ≡ old.told
   pub past : new.past ≡ old.past
+  pub reads : SameReads old new
 
 -- these octets are so many lines, whatever comes behind them; where the input has ended nothing comes
 abbrev pub AreLines : List ℕ → List Line → Bool → Type 0

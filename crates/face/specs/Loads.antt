@@ -1,5 +1,5 @@
 -- What a load does, and what a crash at any moment leaves of it.
-use Rattle.std.specs.Prelude.{◌≡◌, ◌≢◌, ◌⊎◌, ℕ, ◌≤◌, List, [], ◌++◌, length, take, IsTrue, Result, IfErr, OnOk, IsErrOf}
+use Rattle.std.specs.Prelude.{◌≡◌, ◌≢◌, ◌⊎◌, ℕ, ◌+◌, ◌-◌, ◌≤◌, List, [], ◌++◌, length, take, IsTrue, Result, IfErr, OnOk, IsErrOf}
 use Rattle.site.specs.State.{State as Site, Snapshot, MayLeave, now_of, IsQuiet, no_loose}
 use Rattle.site.specs.Calls.{Goes}
 use Rattle.site.specs.Moments.{LeavesOnly}
@@ -8,7 +8,7 @@ use Rattle.site.specs.declared.outside.Dev.{Dev}
 use Rattle.site.specs.declared.outside.Dev.TheVariants.{Flash}
 use Rattle.site.specs.declared.outside.Stop.TheVariants.{Device, Worn}
 use Rattle.record_model.specs.State.{State}
-use Rattle.record_model.specs.Run.{Line, Turn}
+use Rattle.record_model.specs.Run.{Line, Turn, commit_marks, commits_among}
 use Rattle.redo_undo.specs.Holding.{IsLogWorn}
 use Rattle.engine.specs.declared.engine.Engine.{Engine}
 use Rattle.engine.specs.Fits.{Fits}
@@ -19,7 +19,7 @@ use Rattle.face.specs.declared.request.Load.{Load}
 use Rattle.face.specs.Causes.{AnswerFailsBy}
 use Rattle.face.specs.Going.{Serves}
 use Rattle.face.specs.Headline.{IsFaultOf}
-use Rattle.face.specs.Range.{all_commits, StandsAfter, WearsOut, NeverWears, SkipsNoNumber}
+use Rattle.face.specs.Range.{turns_of, all_commits, StandsAfter, WearsOut, NeverWears, LeavesItsQueue, SkipsNoNumber, ReadsNoMore}
 use Rattle.face.specs.Run.{Run, IsFront, StandsFor, after_lines, works_of, checkpoints_of}
 use Rattle.engine.specs.Numbers.{CountsOn}
 use Rattle.face.specs.Texts.{status_of}
@@ -46,6 +46,12 @@ pub record IsLoaded (run : Run) (summary : List ℕ) (old new : Site) : Type 0 w
   pub told : new.told ≡ old.told ++ (opening_text run ++ summary)
   pub stands : StandsAfter run (all_commits run) new.image
 
+-- So many lines were begun: the opening is told, and a crash now leaves the commits of all but the last of them.
+pub record HasBegunLoad (run : Run) (begun : ℕ) (old now : Site) : Type 0 where
+  pub few : begun ≤ length (turns_of run)
+  pub opened : 1 ≤ begun → (rest : List ℕ) × (now.told ≡ old.told ++ (opening_text run ++ rest))
+  pub stands : (s : Snapshot) → MayLeave (now_of now) s → (k : ℕ) × (commits_among (begun - 1) (commit_marks (turns_of run)) ≤ k) × StandsAfter run k s.image
+
 -- What a load leaves that opens with this state, and what a crash at any moment of it leaves.
 pub record LoadHeadline (load : Load) (g : Geometry) (opening : State) (old new : Site) (status : ℕ) : Type 0 where
   -- the fault line of the status
@@ -56,12 +62,19 @@ pub record LoadHeadline (load : Load) (g : Geometry) (opening : State) (old new 
   pub quiet : status ≢ 3 → new.loose ≡ no_loose
   -- with status 0 all is told and done
   pub done : status ≡ 0 → IsLoaded (load_run g opening load) (summary_text (load_run g opening load) load) old new
-  -- with 8 the load appends to a ring of groups that stands at its end, or a ring on the log's device stands there; with 0 no group is
-  -- appended there
-  pub worn : status ≡ 8 → WearsOut load.pool (load_run g opening load) old.image ⊎ IsLogWorn g new.image
+  -- how many lines were begun, the one under way with them
+  pub begun : ℕ
+  pub has_begun : HasBegunLoad (load_run g opening load) begun old new
+  -- with 8 these append to a ring of groups that stands at its end, or a ring on the log's device stands there; with 0 no group is appended
+  -- there
+  pub worn : status ≡ 8 → WearsOut load.pool (load_run g opening load) begun old.image ⊎ IsLogWorn g new.image
   pub room : status ≡ 0 → NeverWears load.pool (load_run g opening load) old.image
-  -- no ring number is skipped on the log's device, whatever the status
-  pub numbers : SkipsNoNumber (load_run g opening load) old.image new.image
+  -- with 0 the frames on flash are those that the cache machine has in its queue
+  pub frames : status ≡ 0 → LeavesItsQueue load.pool (load_run g opening load) old.image new.image
+  -- whatever the status, with these lines no ring number is skipped on the log's device
+  pub numbers : SkipsNoNumber (load_run g opening load) begun old.image new.image
+  -- and no more pages are read than they ask for
+  pub reads : ReadsNoMore load.pool (load_run g opening load) begun old new
   -- no input is taken
   pub left : new.left ≡ old.left
 
@@ -90,10 +103,14 @@ pub record LoadDone (run : Run) (summary : List ℕ) (old new : Site) : Type 0 w
 pub record LoadWorks {T : Type 0} (pool : ℕ) (run : Run) (summary : List ℕ) (old new : Site) (result : Result T Halt) : Type 0 where
   pub stops : IfErr result (LoadStops run summary old new)
   pub done : OnOk result (LoadDone run summary old new)
-  -- flash is worn only where the load asks for more groups than the ring can have
-  pub worn : IsErrOf result (Stop (Worn Flash)) → WearsOut pool run old.image
+  pub begun : ℕ
+  pub has_begun : HasBegunLoad run begun old new
+  -- flash is worn only where the lines that were begun ask for more groups than the ring can have
+  pub worn : IsErrOf result (Stop (Worn Flash)) → WearsOut pool run begun old.image
   pub room : OnOk result (NeverWears pool run old.image)
-  pub numbers : SkipsNoNumber run old.image new.image
+  pub frames : OnOk result (LeavesItsQueue pool run old.image new.image)
+  pub numbers : SkipsNoNumber run begun old.image new.image
+  pub reads : ReadsNoMore pool run begun old new
   pub left : new.left ≡ old.left
 
 -- what was counted is what the turns of the record model say
@@ -116,11 +133,13 @@ pub record LeavesSome (g : Geometry) (s : State) (lines : List Line) (so_far : L
   pub stands : StandsFor g snapshot.image (after_lines s (take done lines) [])
   pub told : snapshot.told ≡ so_far
 
+-- The lines are carried out, or where it fails all but the last of them, and perhaps that one.
 pub record CarriesOut {T : Type 0} (result : Result T Halt) (lines : List Line) (before after : Engine) (old new : Site) : Type 0 where
   -- of an honest site that the database fits
   pub any_moment : (s : State) → Fits before old s → IsQuiet old → LeavesOnly old new (LeavesSome (sizes_of before.store) s lines old.told)
+  pub last : (s : State) → Fits before old s → IsQuiet old → (snapshot : Snapshot) → MayLeave (now_of new) snapshot → (done : ℕ) × (length lines ≤ done + 1) × StandsFor (sizes_of before.store) snapshot.image (after_lines s (take done lines) [])
   pub fits : (s : State) → Fits before old s → OnOk result (Fits after new (after_lines s lines []))
-  pub serves : (s : State) → Fits before old s → Serves result (works_of s lines) before.store.pages after.store.pages
+  pub serves : (s : State) → Fits before old s → Serves result (works_of s lines) before.store.pages after.store.pages old new
   pub numbers : (s : State) → Fits before old s → IsQuiet old → CountsOn result before after old new s (after_lines s lines []) (checkpoints_of s lines)
   pub left : IsTrue old.honest → new.left ≡ old.left
   pub stays_quiet : IsTrue old.honest → IsQuiet old → OnOk result (IsQuiet new)
@@ -130,3 +149,10 @@ pub record CarriesOut {T : Type 0} (result : Result T Halt) (lines : List Line) 
   pub cause : IfErr result (λ halt. AnswerFailsBy halt before old new)
   pub goes : Goes old new
   pub sizes : sizes_of after.store ≡ sizes_of before.store
+
+-- All of the lines are carried out, or where it fails the first ones.
+pub record CarriesFirst {T : Type 0} (result : Result T Halt) (lines : List Line) (before after : Engine) (old new : Site) : Type 0 where
+  pub begun : ℕ
+  pub few : begun ≤ length lines
+  pub all : OnOk result (begun ≡ length lines)
+  pub course : CarriesOut result (take begun lines) before after old new

@@ -46,7 +46,8 @@ pub fn answer<S: Site>(engine: &mut Engine, site: &mut S, line: Option<Command>)
         → IsQuiet (S.state site.old)
         → IfErr result (λ halt. halt ≢ Halt.Output → (S.state site.new).told ≡ (S.state site.old).told) }
     ensures asks { (s : State) → Fits engine.old (S.state site.old) s
-        → Serves result (line_touches true s line) engine.old.store.pages engine.new.store.pages }
+        → Serves result (line_touches true s line) engine.old.store.pages engine.new.store.pages
+        (S.state site.old) (S.state site.new) }
     ensures numbers { (s : State) → Fits engine.old (S.state site.old) s
         → IsQuiet (S.state site.old)
         → CountsOn result engine.old engine.new (S.state site.old) (S.state site.new) s (step s line []).after (line_checkpoints s line) }

@@ -18,14 +18,14 @@ ghost use Rattle.face.specs.Headline.{IsGood};
 ghost use Rattle.face.specs.Words.{HasLoadLimits, RefusesDevices};
 ghost use Rattle.face.specs.Workload as stated;
 ghost use Rattle.face.specs.Workload.{found_in, get_lines, load_run, set_lines, summary_of, summary_text};
-ghost use Rattle.face.specs.Loads.{CarriesOut, HasCounted, HasMade, LoadHeadline, LoadWorks};
+ghost use Rattle.face.specs.Loads.{CarriesFirst, CarriesOut, HasCounted, HasMade, LoadHeadline, LoadWorks};
 
 use crate::commands::carry_out;
 use crate::fault_lines::tell_halt;
 use crate::halt::Halt;
 use crate::opening::open;
 use crate::request::Load;
-use engine::{Engine, rest_counts_nothing};
+use engine::{Engine, queue_is_on_flash, rest_counts_nothing};
 use record_model::{Command, Reply};
 use redo_undo::works_add_up;
 use shell_text::Line;
@@ -99,7 +99,7 @@ fn carry_on<S: Site>(
     }
 }
 
-// Makes the sets of a load, and counts those that were committed, and the checkpoints that they made.
+// Makes the sets of a load, or the first of them, and counts those that were committed, and the checkpoints that they made.
 fn make_sets<S: Site>(
     engine: &mut Engine,
     site: &mut S,
@@ -108,7 +108,7 @@ fn make_sets<S: Site>(
 ) -> Result<Made, Halt>
     requires going { MayGoOn engine.old (S.state site.old) }
     requires pages { pages ≢ 0 }
-    ensures course { CarriesOut result (set_lines (32 * pages) load.now.seed load.now.count) engine.old engine.new (S.state site.old) (S.state site.new) }
+    ensures course { CarriesFirst result (set_lines (32 * pages) load.now.seed load.now.count) engine.old engine.new (S.state site.old) (S.state site.new) }
     ensures made { (s : State) → Fits engine.old (S.state site.old) s → IfOk result (λ made. HasMade (model.turns true s (set_lines (32 * pages) load.now.seed load.now.count) []) made.committed made.checkpoints) }
 {
     works_add_up();
@@ -133,7 +133,7 @@ fn make_sets<S: Site>(
     })
 }
 
-// Makes the gets of a load, and counts those that answered a value.
+// Makes the gets of a load, or the first of them, and counts those that answered a value.
 fn make_gets<S: Site>(
     engine: &mut Engine,
     site: &mut S,
@@ -142,7 +142,7 @@ fn make_gets<S: Site>(
 ) -> Result<u32, Halt>
     requires going { MayGoOn engine.old (S.state site.old) }
     requires pages { pages ≢ 0 }
-    ensures course { CarriesOut result (get_lines (32 * pages) load.now.seed load.now.count) engine.old engine.new (S.state site.old) (S.state site.new) }
+    ensures course { CarriesFirst result (get_lines (32 * pages) load.now.seed load.now.count) engine.old engine.new (S.state site.old) (S.state site.new) }
     ensures count { (s : State) → Fits engine.old (S.state site.old) s → IfOk result (λ count. count ≡ found_in (model.turns true s (get_lines (32 * pages) load.now.seed load.now.count) [])) }
 {
     works_add_up();
@@ -188,6 +188,7 @@ fn work<S: Site>(alloc: Global, load: &Load, site: &mut S) -> Result<Counts, Hal
     ensures goes { Goes (S.state site.old) (S.state site.new) }
 {
     works_add_up();
+    queue_is_on_flash();
     let mut engine = match open(alloc, load.pool, site) {
         Ok(engine) => engine,
         Err(halt) => return Err(halt),

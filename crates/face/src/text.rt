@@ -1,6 +1,6 @@
 // Replies are told.
 ghost use Rattle.std.specs.Prelude.{◌≡◌, ◌++◌, IsTrue, OnOk, OnErr};
-ghost use Rattle.site.specs.Calls.{Goes, Rose};
+ghost use Rattle.site.specs.Calls.{Goes, Rose, SameReads};
 ghost use Rattle.site.specs.Moments.{EachMoment};
 ghost use Rattle.site.specs.Telling.{TellsPart, SameDevices};
 ghost use Rattle.shell_text.specs.Texts.{reply_text};
@@ -15,6 +15,7 @@ pub fn tell_reply<S: Site>(site: &mut S, reply: &Reply) -> Result<(), Failed>
     ensures any_moment { IsTrue (S.state site.old).honest → EachMoment (S.state site.old) (S.state site.new) (TellsPart (reply_text reply.now) (S.state site.old)) }
     ensures told { IsTrue (S.state site.old).honest → OnOk result ((S.state site.new).told ≡ (S.state site.old).told ++ reply_text reply.now) }
     ensures same { IsTrue (S.state site.old).honest → SameDevices (S.state site.old) (S.state site.new) }
+    ensures reads { SameReads (S.state site.old) (S.state site.new) }
     ensures goes { Goes (S.state site.old) (S.state site.new) }
     ensures cause { OnErr result (Rose (S.state site.old).output_faults (S.state site.new).output_faults) }
 {

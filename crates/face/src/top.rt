@@ -25,6 +25,7 @@ use crate::new_database::make_new;
 use crate::opening::open;
 use crate::request::{Request, Unread, read_words};
 use crate::source::{Heard, Source};
+use engine::queue_is_on_flash;
 use record_model::Command;
 use redo_undo::works_add_up;
 use site::Site;
@@ -49,6 +50,7 @@ fn work<S: Site>(alloc: Global, pool: u32, site: &mut S) -> Result<(), Halt>
     ensures goes { Goes (S.state site.old) (S.state site.new) }
 {
     works_add_up();
+    queue_is_on_flash();
     let mut engine = match open(alloc, pool, site) {
         Ok(engine) => engine,
         Err(halt) => return Err(halt),

@@ -22,7 +22,7 @@ returns-in-Ok-tell_all-clause-works g c geometry opening good =
     let text : c.as_slice.result.now ≡ summary_text run load = c.as_slice.ensures.value ∙ c.summary_line.ensures ∙ (λ i. summary_of load.count (counted.committed_is i) (counted.checkpoints_are i) (counted.found_is i)) in
     let honest = stays_honest old mid c.work.ensures.goes good.honest in
     summed_up load.pool run (summary_text run load) old c.in-Ok.counts mid new (c.in-Ok.ensures.works geometry opening good)
-    (subst (λ (t : List ℕ). EachMoment mid new (TellsPart t mid)) text (c.tell_all.ensures.any_moment honest)) (c.tell_all.ensures.same honest) _
+    (subst (λ (t : List ℕ). EachMoment mid new (TellsPart t mid)) text (c.tell_all.ensures.any_moment honest)) (c.tell_all.ensures.same honest) c.tell_all.ensures.reads _
     (c.in-Ok-tell_all.ensures.told honest ∙ ap (λ (t : List ℕ). mid.told ++ t) text)
 
 pub returns-in-Err-tell_all-clause-works : goal.returns-in-Err-tell_all-clause-works
@@ -36,4 +36,4 @@ returns-in-Err-tell_all-clause-works g c geometry opening good =
     let text : c.as_slice.result.now ≡ summary_text run load = c.as_slice.ensures.value ∙ c.summary_line.ensures ∙ (λ i. summary_of load.count (counted.committed_is i) (counted.checkpoints_are i) (counted.found_is i)) in
     let honest = stays_honest old mid c.work.ensures.goes good.honest in
     summary_lost load.pool run (summary_text run load) old c.in-Ok.counts mid new (c.in-Ok.ensures.works geometry opening good)
-    (subst (λ (t : List ℕ). EachMoment mid new (TellsPart t mid)) text (c.tell_all.ensures.any_moment honest)) (c.tell_all.ensures.same honest)
+    (subst (λ (t : List ℕ). EachMoment mid new (TellsPart t mid)) text (c.tell_all.ensures.any_moment honest)) (c.tell_all.ensures.same honest) c.tell_all.ensures.reads

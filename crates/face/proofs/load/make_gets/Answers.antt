@@ -4,9 +4,9 @@ use Rattle.record_model.specs.declared.words.Command.TheVariants.{Get}
 use Rattle.record_model.specs.declared.words.Reply.{Reply}
 use Rattle.record_model.specs.Run.{Line, turns}
 use Rattle.workload.specs.Generator.{following, generated}
-use Rattle.face.specs.Loads.{CarriesOut}
+use Rattle.face.specs.Loads.{CarriesFirst, CarriesOut}
 use Rattle.face.specs.Workload.{found_in, get_line, get_lines, is_value}
-use Rattle.face.proofs.Courses.{carries_more, carries_none, carries_some, carries_with}
+use Rattle.face.proofs.Courses.{carries_all, carries_more, carries_none, carries_some, carries_with}
 use Rattle.face.proofs.Stated.{front_lines}
 use Rattle.face.proofs.Tallies.{is_get, found_more, one_line_more, one_most}
 use Rattle.face.proofs.load.make_gets.Goals as goal
@@ -37,7 +37,7 @@ loop-get-preserved g c =
       course = subst (λ (n : ℕ). CarriesOut {T = ℕ} (Ok 0) (get_lines records seed n) c.args.engine.now c.carry_on.new.engine entry new) (sym (add-one i))
           (subst (λ (l : List Line). CarriesOut {T = ℕ} (Ok 0) l c.args.engine.now c.carry_on.new.engine entry new) (sym lines_are)
           (carries_with c.in-Ok.reply 0 _ c.args.engine.now c.carry_on.new.engine entry new
-          (carries_more c.works_add_up.ensures.works 0 (Ok c.in-Ok.reply) (get_lines records seed i) (line ∷ []) c.args.engine.now c.loop-get.engine c.carry_on.new.engine entry mid new inv.course c.in-Ok.ensures.course)));
+          (carries_more c.works_add_up.ensures.works c.works_add_up.ensures.reads 0 (Ok c.in-Ok.reply) (get_lines records seed i) (line ∷ []) c.args.engine.now c.loop-get.engine c.carry_on.new.engine entry mid new inv.course c.in-Ok.ensures.course)));
       found = λ s fits.
           let at = inv.course.fits s fits in
           subst (λ (n : ℕ). c.loop-get.found + c.one_if-found.result ≡ found_in (turns true s (get_lines records seed n) [])) (sym (add-one i))
@@ -60,18 +60,19 @@ returns-in-Err-clause-course g c =
     let line_is : line ≡ get_line records (generated seed (suc i)) = is_get records seed i c.next-x.result c.load_set-number.result.0 x_is c.load_set-number.ensures.number in
     let lines_are : get_lines records seed (suc i) ≡ get_lines records seed i ++ line ∷ [] = one_line_more (get_line records) seed i line line_is in
     let front = front_lines (get_line records) seed (suc i) c.args.load.now.count (omega (arith, c.loop-get-test.true)) in
-    subst (λ (l : List Line). CarriesOut {T = ℕ} (Err c.in-Err.halt) l c.args.engine.now c.carry_on.new.engine entry new) (sym front.1)
-    (carries_some c.works_add_up.ensures.overflow c.in-Err.halt (get_lines records seed (suc i)) front.0 c.args.engine.now c.carry_on.new.engine entry new
+    subst (λ (l : List Line). CarriesFirst {T = ℕ} (Err c.in-Err.halt) l c.args.engine.now c.carry_on.new.engine entry new) (sym front.1)
+    (carries_some c.in-Err.halt (get_lines records seed (suc i)) front.0 c.args.engine.now c.carry_on.new.engine entry new
     (subst (λ (l : List Line). CarriesOut {T = Reply} (Err c.in-Err.halt) l c.args.engine.now c.carry_on.new.engine entry new) (sym lines_are)
-    (carries_more c.works_add_up.ensures.works 0 (Err c.in-Err.halt) (get_lines records seed i) (line ∷ []) c.args.engine.now c.loop-get.engine c.carry_on.new.engine entry mid new inv.course c.in-Err.ensures.course)))
+    (carries_more c.works_add_up.ensures.works c.works_add_up.ensures.reads 0 (Err c.in-Err.halt) (get_lines records seed i) (line ∷ []) c.args.engine.now c.loop-get.engine c.carry_on.new.engine entry mid new inv.course c.in-Err.ensures.course)))
 
 pub returns-clause-course : goal.returns-clause-course
 returns-clause-course g c =
     let end : c.loop-get._get ≡ c.args.load.now.count = omega (arith, c.loop-get-test.false, c.loop-get.auto._get-end) in
     let old = g.S.Site.state c.args.site.now in
     let new = g.S.Site.state c.loop-get.site in
-    subst (λ (n : ℕ). CarriesOut {T = ℕ} (Ok c.loop-get.found) (get_lines (32 * c.args.pages) c.args.load.now.seed n) c.args.engine.now c.loop-get.engine old new) end
-    (carries_with 0 c.loop-get.found (get_lines (32 * c.args.pages) c.args.load.now.seed c.loop-get._get) c.args.engine.now c.loop-get.engine old new c.loop-get.invariant.course)
+    subst (λ (n : ℕ). CarriesFirst {T = ℕ} (Ok c.loop-get.found) (get_lines (32 * c.args.pages) c.args.load.now.seed n) c.args.engine.now c.loop-get.engine old new) end
+    (carries_all c.loop-get.found (get_lines (32 * c.args.pages) c.args.load.now.seed c.loop-get._get) c.args.engine.now c.loop-get.engine old new
+    (carries_with 0 c.loop-get.found (get_lines (32 * c.args.pages) c.args.load.now.seed c.loop-get._get) c.args.engine.now c.loop-get.engine old new c.loop-get.invariant.course))
 
 pub returns-clause-count : goal.returns-clause-count
 returns-clause-count g c s fits =

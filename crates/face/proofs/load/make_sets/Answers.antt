@@ -5,9 +5,9 @@ use Rattle.record_model.specs.declared.words.Reply.{Reply}
 use Rattle.record_model.specs.Run.{Line, is_committed, turns}
 use Rattle.workload.specs.Generator.{following, generated}
 use Rattle.face.specs.declared.load.Made.{Made}
-use Rattle.face.specs.Loads.{CarriesOut, HasMade}
+use Rattle.face.specs.Loads.{CarriesFirst, CarriesOut, HasMade}
 use Rattle.face.specs.Workload.{set_line, set_lines}
-use Rattle.face.proofs.Courses.{carries_more, carries_none, carries_some, carries_with}
+use Rattle.face.proofs.Courses.{carries_all, carries_more, carries_none, carries_some, carries_with}
 use Rattle.face.proofs.Stated.{front_lines}
 use Rattle.face.proofs.Tallies.{is_set, made_more, one_line_more, one_most}
 use Rattle.face.proofs.load.make_sets.Goals as goal
@@ -39,7 +39,7 @@ loop-set-preserved g c =
       course = subst (λ (n : ℕ). CarriesOut {T = ℕ} (Ok 0) (set_lines records seed n) c.args.engine.now c.carry_on.new.engine entry new) (sym (add-one i))
           (subst (λ (l : List Line). CarriesOut {T = ℕ} (Ok 0) l c.args.engine.now c.carry_on.new.engine entry new) (sym lines_are)
           (carries_with c.in-Ok.reply 0 _ c.args.engine.now c.carry_on.new.engine entry new
-          (carries_more c.works_add_up.ensures.works 0 (Ok c.in-Ok.reply) (set_lines records seed i) (line ∷ []) c.args.engine.now c.loop-set.engine c.carry_on.new.engine entry mid new inv.course c.in-Ok.ensures.course)));
+          (carries_more c.works_add_up.ensures.works c.works_add_up.ensures.reads 0 (Ok c.in-Ok.reply) (set_lines records seed i) (line ∷ []) c.args.engine.now c.loop-set.engine c.carry_on.new.engine entry mid new inv.course c.in-Ok.ensures.course)));
       made = λ s fits.
           let at = inv.course.fits s fits in
           subst (λ (n : ℕ). HasMade (turns true s (set_lines records seed n) []) (c.loop-set.committed + c.one_if-committed.result) (c.loop-set.checkpoints + c.one_if-checkpoints.result)) (sym (add-one i))
@@ -64,10 +64,10 @@ returns-in-Err-clause-course g c =
     let line_is : line ≡ set_line records (generated seed (suc i)) = is_set records seed i c.next-x.result c.load_set-number.result.0 c.load_set-number.result.1 x_is c.load_set-number.ensures.number c.load_set-number.ensures.value in
     let lines_are : set_lines records seed (suc i) ≡ set_lines records seed i ++ line ∷ [] = one_line_more (set_line records) seed i line line_is in
     let front = front_lines (set_line records) seed (suc i) c.args.load.now.count (omega (arith, c.loop-set-test.true)) in
-    subst (λ (l : List Line). CarriesOut {T = Made} (Err c.in-Err.halt) l c.args.engine.now c.carry_on.new.engine entry new) (sym front.1)
-    (carries_some c.works_add_up.ensures.overflow c.in-Err.halt (set_lines records seed (suc i)) front.0 c.args.engine.now c.carry_on.new.engine entry new
+    subst (λ (l : List Line). CarriesFirst {T = Made} (Err c.in-Err.halt) l c.args.engine.now c.carry_on.new.engine entry new) (sym front.1)
+    (carries_some c.in-Err.halt (set_lines records seed (suc i)) front.0 c.args.engine.now c.carry_on.new.engine entry new
     (subst (λ (l : List Line). CarriesOut {T = Reply} (Err c.in-Err.halt) l c.args.engine.now c.carry_on.new.engine entry new) (sym lines_are)
-    (carries_more c.works_add_up.ensures.works 0 (Err c.in-Err.halt) (set_lines records seed i) (line ∷ []) c.args.engine.now c.loop-set.engine c.carry_on.new.engine entry mid new inv.course c.in-Err.ensures.course)))
+    (carries_more c.works_add_up.ensures.works c.works_add_up.ensures.reads 0 (Err c.in-Err.halt) (set_lines records seed i) (line ∷ []) c.args.engine.now c.loop-set.engine c.carry_on.new.engine entry mid new inv.course c.in-Err.ensures.course)))
 
 pub returns-clause-course : goal.returns-clause-course
 returns-clause-course g c =
@@ -75,8 +75,9 @@ returns-clause-course g c =
     let old = g.S.Site.state c.args.site.now in
     let new = g.S.Site.state c.loop-set.site in
     let made : Made = record { committed = c.loop-set.committed; checkpoints = c.loop-set.checkpoints } in
-    subst (λ (n : ℕ). CarriesOut {T = Made} (Ok made) (set_lines (32 * c.args.pages) c.args.load.now.seed n) c.args.engine.now c.loop-set.engine old new) end
-    (carries_with 0 made (set_lines (32 * c.args.pages) c.args.load.now.seed c.loop-set._set) c.args.engine.now c.loop-set.engine old new c.loop-set.invariant.course)
+    subst (λ (n : ℕ). CarriesFirst {T = Made} (Ok made) (set_lines (32 * c.args.pages) c.args.load.now.seed n) c.args.engine.now c.loop-set.engine old new) end
+    (carries_all made (set_lines (32 * c.args.pages) c.args.load.now.seed c.loop-set._set) c.args.engine.now c.loop-set.engine old new
+    (carries_with 0 made (set_lines (32 * c.args.pages) c.args.load.now.seed c.loop-set._set) c.args.engine.now c.loop-set.engine old new c.loop-set.invariant.course))
 
 pub returns-clause-made : goal.returns-clause-made
 returns-clause-made g c s fits =

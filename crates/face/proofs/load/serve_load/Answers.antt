@@ -21,7 +21,7 @@ returns-in-Err-clause-headline g c geometry opening good =
     let new = g.S.Site.state c.tell_halt.new.site in
     let honest = stays_honest old mid c.load_and_tell.ensures.goes good.honest in
     let same = c.tell_halt.ensures.devices honest in
-    load_halted c.args.load.now geometry opening old good mid new c.in-Err.halt (c.in-Err.ensures.works geometry opening good) (c.tell_halt.ensures.any_moment honest) same
+    load_halted c.args.load.now geometry opening old good mid new c.in-Err.halt (c.in-Err.ensures.works geometry opening good) (c.tell_halt.ensures.any_moment honest) same c.tell_halt.ensures.reads
     (cause_then c.in-Err.halt old mid new c.in-Err.ensures.cause c.tell_halt.ensures.goes (λ h. same)) c.status.result c.status.ensures
 
 pub returns-in-Err-clause-causes : goal.returns-in-Err-clause-causes
@@ -37,4 +37,4 @@ returns-in-Err-clause-untaken g c = not_taken c.in-Err.halt c.status.result c.st
 
 pub returns-in-Err-clause-complete : goal.returns-in-Err-clause-complete
 returns-in-Err-clause-complete g c geometry opening good none room log_room =
-    load_complete c.args.load.now geometry opening (g.S.Site.state c.args.site.now) good (g.S.Site.state c.tell_halt.new.site) c.status.result none room log_room (returns-in-Err-clause-untaken g c) (returns-in-Err-clause-causes g c) (returns-in-Err-clause-headline g c geometry opening good)
+    load_complete c.args.load.now geometry opening (g.S.Site.state c.args.site.now) good c.works_add_up.ensures.overflow (g.S.Site.state c.tell_halt.new.site) c.status.result none room log_room (returns-in-Err-clause-untaken g c) (returns-in-Err-clause-causes g c) (returns-in-Err-clause-headline g c geometry opening good)

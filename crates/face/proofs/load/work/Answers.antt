@@ -4,11 +4,11 @@ use Rattle.site.specs.declared.geometry.Geometry.{Geometry}
 use Rattle.site.specs.Laws.{goes_in_sequence}
 use Rattle.record_model.specs.Run.{turns}
 use Rattle.face.specs.declared.load.Counts.{Counts}
-use Rattle.face.specs.Loads.{CarriesOut, HasMade}
+use Rattle.face.specs.Loads.{CarriesFirst, CarriesOut, HasMade}
 use Rattle.face.specs.Range.{run_of}
 use Rattle.face.specs.Run.{after_lines}
 use Rattle.face.specs.Workload.{found_in, get_lines, set_lines}
-use Rattle.face.proofs.Courses.{carries_more, carries_some, carries_with}
+use Rattle.face.proofs.Courses.{all_carried, carries_more, carries_on, carries_with, some_carried}
 use Rattle.face.proofs.Ends.{answer_cause, answer_takes_nothing}
 use Rattle.face.proofs.Faults.{begins}
 use Rattle.face.proofs.Loadings.{load_finished, load_never_opened, load_stopped}
@@ -20,7 +20,7 @@ returns-in-Err-clause-works g c geometry opening good =
     let old = g.S.Site.state c.args.site.now in
     let run = run_of geometry opening true old.left [] in
     let start = begins geometry opening [] old good in
-    load_never_opened geometry opening c.args.load.now old c.works_add_up.ensures.overflow (g.S.Site.state c.open.new.site) c.in-Err.halt (c.in-Err.ensures.stops run start) (λ is. c.in-Err.ensures.worn run start (ap Err is)) (c.in-Err.ensures.numbers run start) (c.open.ensures.left good.honest)
+    load_never_opened geometry opening c.args.load.now old (g.S.Site.state c.open.new.site) c.in-Err.halt (c.in-Err.ensures.stops run start) (λ is. c.in-Err.ensures.worn run start (ap Err is)) (c.in-Err.ensures.numbers run start) (c.in-Err.ensures.reads run start) (c.open.ensures.left good.honest)
 
 pub returns-in-Err-make_sets-clause-works : goal.returns-in-Err-make_sets-clause-works
 returns-in-Err-make_sets-clause-works g c geometry opening good =
@@ -32,9 +32,9 @@ returns-in-Err-make_sets-clause-works g c geometry opening good =
     let start = begins geometry opening [] old good in
     let going = c.in-Ok.ensures.going run start in
     let pages : c.pages_of-pages.result ≡ geometry.pages = c.pages_of-pages.ensures.pages ∙ ap (λ (x : Geometry). x.pages) going.geometry in
-    load_stopped geometry opening load old c.works_add_up.ensures.works mid new c.in-Ok.engine c.make_sets.new.engine going (c.in-Ok.ensures.paged run start) (c.in-Ok.ensures.counted run start) (c.open.ensures.left good.honest) c.in-Err-make_sets.halt
-    (subst (λ (n : ℕ). CarriesOut {T = Counts} (Err c.in-Err-make_sets.halt) (set_lines (32 * n) load.seed load.count ++ get_lines (32 * n) load.seed load.count) c.in-Ok.engine c.make_sets.new.engine mid new) pages
-    (carries_some c.works_add_up.ensures.overflow c.in-Err-make_sets.halt (set_lines (32 * c.pages_of-pages.result) load.seed load.count) (get_lines (32 * c.pages_of-pages.result) load.seed load.count) c.in-Ok.engine c.make_sets.new.engine mid new c.in-Err-make_sets.ensures.course))
+    load_stopped geometry opening load old c.works_add_up.ensures.works c.works_add_up.ensures.reads mid new c.in-Ok.engine c.make_sets.new.engine going (c.in-Ok.ensures.paged run start) (c.in-Ok.ensures.counted run start) (c.open.ensures.reads run start) (c.open.ensures.left good.honest) c.in-Err-make_sets.halt
+    (subst (λ (n : ℕ). CarriesFirst {T = Counts} (Err c.in-Err-make_sets.halt) (set_lines (32 * n) load.seed load.count ++ get_lines (32 * n) load.seed load.count) c.in-Ok.engine c.make_sets.new.engine mid new) pages
+    (some_carried c.in-Err-make_sets.halt (set_lines (32 * c.pages_of-pages.result) load.seed load.count) (get_lines (32 * c.pages_of-pages.result) load.seed load.count) c.in-Ok.engine c.make_sets.new.engine mid new c.in-Err-make_sets.ensures.course))
 
 pub returns-clause-works : goal.returns-clause-works
 returns-clause-works g c geometry opening good =
@@ -47,9 +47,9 @@ returns-clause-works g c geometry opening good =
     let start = begins geometry opening [] old good in
     let going = c.in-Ok.ensures.going run start in
     let pages : c.pages_of-pages.result ≡ geometry.pages = c.pages_of-pages.ensures.pages ∙ ap (λ (x : Geometry). x.pages) going.geometry in
-    load_stopped geometry opening load old c.works_add_up.ensures.works mid new c.in-Ok.engine c.make_gets.new.engine going (c.in-Ok.ensures.paged run start) (c.in-Ok.ensures.counted run start) (c.open.ensures.left good.honest) c.in-Err-make_gets.halt
-    (subst (λ (n : ℕ). CarriesOut {T = ℕ} (Err c.in-Err-make_gets.halt) (set_lines (32 * n) load.seed load.count ++ get_lines (32 * n) load.seed load.count) c.in-Ok.engine c.make_gets.new.engine mid new) pages
-    (carries_more c.works_add_up.ensures.works c.in-Ok-make_sets.made (Err c.in-Err-make_gets.halt) (set_lines (32 * c.pages_of-pages.result) load.seed load.count) (get_lines (32 * c.pages_of-pages.result) load.seed load.count) c.in-Ok.engine c.make_sets.new.engine c.make_gets.new.engine mid then new c.in-Ok-make_sets.ensures.course c.in-Err-make_gets.ensures.course))
+    load_stopped geometry opening load old c.works_add_up.ensures.works c.works_add_up.ensures.reads mid new c.in-Ok.engine c.make_gets.new.engine going (c.in-Ok.ensures.paged run start) (c.in-Ok.ensures.counted run start) (c.open.ensures.reads run start) (c.open.ensures.left good.honest) c.in-Err-make_gets.halt
+    (subst (λ (n : ℕ). CarriesFirst {T = ℕ} (Err c.in-Err-make_gets.halt) (set_lines (32 * n) load.seed load.count ++ get_lines (32 * n) load.seed load.count) c.in-Ok.engine c.make_gets.new.engine mid new) pages
+    (carries_on c.works_add_up.ensures.works c.works_add_up.ensures.reads c.in-Ok-make_sets.made (Err c.in-Err-make_gets.halt) (set_lines (32 * c.pages_of-pages.result) load.seed load.count) (get_lines (32 * c.pages_of-pages.result) load.seed load.count) c.in-Ok.engine c.make_sets.new.engine c.make_gets.new.engine mid then new (all_carried c.in-Ok-make_sets.made (set_lines (32 * c.pages_of-pages.result) load.seed load.count) c.in-Ok.engine c.make_sets.new.engine (g.S.Site.state c.open.new.site) (g.S.Site.state c.make_sets.new.site) c.in-Ok-make_sets.ensures.course) c.in-Err-make_gets.ensures.course))
 
 pub returns-in-Ok-make_gets-clause-works : goal.returns-in-Ok-make_gets-clause-works
 returns-in-Ok-make_gets-clause-works g c geometry opening good =
@@ -63,10 +63,10 @@ returns-in-Ok-make_gets-clause-works g c geometry opening good =
     let start = begins geometry opening [] old good in
     let going = c.in-Ok.ensures.going run start in
     let pages : c.pages_of-pages.result ≡ geometry.pages = c.pages_of-pages.ensures.pages ∙ ap (λ (x : Geometry). x.pages) going.geometry in
-    load_finished geometry opening load old c.works_add_up.ensures.works mid new c.in-Ok.engine c.make_gets.new.engine going (c.in-Ok.ensures.paged run start) (c.in-Ok.ensures.counted run start) (c.open.ensures.left good.honest) counts
+    load_finished geometry opening load old c.works_add_up.ensures.works c.works_add_up.ensures.reads mid new c.in-Ok.engine c.make_gets.new.engine going (c.in-Ok.ensures.paged run start) (c.in-Ok.ensures.counted run start) (c.open.ensures.reads run start) (c.open.ensures.left good.honest) c.queue_is_on_flash.ensures counts
     (subst (λ (n : ℕ). CarriesOut {T = Counts} (Ok counts) (set_lines (32 * n) load.seed load.count ++ get_lines (32 * n) load.seed load.count) c.in-Ok.engine c.make_gets.new.engine mid new) pages
     (carries_with c.in-Ok-make_gets.found counts (set_lines (32 * c.pages_of-pages.result) load.seed load.count ++ get_lines (32 * c.pages_of-pages.result) load.seed load.count) c.in-Ok.engine c.make_gets.new.engine mid new
-    (carries_more c.works_add_up.ensures.works c.in-Ok-make_sets.made (Ok c.in-Ok-make_gets.found) (set_lines (32 * c.pages_of-pages.result) load.seed load.count) (get_lines (32 * c.pages_of-pages.result) load.seed load.count) c.in-Ok.engine c.make_sets.new.engine c.make_gets.new.engine mid then new c.in-Ok-make_sets.ensures.course c.in-Ok-make_gets.ensures.course)))
+    (carries_more c.works_add_up.ensures.works c.works_add_up.ensures.reads c.in-Ok-make_sets.made (Ok c.in-Ok-make_gets.found) (set_lines (32 * c.pages_of-pages.result) load.seed load.count) (get_lines (32 * c.pages_of-pages.result) load.seed load.count) c.in-Ok.engine c.make_sets.new.engine c.make_gets.new.engine mid then new (all_carried c.in-Ok-make_sets.made (set_lines (32 * c.pages_of-pages.result) load.seed load.count) c.in-Ok.engine c.make_sets.new.engine (g.S.Site.state c.open.new.site) (g.S.Site.state c.make_sets.new.site) c.in-Ok-make_sets.ensures.course) (all_carried c.in-Ok-make_gets.found (get_lines (32 * c.pages_of-pages.result) load.seed load.count) c.make_sets.new.engine c.make_gets.new.engine (g.S.Site.state c.make_sets.new.site) (g.S.Site.state c.make_gets.new.site) c.in-Ok-make_gets.ensures.course))))
 
 pub returns-in-Ok-make_gets-clause-counts : goal.returns-in-Ok-make_gets-clause-counts
 returns-in-Ok-make_gets-clause-counts g c geometry opening good =
@@ -79,24 +79,24 @@ returns-in-Ok-make_gets-clause-counts g c geometry opening good =
     has_counted geometry opening load c.in-Ok-make_sets.made.committed c.in-Ok-make_sets.made.checkpoints c.in-Ok-make_gets.found
     (subst (λ (n : ℕ). HasMade (turns true opening (set_lines (32 * n) load.seed load.count) []) c.in-Ok-make_sets.made.committed c.in-Ok-make_sets.made.checkpoints) pages (c.in-Ok-make_sets.ensures.made opening going.fits))
     (subst (λ (n : ℕ). c.in-Ok-make_gets.found ≡ found_in (turns true (after_lines opening (set_lines (32 * n) load.seed load.count) []) (get_lines (32 * n) load.seed load.count) [])) pages
-    (c.in-Ok-make_gets.ensures.count _ (c.in-Ok-make_sets.ensures.course.fits opening going.fits)))
+    (c.in-Ok-make_gets.ensures.count _ ((all_carried c.in-Ok-make_sets.made (set_lines (32 * c.pages_of-pages.result) load.seed load.count) c.in-Ok.engine c.make_sets.new.engine (g.S.Site.state c.open.new.site) (g.S.Site.state c.make_sets.new.site) c.in-Ok-make_sets.ensures.course).fits opening going.fits)))
 
 pub returns-in-Err-make_sets-clause-cause : goal.returns-in-Err-make_sets-clause-cause
 returns-in-Err-make_sets-clause-cause g c =
-    answer_cause c.in-Err-make_sets.halt c.in-Ok.engine (g.S.Site.state c.args.site.now) (g.S.Site.state c.open.new.site) (g.S.Site.state c.make_sets.new.site) c.in-Err-make_sets.ensures.course.cause c.open.ensures.goes c.in-Ok.ensures.fits
+    answer_cause c.in-Err-make_sets.halt c.in-Ok.engine (g.S.Site.state c.args.site.now) (g.S.Site.state c.open.new.site) (g.S.Site.state c.make_sets.new.site) c.in-Err-make_sets.ensures.course.course.cause c.open.ensures.goes c.in-Ok.ensures.fits
 
 pub returns-clause-cause : goal.returns-clause-cause
 returns-clause-cause g c =
     let load = c.args.load.now in
     answer_cause c.in-Err-make_gets.halt c.in-Ok.engine (g.S.Site.state c.args.site.now) (g.S.Site.state c.open.new.site) (g.S.Site.state c.make_gets.new.site)
-    (carries_more c.works_add_up.ensures.works c.in-Ok-make_sets.made (Err c.in-Err-make_gets.halt) (set_lines (32 * c.pages_of-pages.result) load.seed load.count) (get_lines (32 * c.pages_of-pages.result) load.seed load.count) c.in-Ok.engine c.make_sets.new.engine c.make_gets.new.engine (g.S.Site.state c.open.new.site) (g.S.Site.state c.make_sets.new.site) (g.S.Site.state c.make_gets.new.site) c.in-Ok-make_sets.ensures.course c.in-Err-make_gets.ensures.course).cause
+    (carries_on c.works_add_up.ensures.works c.works_add_up.ensures.reads c.in-Ok-make_sets.made (Err c.in-Err-make_gets.halt) (set_lines (32 * c.pages_of-pages.result) load.seed load.count) (get_lines (32 * c.pages_of-pages.result) load.seed load.count) c.in-Ok.engine c.make_sets.new.engine c.make_gets.new.engine (g.S.Site.state c.open.new.site) (g.S.Site.state c.make_sets.new.site) (g.S.Site.state c.make_gets.new.site) (all_carried c.in-Ok-make_sets.made (set_lines (32 * c.pages_of-pages.result) load.seed load.count) c.in-Ok.engine c.make_sets.new.engine (g.S.Site.state c.open.new.site) (g.S.Site.state c.make_sets.new.site) c.in-Ok-make_sets.ensures.course) c.in-Err-make_gets.ensures.course).course.cause
     c.open.ensures.goes c.in-Ok.ensures.fits
 
 pub returns-in-Err-make_sets-clause-halts : goal.returns-in-Err-make_sets-clause-halts
-returns-in-Err-make_sets-clause-halts g c = answer_takes_nothing c.in-Err-make_sets.halt c.in-Ok.engine (g.S.Site.state c.open.new.site) (g.S.Site.state c.make_sets.new.site) c.in-Err-make_sets.ensures.course.cause
+returns-in-Err-make_sets-clause-halts g c = answer_takes_nothing c.in-Err-make_sets.halt c.in-Ok.engine (g.S.Site.state c.open.new.site) (g.S.Site.state c.make_sets.new.site) c.in-Err-make_sets.ensures.course.course.cause
 
 pub returns-in-Err-make_sets-clause-goes : goal.returns-in-Err-make_sets-clause-goes
-returns-in-Err-make_sets-clause-goes g c = goes_in_sequence _ _ _ c.open.ensures.goes c.in-Err-make_sets.ensures.course.goes
+returns-in-Err-make_sets-clause-goes g c = goes_in_sequence _ _ _ c.open.ensures.goes c.in-Err-make_sets.ensures.course.course.goes
 
 pub returns-in-Ok-make_gets-clause-goes : goal.returns-in-Ok-make_gets-clause-goes
-returns-in-Ok-make_gets-clause-goes g c = goes_in_sequence _ _ _ c.open.ensures.goes (goes_in_sequence _ _ _ c.in-Ok-make_sets.ensures.course.goes c.in-Ok-make_gets.ensures.course.goes)
+returns-in-Ok-make_gets-clause-goes g c = goes_in_sequence _ _ _ c.open.ensures.goes (goes_in_sequence _ _ _ c.in-Ok-make_sets.ensures.course.course.goes c.in-Ok-make_gets.ensures.course.course.goes)

@@ -2,7 +2,7 @@ use Rattle.site.specs.declared.outside.Dev.TheVariants.{Flash}
 use Rattle.site.specs.declared.outside.Stop.TheVariants.{Worn}
 use Rattle.engine.specs.Image.{log_under}
 use Rattle.face.proofs.Counted.{first_counted, restart_fails}
-use Rattle.face.proofs.Pagings.{first_paged, never_paged}
+use Rattle.face.proofs.Pagings.{first_paged, first_reads, never_paged}
 use Rattle.std.specs.Prelude.{Err}
 use Rattle.std.proofs.Common.{◌∙◌, ap, ◌≡◌, refl}
 use Rattle.site.specs.Laws.{stays_honest}
@@ -94,3 +94,18 @@ returns-in-Err-clause-numbers g c run begins newest blocks sound =
     let entry = g.S.Site.state c.args.site.now in
     let mid = g.S.Site.state c.start.new.site in
     restart_fails run (log_under newest blocks) entry c.start.result _ mid mid refl (c.start.ensures.numbers begins.honest begins.quiet run.geometry newest blocks sound)
+
+pub returns-in-Err-clause-reads : goal.returns-in-Err-clause-reads
+returns-in-Err-clause-reads g c run begins newest blocks sound =
+    let old = g.S.Site.state c.args.site.now in
+    first_reads c.args.pool run newest old.image blocks c.start.result (λ e. e.store.pages) old (g.S.Site.state c.start.new.site) (g.S.Site.state c.start.new.site) (λ dev. refl) (c.start.ensures.asks begins.honest run.geometry newest blocks sound)
+
+pub returns-in-Ok-tell_all-clause-reads : goal.returns-in-Ok-tell_all-clause-reads
+returns-in-Ok-tell_all-clause-reads g c run begins newest blocks sound =
+    let old = g.S.Site.state c.args.site.now in
+    first_reads c.args.pool run newest old.image blocks c.start.result (λ e. e.store.pages) old (g.S.Site.state c.start.new.site) (g.S.Site.state c.tell_all.new.site) c.tell_all.ensures.reads (c.start.ensures.asks begins.honest run.geometry newest blocks sound)
+
+pub returns-in-Err-tell_all-clause-reads : goal.returns-in-Err-tell_all-clause-reads
+returns-in-Err-tell_all-clause-reads g c run begins newest blocks sound =
+    let old = g.S.Site.state c.args.site.now in
+    first_reads c.args.pool run newest old.image blocks c.start.result (λ e. e.store.pages) old (g.S.Site.state c.start.new.site) (g.S.Site.state c.tell_all.new.site) c.tell_all.ensures.reads (c.start.ensures.asks begins.honest run.geometry newest blocks sound)

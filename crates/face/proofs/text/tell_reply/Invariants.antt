@@ -1,5 +1,5 @@
 use Rattle.std.proofs.Common.{◌≡◌, ◌++◌, IsTrue}
-use Rattle.site.specs.Calls.{Goes}
+use Rattle.site.specs.Calls.{Goes, SameReads}
 use Rattle.site.specs.Moments.{EachMoment}
 use Rattle.site.specs.Telling.{TellsPart, SameDevices}
 use Rattle.shell_text.specs.Texts.{reply_text, reply_lines}
@@ -12,6 +12,7 @@ invariant-loop-place g l =
     let now = g.S.Site.state l.site in
     record {
       goes : Goes old now;
+      reads : SameReads old now;
       same : IsTrue old.honest → SameDevices old now;
       told : IsTrue old.honest → now.told ≡ old.told ++ first_of l.place (reply_lines l.reply);
       moments : IsTrue old.honest → EachMoment old now (TellsPart (reply_text l.reply) old);

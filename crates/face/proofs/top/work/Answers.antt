@@ -1,4 +1,4 @@
-use Rattle.std.proofs.Common.{suc, List, [], drop, refl, sym, ◌∙◌, ap, subst, arith, add-one}
+use Rattle.std.proofs.Common.{ℕ, suc, List, [], drop, refl, sym, ◌∙◌, ap, subst, arith, add-one}
 use Rattle.std.proofs.lemmas.List.{append-nil}
 use Rattle.std.specs.Prelude.{Err}
 use Rattle.site.specs.Laws.{stays_honest, goes_in_sequence}
@@ -6,20 +6,20 @@ use Rattle.record_model.specs.Run.{Line}
 use Rattle.face.specs.Going.{Going, IsCounted, IsPaged}
 use Rattle.engine.specs.Image.{log_under}
 use Rattle.face.proofs.Counted.{counted_on, counts_next, counts_still, next_counted}
-use Rattle.face.proofs.Pagings.{next_paged, next_worn, paged_room}
+use Rattle.face.proofs.Pagings.{next_paged, next_reads, next_worn, paged_queue, paged_room, reads_still}
 use Rattle.engine.specs.Listings.{listing_of}
 use Rattle.face.specs.Lines.{up_to_quit}
-use Rattle.face.specs.Run.{Run, Begins, state_at, listings_left, listing_at}
+use Rattle.face.specs.Run.{Run, Begins, ListsUpTo, ReadsFew, asked_after, state_at, listings_left, listing_at}
 use Rattle.face.specs.Texts.{status_of}
 use Rattle.face.proofs.Cuts.{Cut, no_cut, cut_more, cut_stays, line_is, cut_few_octets}
-use Rattle.face.proofs.Ends.{never_opened, taking_failed, finished, answer_failed, heard_end, line_heard, quitted, taking_cause, answer_takes_nothing, answer_cause}
-use Rattle.face.proofs.Listed.{with_line, going_before, is_asked, left_after}
-use Rattle.face.proofs.Works.{moved, cut_short, goes_on}
+use Rattle.face.proofs.Ends.{lists_nothing, never_opened, taking_failed, finished, answer_failed, heard_end, line_heard, quitted, taking_cause, answer_takes_nothing, answer_cause}
+use Rattle.face.proofs.Listed.{with_line, going_before, is_asked, left_after, listed_next}
+use Rattle.face.proofs.Works.{begun_after, moved, cut_short, goes_on}
 use Rattle.face.proofs.Logs.{still_fits, goes_on as engine_goes_on}
 use Rattle.face.proofs.top.work.Goals as goal
 
 pub returns-in-Err-clause-works : goal.returns-in-Err-clause-works
-returns-in-Err-clause-works g c = ([], λ run begins same. never_opened c.args.pool run (g.S.Site.state c.args.site.now) (g.S.Site.state c.open.new.site) c.in-Err.halt (c.in-Err.ensures.stops run begins) c.in-Err.ensures.halts (c.open.ensures.left begins.honest) (λ is. c.in-Err.ensures.worn run begins (ap Err is)) (c.in-Err.ensures.numbers run begins))
+returns-in-Err-clause-works g c = ([], λ run begins same. never_opened c.args.pool run (g.S.Site.state c.args.site.now) (g.S.Site.state c.open.new.site) c.in-Err.halt (c.in-Err.ensures.stops run begins) c.in-Err.ensures.halts (c.open.ensures.left begins.honest) (λ is. c.in-Err.ensures.worn run begins (ap Err is)) (c.in-Err.ensures.numbers run begins) (c.in-Err.ensures.reads run begins))
 
 pub answer-requires : goal.answer-requires
 answer-requires g c = record { going = engine_goes_on c.loop-line.engine (g.S.Site.state c.loop-line.site) (g.S.Site.state c.next.new.site) c.loop-line.invariant.engine c.next.ensures.goes }
@@ -31,8 +31,9 @@ loop-line-init g c = record {
   engine = c.in-Ok.ensures.goes_on;
   cut = λ honest. no_cut _ c.new-source.result _ c.new-source.ensures.empty c.new-source.ensures.taken c.new-source.ensures.going (c.open.ensures.left honest);
   fits = c.in-Ok.ensures.fits;
-  under_way = record { listings = []; left = λ run later begins is. is; going = λ run later begins is. c.in-Ok.ensures.going run begins };
+  under_way = record { listings = []; left = λ run later begins is. is; going = λ run later begins is. c.in-Ok.ensures.going run begins; listed = λ run later begins is. lists_nothing c.args.pool run (g.S.Site.state c.args.site.now).image };
   paged = c.in-Ok.ensures.paged;
+  reads = c.open.ensures.reads;
   counted = c.in-Ok.ensures.counted;
 }
 
@@ -47,7 +48,8 @@ returns-in-Err-next-clause-works g c =
           let cut = c.loop-line.invariant.cut begins.honest in
           let so_far = under_way.going run [] begins (same ∙ sym (append-nil under_way.listings)) in
           let going = moved run entry mid next c.loop-line.engine c.loop-line._line so_far c.next.ensures.goes (c.next.ensures.same so_far.fits.honest) in
-          taking_failed c.args.pool run entry mid next c.loop-line.engine c.loop-line.source c.loop-line._line cut c.loop-line.invariant.source going c.in-Err-next.halt c.in-Err-next.ensures.halts (c.in-Err-next.ensures.cut_off so_far.fits.honest cut.ended)
+          taking_failed c.args.pool run entry mid next c.loop-line.engine c.loop-line.source c.loop-line._line cut c.loop-line.invariant.source going (under_way.listed run [] begins (same ∙ sym (append-nil under_way.listings)))
+          (λ newest blocks sound. reads_still _ _ _ _ mid next (c.next.ensures.same so_far.fits.honest).reads (c.loop-line.invariant.reads run begins newest blocks sound)) c.in-Err-next.halt c.in-Err-next.ensures.halts (c.in-Err-next.ensures.cut_off so_far.fits.honest cut.ended)
           (λ newest blocks sound. counts_still run (log_under newest blocks) entry mid next c.loop-line._line (c.next.ensures.same so_far.fits.honest).image (c.loop-line.invariant.counted run begins newest blocks sound).numbers),
     )
 
@@ -72,15 +74,17 @@ returns-in-End-clause-works g c =
           let honest = so_far.fits.honest in
           let going = moved run entry mid next c.loop-line.engine c.loop-line._line so_far c.next.ensures.goes (c.next.ensures.same honest) in
           let end = heard_end c.in-Ok-next.heard _ _ _ _ (c.in-Ok-next.ensures.heard honest cut.ended) c.in-End.is in
-          finished c.args.pool run entry mid next c.loop-line.engine c.loop-line.source c.loop-line._line cut c.loop-line.invariant.source going _ end.0 (c.in-Ok-next.ensures.ended honest cut.ended end.1)
+          finished c.args.pool run entry mid next c.loop-line.engine c.loop-line.source c.loop-line._line cut c.loop-line.invariant.source going (under_way.listed run [] begins (same ∙ sym (append-nil under_way.listings)))
+          (λ newest blocks sound. reads_still _ _ _ _ mid next (c.next.ensures.same so_far.fits.honest).reads (c.loop-line.invariant.reads run begins newest blocks sound)) _ end.0 (c.in-Ok-next.ensures.ended honest cut.ended end.1)
           (λ newest blocks sound. paged_room c.args.pool run newest entry.image blocks c.loop-line.engine mid c.loop-line._line (c.loop-line.invariant.paged run begins newest blocks sound) c.loop-line.invariant.engine)
+          (λ newest blocks sound. paged_queue c.args.pool run newest entry.image blocks c.queue_is_on_flash.ensures c.loop-line.engine next (state_at run c.loop-line._line) c.loop-line._line going.fits going.geometry (c.loop-line.invariant.paged run begins newest blocks sound))
           (λ newest blocks sound. counts_still run (log_under newest blocks) entry mid next c.loop-line._line (c.next.ensures.same honest).image (c.loop-line.invariant.counted run begins newest blocks sound).numbers),
     )
 
 pub returns-in-Err-answer-clause-works : goal.returns-in-Err-answer-clause-works
 returns-in-Err-answer-clause-works g c =
     let under_way = c.loop-line.invariant.under_way in (
-      with_line _ _ c.loop-line.engine c.loop-line._line under_way c.in-Line.line,
+      with_line c.args.pool _ _ c.loop-line.engine c.loop-line._line under_way c.in-Line.line,
       λ run begins same.
           let entry = g.S.Site.state c.args.site.now in
           let mid = g.S.Site.state c.loop-line.site in
@@ -88,10 +92,10 @@ returns-in-Err-answer-clause-works g c =
           let new = g.S.Site.state c.answer.new.site in
           let i = c.loop-line._line in
           let cut = c.loop-line.invariant.cut begins.honest in
-          let with = with_line entry mid c.loop-line.engine i under_way c.in-Line.line in
+          let with = with_line c.args.pool entry mid c.loop-line.engine i under_way c.in-Line.line in
           let listed = same ∙ sym (append-nil with) in
-          let so_far = going_before entry mid c.loop-line.engine i under_way c.in-Line.line run [] begins listed in
-          let asked = is_asked entry mid c.loop-line.engine i under_way c.in-Line.line run [] begins listed in
+          let so_far = going_before c.args.pool entry mid c.loop-line.engine i under_way c.in-Line.line run [] begins listed in
+          let asked = is_asked c.args.pool entry mid c.loop-line.engine i under_way c.in-Line.line run [] begins listed in
           let honest = so_far.fits.honest in
           let going = moved run entry mid next c.loop-line.engine i so_far c.next.ensures.goes (c.next.ensures.same honest) in
           let hears = line_heard c.in-Ok-next.heard c.in-Line.line _ _ _ _ (c.in-Ok-next.ensures.heard honest cut.ended) c.in-Line.is in
@@ -99,7 +103,10 @@ returns-in-Err-answer-clause-works g c =
           let is = ap (λ (l : List Line). drop i (up_to_quit l)) begins.lines ∙ line_is entry.left c.loop-line.source mid i cut c.loop-line.invariant.source c.next.new.self next c.in-Line.line hears ended c.next.ensures.source in
           let stops = cut_short run entry next c.loop-line.engine i going new c.in-Line.line _ is (c.answer.ensures.any_moment (state_at run i) (listing_at run i) asked going.fits going.quiet) c.in-Err-answer.halt
           (λ ne. c.in-Err-answer.ensures.quiet _ going.fits going.quiet (λ d e. ne (ap status_of e))) (c.in-Err-answer.ensures.untold _ going.fits going.quiet) in
-          answer_failed c.args.pool run entry mid next new c.loop-line.source c.next.new.self i cut c.loop-line.invariant.source c.in-Line.line hears ended c.next.ensures.source (c.answer.ensures.left going.fits.honest) c.in-Err-answer.halt stops (answer_takes_nothing c.in-Err-answer.halt c.loop-line.engine next new c.in-Err-answer.ensures.cause)
+          answer_failed c.args.pool run entry mid next new c.loop-line.source c.next.new.self i cut c.loop-line.invariant.source c.in-Line.line hears ended c.next.ensures.source (c.answer.ensures.left going.fits.honest)
+          (listed_next c.args.pool entry mid c.loop-line.engine i under_way c.in-Line.line run [] begins listed _ is (c.loop-line.invariant.paged run begins))
+          (λ newest blocks sound. next_reads c.args.pool run newest entry.image blocks c.works_add_up.ensures.works i c.in-Line.line _ is c.loop-line.engine (c.loop-line.invariant.paged run begins newest blocks sound) c.works_add_up.ensures.reads entry mid next new refl (c.next.ensures.same honest).reads (c.loop-line.invariant.reads run begins newest blocks sound) (c.answer.ensures.asks (state_at run i) going.fits).reads) c.in-Err-answer.halt stops
+          (begun_after run entry next c.loop-line.engine i going new c.in-Line.line _ is (c.answer.ensures.any_moment (state_at run i) (listing_at run i) asked going.fits going.quiet)) (answer_takes_nothing c.in-Err-answer.halt c.loop-line.engine next new c.in-Err-answer.ensures.cause)
           (λ worn newest blocks sound. next_worn c.args.pool run newest entry.image blocks c.works_add_up.ensures.works i c.in-Line.line _ is c.loop-line.engine (c.loop-line.invariant.paged run begins newest blocks sound) ((c.in-Err-answer.ensures.asks (state_at run i) going.fits).worn (ap Err worn)))
           (λ newest blocks sound. counts_next run (log_under newest blocks) entry mid next new c.loop-line.engine c.answer.new.engine i c.in-Line.line _ is (c.next.ensures.same honest).image going.geometry (c.loop-line.invariant.counted run begins newest blocks sound) _ (c.in-Err-answer.ensures.numbers (state_at run i) going.fits going.quiet)),
     )
@@ -130,18 +137,18 @@ loop-line-preserved g c =
       under_way =
           let under_way = c.loop-line.invariant.under_way in
           record {
-            listings = with_line entry mid c.loop-line.engine i under_way c.in-Line.line;
+            listings = with_line c.args.pool entry mid c.loop-line.engine i under_way c.in-Line.line;
             left = λ run later begins is.
                 let cut = c.loop-line.invariant.cut begins.honest in
-                let honest = (going_before entry mid c.loop-line.engine i under_way c.in-Line.line run later begins is).fits.honest in
+                let honest = (going_before c.args.pool entry mid c.loop-line.engine i under_way c.in-Line.line run later begins is).fits.honest in
                 let hears = line_heard c.in-Ok-next.heard c.in-Line.line _ _ _ _ (c.in-Ok-next.ensures.heard honest cut.ended) c.in-Line.is in
                 let ended = c.in-Ok-next.ensures.ended honest cut.ended in
                 let at = ap (λ (l : List Line). drop i (up_to_quit l)) begins.lines ∙ line_is entry.left c.loop-line.source mid i cut c.loop-line.invariant.source c.next.new.self next c.in-Line.line hears ended c.next.ensures.source in
-                ap (listings_left run) (add-one i) ∙ left_after entry mid c.loop-line.engine i under_way c.in-Line.line run later begins is _ at;
+                ap (listings_left run) (add-one i) ∙ left_after c.args.pool entry mid c.loop-line.engine i under_way c.in-Line.line run later begins is _ at;
             going = λ run later begins listed.
                 let cut = c.loop-line.invariant.cut begins.honest in
-                let so_far = going_before entry mid c.loop-line.engine i under_way c.in-Line.line run later begins listed in
-                let asked = is_asked entry mid c.loop-line.engine i under_way c.in-Line.line run later begins listed in
+                let so_far = going_before c.args.pool entry mid c.loop-line.engine i under_way c.in-Line.line run later begins listed in
+                let asked = is_asked c.args.pool entry mid c.loop-line.engine i under_way c.in-Line.line run later begins listed in
                 let honest = so_far.fits.honest in
                 let going = moved run entry mid next c.loop-line.engine i so_far c.next.ensures.goes (c.next.ensures.same honest) in
                 let hears = line_heard c.in-Ok-next.heard c.in-Line.line _ _ _ _ (c.in-Ok-next.ensures.heard honest cut.ended) c.in-Line.is in
@@ -150,28 +157,49 @@ loop-line-preserved g c =
                 subst (Going run entry new c.answer.new.engine) (sym (add-one i))
                 (goes_on run entry next c.loop-line.engine i going new c.in-Line.line _ is (c.answer.ensures.any_moment (state_at run i) (listing_at run i) asked going.fits going.quiet)
                 c.answer.new.engine c.answer.ensures.sizes c.in_default.ensures.going.store.both.sizes (c.in_default.ensures.fits (state_at run i) (listing_at run i) asked going.fits) (c.in_default.ensures.stays_quiet going.fits.honest going.quiet) (c.in_default.ensures.told (state_at run i) (listing_at run i) asked going.fits going.quiet));
+            listed = λ run later begins is.
+                let cut = c.loop-line.invariant.cut begins.honest in
+                let honest = (going_before c.args.pool entry mid c.loop-line.engine i under_way c.in-Line.line run later begins is).fits.honest in
+                let hears = line_heard c.in-Ok-next.heard c.in-Line.line _ _ _ _ (c.in-Ok-next.ensures.heard honest cut.ended) c.in-Line.is in
+                let ended = c.in-Ok-next.ensures.ended honest cut.ended in
+                let at = ap (λ (l : List Line). drop i (up_to_quit l)) begins.lines ∙ line_is entry.left c.loop-line.source mid i cut c.loop-line.invariant.source c.next.new.self next c.in-Line.line hears ended c.next.ensures.source in
+                subst (λ (n : ℕ). ListsUpTo c.args.pool run n entry.image) (sym (add-one i)) (listed_next c.args.pool entry mid c.loop-line.engine i under_way c.in-Line.line run later begins is _ at (c.loop-line.invariant.paged run begins));
           };
       paged = λ run begins newest blocks sound.
           let under_way = c.loop-line.invariant.under_way in
-          let with = with_line entry mid c.loop-line.engine i under_way c.in-Line.line in
+          let with = with_line c.args.pool entry mid c.loop-line.engine i under_way c.in-Line.line in
           let own : Run = record run { listings = with } in
           let starts : Begins own entry = record { honest = begins.honest; quiet = begins.quiet; opens = begins.opens; lines = begins.lines } in
           let cut = c.loop-line.invariant.cut begins.honest in
-          let so_far = going_before entry mid c.loop-line.engine i under_way c.in-Line.line own [] starts (sym (append-nil with)) in
+          let so_far = going_before c.args.pool entry mid c.loop-line.engine i under_way c.in-Line.line own [] starts (sym (append-nil with)) in
           let honest = so_far.fits.honest in
           let going = moved own entry mid next c.loop-line.engine i so_far c.next.ensures.goes (c.next.ensures.same honest) in
           let hears = line_heard c.in-Ok-next.heard c.in-Line.line _ _ _ _ (c.in-Ok-next.ensures.heard honest cut.ended) c.in-Line.is in
           let ended = c.in-Ok-next.ensures.ended honest cut.ended in
           let is = ap (λ (l : List Line). drop i (up_to_quit l)) begins.lines ∙ line_is entry.left c.loop-line.source mid i cut c.loop-line.invariant.source c.next.new.self next c.in-Line.line hears ended c.next.ensures.source in
-          let paged = next_paged c.args.pool own newest entry.image blocks c.works_add_up.ensures.works i c.in-Line.line _ is c.loop-line.engine (c.loop-line.invariant.paged own starts newest blocks sound) c.in_default.field-0 c.answer.new.engine (c.in_default.ensures.asks (state_at own i) going.fits) in
+          let paged = next_paged c.args.pool own newest entry.image blocks c.works_add_up.ensures.works i c.in-Line.line _ is c.loop-line.engine (c.loop-line.invariant.paged own starts newest blocks sound) c.in_default.field-0 c.answer.new.engine next new (c.in_default.ensures.asks (state_at own i) going.fits) in
           subst (IsPaged c.args.pool run newest entry.image blocks c.answer.new.engine) (sym (add-one i)) (record { machine = paged.machine; rules_are = paged.rules_are });
-      counted = λ run begins newest blocks sound.
+      reads = λ run begins newest blocks sound.
           let under_way = c.loop-line.invariant.under_way in
-          let with = with_line entry mid c.loop-line.engine i under_way c.in-Line.line in
+          let with = with_line c.args.pool entry mid c.loop-line.engine i under_way c.in-Line.line in
           let own : Run = record run { listings = with } in
           let starts : Begins own entry = record { honest = begins.honest; quiet = begins.quiet; opens = begins.opens; lines = begins.lines } in
           let cut = c.loop-line.invariant.cut begins.honest in
-          let so_far = going_before entry mid c.loop-line.engine i under_way c.in-Line.line own [] starts (sym (append-nil with)) in
+          let so_far = going_before c.args.pool entry mid c.loop-line.engine i under_way c.in-Line.line own [] starts (sym (append-nil with)) in
+          let honest = so_far.fits.honest in
+          let going = moved own entry mid next c.loop-line.engine i so_far c.next.ensures.goes (c.next.ensures.same honest) in
+          let hears = line_heard c.in-Ok-next.heard c.in-Line.line _ _ _ _ (c.in-Ok-next.ensures.heard honest cut.ended) c.in-Line.is in
+          let ended = c.in-Ok-next.ensures.ended honest cut.ended in
+          let is = ap (λ (l : List Line). drop i (up_to_quit l)) begins.lines ∙ line_is entry.left c.loop-line.source mid i cut c.loop-line.invariant.source c.next.new.self next c.in-Line.line hears ended c.next.ensures.source in
+          subst (λ (n : ℕ). ReadsFew c.args.pool run.geometry (asked_after run newest entry.image blocks n) entry new) (sym (add-one i))
+          (next_reads c.args.pool own newest entry.image blocks c.works_add_up.ensures.works i c.in-Line.line _ is c.loop-line.engine (c.loop-line.invariant.paged own starts newest blocks sound) c.works_add_up.ensures.reads entry mid next new refl (c.next.ensures.same honest).reads (c.loop-line.invariant.reads own starts newest blocks sound) (c.answer.ensures.asks (state_at own i) going.fits).reads);
+      counted = λ run begins newest blocks sound.
+          let under_way = c.loop-line.invariant.under_way in
+          let with = with_line c.args.pool entry mid c.loop-line.engine i under_way c.in-Line.line in
+          let own : Run = record run { listings = with } in
+          let starts : Begins own entry = record { honest = begins.honest; quiet = begins.quiet; opens = begins.opens; lines = begins.lines } in
+          let cut = c.loop-line.invariant.cut begins.honest in
+          let so_far = going_before c.args.pool entry mid c.loop-line.engine i under_way c.in-Line.line own [] starts (sym (append-nil with)) in
           let honest = so_far.fits.honest in
           let going = moved own entry mid next c.loop-line.engine i so_far c.next.ensures.goes (c.next.ensures.same honest) in
           let hears = line_heard c.in-Ok-next.heard c.in-Line.line _ _ _ _ (c.in-Ok-next.ensures.heard honest cut.ended) c.in-Line.is in
@@ -184,7 +212,7 @@ loop-line-preserved g c =
 pub returns-then-last-clause-works : goal.returns-then-last-clause-works
 returns-then-last-clause-works g c =
     let under_way = c.loop-line.invariant.under_way in (
-      with_line _ _ c.loop-line.engine c.loop-line._line under_way c.in-Line.line,
+      with_line c.args.pool _ _ c.loop-line.engine c.loop-line._line under_way c.in-Line.line,
       λ run begins same.
           let entry = g.S.Site.state c.args.site.now in
           let mid = g.S.Site.state c.loop-line.site in
@@ -192,10 +220,10 @@ returns-then-last-clause-works g c =
           let new = g.S.Site.state c.answer.new.site in
           let i = c.loop-line._line in
           let cut = c.loop-line.invariant.cut begins.honest in
-          let with = with_line entry mid c.loop-line.engine i under_way c.in-Line.line in
+          let with = with_line c.args.pool entry mid c.loop-line.engine i under_way c.in-Line.line in
           let listed = same ∙ sym (append-nil with) in
-          let so_far = going_before entry mid c.loop-line.engine i under_way c.in-Line.line run [] begins listed in
-          let asked = is_asked entry mid c.loop-line.engine i under_way c.in-Line.line run [] begins listed in
+          let so_far = going_before c.args.pool entry mid c.loop-line.engine i under_way c.in-Line.line run [] begins listed in
+          let asked = is_asked c.args.pool entry mid c.loop-line.engine i under_way c.in-Line.line run [] begins listed in
           let honest = so_far.fits.honest in
           let going = moved run entry mid next c.loop-line.engine i so_far c.next.ensures.goes (c.next.ensures.same honest) in
           let hears = line_heard c.in-Ok-next.heard c.in-Line.line _ _ _ _ (c.in-Ok-next.ensures.heard honest cut.ended) c.in-Line.is in
@@ -203,9 +231,13 @@ returns-then-last-clause-works g c =
           let is = ap (λ (l : List Line). drop i (up_to_quit l)) begins.lines ∙ line_is entry.left c.loop-line.source mid i cut c.loop-line.invariant.source c.next.new.self next c.in-Line.line hears ended c.next.ensures.source in
           let gone = goes_on run entry next c.loop-line.engine i going new c.in-Line.line _ is (c.answer.ensures.any_moment (state_at run i) (listing_at run i) asked going.fits going.quiet)
           c.answer.new.engine c.answer.ensures.sizes c.in_default.ensures.going.store.both.sizes (c.in_default.ensures.fits (state_at run i) (listing_at run i) asked going.fits) (c.in_default.ensures.stays_quiet going.fits.honest going.quiet) (c.in_default.ensures.told (state_at run i) (listing_at run i) asked going.fits going.quiet) in
-          quitted c.args.pool run entry mid next new c.loop-line.source c.next.new.self i cut c.loop-line.invariant.source c.in-Line.line hears ended c.next.ensures.source (c.answer.ensures.left going.fits.honest) _ c.answer.new.engine (sym c.quits-last.ensures ∙ c.if-last.true) gone
+          quitted c.args.pool run entry mid next new c.loop-line.source c.next.new.self i cut c.loop-line.invariant.source c.in-Line.line hears ended c.next.ensures.source (c.answer.ensures.left going.fits.honest)
+          (listed_next c.args.pool entry mid c.loop-line.engine i under_way c.in-Line.line run [] begins listed _ is (c.loop-line.invariant.paged run begins))
+          (λ newest blocks sound. next_reads c.args.pool run newest entry.image blocks c.works_add_up.ensures.works i c.in-Line.line _ is c.loop-line.engine (c.loop-line.invariant.paged run begins newest blocks sound) c.works_add_up.ensures.reads entry mid next new refl (c.next.ensures.same honest).reads (c.loop-line.invariant.reads run begins newest blocks sound) (c.answer.ensures.asks (state_at run i) going.fits).reads) _ c.answer.new.engine (sym c.quits-last.ensures ∙ c.if-last.true) gone
           (λ newest blocks sound. paged_room c.args.pool run newest entry.image blocks c.answer.new.engine new (suc i)
-          (next_paged c.args.pool run newest entry.image blocks c.works_add_up.ensures.works i c.in-Line.line _ is c.loop-line.engine (c.loop-line.invariant.paged run begins newest blocks sound) c.in_default.field-0 c.answer.new.engine (c.in_default.ensures.asks (state_at run i) going.fits)) c.in_default.ensures.going)
+          (next_paged c.args.pool run newest entry.image blocks c.works_add_up.ensures.works i c.in-Line.line _ is c.loop-line.engine (c.loop-line.invariant.paged run begins newest blocks sound) c.in_default.field-0 c.answer.new.engine next new (c.in_default.ensures.asks (state_at run i) going.fits)) c.in_default.ensures.going)
+          (λ newest blocks sound. paged_queue c.args.pool run newest entry.image blocks c.queue_is_on_flash.ensures c.answer.new.engine new (state_at run (suc i)) (suc i) gone.fits gone.geometry
+          (next_paged c.args.pool run newest entry.image blocks c.works_add_up.ensures.works i c.in-Line.line _ is c.loop-line.engine (c.loop-line.invariant.paged run begins newest blocks sound) c.in_default.field-0 c.answer.new.engine next new (c.in_default.ensures.asks (state_at run i) going.fits)))
           (λ newest blocks sound. (next_counted run (log_under newest blocks) entry mid next new c.loop-line.engine c.answer.new.engine i c.in-Line.line _ is (c.next.ensures.same honest).image going.geometry (c.loop-line.invariant.counted run begins newest blocks sound) c.in_default.field-0 (c.in_default.ensures.numbers (state_at run i) going.fits going.quiet)).numbers),
     )
 
