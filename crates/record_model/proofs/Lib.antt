@@ -1,3 +1,10 @@
 pub mod StepLaws
+pub mod RefusalLaws
 pub mod RunLaws
 pub mod SerialGets
+pub mod SerialLists
+pub mod SerialLocks
+pub mod SerialAlone
+pub mod SerialSteps
+pub mod SerialOrder
+pub mod SerialWhole

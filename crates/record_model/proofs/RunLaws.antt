@@ -159,3 +159,24 @@ commits_make_the_table checkpoints s lines listings i = record {
   table = sym (tables_at checkpoints s (turns checkpoints s lines listings) i s.table s.table (turns_are_run checkpoints s lines listings) refl);
   commits = counts_at checkpoints s (turns checkpoints s lines listings) i (turns_are_run checkpoints s lines listings);
 }
+
+-- the state behind a turn
+pub state_after : (s : State) (earlier later : List Turn) (t : Turn) → state_at (earlier ++ t ∷ later) s (suc (length earlier)) ≡ t.after
+state_after s [] later t = refl
+state_after s (u ∷ earlier) later t = state_after u.after earlier later t
+
+-- a turn that commits is one more
+pub one_commit_more : (earlier later : List Turn) (t : Turn) → is_committed t.reply ≡ true →
+    commits_among (suc (length earlier)) (commit_marks (earlier ++ t ∷ later)) ≡ commits_among (length earlier) (commit_marks (earlier ++ t ∷ later)) + 1
+one_commit_more [] later t h =
+    commits_cons 0 (is_committed t.reply) (commit_marks later)
+    ∙ ap (λ (b : Bool). cond b (1 + commits_among 0 (commit_marks later)) (commits_among 0 (commit_marks later))) h
+one_commit_more (u ∷ earlier) later t h =
+    let marks = commit_marks (earlier ++ t ∷ later) in
+    commits_cons (suc (length earlier)) (is_committed u.reply) marks
+    ∙ more (is_committed u.reply) _ _ (one_commit_more earlier later t h)
+    ∙ ap (λ (n : ℕ). n + 1) (sym (commits_cons (length earlier) (is_committed u.reply) marks))
+  where
+    more : (b : Bool) (n m : ℕ) → n ≡ m + 1 → cond b (1 + n) n ≡ cond b (1 + m) m + 1
+    more true n m e = omega (arith, e)
+    more false n m e = e

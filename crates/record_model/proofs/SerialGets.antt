@@ -11,7 +11,7 @@ use Rattle.record_model.specs.Serial.{GetsAreSerial, table_before}
 use Rattle.record_model.proofs.RunLaws.{IsRun, turns_are_run, commits_make_the_table}
 
 -- a turn of a run is one of the state before it
-turn_of_run : (checkpoints : Bool) (s : State) (earlier later : List Turn) (t : Turn) → IsRun checkpoints s (earlier ++ t ∷ later) →
+pub turn_of_run : (checkpoints : Bool) (s : State) (earlier later : List Turn) (t : Turn) → IsRun checkpoints s (earlier ++ t ∷ later) →
     (listing : List CacheLine) × (t ≡ turn checkpoints (state_at (earlier ++ t ∷ later) s (length earlier)) t.line listing)
 turn_of_run checkpoints s [] later t is = (is.0, is.1)
 turn_of_run checkpoints s (u ∷ earlier) later t is = turn_of_run checkpoints u.after earlier later t is.2

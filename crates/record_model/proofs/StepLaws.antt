@@ -28,7 +28,7 @@ step_commit checkpoints s n listing session h = rw h refl
 
 -- Sizes.
 
-length_table_with : (table : List Content) (writes : List state.Write) → length (table_with table writes) ≡ length table
+pub length_table_with : (table : List Content) (writes : List state.Write) → length (table_with table writes) ≡ length table
 length_table_with table [] = refl
 length_table_with table (w ∷ writes) = length_table_with (slice_set table w.0 w.1) writes ∙ grind (arith, common_steps)
 
@@ -75,7 +75,7 @@ carried s command listing = record { after = effect s command; reply = answer s 
 still : (s : State) (o : Outcome) → is_committed o.reply ≡ false → o.after.table ≡ s.table → o.after.commits ≡ s.commits → IsCountedIn s o
 still s o other table commits = record { committed = λ h. absurd cc; others = λ h. (table, commits) }
 
-found_is : (content : Content) → is_committed (found content) ≡ false
+pub found_is : (content : Content) → is_committed (found content) ≡ false
 found_is None = refl
 found_is (Some value) = refl
 
@@ -96,7 +96,7 @@ counted s Stat listing = still s _ refl refl refl
 counted s Quit listing = still s _ refl refl refl
 
 -- a test's reply is no commit
-IsNoCommit : Option Reply → Type 0
+unfoldable pub IsNoCommit : Option Reply → Type 0
 IsNoCommit None = Unit {0}
 IsNoCommit (Some refused) = is_committed refused ≡ false
 
@@ -120,7 +120,7 @@ all_busy : (s : State) (own : Option ℕ) (numbers : List ℕ) → AllByRecursio
 all_busy s own [] = tt
 all_busy s own (number ∷ numbers) = (busy_with (busy_read s own number), all_busy s own numbers)
 
-refusals : (s : State) (command : Command) → IsNoCommit (refusal s command)
+pub refusals : (s : State) (command : Command) → IsNoCommit (refusal s command)
 unfolding IsNoCommit
 refusals s (Begin n) = refused_if _ BadSession
 refusals s (Read n number) = first_of (wants_active s n ∷ wants_record s number ∷ may_read s (Some n) number ∷ []) (refused_if _ BadSession, (refused_if _ NoRecord, (busy_with (busy_read s (Some n) number), tt)))

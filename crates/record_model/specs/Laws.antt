@@ -1,8 +1,9 @@
 -- What follows from the model, for those who build on it.
-use Rattle.std.specs.Prelude.{◌≡◌, ℕ, ◌+◌, ◌<◌, Bool, false, List, length, take, slice_get, Some, IsTrue, if◌then◌else◌}
+use Rattle.std.specs.Prelude.{◌≡◌, ℕ, ◌+◌, ◌<◌, Bool, true, false, not, List, length, take, slice_get, Some, IsTrue, if◌then◌else◌}
 use Rattle.std.specs.List.{list_any}
 use Rattle.record_model.specs.declared.words.Command.{Command}
 use Rattle.record_model.specs.declared.words.CacheLine.{CacheLine}
+use Rattle.record_model.specs.declared.words.Reply.{Reply}
 use Rattle.record_model.specs.declared.words.Reply.TheVariants as reply
 use Rattle.record_model.specs.State.{State, kept_by_checkpoint}
 use Rattle.record_model.specs.Step.{Outcome, step, is_accepted, makes_checkpoint}
@@ -31,6 +32,18 @@ RefusedChangesNothing = (checkpoints : Bool) (s : State) (command : Command) (li
     is_accepted checkpoints s command ≡ false →
     (step checkpoints s command listing).after
     ≡ record s { kept = if makes_checkpoint checkpoints s command then kept_by_checkpoint s else s.kept }
+
+-- whether a reply says that the command wasn't carried out
+abbrev pub is_refused : Reply → Bool
+is_refused (reply.Busy session) = true
+is_refused (reply.Full used owed cap) = true
+is_refused (reply.Refused why) = true
+is_refused _ = false
+
+-- whether a command was accepted is told by its reply
+abbrev pub RefusalsAreTold : Type 0
+RefusalsAreTold = (checkpoints : Bool) (s : State) (command : Command) (listing : List CacheLine) →
+    is_accepted checkpoints s command ≡ not (is_refused (step checkpoints s command listing).reply)
 
 abbrev pub SizesStay : Type 0
 SizesStay = (checkpoints : Bool) (s : State) (line : Line) (listing : List CacheLine) →

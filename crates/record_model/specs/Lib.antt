@@ -5,3 +5,4 @@ pub mod Touches
 pub mod Serial
 pub mod Laws
 pub mod Rows
+pub mod Faults

@@ -1,10 +1,11 @@
 -- Runs that were worked out by hand. Of each, the lines and what they are answered.
-use Rattle.std.specs.Prelude.{◌≡◌, ℕ, List, [], ◌∷◌, ◌++◌, replicate, map, reverse, slice_set, take, Bool, true, false, Some, None}
+use Rattle.std.specs.Prelude.{◌≡◌, ℕ, ◌*◌, List, [], ◌∷◌, ◌++◌, length, replicate, map, reverse, slice_set, take, Bool, true, false, Some, None}
 use Rattle.std.specs.List.{range_with_len}
 use Rattle.record_model.specs.declared.words.Command.TheVariants.{Begin, Read, Write, Erase, Scan, Commit, Abort, Get, Set, Checkpoint, Stat, Quit}
 use Rattle.record_model.specs.declared.words.Reply.{Reply}
 use Rattle.record_model.specs.declared.words.Reply.TheVariants as reply
-use Rattle.record_model.specs.declared.words.Why.TheVariants.{BadSession, NoRecord, TooLong}
+use Rattle.record_model.specs.declared.words.Why.TheVariants.{BadLine, BadSession, NoRecord, TooLong}
+use Rattle.record_model.specs.declared.words.Item.{Item}
 use Rattle.record_model.specs.State.{Content, State, opened}
 use Rattle.record_model.specs.Run.{Line, Turn, turns, replies, acknowledged, asked_for, after_commits}
 use Rattle.record_model.specs.Serial.{lines_of, since_begin}
@@ -200,3 +201,70 @@ AnsweredAmongOthers = replies second_transaction ≡ second_answers
 
 abbrev pub AnsweredAlone : Type 0
 AnsweredAlone = replies (turns true (opened (after_commits blank two_readers_run 1) 1 0 16) (lines_of second_transaction) []) ≡ second_answers
+
+-- Three sessions, over a log of 16 blocks. One scans what the two others read and write, one is refused in between, and
+-- the begin of the session that is left unfinished makes a checkpoint first.
+abbrev pub three_sessions : List Line
+three_sessions =
+    Some (Set 2 aa) ∷ Some (Begin 0) ∷ Some (Begin 1) ∷ Some (Begin 2) ∷ Some (Read 0 2) ∷ Some (Scan 1 0 4)
+    ∷ Some (Write 2 5 (187 ∷ [])) ∷ Some (Write 0 2 (204 ∷ [])) ∷ Some (Get 5) ∷ Some (Read 2 2) ∷ Some (Commit 1)
+    ∷ Some (Write 0 2 (204 ∷ [])) ∷ Some (Commit 2) ∷ Some (Write 0 2 (204 ∷ [])) ∷ Some (Begin 1) ∷ Some (Erase 1 7)
+    ∷ Some (Read 0 2) ∷ None ∷ Some (Scan 0 0 7) ∷ Some (Commit 0) ∷ Some (Get 2) ∷ []
+
+abbrev pub three_sessions_run : List Turn
+three_sessions_run = turns true (fresh 15) three_sessions []
+
+-- the items that the scans find
+abbrev pub old_item : Item
+old_item = record { number = 2; value = aa }
+
+abbrev pub new_items : List Item
+new_items = record { number = 2; value = 204 ∷ [] } ∷ record { number = 5; value = 187 ∷ [] } ∷ []
+
+abbrev pub ThreeSessions : Type 0
+ThreeSessions =
+    replies three_sessions_run
+    ≡ reply.Committed 1 ∷ reply.Done ∷ reply.Done ∷ reply.Done ∷ reply.Value aa ∷ reply.Items (old_item ∷ [])
+    ∷ reply.Done ∷ reply.Busy 1 ∷ reply.Busy 2 ∷ reply.Value aa ∷ reply.Committed 2
+    ∷ reply.Busy 2 ∷ reply.Committed 3 ∷ reply.Done ∷ reply.Done ∷ reply.Done
+    ∷ reply.Value (204 ∷ []) ∷ reply.Refused BadLine ∷ reply.Items new_items ∷ reply.Committed 4
+    ∷ reply.Value (204 ∷ []) ∷ []
+
+-- the transactions of its last three commits, each up to its commit
+abbrev pub scanning : List Turn
+scanning = since_begin true 1 (reverse (take 11 three_sessions_run))
+
+abbrev pub writing : List Turn
+writing = since_begin true 2 (reverse (take 13 three_sessions_run))
+
+abbrev pub reading : List Turn
+reading = since_begin true 0 (reverse (take 20 three_sessions_run))
+
+-- what each is answered alone, where there were so many commits before its own
+abbrev pub alone_after : ℕ → List Turn → List Reply
+alone_after count own =
+    let table = after_commits blank three_sessions_run count in
+    replies (turns true (opened table count 0 (4 * length own)) (lines_of own) [])
+
+abbrev pub ScanningAlone : Type 0
+ScanningAlone =
+    (lines_of scanning ≡ Some (Begin 1) ∷ Some (Scan 1 0 4) ∷ Some (Commit 1) ∷ [])
+    × (replies scanning ≡ reply.Done ∷ reply.Items (old_item ∷ []) ∷ reply.Committed 2 ∷ [])
+    × (alone_after 1 scanning ≡ reply.Done ∷ reply.Items (old_item ∷ []) ∷ reply.Committed 2 ∷ [])
+
+abbrev pub WritingAlone : Type 0
+WritingAlone =
+    (lines_of writing ≡ Some (Begin 2) ∷ Some (Write 2 5 (187 ∷ [])) ∷ Some (Read 2 2) ∷ Some (Commit 2) ∷ [])
+    × (replies writing ≡ reply.Done ∷ reply.Done ∷ reply.Value aa ∷ reply.Committed 3 ∷ [])
+    × (alone_after 2 writing ≡ reply.Done ∷ reply.Done ∷ reply.Value aa ∷ reply.Committed 3 ∷ [])
+
+-- the write that was busy twice counts once, and the scan sees it and the other session's commit
+abbrev pub ReadingAlone : Type 0
+ReadingAlone =
+    (lines_of reading
+    ≡ Some (Begin 0) ∷ Some (Read 0 2) ∷ Some (Write 0 2 (204 ∷ [])) ∷ Some (Read 0 2) ∷ Some (Scan 0 0 7)
+    ∷ Some (Commit 0) ∷ [])
+    × (replies reading
+    ≡ reply.Done ∷ reply.Value aa ∷ reply.Done ∷ reply.Value (204 ∷ []) ∷ reply.Items new_items ∷ reply.Committed 4 ∷ [])
+    × (alone_after 3 reading
+    ≡ reply.Done ∷ reply.Value aa ∷ reply.Done ∷ reply.Value (204 ∷ []) ∷ reply.Items new_items ∷ reply.Committed 4 ∷ [])

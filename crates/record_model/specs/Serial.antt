@@ -1,11 +1,12 @@
 -- Serial order: each transaction answers as if it had run alone at the moment of its commit.
-use Rattle.std.specs.Prelude.{◌≡◌, ℕ, ◌+◌, ◌*◌, ◌≤◌, ◌==◌, Bool, true, false, ◌&&◌, List, [], ◌∷◌, ◌++◌, length, map, reverse, Option, Some, None, IsTrue, if◌then◌else◌}
+use Rattle.std.specs.Prelude.{◌≡◌, ◌⊎◌, ℕ, ◌+◌, ◌*◌, ◌≤◌, ◌==◌, Bool, true, false, ◌&&◌, List, [], ◌∷◌, ◌++◌, length, map, filter, reverse, Option, Some, None, is_some, IsTrue, if◌then◌else◌}
+use Rattle.std.specs.List.{list_any}
 use Rattle.record_model.specs.declared.words.Command.{Command}
-use Rattle.record_model.specs.declared.words.Command.TheVariants.{Begin, Read, Write, Erase, Scan, Commit, Abort, Get}
+use Rattle.record_model.specs.declared.words.Command.TheVariants.{Begin, Read, Write, Erase, Scan, Commit, Abort, Get, Set}
 use Rattle.record_model.specs.declared.words.CacheLine.{CacheLine}
-use Rattle.record_model.specs.State.{Content, State, content_at, opened}
+use Rattle.record_model.specs.State.{Content, State, content_at, opened, session_at}
 use Rattle.record_model.specs.Step.{found, is_accepted}
-use Rattle.record_model.specs.Run.{Line, Turn, turns, replies, is_committed, commit_marks, commits_among, after_commits}
+use Rattle.record_model.specs.Run.{Line, Turn, turns, replies, left_by, is_committed, commit_marks, commits_among, after_commits}
 
 -- the session that a command is of
 abbrev pub session_of : Command → Option ℕ
@@ -35,7 +36,8 @@ abbrev pub is_begin_line : Line → Bool
 is_begin_line None = false
 is_begin_line (Some command) = is_begin command
 
--- the accepted commands of a session since its last begin, the first of them first; of the turns given the last comes first
+-- the accepted commands of a session since its last begin, the first of them first; of the turns given the last comes
+-- first
 abbrev pub since_begin : Bool → ℕ → List Turn → List Turn
 since_begin checkpoints n [] = []
 since_begin checkpoints n (t ∷ earlier) =
@@ -55,6 +57,24 @@ line_session (Some command) = session_of command
 abbrev pub transaction : Bool → Turn → List Turn → List Turn
 transaction checkpoints t earlier = committed_by checkpoints (line_session t.line) t earlier
 
+-- A transaction of a session, in plain words: a begin that is accepted, all that is accepted of the session behind it,
+-- among which is no other begin, and the commit. What is refused isn't of it, nor what other sessions do.
+pub record IsOfSession (checkpoints : Bool) (n : ℕ) (earlier : List Turn) (t : Turn) (own : List Turn) : Type 0 where
+  pub before : List Turn
+  pub first : Turn
+  pub between : List Turn
+  pub split : earlier ≡ before ++ first ∷ between
+  pub begins : first.line ≡ Some (Begin n)
+  pub is_begun : IsTrue (is_accepted checkpoints first.before (Begin n))
+  pub once : list_any (λ u. is_accepted_of checkpoints n u.before u.line && is_begin_line u.line) between ≡ false
+  pub whole : own ≡ (first ∷ filter (λ u. is_accepted_of checkpoints n u.before u.line) between) ++ t ∷ []
+
+-- of a commit that is the transaction of its session, and of a set it is the set alone
+abbrev pub IsTransaction : Bool → List Turn → Turn → List Turn → Type 0
+IsTransaction checkpoints earlier t own =
+    ((n : ℕ) × (t.line ≡ Some (Commit n)) × IsOfSession checkpoints n earlier t own)
+    ⊎ ((number : ℕ) × (value : List ℕ) × (t.line ≡ Some (Set number value)) × (own ≡ t ∷ []))
+
 abbrev pub lines_of : List Turn → List Line
 lines_of run = map (λ t. t.line) run
 
@@ -66,12 +86,35 @@ commits_before earlier later t = commits_among (length earlier) (commit_marks (e
 abbrev pub table_before : List Content → List Turn → List Turn → Turn → List Content
 table_before table earlier later t = after_commits table (earlier ++ t ∷ later) (commits_before earlier later t)
 
--- a transaction gives its replies again where it runs alone, with room enough in the log, on the table of the commits before it
+-- A transaction gives its replies again where it runs alone, on the table and from the count of the commits before it.
+-- The log has no limit there: the cap is any number that has room for four log records for each of its commands, so that
+-- no reply is `Full`.
 abbrev pub AnswersAlone : Bool → List Content → ℕ → List Turn → List Turn → Turn → Type 0
 AnswersAlone checkpoints table commits earlier later t =
     let own = transaction checkpoints t (reverse earlier) in
     IsTrue (is_committed t.reply) → (cap : ℕ) → 4 * length own ≤ cap →
     let alone = opened (table_before table earlier later t) (commits + commits_before earlier later t) 0 cap in
+    replies (turns checkpoints alone (lines_of own) []) ≡ replies own
+
+-- And it leaves there the table that its commit made in the run. So the transactions of a run, one after the other,
+-- leave the same tables.
+abbrev pub LeavesItsTable : Bool → List Content → ℕ → List Turn → List Turn → Turn → Type 0
+LeavesItsTable checkpoints table commits earlier later t =
+    let own = transaction checkpoints t (reverse earlier) in
+    IsTrue (is_committed t.reply) → (cap : ℕ) → 4 * length own ≤ cap →
+    let alone = opened (table_before table earlier later t) (commits + commits_before earlier later t) 0 cap in
+    (left_by alone (turns checkpoints alone (lines_of own) [])).table
+    ≡ after_commits table (earlier ++ t ∷ later) (commits_before earlier later t + 1)
+
+-- A session that is active behind a turn has been answered so far as it would be alone, on the table of that moment. So a
+-- session that aborts, or that is left unfinished, has seen one table too.
+abbrev pub AnswersSoFar : Bool → List Content → ℕ → List Turn → List Turn → Turn → Type 0
+AnswersSoFar checkpoints table commits earlier later t =
+    (n : ℕ) → IsTrue (is_some (session_at t.after n)) → (cap : ℕ) →
+    let own = since_begin checkpoints n (t ∷ reverse earlier) in
+    4 * length own ≤ cap →
+    let count = commits_among (length earlier + 1) (commit_marks (earlier ++ t ∷ later)) in
+    let alone = opened (after_commits table (earlier ++ t ∷ later) count) (commits + count) 0 cap in
     replies (turns checkpoints alone (lines_of own) []) ≡ replies own
 
 -- an accepted get gives what the table of the commits before it has
@@ -81,15 +124,25 @@ GetsTheTable checkpoints table earlier later t =
     t.reply ≡ found (content_at (table_before table earlier later t) number)
 
 pub record IsSerial (checkpoints : Bool) (table : List Content) (commits : ℕ) (earlier later : List Turn) (t : Turn) : Type 0 where
+  pub whole : IsTrue (is_committed t.reply) →
+      IsTransaction checkpoints earlier t (transaction checkpoints t (reverse earlier))
   pub alone : AnswersAlone checkpoints table commits earlier later t
+  pub leaves : LeavesItsTable checkpoints table commits earlier later t
+  pub so_far : AnswersSoFar checkpoints table commits earlier later t
   pub get : GetsTheTable checkpoints table earlier later t
 
 -- serial order, of each turn of each run
 abbrev pub Serial : Type 0
-Serial = (checkpoints : Bool) (table : List Content) (commits made cap : ℕ) (lines : List Line) (listings : List (List CacheLine)) (earlier later : List Turn) (t : Turn) →
-    turns checkpoints (opened table commits made cap) lines listings ≡ earlier ++ t ∷ later → IsSerial checkpoints table commits earlier later t
+Serial =
+    (checkpoints : Bool) (table : List Content) (commits made cap : ℕ) →
+    (lines : List Line) (listings : List (List CacheLine)) (earlier later : List Turn) (t : Turn) →
+    turns checkpoints (opened table commits made cap) lines listings ≡ earlier ++ t ∷ later →
+    IsSerial checkpoints table commits earlier later t
 
 -- of it, the part that speaks of gets
 abbrev pub GetsAreSerial : Type 0
-GetsAreSerial = (checkpoints : Bool) (table : List Content) (commits made cap : ℕ) (lines : List Line) (listings : List (List CacheLine)) (earlier later : List Turn) (t : Turn) →
-    turns checkpoints (opened table commits made cap) lines listings ≡ earlier ++ t ∷ later → GetsTheTable checkpoints table earlier later t
+GetsAreSerial =
+    (checkpoints : Bool) (table : List Content) (commits made cap : ℕ) →
+    (lines : List Line) (listings : List (List CacheLine)) (earlier later : List Turn) (t : Turn) →
+    turns checkpoints (opened table commits made cap) lines listings ≡ earlier ++ t ∷ later →
+    GetsTheTable checkpoints table earlier later t

@@ -1,5 +1,6 @@
 // Runs that were worked out by hand, which the model answers as it should. The functions do nothing: each states rows as clauses.
-ghost use Rattle.record_model.specs.Rows.{LongestValue, LastRecord, WriteKeepsReadersOff, ReadKeepsWritersOff, SessionsRefused, ScanAmongWrites, ErasedBeforeCommit, QuitEnds, CheckpointMakesRoom, NoRoomWithoutCheckpoint, HundredSets, EightSessions, SevenSessionsWithoutCheckpoint, FourSetsFillTheLog, FullFromTheStart, CheckpointOnlyAnswered, TouchesOfTwoReaders, TouchesOfAnAbort, AcknowledgedNone, AskedForOne, AcknowledgedOne, AskedForTwo, AskedForNone, AskedForAll, SecondTransaction, AnsweredAmongOthers, AnsweredAlone};
+ghost use Rattle.record_model.specs.Rows.{LongestValue, LastRecord, WriteKeepsReadersOff, ReadKeepsWritersOff, SessionsRefused, ScanAmongWrites, ErasedBeforeCommit, QuitEnds, CheckpointMakesRoom, NoRoomWithoutCheckpoint, HundredSets, EightSessions, SevenSessionsWithoutCheckpoint, FourSetsFillTheLog, FullFromTheStart, CheckpointOnlyAnswered, TouchesOfTwoReaders, TouchesOfAnAbort, AcknowledgedNone, AskedForOne, AcknowledgedOne, AskedForTwo, AskedForNone, AskedForAll, SecondTransaction, AnsweredAmongOthers, AnsweredAlone, ThreeSessions, ScanningAlone, WritingAlone, ReadingAlone};
+ghost use Rattle.record_model.specs.Faults.{ReadLocksKeepWritersOff, ReadsDifferWithoutLocks, ScanLocksItsRange, ScansDifferWithFewLocks, GetKeptOff, GetSeesWhatIsNotThere};
 
 /// The longest value, one octet more, the empty value, and the last record.
 pub fn rows_of_values()
@@ -45,9 +46,24 @@ pub fn rows_of_ranges()
     ensures asked_for_all { AskedForAll }
 {}
 
-/// A transaction among others, and alone.
+/// Transactions among others, and alone: of two sessions, and of three.
 pub fn rows_of_serial_order()
     ensures second_transaction { SecondTransaction }
     ensures answered_among_others { AnsweredAmongOthers }
     ensures answered_alone { AnsweredAlone }
+    ensures three_sessions { ThreeSessions }
+    ensures scanning_alone { ScanningAlone }
+    ensures writing_alone { WritingAlone }
+    ensures reading_alone { ReadingAlone }
+{}
+
+/// What the locks are for: with a step that takes no read locks, whose scans lock only what they find, or whose `get` sees
+/// pending writes, there are runs that aren't in serial order.
+pub fn rows_of_faulty_steps()
+    ensures read_locks { ReadLocksKeepWritersOff }
+    ensures without_read_locks { ReadsDifferWithoutLocks }
+    ensures scan_locks { ScanLocksItsRange }
+    ensures few_scan_locks { ScansDifferWithFewLocks }
+    ensures get_kept_off { GetKeptOff }
+    ensures pending_seen { GetSeesWhatIsNotThere }
 {}

@@ -7,3 +7,4 @@ pub mod Spacing
 pub mod Read
 pub mod Lines
 pub mod Decimals
+pub mod Serial

@@ -1,5 +1,5 @@
 -- Runs that were worked out by hand: what is typed, and what is told.
-use Rattle.std.specs.Prelude.{◌≡◌, ℕ, List, [], ◌∷◌, ◌++◌, replicate, flat_map, codes, true, false, Some, None}
+use Rattle.std.specs.Prelude.{◌≡◌, ℕ, List, [], ◌∷◌, ◌++◌, replicate, slice_set, flat_map, codes, true, false, Some, None}
 use Rattle.std.specs.List.{concat}
 use Rattle.record_model.specs.declared.words.Command.TheVariants.{Set}
 use Rattle.record_model.specs.declared.words.CacheLine.{CacheLine}
@@ -70,3 +70,18 @@ LastLine = told (codes "get 5") ≡ codes "open 0\nnone\n"
 -- and no line is answered after a quit
 abbrev pub QuitEnds : Type 0
 QuitEnds = told (typed (codes "quit" ∷ codes "get 5" ∷ [])) ≡ codes "open 0\nbye\n"
+
+-- Three sessions: what is told, and what the lines of the one that commits last are told alone, on the table of the commits before it.
+abbrev pub ThreeSessions : Type 0
+ThreeSessions =
+    told (typed (codes "set 2 aa" ∷ codes "begin 0" ∷ codes "begin 1" ∷ codes "begin 2" ∷ codes "read 0 2" ∷ codes "scan 1 0 4" ∷ codes "write 2 5 bb"
+    ∷ codes "write 0 2 cc" ∷ codes "get 5" ∷ codes "read 2 2" ∷ codes "commit 1" ∷ codes "write 0 2 cc" ∷ codes "commit 2" ∷ codes "write 0 2 cc"
+    ∷ codes "begin 1" ∷ codes "erase 1 7" ∷ codes "read 0 2" ∷ codes "foo" ∷ codes "scan 0 0 7" ∷ codes "commit 0" ∷ codes "get 2" ∷ []))
+    ≡ codes "open 0\ncommitted 1\nok\nok\nok\nvalue aa\nitem 2 aa\nend 1\nok\nbusy 1\nbusy 2\nvalue aa\ncommitted 2\nbusy 2\ncommitted 3\nok\nok\nok\n"
+    ++ codes "value cc\nrefused line\nitem 2 cc\nitem 5 bb\nend 2\ncommitted 4\nvalue cc\n"
+
+abbrev pub LastAlone : Type 0
+LastAlone =
+    run_text true (opened (slice_set (slice_set blank 2 (Some (170 ∷ []))) 5 (Some (187 ∷ []))) 3 0 63)
+    (commands_of true (typed (codes "begin 0" ∷ codes "read 0 2" ∷ codes "write 0 2 cc" ∷ codes "read 0 2" ∷ codes "scan 0 0 7" ∷ codes "commit 0" ∷ []))) []
+    ≡ codes "open 3\nok\nvalue aa\nok\nvalue cc\nitem 2 cc\nitem 5 bb\nend 2\ncommitted 4\n"

@@ -1,5 +1,5 @@
 // Runs that were worked out by hand, whose texts are as they should be. The functions do nothing: each states rows as clauses.
-ghost use Rattle.shell_text.specs.Rows.{LongestValue, WrongLines, LongestLine, UpperCaseIsRead, ScanAmongWrites, CacheListed, LastLine, QuitEnds};
+ghost use Rattle.shell_text.specs.Rows.{LongestValue, WrongLines, LongestLine, UpperCaseIsRead, ScanAmongWrites, CacheListed, LastLine, QuitEnds, ThreeSessions, LastAlone};
 
 /// Values that are as long as can be, too long, empty, and absent; and hexadecimal digits of both cases.
 pub fn rows_of_values()
@@ -19,4 +19,10 @@ pub fn rows_of_lines()
 pub fn rows_of_lists()
     ensures scan_among_writes { ScanAmongWrites }
     ensures cache_listed { CacheListed }
+{}
+
+/// Three sessions that are typed in turns, and one of them alone.
+pub fn rows_of_sessions()
+    ensures three_sessions { ThreeSessions }
+    ensures last_alone { LastAlone }
 {}

@@ -9,3 +9,15 @@ returns-clause-answered_among_others c = refl
 
 pub returns-clause-answered_alone : goal.returns-clause-answered_alone
 returns-clause-answered_alone c = refl
+
+pub returns-clause-three_sessions : goal.returns-clause-three_sessions
+returns-clause-three_sessions c = refl
+
+pub returns-clause-scanning_alone : goal.returns-clause-scanning_alone
+returns-clause-scanning_alone c = (refl, refl, refl)
+
+pub returns-clause-writing_alone : goal.returns-clause-writing_alone
+returns-clause-writing_alone c = (refl, refl, refl)
+
+pub returns-clause-reading_alone : goal.returns-clause-reading_alone
+returns-clause-reading_alone c = (refl, refl, refl)

@@ -1,0 +1,93 @@
+-- A reply tells whether the command was carried out.
+use Rattle.std.proofs.Common.{◌≡◌, ℕ, ◌+◌, ◌-◌, Bool, true, false, cond, List, [], ◌∷◌, Option, Some, None, refl, ap, sym}
+use Rattle.std.specs.Prelude.{not, ◌&&◌, is_none, option_map, map}
+use Rattle.std.specs.List.{AllByRecursion, range_with_len}
+use Rattle.record_model.specs.declared.words.Command.{Command}
+use Rattle.record_model.specs.declared.words.Command.TheVariants.{Begin, Read, Write, Erase, Scan, Commit, Abort, Get, Set, Checkpoint, Cache, Stat, Quit}
+use Rattle.record_model.specs.declared.words.CacheLine.{CacheLine}
+use Rattle.record_model.specs.declared.words.Why.{Why}
+use Rattle.record_model.specs.declared.words.Why.TheVariants.{BadSession, NoRecord, TooLong}
+use Rattle.record_model.specs.declared.words.Reply.{Reply}
+use Rattle.record_model.specs.declared.words.Reply.TheVariants as reply
+use Rattle.record_model.specs.State.{Content, State, seen, content_at, busy_read, busy_write}
+use Rattle.record_model.specs.Step.{Outcome, outcome, lacks_room, refusal, first_refusal, refuse_if, wants_active, wants_record, wants_short, may_read, may_write, ready, answer, found}
+use Rattle.record_model.specs.Laws.{is_refused, RefusalsAreTold}
+
+-- a test's reply is a refusal
+IsRefusal : Option Reply → Type 0
+IsRefusal None = Unit {0}
+IsRefusal (Some refused) = is_refused refused ≡ true
+
+refused_if : (test : Bool) (why : Why) → IsRefusal (refuse_if test (reply.Refused why))
+unfolding IsRefusal
+refused_if true why = refl
+refused_if false why = tt
+
+busy_with : (holder : Option ℕ) → IsRefusal (option_map reply.Busy holder)
+unfolding IsRefusal
+busy_with None = tt
+busy_with (Some n) = refl
+
+first_of : (tests : List (Option Reply)) → AllByRecursion IsRefusal tests → IsRefusal (first_refusal tests)
+unfolding IsRefusal
+first_of [] h = tt
+first_of (None ∷ tests) h = first_of tests h.1
+first_of (Some refused ∷ tests) h = h.0
+
+all_busy : (s : State) (own : Option ℕ) (numbers : List ℕ) → AllByRecursion IsRefusal (map (may_read s own) numbers)
+all_busy s own [] = tt
+all_busy s own (number ∷ numbers) = (busy_with (busy_read s own number), all_busy s own numbers)
+
+refusals : (s : State) (command : Command) → IsRefusal (refusal s command)
+unfolding IsRefusal
+refusals s (Begin n) = refused_if _ BadSession
+refusals s (Read n number) = first_of (wants_active s n ∷ wants_record s number ∷ may_read s (Some n) number ∷ []) (refused_if _ BadSession, (refused_if _ NoRecord, (busy_with (busy_read s (Some n) number), tt)))
+refusals s (Write n number value) =
+    first_of (wants_active s n ∷ wants_record s number ∷ wants_short value ∷ may_write s (Some n) number ∷ [])
+    (refused_if _ BadSession, (refused_if _ NoRecord, (refused_if _ TooLong, (busy_with (busy_write s (Some n) number), tt))))
+refusals s (Erase n number) = first_of (wants_active s n ∷ wants_record s number ∷ may_write s (Some n) number ∷ []) (refused_if _ BadSession, (refused_if _ NoRecord, (busy_with (busy_write s (Some n) number), tt)))
+refusals s (Scan n number count) =
+    first_of (wants_active s n ∷ wants_record s (number + count - 1) ∷ map (may_read s (Some n)) (range_with_len number count))
+    (refused_if _ BadSession, (refused_if _ NoRecord, all_busy s (Some n) (range_with_len number count)))
+refusals s (Commit n) = refused_if _ BadSession
+refusals s (Abort n) = refused_if _ BadSession
+refusals s (Get number) = first_of (wants_record s number ∷ may_read s None number ∷ []) (refused_if _ NoRecord, (busy_with (busy_read s None number), tt))
+refusals s (Set number value) = first_of (wants_record s number ∷ wants_short value ∷ may_write s None number ∷ []) (refused_if _ NoRecord, (refused_if _ TooLong, (busy_with (busy_write s None number), tt)))
+refusals s Checkpoint = tt
+refusals s Cache = tt
+refusals s Stat = tt
+refusals s Quit = tt
+
+found_is_none : (content : Content) → is_refused (found content) ≡ false
+found_is_none None = refl
+found_is_none (Some value) = refl
+
+-- no answer is one
+answers : (s : State) (command : Command) (listing : List CacheLine) → is_refused (answer s command listing) ≡ false
+answers s (Begin n) listing = refl
+answers s (Read n number) listing = found_is_none (seen s n number)
+answers s (Write n number value) listing = refl
+answers s (Erase n number) listing = refl
+answers s (Scan n number count) listing = refl
+answers s (Commit n) listing = refl
+answers s (Abort n) listing = refl
+answers s (Get number) listing = found_is_none (content_at s.table number)
+answers s (Set number value) listing = refl
+answers s Checkpoint listing = refl
+answers s Cache listing = refl
+answers s Stat listing = refl
+answers s Quit listing = refl
+
+chosen : (b : Bool) (o p : Outcome) → is_refused o.reply ≡ true → is_refused p.reply ≡ false → not b ≡ not (is_refused (cond b o p).reply)
+chosen true o p h k = ap not (sym h)
+chosen false o p h k = ap not (sym k)
+
+of_tests : (checkpoints : Bool) (s : State) (command : Command) (listing : List CacheLine) (r : Option Reply) → IsRefusal r →
+    (is_none r && not (lacks_room (ready checkpoints s command) command)) ≡ not (is_refused (outcome checkpoints s command listing r).reply)
+unfolding IsRefusal
+of_tests checkpoints s command listing (Some refused) h = ap not (sym h)
+of_tests checkpoints s command listing None h =
+    chosen (lacks_room (ready checkpoints s command) command) _ _ refl (answers (ready checkpoints s command) command listing)
+
+pub refusals_are_told : RefusalsAreTold
+refusals_are_told checkpoints s command listing = of_tests checkpoints s command listing (refusal s command) (refusals s command)
