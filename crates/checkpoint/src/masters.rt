@@ -6,6 +6,7 @@ ghost use Rattle.site.specs.declared.geometry.Geometry.{Geometry};
 ghost use Rattle.site.specs.Geometry.{HasLimits, HasLengths};
 ghost use Rattle.site.specs.State.{reads_of, IsSettled, IsQuiet};
 ghost use Rattle.site.specs.Calls.{Goes, SameReads, IsUnchanged};
+ghost use Rattle.site.specs.Faults.{WorkFaults};
 ghost use Rattle.site.specs.Moments.{LeavesOnly};
 ghost use Rattle.sealed_ring.specs.Ring.{IsRing, SameOutside, appended};
 ghost use Rattle.sealed_ring.specs.Ready.{FaultRose, IsUsable, Fits, Finds, IsReady, ChangesOnly};
@@ -49,6 +50,7 @@ fn master_on<S: Site>(site: &mut S, ring: &Ring) -> Result<Master, Stop>
     ensures same { IsTrue (S.state site.old).honest
         → IsUnchanged (S.state site.old) (S.state site.new) }
     ensures goes { Goes (S.state site.old) (S.state site.new) }
+    ensures faults { WorkFaults result (S.state site.old) (S.state site.new) }
     ensures reads { reads_of Dev.Log (S.state site.new) ≤ reads_of Dev.Log (S.state site.old) + 1 }
     ensures others { (d : Dev) → d ≢ Dev.Log
         → reads_of d (S.state site.new) ≡ reads_of d (S.state site.old) }
@@ -96,6 +98,7 @@ pub fn newest<S: Site>(site: &mut S) -> Result<(Ring, Master), Stop>
     ensures ascend { IfOk result (λ found. Ascend found.1.active) }
     ensures few { IfOk result (λ found. length found.1.active ≤ 8) }
     ensures goes { Goes (S.state site.old) (S.state site.new) }
+    ensures faults { WorkFaults result (S.state site.old) (S.state site.new) }
     ensures reads { reads_of Dev.Log (S.state site.new) ≤ reads_of Dev.Log (S.state site.old) + 5 }
     ensures others { (d : Dev) → d ≢ Dev.Log
         → reads_of d (S.state site.new) ≡ reads_of d (S.state site.old) }
@@ -156,6 +159,7 @@ pub fn save<S: Site>(site: &mut S, ring: &mut Ring, master: &Master) -> Result<(
     ensures shape { ring.new.shape ≡ master_shape }
     ensures usable { IsUsable ring.new (S.state site.new) }
     ensures goes { Goes (S.state site.old) (S.state site.new) }
+    ensures faults { WorkFaults result (S.state site.old) (S.state site.new) }
     ensures reads { SameReads (S.state site.old) (S.state site.new) }
 
     // When each answer comes.

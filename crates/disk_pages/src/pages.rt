@@ -4,6 +4,7 @@ ghost use Rattle.site.specs.declared.outside.Dev.{Dev};
 ghost use Rattle.site.specs.declared.outside.Stop.{Stop};
 ghost use Rattle.site.specs.State.{reads_of, now_of, MayLeave, IsSettled};
 ghost use Rattle.site.specs.Calls.{Goes, SameReads, FaultRose, IsUnchanged, Lies, Adds};
+ghost use Rattle.site.specs.Faults.{WorkFaults};
 ghost use Rattle.site.specs.Moments.{LeavesOnly, ChangesOnly};
 ghost use Rattle.disk_pages.specs.Pages.{LiesOn, page_on, within_page};
 
@@ -29,6 +30,7 @@ pub fn read_page<S: Site>(site: &mut S, page: u32, into: &mut [u8]) -> Result<()
     ensures same { IsTrue (S.state site.old).honest
         → IsUnchanged (S.state site.old) (S.state site.new) }
     ensures goes { Goes (S.state site.old) (S.state site.new) }
+    ensures faults { WorkFaults result (S.state site.old) (S.state site.new) }
     ensures reads { (S.state site.new).disk_reads ≤ (S.state site.old).disk_reads + 1 }
     ensures others { (d : Dev) → d ≢ Dev.Disk
         → reads_of d (S.state site.new) ≡ reads_of d (S.state site.old) }
@@ -59,6 +61,7 @@ pub fn write_page<S: Site>(site: &mut S, page: u32, from: &[u8]) -> Result<(), S
     ensures changes { IsTrue (S.state site.old).honest
         → ChangesOnly Dev.Disk (S.state site.old) (S.state site.new) }
     ensures goes { Goes (S.state site.old) (S.state site.new) }
+    ensures faults { WorkFaults result (S.state site.old) (S.state site.new) }
     ensures reads { SameReads (S.state site.old) (S.state site.new) }
 
     // When the error comes.
@@ -86,6 +89,7 @@ pub fn sync_disk<S: Site>(site: &mut S) -> Result<(), Stop>
     ensures changes { IsTrue (S.state site.old).honest
         → ChangesOnly Dev.Disk (S.state site.old) (S.state site.new) }
     ensures goes { Goes (S.state site.old) (S.state site.new) }
+    ensures faults { WorkFaults result (S.state site.old) (S.state site.new) }
     ensures reads { SameReads (S.state site.old) (S.state site.new) }
 
     // When the error comes.

@@ -5,6 +5,7 @@ ghost use Rattle.site.specs.declared.outside.Stop.{Stop};
 ghost use Rattle.site.specs.Geometry.{HasLimits, HasLengths};
 ghost use Rattle.site.specs.State.{State, reads_of, IsSettled, IsQuiet};
 ghost use Rattle.site.specs.Calls.{Goes, SameReads, ReadsMore, IsUnchanged};
+ghost use Rattle.site.specs.Faults.{WorkFaults};
 ghost use Rattle.site.specs.Moments.{LeavesOnly};
 ghost use Rattle.sealed_ring.specs.Ring.{IsRing, IsLive, SameOutside};
 ghost use Rattle.sealed_ring.specs.Ready.{FaultRose, ChangesOnly};
@@ -105,6 +106,7 @@ impl LogStore {
         ensures same { IsTrue (S.state site.old).honest
             → IsUnchanged (S.state site.old) (S.state site.new) }
         ensures goes { Goes (S.state site.old) (S.state site.new) }
+        ensures faults { WorkFaults result (S.state site.old) (S.state site.new) }
         ensures reads { reads_of Dev.Log (S.state site.new)
             ≤ reads_of Dev.Log (S.state site.old) + (geometry.now.blocks + 1) }
         ensures others { (d : Dev) → (d ≡ Dev.Log → ⊥)
@@ -184,6 +186,7 @@ impl LogStore {
         ensures kept { self.new.kept ≡ self.old.kept }
         ensures geometry { self.new.geometry ≡ self.old.geometry }
         ensures goes { Goes (S.state site.old) (S.state site.new) }
+        ensures faults { WorkFaults result (S.state site.old) (S.state site.new) }
         ensures reads { SameReads (S.state site.old) (S.state site.new) }
 
         // When each answer comes.
@@ -247,6 +250,7 @@ impl LogStore {
         ensures kept { self.new.kept ≡ self.old.kept }
         ensures geometry { self.new.geometry ≡ self.old.geometry }
         ensures goes { Goes (S.state site.old) (S.state site.new) }
+        ensures faults { WorkFaults result (S.state site.old) (S.state site.new) }
         ensures reads { SameReads (S.state site.old) (S.state site.new) }
 
         // When each answer comes.
@@ -307,6 +311,7 @@ impl LogStore {
         ensures kept { self.new.kept ≡ self.old.kept }
         ensures geometry { self.new.geometry ≡ self.old.geometry }
         ensures goes { Goes (S.state site.old) (S.state site.new) }
+        ensures faults { WorkFaults result (S.state site.old) (S.state site.new) }
         ensures reads { SameReads (S.state site.old) (S.state site.new) }
 
         ensures worn { IsErrOf result (Stop.Worn Dev.Log) ↔ ((wanted ≡ true) × (self.old.ring.hi ≡ 2 ^ 40)) }
@@ -413,6 +418,7 @@ impl LogStore {
         ensures same { IsTrue (S.state site.old).honest
             → IsUnchanged (S.state site.old) (S.state site.new) }
         ensures goes { Goes (S.state site.old) (S.state site.new) }
+        ensures faults { WorkFaults result (S.state site.old) (S.state site.new) }
         ensures reads { ReadsMore Dev.Log 511 (S.state site.old) (S.state site.new) }
 
         // When each answer comes.
@@ -467,6 +473,7 @@ impl LogStore {
         ensures same { IsTrue (S.state site.old).honest
             → IsUnchanged (S.state site.old) (S.state site.new) }
         ensures goes { Goes (S.state site.old) (S.state site.new) }
+        ensures faults { WorkFaults result (S.state site.old) (S.state site.new) }
         ensures reads { ReadsMore Dev.Log 511 (S.state site.old) (S.state site.new) }
 
         // When each answer comes.

@@ -3,6 +3,7 @@ ghost use Rattle.std.specs.Prelude.{◌≡◌, ◌≢◌, ◌⊎◌, ◌↔◌, 
 ghost use Rattle.site.specs.declared.outside.Dev.{Dev};
 ghost use Rattle.site.specs.State.{reads_of, IsSettled, IsQuiet};
 ghost use Rattle.site.specs.Calls.{Goes, SameReads, ReadsMore, IsUnchanged};
+ghost use Rattle.site.specs.Faults.{CallFaults, WorkFaults};
 ghost use Rattle.site.specs.Moments.{LeavesOnly};
 ghost use Rattle.sealed_ring.specs.Ring.{FitsIn, IsRing, SameOutside, Seals, appended, gate, number, first_number, unit_at, IsLive};
 ghost use Rattle.sealed_ring.specs.Ready.{region, units_in, FaultRose, IsUsable, Fits, Finds, IsReady, ChangesOnly, LeavesOldOrNew};
@@ -43,6 +44,7 @@ impl Ring {
         ensures same { IsTrue (S.state site.old).honest
             → IsUnchanged (S.state site.old) (S.state site.new) }
         ensures goes { Goes (S.state site.old) (S.state site.new) }
+        ensures faults { WorkFaults result (S.state site.old) (S.state site.new) }
         ensures reads { reads_of shape.dev (S.state site.new)
             ≤ reads_of shape.dev (S.state site.old) + (shape.slots + 1) }
         ensures others { (d : Dev) → d ≢ shape.dev
@@ -116,6 +118,7 @@ impl Ring {
         ensures same { IsTrue (S.state site.old).honest
             → IsUnchanged (S.state site.old) (S.state site.new) }
         ensures goes { Goes (S.state site.old) (S.state site.new) }
+        ensures faults { WorkFaults result (S.state site.old) (S.state site.new) }
         ensures reads { ReadsMore self.now.shape.dev (length into.old) (S.state site.old) (S.state site.new) }
 
         // When each answer comes.
@@ -160,6 +163,7 @@ impl Ring {
         ensures same { IsTrue (S.state site.old).honest
             → IsUnchanged (S.state site.old) (S.state site.new) }
         ensures goes { Goes (S.state site.old) (S.state site.new) }
+        ensures faults { WorkFaults result (S.state site.old) (S.state site.new) }
         ensures reads { ReadsMore self.now.shape.dev (length into.old) (S.state site.old) (S.state site.new) }
 
         // When the error comes.
@@ -215,6 +219,7 @@ impl Ring {
         ensures shape { self.new.shape ≡ self.old.shape }
         ensures usable { IsUsable self.new (S.state site.new) }
         ensures goes { Goes (S.state site.old) (S.state site.new) }
+        ensures faults { WorkFaults result (S.state site.old) (S.state site.new) }
         ensures reads { SameReads (S.state site.old) (S.state site.new) }
 
         // When each answer comes.
@@ -256,6 +261,7 @@ fn read_head<S: Site>(site: &mut S, shape: Shape, slot: u64) -> Result<Head, Fai
     ensures same { IsTrue (S.state site.old).honest
         → IsUnchanged (S.state site.old) (S.state site.new) }
     ensures goes { Goes (S.state site.old) (S.state site.new) }
+    ensures faults { CallFaults shape.dev result (S.state site.old) (S.state site.new) }
     ensures reads { reads_of shape.dev (S.state site.new)
         ≤ reads_of shape.dev (S.state site.old) + 1 }
     ensures others { (d : Dev) → d ≢ shape.dev

@@ -3,6 +3,7 @@ ghost use Rattle.std.specs.Prelude.{◌≡◌, ◌+◌, ◌^◌, ◌++◌, ◌<�
 ghost use Rattle.std.specs.Int.{to_be_bytes, w64};
 ghost use Rattle.site.specs.State.{IsSettled};
 ghost use Rattle.site.specs.Calls.{Goes, SameReads};
+ghost use Rattle.site.specs.Faults.{CallFaults};
 ghost use Rattle.site.specs.Moments.{LeavesOnly};
 ghost use Rattle.sealed_ring.specs.Ring.{FitsIn, IsStaged, Opens};
 ghost use Rattle.sealed_ring.specs.Ready.{region, FaultRose, ChangesOnly, LeavesEither, HasStaged, HasSealed};
@@ -28,6 +29,7 @@ pub fn seal<S: Site>(site: &mut S, shape: Shape, hi: u64, content: &[u8]) -> Res
     ensures sealed { IsTrue (S.state site.old).honest
         → HasSealed shape hi content.now (S.state site.old) (S.state site.new) result }
     ensures goes { Goes (S.state site.old) (S.state site.new) }
+    ensures faults { CallFaults shape.dev result (S.state site.old) (S.state site.new) }
     ensures reads { SameReads (S.state site.old) (S.state site.new) }
     ensures cause { OnErr result (FaultRose shape.dev (S.state site.old) (S.state site.new)) }
 {
@@ -44,6 +46,7 @@ fn stage<S: Site>(site: &mut S, shape: Shape, hi: u64, content: &[u8]) -> Result
     ensures staged { IsTrue (S.state site.old).honest
         → HasStaged shape hi content.now (S.state site.old) (S.state site.new) result }
     ensures goes { Goes (S.state site.old) (S.state site.new) }
+    ensures faults { CallFaults shape.dev result (S.state site.old) (S.state site.new) }
     ensures reads { SameReads (S.state site.old) (S.state site.new) }
     ensures cause { OnErr result (FaultRose shape.dev (S.state site.old) (S.state site.new)) }
 {
@@ -64,6 +67,7 @@ fn stage_short<S: Site>(site: &mut S, shape: Shape, hi: u64, content: &[u8]) -> 
     ensures staged { IsTrue (S.state site.old).honest
         → HasStaged shape hi content.now (S.state site.old) (S.state site.new) result }
     ensures goes { Goes (S.state site.old) (S.state site.new) }
+    ensures faults { CallFaults shape.dev result (S.state site.old) (S.state site.new) }
     ensures reads { SameReads (S.state site.old) (S.state site.new) }
     ensures cause { OnErr result (FaultRose shape.dev (S.state site.old) (S.state site.new)) }
 {
@@ -80,6 +84,7 @@ fn stage_long<S: Site>(site: &mut S, shape: Shape, hi: u64, content: &[u8]) -> R
     ensures staged { IsTrue (S.state site.old).honest
         → HasStaged shape hi content.now (S.state site.old) (S.state site.new) result }
     ensures goes { Goes (S.state site.old) (S.state site.new) }
+    ensures faults { CallFaults shape.dev result (S.state site.old) (S.state site.new) }
     ensures reads { SameReads (S.state site.old) (S.state site.new) }
     ensures cause { OnErr result (FaultRose shape.dev (S.state site.old) (S.state site.new)) }
 {
@@ -103,6 +108,7 @@ fn stage_by<S: Site>(
     ensures staged { IsTrue (S.state site.old).honest
         → HasStaged shape hi content.now (S.state site.old) (S.state site.new) result }
     ensures goes { Goes (S.state site.old) (S.state site.new) }
+    ensures faults { CallFaults shape.dev result (S.state site.old) (S.state site.new) }
     ensures reads { SameReads (S.state site.old) (S.state site.new) }
     ensures cause { OnErr result (FaultRose shape.dev (S.state site.old) (S.state site.new)) }
 {
@@ -141,6 +147,7 @@ fn open<S: Site>(site: &mut S, shape: Shape, hi: u64) -> Result<(), Failed>
     ensures settled { IsTrue (S.state site.old).honest
         → OnOk result (IsSettled shape.dev (S.state site.new)) }
     ensures goes { Goes (S.state site.old) (S.state site.new) }
+    ensures faults { CallFaults shape.dev result (S.state site.old) (S.state site.new) }
     ensures reads { SameReads (S.state site.old) (S.state site.new) }
     ensures cause { OnErr result (FaultRose shape.dev (S.state site.old) (S.state site.new)) }
 {

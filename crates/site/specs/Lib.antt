@@ -1,6 +1,7 @@
 pub mod Area
 pub mod Calls
 pub mod Crash
+pub mod Faults
 pub mod Geometry
 pub mod History
 pub mod Laws

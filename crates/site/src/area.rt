@@ -48,6 +48,7 @@ fn note_span(loose: &mut Vec<Span>, at: u64, len: u64) -> Result<(), AllocError>
 
 impl Area {
     ghost use Rattle.site.specs.Area.{Laid, Kept, Settled};
+    ghost use Rattle.site.specs.Faults.{one_more};
 
     // Where memory lacks nothing changes.
     fn lay(
@@ -97,6 +98,7 @@ impl Area {
         ensures err { OnErr result (Kept self.old self.new history.old.items history.new.items
             ⊎ Laid dev at bytes.now self.old self.new history.old.items history.new.items) }
         ensures cause { OnErr result (Rose self.old.faults self.new.faults) }
+        ensures failed { OnErr result (self.new.faults ≡ one_more self.old.faults) }
         ensures faults { self.old.faults ≤ self.new.faults }
         ensures reads { self.new.reads ≡ self.old.reads }
         ensures quiet { OnOk result (self.new.faults ≡ self.old.faults) }
@@ -137,6 +139,7 @@ impl Area {
         ensures ok { OnOk result (Settled dev self.old self.new history.old.items history.new.items) }
         ensures err { OnErr result (Kept self.old self.new history.old.items history.new.items) }
         ensures cause { OnErr result (Rose self.old.faults self.new.faults) }
+        ensures failed { OnErr result (self.new.faults ≡ one_more self.old.faults) }
         ensures faults { self.old.faults ≤ self.new.faults }
         ensures reads { self.new.reads ≡ self.old.reads }
         ensures quiet { OnOk result (self.new.faults ≡ self.old.faults) }
@@ -172,9 +175,11 @@ impl Area {
         ensures content { self.new.content.items ≡ self.old.content.items }
         ensures loose { self.new.loose.items ≡ self.old.loose.items }
         ensures cause { OnErr result (Rose self.old.faults self.new.faults) }
+        ensures failed { OnErr result (self.new.faults ≡ one_more self.old.faults) }
         ensures faults { self.old.faults ≤ self.new.faults }
         ensures reads { self.old.reads ≤ self.new.reads }
         ensures quiet { refused ≡ false → self.new.faults ≡ self.old.faults }
+        ensures done { OnOk result (self.new.faults ≡ self.old.faults) }
         ensures exactly { IsErr result ↔ (refused ≡ true) }
         ensures reads_few { self.new.reads ≤ self.old.reads + (length into.old + 4095) / 4096 }
         ensures counted { OnOk result (self.new.reads ≡ min (self.old.reads + (length into.old + 4095) / 4096) (2 ^ 64 - 1)) }

@@ -258,6 +258,7 @@ impl Site for MemSite {
     ghost use Rattle.site.specs.Named.{taken_of};
     ghost use Rattle.site.specs.Area.{LeavesOf};
     ghost use Rattle.site.specs.Calls.{HasRead, Wrote, Synced, Took, Told, Goes, ReadsMore, SameReads, Rose, Stays};
+    ghost use Rattle.site.specs.Faults.{CallFaults, TakeFaults, TellFaults};
 
     ghost state = { state_of };
 
@@ -275,6 +276,7 @@ impl Site for MemSite {
         ensures goes { Goes (state_of self.old) (state_of self.new) }
         ensures reads { ReadsMore dev (length into.old) (state_of self.old) (state_of self.new) }
         ensures cause { OnErr result (Rose (faults_of dev (state_of self.old)) (faults_of dev (state_of self.new))) }
+        ensures faults { CallFaults dev result (state_of self.old) (state_of self.new) }
         ensures exactly { CutExactly (Call.Read dev) self.old self.new result }
         ensures counts { Counts (Call.Read dev) self.old self.new }
         ensures counted { OnOk result (reads_of dev (state_of self.new) ≡ min (reads_of dev (state_of self.old) + (length into.old + 4095) / 4096) (2 ^ 64 - 1)) }
@@ -294,6 +296,7 @@ impl Site for MemSite {
         ensures goes { Goes (state_of self.old) (state_of self.new) }
         ensures reads { SameReads (state_of self.old) (state_of self.new) }
         ensures cause { OnErr result (Rose (faults_of dev (state_of self.old)) (faults_of dev (state_of self.new))) }
+        ensures faults { CallFaults dev result (state_of self.old) (state_of self.new) }
         ensures exactly { FailsExactly (Call.Write dev) self.old self.new result }
         ensures counts { Counts (Call.Write dev) self.old self.new }
         ensures leaves { OnErr result (LeavesOf dev at bytes.now (state_of self.old) (state_of self.new) (limits_of self.new).changes (limits_of self.old).lacked (limits_of self.new).lacked) }
@@ -331,6 +334,7 @@ impl Site for MemSite {
         ensures goes { Goes (state_of self.old) (state_of self.new) }
         ensures reads { SameReads (state_of self.old) (state_of self.new) }
         ensures cause { OnErr result (Rose (faults_of dev (state_of self.old)) (faults_of dev (state_of self.new))) }
+        ensures faults { CallFaults dev result (state_of self.old) (state_of self.new) }
         ensures exactly { FailsExactly (Call.Sync dev) self.old self.new result }
         ensures counts { Counts (Call.Sync dev) self.old self.new }
         ensures lacks { IsRefused (Call.Sync dev) self.new → (limits_of self.new).lacked ≡ (limits_of self.old).lacked }
@@ -360,6 +364,7 @@ impl Site for MemSite {
         ensures goes { Goes (state_of self.old) (state_of self.new) }
         ensures reads { SameReads (state_of self.old) (state_of self.new) }
         ensures cause { OnErr result (Rose (state_of self.old).input_faults (state_of self.new).input_faults) }
+        ensures faults { TakeFaults result (state_of self.old) (state_of self.new) }
         ensures exactly { CutExactly Call.Take self.old self.new result }
         ensures counts { Counts Call.Take self.old self.new }
     {
@@ -381,6 +386,7 @@ impl Site for MemSite {
         ensures goes { Goes (state_of self.old) (state_of self.new) }
         ensures reads { SameReads (state_of self.old) (state_of self.new) }
         ensures cause { OnErr result (Rose (state_of self.old).output_faults (state_of self.new).output_faults) }
+        ensures faults { TellFaults result (state_of self.old) (state_of self.new) }
         ensures exactly { FailsExactly Call.Tell self.old self.new result }
         ensures counts { Counts Call.Tell self.old self.new }
         ensures lacks { IsRefused Call.Tell self.new → (limits_of self.new).lacked ≡ (limits_of self.old).lacked }

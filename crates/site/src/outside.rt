@@ -2,6 +2,7 @@
 ghost use Rattle.std.specs.Prelude.{◌≡◌, ◌+◌, ◌≤◌, ◌<◌, length, IsTrue, IfOk, OnErr};
 ghost use Rattle.site.specs.State.{State, content_of, faults_of};
 ghost use Rattle.site.specs.Calls.{Goes, SameReads, ReadsMore, Rose, HasRead, Wrote, Synced, Took, Told};
+ghost use Rattle.site.specs.Faults.{CallFaults, TakeFaults, TellFaults};
 
 use std::alloc::{AllocError, AllocFailed};
 use thiserror::Error;
@@ -77,7 +78,8 @@ pub trait Site {
         ensures read { IsTrue (state self.old).honest → HasRead dev at into.new (state self.old) (state self.new) result }
         ensures goes { Goes (state self.old) (state self.new) }
         ensures reads { ReadsMore dev (length into.old) (state self.old) (state self.new) }
-        ensures cause { OnErr result (Rose (faults_of dev (state self.old)) (faults_of dev (state self.new))) };
+        ensures cause { OnErr result (Rose (faults_of dev (state self.old)) (faults_of dev (state self.new))) }
+        ensures faults { CallFaults dev result (state self.old) (state self.new) };
 
     /// Writes the bytes over what stands on the device from octet `at` on. Until a sync their range is loose.
     fn write_at(&mut self, dev: Dev, at: u64, bytes: &[u8]) -> Result<(), Failed>
@@ -85,14 +87,16 @@ pub trait Site {
         ensures wrote { IsTrue (state self.old).honest → Wrote dev at bytes.now (state self.old) (state self.new) result }
         ensures goes { Goes (state self.old) (state self.new) }
         ensures reads { SameReads (state self.old) (state self.new) }
-        ensures cause { OnErr result (Rose (faults_of dev (state self.old)) (faults_of dev (state self.new))) };
+        ensures cause { OnErr result (Rose (faults_of dev (state self.old)) (faults_of dev (state self.new))) }
+        ensures faults { CallFaults dev result (state self.old) (state self.new) };
 
     /// Makes what was written to the device stable: no range of it is loose any more.
     fn sync(&mut self, dev: Dev) -> Result<(), Failed>
         ensures synced { IsTrue (state self.old).honest → Synced dev (state self.old) (state self.new) result }
         ensures goes { Goes (state self.old) (state self.new) }
         ensures reads { SameReads (state self.old) (state self.new) }
-        ensures cause { OnErr result (Rose (faults_of dev (state self.old)) (faults_of dev (state self.new))) };
+        ensures cause { OnErr result (Rose (faults_of dev (state self.old)) (faults_of dev (state self.new))) }
+        ensures faults { CallFaults dev result (state self.old) (state self.new) };
 
     /// Moves the next octets of the input into the front of `into`, and answers how many. 0 means the end of input.
     fn take(&mut self, into: &mut [u8]) -> Result<usize, Failed>
@@ -101,7 +105,8 @@ pub trait Site {
         ensures at_most { IfOk result (λ n. n ≤ length into.old) }
         ensures goes { Goes (state self.old) (state self.new) }
         ensures reads { SameReads (state self.old) (state self.new) }
-        ensures cause { OnErr result (Rose (state self.old).input_faults (state self.new).input_faults) };
+        ensures cause { OnErr result (Rose (state self.old).input_faults (state self.new).input_faults) }
+        ensures faults { TakeFaults result (state self.old) (state self.new) };
 
     /// Tells a front of the piece, and answers how many octets. After an error some front of it may have been told.
     fn tell(&mut self, piece: &[u8]) -> Result<usize, Failed>
@@ -111,5 +116,6 @@ pub trait Site {
         ensures at_most { IfOk result (λ n. n ≤ length piece.now) }
         ensures goes { Goes (state self.old) (state self.new) }
         ensures reads { SameReads (state self.old) (state self.new) }
-        ensures cause { OnErr result (Rose (state self.old).output_faults (state self.new).output_faults) };
+        ensures cause { OnErr result (Rose (state self.old).output_faults (state self.new).output_faults) }
+        ensures faults { TellFaults result (state self.old) (state self.new) };
 }

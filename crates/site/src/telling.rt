@@ -1,6 +1,7 @@
 // Telling a whole piece.
 ghost use Rattle.std.specs.Prelude.{◌≡◌, ◌++◌, IsTrue, OnOk, OnErr};
 ghost use Rattle.site.specs.Calls.{Goes, SameReads, Rose};
+ghost use Rattle.site.specs.Faults.{TellFaults};
 ghost use Rattle.site.specs.Moments.{EachMoment};
 ghost use Rattle.site.specs.Telling.{TellsPart, SameDevices};
 
@@ -15,10 +16,14 @@ pub fn tell_all<S: Site>(site: &mut S, piece: &[u8]) -> Result<(), Failed>
     ensures reads { SameReads (S.state site.old) (S.state site.new) }
     ensures goes { Goes (S.state site.old) (S.state site.new) }
     ensures cause { OnErr result (Rose (S.state site.old).output_faults (S.state site.new).output_faults) }
+    ensures faults { TellFaults result (S.state site.old) (S.state site.new) }
 {
     let mut at = 0;
     while at < piece.len() {
-        at += site.tell(&piece[at..])?;
+        match site.tell(&piece[at..]) {
+            Ok(count) => at += count,
+            Err(failed) => return Err(failed),
+        }
     }
     Ok(())
 }

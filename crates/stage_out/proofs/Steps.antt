@@ -1,17 +1,16 @@
 -- Staging, write by write.
-use Rattle.std.proofs.Common.{◌≡◌, ◌≢◌, ◌⊎◌, inl, inr, ℕ, zero, suc, ◌+◌, ◌*◌, ◌≤◌, ◌<◌, Bool, ◌||◌, true, false, List, [], ◌∷◌, ◌++◌, length, get_or, refl, sym, ◌∙◌, ap, subst, arith}
+use Rattle.std.proofs.Common.{◌≡◌, ◌≢◌, inl, inr, ℕ, ◌+◌, ◌*◌, ◌<◌, Bool, ◌||◌, false, List, [], ◌∷◌, length, get_or, refl, sym, ◌∙◌, ap, arith}
 use Rattle.std.proofs.lemmas.Bool.{cases_lt}
 use Rattle.std.proofs.lemmas.List.{length-append, get_or_default}
 use Rattle.std.specs.List.{All, AllPairs, Contains}
 use Rattle.std.specs.Prelude.{Result, Ok, Err, OnOk, OnErr}
-use Rattle.site.specs.declared.outside.Dev.{Dev}
 use Rattle.site.specs.declared.outside.Dev.TheVariants.{Disk}
-use Rattle.site.specs.State.{State, Moment, Snapshot, Range, MayLeave, content_of, loose_of, is_loose, is_within, now_of}
-use Rattle.site.specs.Calls.{put, range, Lies, Adds}
+use Rattle.site.specs.State.{State, Snapshot, Range, MayLeave, content_of, loose_of, is_loose, is_within, now_of}
+use Rattle.site.specs.Calls.{range, Lies, Adds}
 use Rattle.site.specs.Moments.{Leaves, LeavesOnly, ChangesOnly}
 use Rattle.site.specs.Laws.{in_sequence, leaves_weaker, no_call, within_not, changes_in_sequence}
 use Rattle.disk_pages.specs.Pages.{LiesOn, page_on, with_page, within_page}
-use Rattle.disk_pages.specs.Laws.{IsBesidePage, HasWritten as HasPage}
+use Rattle.disk_pages.specs.Laws.{HasWritten as HasPage}
 use Rattle.disk_pages.proofs.PageLaws.{page_is_written, others_stay}
 use Rattle.stage_out.specs.Staged.{IsBesideAll, LeavesBeside, HasLeft, HasWritten}
 

@@ -7,6 +7,7 @@ ghost use Rattle.site.specs.declared.outside.Stop.{Stop};
 ghost use Rattle.site.specs.Geometry.{HasLengths};
 ghost use Rattle.site.specs.State.{IsSettled, IsQuiet};
 ghost use Rattle.site.specs.Calls.{Goes, SameReads, FaultRose};
+ghost use Rattle.site.specs.Faults.{WorkFaults};
 ghost use Rattle.site.specs.Moments.{LeavesOnly, ChangesOnly};
 ghost use Rattle.disk_pages.specs.Pages.{LiesOn};
 ghost use Rattle.image_changes.specs.Changes.{Reaches};
@@ -47,6 +48,7 @@ pub fn stage<S: Site>(site: &mut S, pages: &[u32], contents: &[Page]) -> Result<
     // Of every site.
     ensures none { pages.now ≡ [] → (site.new ≡ site.old) × IsOk result }
     ensures goes { Goes (S.state site.old) (S.state site.new) }
+    ensures faults { WorkFaults result (S.state site.old) (S.state site.new) }
     ensures reads { SameReads (S.state site.old) (S.state site.new) }
 
     // When the error comes.
@@ -71,12 +73,16 @@ fn write_all<S: Site>(site: &mut S, pages: &[u32], contents: &[Page]) -> Result<
     ensures written { IsTrue (S.state site.old).honest → OnOk result (HasWritten pages.now contents.now
         (length pages.now) (S.state site.old) (S.state site.new)) }
     ensures goes { Goes (S.state site.old) (S.state site.new) }
+    ensures faults { WorkFaults result (S.state site.old) (S.state site.new) }
     ensures reads { SameReads (S.state site.old) (S.state site.new) }
     ensures device { OnErr result (FaultRose Dev.Disk (S.state site.old) (S.state site.new)) }
     ensures stops { IfErr result (λ stop. stop ≡ Stop.Device Dev.Disk) }
 {
     for place in 0..pages.len() {
-        write_page(site, pages[place], contents[place].bytes())?;
+        match write_page(site, pages[place], contents[place].bytes()) {
+            Ok(()) => {}
+            Err(stop) => return Err(stop),
+        }
     }
     Ok(())
 }

@@ -4,8 +4,8 @@ use Rattle.site.specs.Laws.{stays_honest, goes_in_sequence}
 use Rattle.site.proofs.Tells.{one_tell, told_more}
 use Rattle.site.proofs.telling.tell_all.Goals as goal
 
-pub returns-in_err-at-clause-any_moment : goal.returns-in_err-at-clause-any_moment
-returns-in_err-at-clause-any_moment g c honest =
+pub returns-in-Err-clause-any_moment : goal.returns-in-Err-clause-any_moment
+returns-in-Err-clause-any_moment g c honest =
     let old = g.S.Site.state c.args.site.now in
     let mid = g.S.Site.state c.loop-at.site in
     let new = g.S.Site.state c.tell.new.self in
@@ -21,10 +21,11 @@ loop-at-preserved g c =
     let i = c.loop-at.invariant in
     let rest = take_rest c.args.piece.now c.loop-at.at in
     record {
-      at = omega (arith, c.in_ok-at.ensures.at_most);
+      at = omega (arith, c.in-Ok.ensures.at_most);
       goes = goes_in_sequence old mid new i.goes c.tell.ensures.goes;
       reads = λ dev. c.tell.ensures.reads dev ∙ i.reads dev;
+      faults = c.in-Ok.ensures.faults ∙ i.faults;
       same = λ honest. let t = c.tell.ensures.told (stays_honest old mid i.goes honest) in record { image = t.image ∙ (i.same honest).image; loose = t.loose ∙ (i.same honest).loose; left = t.left ∙ (i.same honest).left };
-      told = λ honest. told_more c.args.piece.now c.loop-at.at _ old mid new c.in_ok-at.field-0 rest (i.told honest) (c.in_ok-at.ensures.told (stays_honest old mid i.goes honest)).told;
+      told = λ honest. told_more c.args.piece.now c.loop-at.at _ old mid new c.in-Ok.count rest (i.told honest) (c.in-Ok.ensures.told (stays_honest old mid i.goes honest)).told;
       any_moment = λ honest. one_tell c.args.piece.now c.loop-at.at _ old mid new c.tell.result rest (i.same honest) (i.told honest) (i.any_moment honest) (c.tell.ensures.told (stays_honest old mid i.goes honest));
     }

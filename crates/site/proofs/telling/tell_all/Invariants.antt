@@ -1,5 +1,6 @@
 use Rattle.std.proofs.Common.{◌≡◌, ◌++◌, ◌-◌, ◌≤◌, length, take, IsTrue}
 use Rattle.site.specs.Calls.{Goes, SameReads}
+use Rattle.site.specs.Faults.{faults_in}
 use Rattle.site.specs.Moments.{EachMoment}
 use Rattle.site.specs.Telling.{TellsPart, SameDevices}
 use Rattle.site.proofs.telling.tell_all.Given as goal
@@ -12,6 +13,7 @@ invariant-loop-at g l =
       at : l.at ≤ length l.piece;
       goes : Goes old now;
       reads : SameReads old now;
+      faults : faults_in now ≡ faults_in old;
       same : IsTrue old.honest → SameDevices old now;
       told : IsTrue old.honest → now.told ≡ old.told ++ take l.at l.piece;
       any_moment : IsTrue old.honest → EachMoment old now (TellsPart l.piece old);

@@ -1,10 +1,8 @@
-use Rattle.std.proofs.Common.{◌≡◌, ◌+◌, ◌*◌, ◌<◌, ℕ, List, [], length, get_or, subst, sym, ◌∙◌, ap, arith, rules}
+use Rattle.std.proofs.Common.{◌≡◌, ◌*◌, ◌<◌, ℕ, List, [], length, get_or, subst, ◌∙◌, arith, rules, refl}
 use Rattle.site.specs.declared.outside.Dev.TheVariants.{Disk}
-use Rattle.site.specs.State.{reads_of}
-use Rattle.site.specs.Calls.{FaultRose, Lies}
+use Rattle.site.specs.Calls.{Lies}
 use Rattle.site.specs.Laws.{stays_honest, goes_nowhere, goes_in_sequence, fault_since}
-use Rattle.disk_pages.specs.Pages.{LiesOn}
-use Rattle.stage_out.proofs.Steps.{nothing_left, nothing_written, write_leaves, write_done, taken, on_err}
+use Rattle.stage_out.proofs.Steps.{nothing_left, nothing_written, write_leaves, write_done, taken}
 use Rattle.stage_out.proofs.staging.write_all.Goals as goal
 
 pub loop-place-init : goal.loop-place-init
@@ -12,6 +10,7 @@ loop-place-init g c = record {
   left = λ honest. nothing_left c.args.pages.now (g.S.Site.state c.args.site.now);
   written = λ honest. nothing_written c.args.pages.now c.args.contents.now (g.S.Site.state c.args.site.now);
   goes = goes_nowhere (g.S.Site.state c.args.site.now);
+  faults = refl;
   reads = search rules;
 }
 
@@ -21,8 +20,8 @@ write_page-requires-clause-lies g c =
     let size = c.loop-place.invariant.goes.sizes Disk in
     omega (arith, there, size)
 
-pub returns-in_err-write_page-clause-left : goal.returns-in_err-write_page-clause-left
-returns-in_err-write_page-clause-left g c honest =
+pub returns-in-Err-clause-left : goal.returns-in-Err-clause-left
+returns-in-Err-clause-left g c honest =
     let old = g.S.Site.state c.args.site.now in
     let mid = g.S.Site.state c.loop-place.site in
     let new = g.S.Site.state c.write_page.new.site in
@@ -30,12 +29,12 @@ returns-in_err-write_page-clause-left g c honest =
     write_leaves c.args.pages.now c.args.contents.now c.loop-place.place old mid new c.loop-place-test.true (c.loop-place.invariant.written honest) (c.loop-place.invariant.left honest)
     (c.write_page.ensures.changes later) (c.write_page.ensures.any_moment later)
 
-pub returns-in_err-write_page-clause-device : goal.returns-in_err-write_page-clause-device
-returns-in_err-write_page-clause-device g c =
+pub returns-in-Err-clause-device : goal.returns-in-Err-clause-device
+returns-in-Err-clause-device g c =
     let old = g.S.Site.state c.args.site.now in
     let mid = g.S.Site.state c.loop-place.site in
     let new = g.S.Site.state c.write_page.new.site in
-    on_err c.from_residual.result (FaultRose Disk old new) (fault_since Disk old mid new c.loop-place.invariant.goes c.in_err-write_page.ensures.device)
+    fault_since Disk old mid new c.loop-place.invariant.goes c.in-Err.ensures.device
 
 pub loop-place-preserved : goal.loop-place-preserved
 loop-place-preserved g c =
@@ -56,8 +55,9 @@ loop-place-preserved g c =
           let later = stays_honest old mid c.loop-place.invariant.goes honest in
           write_done pages contents place old mid new c.loop-place-test.true (c.loop-place.invariant.written honest) c.requires.once c.requires.lie
           (subst (λ (b : List ℕ). length b ≡ 4096) is c.bytes.ensures.size)
-          (subst (λ (b : List ℕ). Lies Disk (4096 * get_or pages place 0) b mid new) is (c.in_ok-write_page.ensures.written later))
-          (c.in_ok-write_page.ensures.calls later);
+          (subst (λ (b : List ℕ). Lies Disk (4096 * get_or pages place 0) b mid new) is (c.in-Ok.ensures.written later))
+          (c.in-Ok.ensures.calls later);
       goes = goes_in_sequence old mid new c.loop-place.invariant.goes c.write_page.ensures.goes;
+      faults = c.in-Ok.ensures.faults ∙ c.loop-place.invariant.faults;
       reads = λ d. c.write_page.ensures.reads d ∙ c.loop-place.invariant.reads d;
     }

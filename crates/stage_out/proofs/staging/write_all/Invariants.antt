@@ -1,5 +1,6 @@
-use Rattle.std.proofs.Common.{◌≤◌, length, IsTrue}
+use Rattle.std.proofs.Common.{◌≡◌, IsTrue}
 use Rattle.site.specs.Calls.{Goes, SameReads}
+use Rattle.site.specs.Faults.{faults_in}
 use Rattle.stage_out.specs.Staged.{HasWritten, HasLeft}
 use Rattle.stage_out.proofs.staging.write_all.Given as goal
 
@@ -11,5 +12,6 @@ invariant-loop-place g l =
       left : IsTrue old.honest → HasLeft l.pages old now;
       written : IsTrue old.honest → HasWritten l.pages l.contents l.place old now;
       goes : Goes old now;
+      faults : faults_in now ≡ faults_in old;
       reads : SameReads old now;
     }
