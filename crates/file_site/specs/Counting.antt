@@ -1,8 +1,7 @@
 -- What contracts say of a site over files: lengths and counts. Of content nothing is said.
-use Rattle.std.specs.Prelude.{◌≡◌, ◌≢◌, ℕ, ◌+◌, ◌-◌, ◌/◌, ◌^◌, ◌≤◌, min, false, [], replicate, Result, OnOk, OnErr}
+use Rattle.std.specs.Prelude.{◌≡◌, ℕ, ◌+◌, ◌-◌, ◌/◌, ◌^◌, ◌≤◌, min, false, [], replicate}
 use Rattle.site.specs.declared.outside.Dev.{Dev}
 use Rattle.site.specs.declared.outside.Dev.TheVariants.{Log, Flash, Disk}
-use Rattle.site.specs.declared.outside.Failed.{Failed}
 use Rattle.site.specs.State.{State, no_loose, faults_of, reads_of}
 use Rattle.file_site.specs.declared.book.Tally.{Tally}
 use Rattle.file_site.specs.declared.book.Book.{Book}
@@ -55,28 +54,6 @@ state_of book = record {
   flash_reads = book.flash.reads;
   disk_reads = book.disk.reads;
 }
-
--- the device's count of faults rises by one where the call failed, and no other count of faults changes
-pub record CountsDevice {T : Type 0} (dev : Dev) (old new : State) (result : Result T Failed) : Type 0 where
-  pub passes : OnOk result (faults_of dev new ≡ faults_of dev old)
-  pub fails : OnErr result (faults_of dev new ≡ raised (faults_of dev old))
-  pub others : (d : Dev) → d ≢ dev → faults_of d new ≡ faults_of d old
-  pub input_faults : new.input_faults ≡ old.input_faults
-  pub output_faults : new.output_faults ≡ old.output_faults
-
--- the same of the count of input faults
-pub record CountsInput {T : Type 0} (old new : State) (result : Result T Failed) : Type 0 where
-  pub passes : OnOk result (new.input_faults ≡ old.input_faults)
-  pub fails : OnErr result (new.input_faults ≡ raised old.input_faults)
-  pub devices : (d : Dev) → faults_of d new ≡ faults_of d old
-  pub output_faults : new.output_faults ≡ old.output_faults
-
--- and of output faults
-pub record CountsOutput {T : Type 0} (old new : State) (result : Result T Failed) : Type 0 where
-  pub passes : OnOk result (new.output_faults ≡ old.output_faults)
-  pub fails : OnErr result (new.output_faults ≡ raised old.output_faults)
-  pub devices : (d : Dev) → faults_of d new ≡ faults_of d old
-  pub input_faults : new.input_faults ≡ old.input_faults
 
 -- nothing is counted yet
 pub record IsFresh (s : State) : Type 0 where

@@ -1,122 +1,84 @@
 // Three files of the current folder, standard input and standard output as a site.
-ghost use Rattle.std.specs.Prelude.{◌≡◌, ◌≤◌, ◌<◌, ◌+◌, length, false, IsTrue, IfSome, IfOk, IfErr, OnOk, OnErr};
+ghost use Rattle.std.specs.Prelude.{◌≡◌, ◌≤◌, ◌<◌, ◌+◌, length, false, IsTrue, IfOk, IfErr, OnOk, OnErr};
 ghost use Rattle.site.specs.declared.outside.Stop.{Stop};
 ghost use Rattle.file_site.specs.declared.book.Book.{Book};
-ghost use Rattle.file_site.specs.Counting.{state_of, reads_after, faulted, CountsDevice, CountsInput, CountsOutput, IsBare, IsFresh};
+ghost use Rattle.file_site.specs.Counting.{state_of, reads_after, faulted, IsBare, IsFresh};
 
 use crate::book::Book;
+use crate::device::Devices;
 use crate::intake::Intake;
-use crate::opening::{hold_streams, make, open};
+use crate::lock::LockFile;
+use crate::making::{Lengths, fresh};
+use crate::opening::{existing, hold_streams};
+use crate::outlet::tells;
 use site::{Dev, Failed, Site, Stop};
 use std::alloc::Global;
-use std::fs::OpenFile;
-use std::io::{ErrorKind, Input, Print};
+use std::io::{Input, Print};
 use std::os::unix::fs::FileExt;
-use std::rt::Files;
+use std::rt::{Clock, Files};
 
 // The largest piece of input that is read at once, and of zeros that is written at once.
 const PIECE: usize = 65_536;
 
-const LOG_PATH: &str = "face.log";
-
-const FLASH_PATH: &str = "face.flash";
-
-const DISK_PATH: &str = "face.disk";
-
 /// The files `face.log`, `face.flash` and `face.disk` of the current folder, standard input and standard output. It
 /// isn't honest: nothing is claimed of what stands in a file between two calls.
+///
+/// While it lasts it holds a lock on `face.log`; a program that finds it locked has no log.
 #[derive(Drop)]
-pub struct FileSite<R: Files + Input + Print> {
+pub struct FileSite<R: Files + Input + Print + Clock> {
     rt: R,
-    // None where the file couldn't be opened: the device then has no octets.
-    log: Option<R::File>,
-    flash: Option<R::File>,
-    disk: Option<R::File>,
+    devices: Devices<R::File>,
     input: Intake<R::Reader>,
     book: Book,
 }
 
-// The file at this path, where files may be opened at all.
-fn open_where<R: Files>(rt: &R, may_open: bool, path: &str) -> Option<(R::File, u64)> {
-    if may_open { open(rt, path) } else { None }
-}
-
-// A file that isn't there, or the file and its length.
-fn file_and_length<F: Drop>(opened: Option<(F, u64)>) -> (Option<F>, u64) {
-    match opened {
-        Some((file, len)) => (Some(file), len),
-        None => (None, 0),
-    }
-}
-
-// Whether the file gave the whole range. Where there is no file only an empty range is there.
-fn reads<F: FileExt>(file: &Option<F>, at: u64, into: &mut [u8]) -> bool {
-    match file {
-        Some(file) => file.read_exact_at(into, at).is_ok(),
-        None => into.is_empty(),
-    }
-}
-
-// Whether the file took all the bytes.
-fn writes<F: FileExt>(file: &Option<F>, at: u64, bytes: &[u8]) -> bool {
-    match file {
-        Some(file) => file.write_all_at(bytes, at).is_ok(),
-        None => bytes.is_empty(),
-    }
-}
-
-// Whether what was written to the file is stable.
-fn syncs<F: OpenFile>(file: &Option<F>) -> bool {
-    match file {
-        Some(file) => file.sync_data().is_ok(),
-        None => true,
-    }
-}
-
-// Writes once to standard output; an interrupted write is tried again. None where it fails or nothing is taken.
-fn tells<P: Print>(rt: &P, piece: &[u8]) -> Option<usize>
-    ensures at_least { IfSome result (λ n. 1 ≤ n) }
-    ensures at_most { IfSome result (λ n. n ≤ length piece.now) }
-{
-    for _try in 0..u64::MAX {
-        match rt.write_some(piece) {
-            Ok(count) => {
-                return if count == 0 { None } else { Some(count) };
-            }
-            Err(error) => {
-                if error.kind() != ErrorKind::Interrupted {
-                    return None;
-                }
-            }
-        }
-    }
-    None
-}
-
-impl<R: Files + Input + Print + Drop> FileSite<R>
+// The files that are there, if files may be opened at all.
+fn open_existing<R: Files>(rt: &R) -> Devices<R::File>
 where
-    R::File: FileExt,
+    R::File: LockFile,
 {
-    /// The files that are there. A file that can't be opened to be read and written is a device of length 0. The one
-    /// error is want of memory.
+    match hold_streams(rt) {
+        Some(_streams) => existing(rt),
+        None => Devices::closed(),
+    }
+}
+
+// The files of a new database, if files may be opened at all.
+fn open_fresh<R: Files>(rt: &R, lengths: &Lengths, zeros: &[u8]) -> Devices<R::File>
+where
+    R::File: FileExt + LockFile,
+{
+    match hold_streams(rt) {
+        Some(_streams) => fresh(rt, lengths, zeros),
+        None => Devices::closed(),
+    }
+}
+
+impl<R: Files + Input + Print + Clock + Drop> FileSite<R>
+where
+    R::File: FileExt + LockFile,
+{
+    /// The files that are there. A file that can't be opened to be read and written, or a log that another program holds,
+    /// is a device of length 0. The one error is want of memory.
     pub fn existing(rt: R, alloc: Global) -> Result<FileSite<R>, Stop>
         ensures fresh { IfOk result (λ site. IsFresh (state_of site.book)) }
         ensures memory { IfErr result (λ stop. stop ≡ Stop.Memory) }
     {
-        Ok(FileSite::over(rt, vec![in alloc; 0u8; PIECE]?))
+        let buffer = vec![in alloc; 0u8; PIECE]?;
+        let devices = open_existing(&rt);
+        Ok(FileSite::over(rt, devices, buffer))
     }
 
-    /// First makes each missing file with this many zeros, stable; a file that can't be made isn't there then. All else
-    /// is as of `existing`. Want of memory comes before a file is made.
+    /// The files of a new database of these lengths. Each missing file is made of this many zeros, stable, where all that
+    /// are there have their length and are blank; else it reads as a blank one, and nothing is made. Where one can't be
+    /// made, none of them is there then. All else is as of `existing`. Want of memory comes before a file is made.
     pub fn fresh(rt: R, alloc: Global, log: u64, flash: u64, disk: u64) -> Result<FileSite<R>, Stop>
         ensures fresh { IfOk result (λ site. IsFresh (state_of site.book)) }
         ensures memory { IfErr result (λ stop. stop ≡ Stop.Memory) }
     {
-        let zeros = vec![in alloc; 0u8; PIECE]?;
-        make(&rt, LOG_PATH, log, &zeros);
-        make(&rt, FLASH_PATH, flash, &zeros);
-        make(&rt, DISK_PATH, disk, &zeros);
-        Ok(FileSite::over(rt, zeros))
+        let buffer = vec![in alloc; 0u8; PIECE]?;
+        let devices = open_fresh(&rt, &Lengths { log, flash, disk }, &buffer);
+        Ok(FileSite::over(rt, devices, buffer))
     }
 
     /// Three devices of length 0; no file is opened. The one error is want of memory.
@@ -128,36 +90,28 @@ where
         let reader = rt.reader();
         Ok(FileSite {
             rt,
-            log: None,
-            flash: None,
-            disk: None,
+            devices: Devices::closed(),
             input: Intake::new(reader, vec![in alloc; 0u8; PIECE]?),
             book: Book::new(0, 0, 0),
         })
     }
 
-    // The files that are there, with this buffer for the input.
-    fn over(rt: R, buffer: Vec<u8>) -> FileSite<R>
+    // The site over these devices, with this buffer for the input.
+    fn over(rt: R, devices: Devices<R::File>, buffer: Vec<u8>) -> FileSite<R>
         ensures { IsFresh (state_of result.book) }
     {
-        let streams = hold_streams(&rt);
-        let may_open = streams.is_some();
-        let (log, log_len) = file_and_length(open_where(&rt, may_open, LOG_PATH));
-        let (flash, flash_len) = file_and_length(open_where(&rt, may_open, FLASH_PATH));
-        let (disk, disk_len) = file_and_length(open_where(&rt, may_open, DISK_PATH));
-        drop(streams);
         let reader = rt.reader();
+        let book = Book::new(devices.log.len(), devices.flash.len(), devices.disk.len());
         FileSite {
             rt,
-            log,
-            flash,
-            disk,
+            devices,
             input: Intake::new(reader, buffer),
-            book: Book::new(log_len, flash_len, disk_len),
+            book,
         }
     }
 
     ghost use Rattle.site.specs.Calls.{Goes};
+    ghost use Rattle.site.specs.Faults.{CallFaults};
 
     // The answer of a call on the device, which is counted where it failed.
     fn answer(&mut self, dev: Dev, done: bool) -> Result<(), Failed>
@@ -165,6 +119,7 @@ where
         ensures failed { OnErr result (done ≡ false) }
         ensures ok { OnOk result (self.new.book ≡ self.old.book) }
         ensures err { OnErr result (self.new.book ≡ faulted dev self.old.book) }
+        ensures faults { CallFaults dev result (state_of self.old.book) (state_of self.new.book) }
         ensures goes { Goes (state_of self.old.book) (state_of self.new.book) }
     {
         if !done {
@@ -175,12 +130,13 @@ where
     }
 }
 
-impl<R: Files + Input + Print + Drop> Site for FileSite<R>
+impl<R: Files + Input + Print + Clock + Drop> Site for FileSite<R>
 where
-    R::File: FileExt,
+    R::File: FileExt + LockFile,
 {
     ghost use Rattle.site.specs.State.{content_of, faults_of, reads_of};
     ghost use Rattle.site.specs.Calls.{HasRead, Wrote, Synced, Took, Told, Goes, ReadsMore, SameReads, Rose};
+    ghost use Rattle.site.specs.Faults.{CallFaults, TakeFaults, TellFaults};
 
     ghost state = { λ site. state_of site.book };
 
@@ -194,15 +150,11 @@ where
         ensures goes { Goes (state_of self.old.book) (state_of self.new.book) }
         ensures reads { ReadsMore dev (length into.old) (state_of self.old.book) (state_of self.new.book) }
         ensures cause { OnErr result (Rose (faults_of dev (state_of self.old.book)) (faults_of dev (state_of self.new.book))) }
-        ensures counts { CountsDevice dev (state_of self.old.book) (state_of self.new.book) result }
+        ensures faults { CallFaults dev result (state_of self.old.book) (state_of self.new.book) }
         ensures counted { reads_of dev (state_of self.new.book) ≡ reads_after (length into.old) (reads_of dev (state_of self.old.book)) }
     {
         self.book.read(dev, into.len());
-        let done = match dev {
-            Dev::Log => reads(&self.log, at, into),
-            Dev::Flash => reads(&self.flash, at, into),
-            Dev::Disk => reads(&self.disk, at, into),
-        };
+        let done = self.devices.of(dev).reads(at, into);
         self.answer(dev, done)
     }
 
@@ -212,13 +164,9 @@ where
         ensures goes { Goes (state_of self.old.book) (state_of self.new.book) }
         ensures reads { SameReads (state_of self.old.book) (state_of self.new.book) }
         ensures cause { OnErr result (Rose (faults_of dev (state_of self.old.book)) (faults_of dev (state_of self.new.book))) }
-        ensures counts { CountsDevice dev (state_of self.old.book) (state_of self.new.book) result }
+        ensures faults { CallFaults dev result (state_of self.old.book) (state_of self.new.book) }
     {
-        let done = match dev {
-            Dev::Log => writes(&self.log, at, bytes),
-            Dev::Flash => writes(&self.flash, at, bytes),
-            Dev::Disk => writes(&self.disk, at, bytes),
-        };
+        let done = self.devices.of(dev).writes(at, bytes);
         self.answer(dev, done)
     }
 
@@ -227,13 +175,9 @@ where
         ensures goes { Goes (state_of self.old.book) (state_of self.new.book) }
         ensures reads { SameReads (state_of self.old.book) (state_of self.new.book) }
         ensures cause { OnErr result (Rose (faults_of dev (state_of self.old.book)) (faults_of dev (state_of self.new.book))) }
-        ensures counts { CountsDevice dev (state_of self.old.book) (state_of self.new.book) result }
+        ensures faults { CallFaults dev result (state_of self.old.book) (state_of self.new.book) }
     {
-        let done = match dev {
-            Dev::Log => syncs(&self.log),
-            Dev::Flash => syncs(&self.flash),
-            Dev::Disk => syncs(&self.disk),
-        };
+        let done = self.devices.of(dev).syncs();
         self.answer(dev, done)
     }
 
@@ -244,9 +188,9 @@ where
         ensures goes { Goes (state_of self.old.book) (state_of self.new.book) }
         ensures reads { SameReads (state_of self.old.book) (state_of self.new.book) }
         ensures cause { OnErr result (Rose (state_of self.old.book).input_faults (state_of self.new.book).input_faults) }
-        ensures counts { CountsInput (state_of self.old.book) (state_of self.new.book) result }
+        ensures faults { TakeFaults result (state_of self.old.book) (state_of self.new.book) }
     {
-        match self.input.take(into) {
+        match self.input.take(&self.rt, into) {
             Ok(count) => Ok(count),
             Err(e) => {
                 self.book.input_fault();
@@ -263,7 +207,7 @@ where
         ensures goes { Goes (state_of self.old.book) (state_of self.new.book) }
         ensures reads { SameReads (state_of self.old.book) (state_of self.new.book) }
         ensures cause { OnErr result (Rose (state_of self.old.book).output_faults (state_of self.new.book).output_faults) }
-        ensures counts { CountsOutput (state_of self.old.book) (state_of self.new.book) result }
+        ensures faults { TellFaults result (state_of self.old.book) (state_of self.new.book) }
     {
         match tells(&self.rt, piece) {
             Some(count) => Ok(count),

@@ -1,8 +1,10 @@
 // Standard input, taken in large pieces.
 ghost use Rattle.std.specs.Prelude.{◌≡◌, ◌≤◌, ◌<◌, ◌+◌, length, IfOk, OnOk};
 
+use crate::outlet::may_try_again;
 use site::Failed;
-use std::io::{ErrorKind, Read};
+use std::io::Read;
+use std::rt::Clock;
 
 /// A reader and the octets that were read and not yet taken.
 #[derive(Drop)]
@@ -15,15 +17,15 @@ pub struct Intake<I> {
     ghost inside: { end ≤ length buffer.items },
 }
 
-// Reads once; an interrupted read is tried again.
-fn read_some<I: Read>(reader: &mut I, into: &mut [u8]) -> Result<usize, Failed>
+// Reads once. A read that is interrupted or finds an input that isn't ready is tried again, for as long as it takes.
+fn read_some<I: Read, C: Clock>(reader: &mut I, clock: &C, into: &mut [u8]) -> Result<usize, Failed>
     ensures { IfOk result (λ n. n ≤ length into.old) }
 {
     for _try in 0..u64::MAX {
         match reader.read(into) {
             Ok(count) => return Ok(count),
             Err(error) => {
-                if error.kind() != ErrorKind::Interrupted {
+                if !may_try_again(clock, error.kind()) {
                     return Err(Failed);
                 }
             }
@@ -45,11 +47,11 @@ impl<I: Read + Drop> Intake<I> {
 
     /// Moves the next octets into the front of `into`, and answers how many. 0 means the end of input where `into` and
     /// the buffer have room for an octet. After an error nothing was moved.
-    pub fn take(&mut self, into: &mut [u8]) -> Result<usize, Failed>
+    pub fn take<C: Clock>(&mut self, clock: &C, into: &mut [u8]) -> Result<usize, Failed>
         ensures at_most { IfOk result (λ n. n ≤ length into.old) }
     {
         if self.start == self.end {
-            let count = read_some(&mut self.reader, &mut self.buffer)?;
+            let count = read_some(&mut self.reader, clock, &mut self.buffer)?;
             self.start = 0;
             self.end = count;
         }

@@ -1,20 +1,66 @@
-// Opening the files of a site, and making those that are missing.
+// Opening the files of a site.
 
+use crate::device::{Device, Devices};
+use crate::lock::{LockFile, hold};
+use site::Dev;
 use std::fs::{OpenFile, OpenOptions};
-use std::io::{self, Write};
+use std::io::{self, ErrorKind};
 use std::rt::Files;
 
-/// The file at this path with its length, to be read and written. What an earlier program wrote and didn't sync is
-/// synced first. None where one of these calls fails.
-pub fn open<R: Files>(rt: &R, path: &str) -> Option<(R::File, u64)> {
+/// The name of a device's file in the current folder.
+pub fn path(dev: Dev) -> &'static str {
+    match dev {
+        Dev::Log => "face.log",
+        Dev::Flash => "face.flash",
+        Dev::Disk => "face.disk",
+    }
+}
+
+/// Locks the file of this device, if it is the log's. The error is that another program holds it.
+pub fn claim<F: LockFile>(dev: Dev, file: &F) -> io::Result<()> {
+    if dev == Dev::Log && !hold(file) {
+        return Err(io::Error::from(ErrorKind::ResourceBusy));
+    }
+    Ok(())
+}
+
+/// The device's file with its length, to be read and written, and the log's locked before it is read. What an earlier
+/// program wrote and didn't sync is synced first. An error is that of the first of these calls that fails.
+pub fn open<R: Files>(rt: &R, dev: Dev) -> io::Result<Device<R::File>>
+where
+    R::File: LockFile,
+{
     let file = OpenOptions::new()
         .read(true)
         .write(true)
-        .open(rt, path)
-        .ok()?;
-    let len = file.metadata().ok()?.len();
-    file.sync_data().ok()?;
-    Some((file, len))
+        .open(rt, path(dev))?;
+    claim(dev, &file)?;
+    let len = file.metadata()?.len();
+    file.sync_data()?;
+    Ok(Device::File(file, len))
+}
+
+// The file of a device, if it can be opened.
+fn open_or_closed<R: Files>(rt: &R, dev: Dev) -> Device<R::File>
+where
+    R::File: LockFile,
+{
+    match open(rt, dev) {
+        Ok(device) => device,
+        Err(_) => Device::Closed,
+    }
+}
+
+/// The files that are there. One that can't be opened is a device without octets.
+pub fn existing<R: Files>(rt: &R) -> Devices<R::File>
+where
+    R::File: LockFile,
+{
+    Devices {
+        log: open_or_closed(rt, Dev::Log),
+        flash: open_or_closed(rt, Dev::Flash),
+        disk: open_or_closed(rt, Dev::Disk),
+    }
 }
 
 // A descriptor that stands for nothing.
@@ -29,38 +75,4 @@ fn open_any<R: Files>(rt: &R) -> io::Result<R::File> {
 /// to a file, and the next reply be written over it.
 pub fn hold_streams<R: Files>(rt: &R) -> Option<(R::File, R::File, R::File)> {
     Some((open_any(rt).ok()?, open_any(rt).ok()?, open_any(rt).ok()?))
-}
-
-// Writes this many zeros, in pieces, and makes them and the length of the file stable.
-fn fill<F: Write + OpenFile>(file: &mut F, len: u64, zeros: &[u8]) -> io::Result<()> {
-    let mut left = len;
-    for _piece in 0..len {
-        if left == 0 {
-            break;
-        }
-        let count = left.min(zeros.len() as u64);
-        file.write_all(&zeros[..count as usize])?;
-        left -= count;
-    }
-    file.sync_all()
-}
-
-// Makes the folder's entries stable.
-fn sync_folder<R: Files>(rt: &R) -> io::Result<()> {
-    let folder = OpenOptions::new().read(true).open(rt, ".")?;
-    folder.sync_all()
-}
-
-/// Makes a file of this many zeros where there is no file at this path. Where that fails there is none afterwards.
-pub fn make<R: Files>(rt: &R, path: &str, len: u64, zeros: &[u8]) {
-    let Ok(mut file) = OpenOptions::new()
-        .write(true)
-        .create_new(true)
-        .open(rt, path)
-    else {
-        return;
-    };
-    if fill(&mut file, len, zeros).is_err() || sync_folder(rt).is_err() {
-        let _ = rt.remove_file(path);
-    }
 }

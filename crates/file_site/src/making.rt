@@ -1,0 +1,308 @@
+// Making the files of a new database. Nothing is made before all that is there is known to be fit for it, and no file has
+// its name before it is whole and stable.
+
+use crate::device::{DEVS, Device, Devices};
+use crate::lock::{LockFile, hold};
+use crate::opening::{claim, open, path};
+use site::Dev;
+use std::fs::{OpenFile, OpenOptions};
+use std::io::{self, ErrorKind, Write};
+use std::os::unix::fs::FileExt;
+use std::rt::Files;
+
+// So many octets are read at once.
+const PIECE: usize = 4_096;
+
+/// The lengths of the devices of a new database, in octets.
+#[derive(Clone, Copy, Debug, PartialEq, Eq, Drop)]
+pub struct Lengths {
+    pub log: u64,
+    pub flash: u64,
+    pub disk: u64,
+}
+
+// Some of the devices.
+#[derive(Clone, Copy, Debug, PartialEq, Eq, Drop)]
+struct Which {
+    log: bool,
+    flash: bool,
+    disk: bool,
+}
+
+impl Lengths {
+    fn of(&self, dev: Dev) -> u64 {
+        match dev {
+            Dev::Log => self.log,
+            Dev::Flash => self.flash,
+            Dev::Disk => self.disk,
+        }
+    }
+}
+
+impl Which {
+    fn none() -> Which {
+        Which {
+            log: false,
+            flash: false,
+            disk: false,
+        }
+    }
+
+    // The devices that have no file yet.
+    fn missing<F>(found: &Devices<F>) -> Which {
+        Which {
+            log: found.log.is_missing(),
+            flash: found.flash.is_missing(),
+            disk: found.disk.is_missing(),
+        }
+    }
+
+    fn has(&self, dev: Dev) -> bool {
+        match dev {
+            Dev::Log => self.log,
+            Dev::Flash => self.flash,
+            Dev::Disk => self.disk,
+        }
+    }
+
+    fn add(&mut self, dev: Dev) {
+        match dev {
+            Dev::Log => self.log = true,
+            Dev::Flash => self.flash = true,
+            Dev::Disk => self.disk = true,
+        }
+    }
+}
+
+// The name of a device's file until it is whole and stable.
+fn draft_path(dev: Dev) -> &'static str {
+    match dev {
+        Dev::Log => "face.log.new",
+        Dev::Flash => "face.flash.new",
+        Dev::Disk => "face.disk.new",
+    }
+}
+
+// The current folder, locked so that no other program makes files in it. None where it can't be read or another does.
+fn hold_folder<R: Files>(rt: &R) -> Option<R::File>
+where
+    R::File: LockFile,
+{
+    let folder = OpenOptions::new().read(true).open(rt, ".").ok()?;
+    if hold(&folder) { Some(folder) } else { None }
+}
+
+// Whether nothing has this name, not even a link that leads nowhere.
+fn is_free<R: Files>(rt: &R, path: &str) -> bool {
+    match rt.symlink_metadata(path) {
+        Ok(_) => false,
+        Err(error) => error.kind() == ErrorKind::NotFound,
+    }
+}
+
+// The device's file; where there is none it is one to be made, of this length.
+fn look<R: Files>(rt: &R, dev: Dev, len: u64) -> Device<R::File>
+where
+    R::File: LockFile,
+{
+    match open(rt, dev) {
+        Ok(device) => device,
+        Err(error) => {
+            if error.kind() == ErrorKind::NotFound && is_free(rt, path(dev)) {
+                Device::Blank(len)
+            } else {
+                Device::Closed
+            }
+        }
+    }
+}
+
+// What is there of a new database.
+fn look_for_all<R: Files>(rt: &R, lengths: &Lengths) -> Devices<R::File>
+where
+    R::File: LockFile,
+{
+    Devices {
+        log: look(rt, Dev::Log, lengths.log),
+        flash: look(rt, Dev::Flash, lengths.flash),
+        disk: look(rt, Dev::Disk, lengths.disk),
+    }
+}
+
+// Whether the first octets of the file, this many, can be read and are zeros.
+fn is_blank<F: FileExt>(file: &F, len: u64) -> bool {
+    let mut buffer = [0u8; PIECE];
+    let mut left = len;
+    for _piece in 0..len {
+        if left == 0 {
+            break;
+        }
+        let count = left.min(PIECE as u64);
+        let piece = &mut buffer[..count as usize];
+        if file.read_exact_at(piece, len.saturating_sub(left)).is_err() {
+            return false;
+        }
+        if piece.iter().any(|octet| *octet != 0) {
+            return false;
+        }
+        left -= count;
+    }
+    true
+}
+
+// Whether the device has this length and is blank.
+fn is_fit<F: FileExt>(device: &Device<F>, len: u64) -> bool {
+    match device {
+        Device::File(file, found) => *found == len && is_blank(file, len),
+        Device::Blank(_) => true,
+        Device::Closed => false,
+    }
+}
+
+// Whether all devices have their lengths and are blank.
+fn are_fit<F: FileExt>(found: &Devices<F>, lengths: &Lengths) -> bool {
+    DEVS.iter()
+        .all(|dev| is_fit(found.of(*dev), lengths.of(*dev)))
+}
+
+// Writes this many zeros, in pieces, and makes them and the length of the file stable.
+fn fill<F: Write + OpenFile>(file: &mut F, len: u64, zeros: &[u8]) -> io::Result<()> {
+    let mut left = len;
+    for _piece in 0..len {
+        if left == 0 {
+            break;
+        }
+        let count = left.min(zeros.len() as u64);
+        file.write_all(&zeros[..count as usize])?;
+        left -= count;
+    }
+    file.sync_all()
+}
+
+// A file of this many zeros, whole and stable, under the name of a draft; the log's is locked. What an earlier program left
+// under that name is replaced.
+fn draft<R: Files>(rt: &R, dev: Dev, len: u64, zeros: &[u8]) -> io::Result<Device<R::File>>
+where
+    R::File: LockFile,
+{
+    let _ = rt.remove_file(draft_path(dev));
+    let mut file = OpenOptions::new()
+        .read(true)
+        .write(true)
+        .create_new(true)
+        .open(rt, draft_path(dev))?;
+    claim(dev, &file)?;
+    fill(&mut file, len, zeros)?;
+    Ok(Device::File(file, len))
+}
+
+// What was found for the device, or the draft of its file where it is missing.
+fn found_or_draft<R: Files>(
+    rt: &R,
+    dev: Dev,
+    found: Device<R::File>,
+    zeros: &[u8],
+) -> io::Result<Device<R::File>>
+where
+    R::File: LockFile,
+{
+    match found {
+        Device::Blank(len) => draft(rt, dev, len, zeros),
+        there => Ok(there),
+    }
+}
+
+// Gives the drafts of these devices their names, and notes each that has it.
+fn name_drafts<R: Files>(rt: &R, missing: &Which, named: &mut Which) -> io::Result<()> {
+    for dev in DEVS {
+        if missing.has(dev) {
+            rt.rename(draft_path(dev), path(dev))?;
+            named.add(dev);
+        }
+    }
+    Ok(())
+}
+
+// Makes the folder's names stable, also those of an earlier program. A file system that has no sync of folders is taken to
+// keep them.
+fn sync_folder<F: OpenFile>(folder: &F) -> io::Result<()> {
+    match folder.sync_all() {
+        Ok(()) => Ok(()),
+        Err(error) => match error.kind() {
+            ErrorKind::InvalidInput | ErrorKind::Unsupported => Ok(()),
+            _ => Err(error),
+        },
+    }
+}
+
+// Makes the files that are missing, and notes each that has its name.
+fn make_missing<R: Files>(
+    rt: &R,
+    folder: &R::File,
+    found: Devices<R::File>,
+    zeros: &[u8],
+    named: &mut Which,
+) -> io::Result<Devices<R::File>>
+where
+    R::File: LockFile,
+{
+    let missing = Which::missing(&found);
+    let devices = Devices {
+        log: found_or_draft(rt, Dev::Log, found.log, zeros)?,
+        flash: found_or_draft(rt, Dev::Flash, found.flash, zeros)?,
+        disk: found_or_draft(rt, Dev::Disk, found.disk, zeros)?,
+    };
+    name_drafts(rt, &missing, named)?;
+    sync_folder(folder)?;
+    Ok(devices)
+}
+
+// Removes what was made of these devices: the files that have their names, and the drafts of the others.
+fn remove_made<R: Files>(rt: &R, missing: &Which, named: &Which) {
+    for dev in DEVS {
+        if named.has(dev) {
+            let _ = rt.remove_file(path(dev));
+        } else if missing.has(dev) {
+            let _ = rt.remove_file(draft_path(dev));
+        }
+    }
+}
+
+// Makes the files that are missing and the folder's names stable. Where that fails nothing is there, and nothing is made.
+fn make<R: Files>(
+    rt: &R,
+    folder: &R::File,
+    found: Devices<R::File>,
+    zeros: &[u8],
+) -> Devices<R::File>
+where
+    R::File: LockFile,
+{
+    let missing = Which::missing(&found);
+    let mut named = Which::none();
+    match make_missing(rt, folder, found, zeros, &mut named) {
+        Ok(devices) => devices,
+        Err(_) => {
+            remove_made(rt, &missing, &named);
+            Devices::closed()
+        }
+    }
+}
+
+/// The devices of a new database of these lengths. The files that are missing are made where all that are there have their
+/// length and are blank; else a missing file reads as a blank one, and nothing is made. No device is there where another
+/// program makes files in the folder, or one of them can't be made, or the folder's names can't be made stable.
+pub fn fresh<R: Files>(rt: &R, lengths: &Lengths, zeros: &[u8]) -> Devices<R::File>
+where
+    R::File: FileExt + LockFile,
+{
+    let folder = hold_folder(rt);
+    let found = look_for_all(rt, lengths);
+    if !are_fit(&found, lengths) {
+        return found;
+    }
+    match folder {
+        Some(folder) => make(rt, &folder, found, zeros),
+        None => Devices::closed(),
+    }
+}
