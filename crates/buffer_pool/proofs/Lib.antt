@@ -1,2 +1,4 @@
-pub mod Order
+pub mod Cached
 pub mod Found
+pub mod Order
+pub mod Walks

@@ -1,6 +1,6 @@
 -- The pool: a list of frames, the one that was touched last in front.
-use Rattle.std.specs.Prelude.{◌≡◌, ◌≢◌, ℕ, ◌≤◌, ◌==◌, not, Bool, true, false, List, [], ◌∷◌, length, map, filter, find, drop, slice_get, slice_index_or, slice_set, Option, Some, None, if◌then◌else◌}
-use Rattle.std.specs.List.{AllByRecursion, position_or_len}
+use Rattle.std.specs.Prelude.{◌≡◌, ◌≢◌, ℕ, ◌≤◌, ◌==◌, not, Bool, true, false, List, [], ◌∷◌, length, map, filter, find, take, drop, reverse, slice_index_or, slice_set, Option, Some, None, if◌then◌else◌}
+use Rattle.std.specs.List.{AllByRecursion}
 use Rattle.slotted_page.specs.Layout.{IsSound, lsn_of, slots_of}
 use Rattle.buffer_pool.specs.declared.frame.Frame.{Frame}
 
@@ -21,11 +21,6 @@ pub record IsPool (pool : State) : Type 0 where
 -- the frame of a page, where it has one
 abbrev pub frame_of : List Frame → ℕ → Option Frame
 frame_of frames page = find (λ frame. frame.page == page) frames
-
--- where the frame of a page stands, or the length where it has none
-pub record IsPlace (frames : List Frame) (page place : ℕ) : Type 0 where
-  pub first : place ≡ position_or_len (λ frame. frame.page == page) frames
-  pub found : slice_get frames place ≡ frame_of frames page
 
 -- the frames of all other pages
 abbrev pub without : List Frame → ℕ → List Frame
@@ -48,6 +43,10 @@ cleared_at page frame = if frame.page == page then clear frame else frame
 
 abbrev pub cleared : List Frame → ℕ → List Frame
 cleared frames page = map (cleared_at page) frames
+
+-- the frames that were changed, the coldest in front, so many at most
+abbrev pub coldest_changed : ℕ → List Frame → List Frame
+coldest_changed most frames = take most (filter (λ frame. frame.changed) (reverse frames))
 
 -- what a listing tells of a frame
 abbrev pub mark_of : Frame → ℕ × Bool

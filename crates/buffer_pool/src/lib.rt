@@ -2,8 +2,8 @@
 #![tactic(auto)]
 
 mod frame;
+mod kept;
 mod laws;
-mod places;
 mod pool;
 #[cfg(test)]
 mod tests;

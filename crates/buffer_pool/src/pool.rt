@@ -1,30 +1,44 @@
-ghost use Rattle.std.specs.Prelude.{◌≡◌, ◌<◌, ◌≤◌, ◌==◌, ◌↔◌, ◌∷◌, ◌++◌, [], ℕ, List, length, map, IsTrue, true, false, Some, None, IsSome, IsNone, is_some, IfOk, IfErr, IfSome, IfNone, OnOk, OnErr, OnSome, slice_get, option_map, option_copied};
+ghost use Rattle.std.specs.Prelude.{◌≡◌, ◌<◌, ◌≤◌, ◌==◌, ◌↔◌, ◌∷◌, ◌++◌, [], ℕ, List, length, map, IsTrue, true, false, Some, None, IsSome, IsNone, is_some, if◌then◌else◌, IfOk, IfErr, IfSome, IfNone, OnOk, OnErr, OnSome, slice_get, option_map, option_copied};
 ghost use Rattle.slotted_page.specs.Layout.{slots_of, content_length, IsSound, Fits};
-ghost use Rattle.buffer_pool.specs.Frames.{IsPool, frame_of, without, touched, cleared, mark_of, front_of, ChangesFront};
+ghost use Rattle.buffer_pool.specs.Frames.{IsPool, frame_of, without, touched, cleared, mark_of, front_of, coldest_changed, ChangesFront};
 
-use crate::frame::Frame;
-use crate::places::{bring_forward, place_of};
+use crate::kept::Kept;
 use byte_fields::VALUE_MAX;
+use lru::LruCache;
 use site::Stop;
 use slotted_page::Page;
 use std::alloc::Global;
 use std::marker::Model;
+use std::num::NonZeroUsize;
 
 /// The pages in memory, the one that was touched last in front, each of them once and at most as many as the pool's size.
 #[derive(Drop)]
 pub struct Pool {
     size: u32,
-    frames: Vec<Frame>,
+    pages: LruCache<u32, Kept>,
 }
 
 impl Model for Pool {
+    ghost use Rattle.std.specs.Prelude.{◌≡◌};
     ghost use Rattle.buffer_pool.specs.Frames.{State, IsPool};
+    ghost use Rattle.buffer_pool.specs.Entries.{frames_in};
 
     ghost Value = { State };
 
-    ghost view = { λ p. record { size = p.size; frames = p.frames.items } };
+    ghost view = { λ p. record { size = p.size; frames = frames_in p.pages.entries } };
 
-    ghost invariant = { λ p. IsPool (record { size = p.size; frames = p.frames.items }) };
+    ghost invariant = { λ p. (p.pages.cap ≡ p.size) × IsPool (record { size = p.size; frames = frames_in p.pages.entries }) };
+}
+
+// Adds a page to others where it is wanted.
+fn add_if(pages: &mut Vec<u32>, page: u32, wanted: bool) -> Result<(), Stop>
+    ensures ok { OnOk result (pages.new.items ≡ pages.old.items ++ (if wanted then page ∷ [] else [])) }
+    ensures memory { IfErr result (λ stop. stop ≡ Stop.Memory) }
+{
+    if wanted {
+        pages.push(page)?;
+    }
+    Ok(())
 }
 
 impl Pool {
@@ -35,9 +49,12 @@ impl Pool {
         ensures empty { IfOk result (λ pool. pool ≡ record { size = size; frames = [] }) }
         ensures memory { IfErr result (λ stop. stop ≡ Stop.Memory) }
     {
+        let Some(most) = NonZeroUsize::new(size as usize) else {
+            unreachable!();
+        };
         Ok(Pool {
             size,
-            frames: Vec::with_capacity(alloc, size as usize)?,
+            pages: LruCache::sparse(alloc, most)?,
         })
     }
 
@@ -46,14 +63,14 @@ impl Pool {
         ensures len { result ≡ length self.now.frames }
         ensures pool { IsPool self.now }
     {
-        self.frames.len()
+        self.pages.len()
     }
 
     /// Whether there are no pages in memory.
     pub fn is_empty(&self) -> bool
         ensures { IsTrue result ↔ (self.now.frames ≡ []) }
     {
-        self.frames.is_empty()
+        self.pages.is_empty()
     }
 
     /// Whether the pool has as many pages as it may have.
@@ -61,7 +78,7 @@ impl Pool {
         ensures full { IsTrue result ↔ (length self.now.frames ≡ self.now.size) }
         ensures room { result ≡ false → length self.now.frames < self.now.size }
     {
-        self.frames.len() == self.size as usize
+        self.pages.len() == self.size as usize
     }
 
     /// Brings a page to the front. It says false exactly where the page isn't there, and then nothing changed.
@@ -74,12 +91,7 @@ impl Pool {
         ensures absent { result ≡ false → frame_of self.old.frames page ≡ None }
         ensures same { result ≡ false → self.new ≡ self.old }
     {
-        let place = place_of(&self.frames, page);
-        if place == self.frames.len() {
-            return false;
-        }
-        bring_forward(&mut self.frames, place);
-        true
+        self.pages.promote(&page)
     }
 
     /// Puts a page that isn't there in front, unchanged. The pool isn't full. Where memory is wanting it stays as it was.
@@ -90,12 +102,11 @@ impl Pool {
         ensures memory { IfErr result (λ stop. stop ≡ Stop.Memory) }
         ensures err { OnErr result (self.new ≡ self.old) }
     {
-        let frame = Frame {
-            page,
+        let kept = Kept {
             changed: false,
-            content,
+            content: Box::new(*self.pages.allocator(), content)?,
         };
-        self.frames.insert(0, frame)?;
+        self.pages.put(page, kept)?;
         Ok(())
     }
 
@@ -105,8 +116,8 @@ impl Pool {
         ensures there { OnSome result (0 < length self.now.frames) }
         ensures none { IfNone result (self.now.frames ≡ []) }
     {
-        let frame = self.frames.first()?;
-        Some(&frame.content)
+        let (_, kept) = self.pages.peek_mru()?;
+        Some(&*kept.content)
     }
 
     /// Changes the page in front: a slot, below 32, gets another content, and the page another LSN. The page is sound, and the
@@ -120,9 +131,15 @@ impl Pool {
         ensures front { ChangesFront self.old.frames self.new.frames slot (option_copied value.entry) lsn }
         ensures size { self.new.size ≡ self.old.size }
     {
-        let frame = &mut self.frames[0];
-        frame.content.set(slot, value, lsn);
-        frame.changed = true;
+        let Some((page, _)) = self.pages.peek_mru() else {
+            unreachable!();
+        };
+        let page = *page;
+        let Some(kept) = self.pages.peek_mut(&page) else {
+            unreachable!();
+        };
+        kept.content.set(slot, value, lsn);
+        kept.changed = true;
     }
 
     /// Takes out the page that was touched longest ago: its number, whether it was changed, and what it holds.
@@ -132,8 +149,8 @@ impl Pool {
         ensures same { IfNone result (self.new ≡ self.old) }
         ensures size { self.new.size ≡ self.old.size }
     {
-        let frame = self.frames.pop()?;
-        Some((frame.page, frame.changed, frame.content))
+        let (page, kept) = self.pages.pop_lru()?;
+        Some((page, kept.changed, Box::into_inner(kept.content)))
     }
 
     /// Takes out a page: whether it was changed, and what it holds; none exactly where it isn't there. The others stay in their
@@ -144,12 +161,8 @@ impl Pool {
         ensures same { IfNone result (self.new ≡ self.old) }
         ensures after { self.new ≡ record self.old { frames = without self.old.frames page } }
     {
-        let place = place_of(&self.frames, page);
-        if place == self.frames.len() {
-            return None;
-        }
-        let frame = self.frames.remove(place);
-        Some((frame.changed, frame.content))
+        let kept = self.pages.pop(&page)?;
+        Some((kept.changed, Box::into_inner(kept.content)))
     }
 
     /// A page that is there is no longer marked as changed. The order stays.
@@ -158,9 +171,10 @@ impl Pool {
         ensures after { self.new ≡ record self.old { frames = cleared self.old.frames page } }
         ensures pool { IsPool self.new }
     {
-        let place = place_of(&self.frames, page);
-        let frame = &mut self.frames[place];
-        frame.changed = false;
+        let Some(kept) = self.pages.peek_mut(&page) else {
+            unreachable!();
+        };
+        kept.changed = false;
     }
 
     /// What a page holds; none exactly where it isn't there. The order stays.
@@ -169,8 +183,8 @@ impl Pool {
         ensures some { OnSome result (IsSome (frame_of self.now.frames page)) }
         ensures none { IfNone result (frame_of self.now.frames page ≡ None) }
     {
-        let frame = self.frames.get(place_of(&self.frames, page))?;
-        Some(&frame.content)
+        let kept = self.pages.peek(&page)?;
+        Some(&*kept.content)
     }
 
     /// The number of the page at a place, counted from 0 at the front, and whether it was changed.
@@ -178,7 +192,38 @@ impl Pool {
         requires { place < length self.now.frames }
         ensures { option_map mark_of (slice_get self.now.frames place) ≡ Some (result.0, result.1) }
     {
-        let frame = &self.frames[place];
-        (frame.page, frame.changed)
+        match self.pages.iter().nth(place) {
+            Some((page, kept)) => (*page, kept.changed),
+            None => unreachable!(),
+        }
+    }
+
+    /// The number of each page, the front first, and whether it was changed.
+    pub fn marks(&self, alloc: Global) -> Result<Vec<(u32, bool)>, Stop>
+        ensures marks { IfOk result (λ marks. marks.items ≡ map mark_of self.now.frames) }
+        ensures memory { IfErr result (λ stop. stop ≡ Stop.Memory) }
+    {
+        let mut marks = Vec::new(alloc);
+        let mut colder = self.pages.iter();
+        while let Some((page, kept)) = colder.next() {
+            marks.push((*page, kept.changed))?;
+        }
+        Ok(marks)
+    }
+
+    /// The pages that were changed, the one that was touched longest ago in front, so many at most.
+    pub fn coldest_changed(&self, alloc: Global, most: usize) -> Result<Vec<u32>, Stop>
+        ensures pages { IfOk result (λ pages. pages.items ≡ map (λ frame. frame.page) (coldest_changed most self.now.frames)) }
+        ensures memory { IfErr result (λ stop. stop ≡ Stop.Memory) }
+    {
+        let mut pages = Vec::new(alloc);
+        let mut warmer = self.pages.iter();
+        while let Some((page, kept)) = warmer.next_back() {
+            if pages.len() == most {
+                return Ok(pages);
+            }
+            add_if(&mut pages, *page, kept.changed)?;
+        }
+        Ok(pages)
     }
 }

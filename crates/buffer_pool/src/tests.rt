@@ -40,6 +40,20 @@ fn is_listed(pool: &Pool, marks: &[(u32, bool)]) -> bool {
     true
 }
 
+// Whether the pages are these, as many as there are, the greatest number in front, and none of them was changed.
+fn is_count(pool: &Pool, count: u32) -> bool {
+    if pool.len() != count as usize {
+        return false;
+    }
+    for place in 0..pool.len() {
+        let (page, changed) = pool.mark(place);
+        if changed || page.wrapping_add(place as u32).wrapping_add(1) != count {
+            return false;
+        }
+    }
+    true
+}
+
 // Clears the mark of a page that is there.
 fn clear_changed(pool: &mut Pool, page: u32) {
     if let Some(_) = pool.page(page) {
@@ -109,4 +123,48 @@ fn change(pool: &mut Pool) -> bool {
     }
     pool.change_front(5, Some(&[0x0a, 0x0b]), 3);
     true
+}
+
+// The marks from the front on, and the changed pages from the cold end on, so many at most.
+#[test]
+fn changed_pages_are_listed_from_the_cold_end(rt: HostRuntime) -> Result<(), Fail> {
+    let mut pool = Pool::new(rt.alloc(), 4)?;
+    for page in 0..4 {
+        assert!(rt; put(&mut pool, page, 0)?);
+        if page != 1 {
+            assert!(rt; change(&mut pool));
+        }
+    }
+    assert_eq!(rt;
+        pool.marks(rt.alloc())?.as_slice(),
+        [(3u32, true), (2, true), (1, false), (0, true)].as_slice()
+    );
+    assert_eq!(rt;
+        pool.coldest_changed(rt.alloc(), 2)?.as_slice(),
+        [0u32, 2].as_slice()
+    );
+    assert_eq!(rt;
+        pool.coldest_changed(rt.alloc(), 8)?.as_slice(),
+        [0u32, 2, 3].as_slice()
+    );
+    Ok(())
+}
+
+// Where memory is refused to a put the pool stays as it was, and the next put is made. `checks/refused_memory.sh` refuses each
+// allocation in turn, and counts on the line that tells of it.
+#[test]
+fn a_refused_put_leaves_the_pool_as_it_was(rt: HostRuntime) -> Result<(), Fail> {
+    let Ok(mut pool) = Pool::new(rt.alloc(), 12) else {
+        println!(rt; "memory was refused")?;
+        return Ok(());
+    };
+    for page in 0..12 {
+        if put(&mut pool, page, 0).is_err() {
+            println!(rt; "memory was refused")?;
+            assert!(rt; is_count(&pool, page));
+            assert!(rt; put(&mut pool, page, 0)?);
+        }
+        assert!(rt; is_count(&pool, page + 1));
+    }
+    Ok(())
 }

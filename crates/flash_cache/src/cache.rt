@@ -6,6 +6,7 @@ ghost use Rattle.site.specs.declared.outside.Stop.{Stop};
 ghost use Rattle.site.specs.Geometry.{HasLimits, HasLengths};
 ghost use Rattle.site.specs.State.{reads_of, IsSettled, IsQuiet};
 ghost use Rattle.site.specs.Calls.{Goes, SameReads, FaultRose, IsUnchanged};
+ghost use Rattle.site.specs.Faults.{WorkFaults};
 ghost use Rattle.site.specs.Moments.{LeavesOnly, ChangesOnly, Untouched};
 ghost use Rattle.sealed_ring.specs.Ring.{IsRing, IsLive};
 ghost use Rattle.sealed_ring.specs.Ready.{IsUsable, Fits as RingFits, LeavesOldOrNew};
@@ -89,6 +90,7 @@ fn read_group<S: Site>(
     ensures same { IsTrue (S.state site.old).honest
         → IsUnchanged (S.state site.old) (S.state site.new) }
     ensures goes { Goes (S.state site.old) (S.state site.new) }
+    ensures faults { WorkFaults result (S.state site.old) (S.state site.new) }
     ensures reads { (S.state site.new).flash_reads ≤ (S.state site.old).flash_reads + 1 }
     ensures others { (d : Dev) → d ≢ Dev.Flash
         → reads_of d (S.state site.new) ≡ reads_of d (S.state site.old) }
@@ -133,6 +135,7 @@ fn read_all<S: Site>(
     ensures same { IsTrue (S.state site.old).honest
         → IsUnchanged (S.state site.old) (S.state site.new) }
     ensures goes { Goes (S.state site.old) (S.state site.new) }
+    ensures faults { WorkFaults result (S.state site.old) (S.state site.new) }
     ensures reads { (S.state site.new).flash_reads ≤ (S.state site.old).flash_reads + (geometry.now.groups - 1) }
     ensures others { (d : Dev) → d ≢ Dev.Flash
         → reads_of d (S.state site.new) ≡ reads_of d (S.state site.old) }
@@ -182,6 +185,7 @@ impl FlashCache {
         ensures same { IsTrue (S.state site.old).honest
             → IsUnchanged (S.state site.old) (S.state site.new) }
         ensures goes { Goes (S.state site.old) (S.state site.new) }
+        ensures faults { WorkFaults result (S.state site.old) (S.state site.new) }
         ensures reads { (S.state site.new).flash_reads
             ≤ (S.state site.old).flash_reads + 2 * geometry.now.groups }
         ensures others { (d : Dev) → d ≢ Dev.Flash
@@ -246,6 +250,7 @@ impl FlashCache {
         ensures same { IsTrue (S.state site.old).honest
             → IsUnchanged (S.state site.old) (S.state site.new) }
         ensures goes { Goes (S.state site.old) (S.state site.new) }
+        ensures faults { WorkFaults result (S.state site.old) (S.state site.new) }
         ensures reads { (S.state site.new).flash_reads ≤ (S.state site.old).flash_reads + 1 }
         ensures others { (d : Dev) → d ≢ Dev.Flash
             → reads_of d (S.state site.new) ≡ reads_of d (S.state site.old) }
@@ -368,6 +373,7 @@ impl FlashCache {
         ensures err { OnErr result (self.new.ended ≡ true) }
         ensures kept { OnErr result (self.new.directory ≡ self.old.directory) }
         ensures goes { Goes (S.state site.old) (S.state site.new) }
+        ensures faults { WorkFaults result (S.state site.old) (S.state site.new) }
         ensures reads { (S.state site.new).flash_reads ≤ (S.state site.old).flash_reads + 8 }
         ensures others { (d : Dev) → d ≢ Dev.Flash
             → reads_of d (S.state site.new) ≡ reads_of d (S.state site.old) }
@@ -441,6 +447,7 @@ impl FlashCache {
         ensures geometry { self.new.geometry ≡ self.old.geometry }
         ensures ended { self.new.ended ≡ self.old.ended }
         ensures goes { Goes (S.state site.old) (S.state site.new) }
+        ensures faults { WorkFaults result (S.state site.old) (S.state site.new) }
         ensures reads { (S.state site.new).flash_reads ≤ (S.state site.old).flash_reads + 8 }
         ensures others { (d : Dev) → d ≢ Dev.Flash
             → reads_of d (S.state site.new) ≡ reads_of d (S.state site.old) }
@@ -511,6 +518,7 @@ impl FlashCache {
         ensures geometry { self.new.geometry ≡ self.old.geometry }
         ensures ended { self.new.ended ≡ self.old.ended }
         ensures goes { Goes (S.state site.old) (S.state site.new) }
+        ensures faults { WorkFaults result (S.state site.old) (S.state site.new) }
         ensures reads { SameReads (S.state site.old) (S.state site.new) }
 
         // When each answer comes.
@@ -562,6 +570,7 @@ impl FlashCache {
         ensures geometry { self.new.geometry ≡ self.old.geometry }
         ensures ended { self.new.ended ≡ self.old.ended }
         ensures goes { Goes (S.state site.old) (S.state site.new) }
+        ensures faults { WorkFaults result (S.state site.old) (S.state site.new) }
         ensures reads { SameReads (S.state site.old) (S.state site.new) }
 
         // When each answer comes.

@@ -5,6 +5,7 @@ ghost use Rattle.site.specs.declared.outside.Dev.{Dev};
 ghost use Rattle.site.specs.declared.outside.Stop.{Stop};
 ghost use Rattle.site.specs.State.{reads_of};
 ghost use Rattle.site.specs.Calls.{Goes, FaultRose, IsUnchanged};
+ghost use Rattle.site.specs.Faults.{WorkFaults};
 ghost use Rattle.sealed_ring.specs.Ring.{IsLive, unit_at};
 ghost use Rattle.sealed_ring.specs.Ready.{units_in, IsUsable, Fits as RingFits};
 ghost use Rattle.second_chance.specs.Queue.{front_marks};
@@ -67,6 +68,7 @@ pub fn contents_at<S: Site>(
     ensures same { IsTrue (S.state site.old).honest
         → IsUnchanged (S.state site.old) (S.state site.new) }
     ensures goes { Goes (S.state site.old) (S.state site.new) }
+    ensures faults { WorkFaults result (S.state site.old) (S.state site.new) }
     ensures reads { (S.state site.new).flash_reads
         ≤ (S.state site.old).flash_reads + length places.now }
     ensures others { (d : Dev) → d ≢ Dev.Flash
@@ -102,6 +104,7 @@ fn read_frame<S: Site>(site: &mut S, ring: &Ring, group: u64, place: u32) -> Res
     ensures same { IsTrue (S.state site.old).honest
         → IsUnchanged (S.state site.old) (S.state site.new) }
     ensures goes { Goes (S.state site.old) (S.state site.new) }
+    ensures faults { WorkFaults result (S.state site.old) (S.state site.new) }
     ensures reads { (S.state site.new).flash_reads ≤ (S.state site.old).flash_reads + 1 }
     ensures others { (d : Dev) → d ≢ Dev.Flash
         → reads_of d (S.state site.new) ≡ reads_of d (S.state site.old) }

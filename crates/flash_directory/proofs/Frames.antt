@@ -1,12 +1,11 @@
 -- The frames of one group.
-use Rattle.std.proofs.Common.{◌≡◌, ◌≢◌, ℕ, zero, suc, ◌+◌, ◌<◌, ◌≤◌, ◌==◌, Bool, true, false, cond, List, [], ◌∷◌, ◌++◌, length, get_or, set, take, drop, map, Option, Some, None, append-nil, append_assoc, add-one, zero-add, arith, refl, sym, ap, ◌∙◌}
+use Rattle.std.proofs.Common.{◌≡◌, ℕ, zero, suc, ◌+◌, ◌<◌, ◌≤◌, ◌==◌, Bool, true, false, cond, List, [], ◌∷◌, ◌++◌, length, get_or, set, take, drop, map, Option, Some, None, append-nil, append_assoc, add-one, arith, refl, sym, ap, ◌∙◌}
 use Rattle.std.specs.Prelude.{take_while}
 use Rattle.std.specs.List.{refill}
 use Rattle.std.specs.Option.{option_or}
 use Rattle.std.proofs.Math.Seq.{drop-cons}
 use Rattle.std.proofs.Math.ListN.{length-set}
 use Rattle.std.proofs.lemmas.List.{take_all}
-use Rattle.std.proofs.lemmas.Bool.{cond-true, cond-false, eq-eqb, ne_eqb}
 use Rattle.std.proofs.lemmas.List.Sums.{take_while-cons}
 use Rattle.byte_fields.specs.declared.frame_head.FrameHead.{FrameHead}
 use Rattle.second_chance.specs.declared.frame.Frame.{Frame}
@@ -81,14 +80,3 @@ refill-read_at shown held frames i d shown_is held_is less = rw (shown_is, held_
         ≡ set frames i (record { page = (get_or frames i d).page; dirty = (get_or frames i d).dirty; referenced = true })
     filled = ap (take (length frames)) (ap (λ l. set frames i (record { page = (get_or frames i d).page; dirty = (get_or frames i d).dirty; referenced = true }) ++ l)
         (drop_all _ frames (omega (arith, long))) ∙ append-nil _) ∙ take_all (length frames) _ (omega (arith, long))
-
-pub last_then : (frames : List Frame) (i : ℕ) (d : Frame) (page : ℕ) → i < length frames → (get_or frames i d).page ≡ page
-    → last_in 0 (take (i + 1) frames) page ≡ Some i
-last_then frames i d page less is =
-    ap (λ k. last_in 0 (take k frames) page) (add-one i) ∙ last_more 0 frames i d page less
-    ∙ cond-true _ (Some (0 + i)) _ (eq-eqb _ _ is) ∙ ap Some (zero-add i)
-
-pub last_else : (frames : List Frame) (i : ℕ) (d : Frame) (page : ℕ) → i < length frames → (get_or frames i d).page ≢ page
-    → last_in 0 (take (i + 1) frames) page ≡ last_in 0 (take i frames) page
-last_else frames i d page less other =
-    ap (λ k. last_in 0 (take k frames) page) (add-one i) ∙ last_more 0 frames i d page less ∙ cond-false _ (Some (0 + i)) _ (ne_eqb _ _ other)

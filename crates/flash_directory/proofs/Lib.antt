@@ -4,3 +4,4 @@ pub mod Reading
 pub mod Marked
 pub mod Opened
 pub mod Newests
+pub mod Keeping

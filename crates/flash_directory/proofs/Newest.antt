@@ -2,7 +2,6 @@
 use Rattle.std.proofs.Common.{◌≡◌, ℕ, zero, suc, ◌+◌, ◌<◌, ◌≤◌, ◌==◌, ◌||◌, Bool, true, false, cond, List, [], ◌∷◌, length, get_or, drop, Option, Some, None, option_map, is_some, add-one, arith, refl, sym, ap, subst, ◌∙◌}
 use Rattle.std.specs.Option.{option_or}
 use Rattle.std.specs.List.{AllByRecursion}
-use Rattle.std.proofs.Math.Seq.{drop-cons}
 use Rattle.std.proofs.lemmas.Option.{none-some, same_Some}
 use Rattle.second_chance.specs.declared.frame.Frame.{Frame}
 use Rattle.second_chance.specs.Queue.{in_group, in_groups}
@@ -65,13 +64,6 @@ none_or None p is = refl
 none_or (Some x) p is = absurd (none-some x (sym is))
 
 -- no group from here on has the page, if the next ones haven't and this one hasn't
-pub none_here : (groups : List (List Frame)) (k : ℕ) (d : List Frame) (page : ℕ) → k < length groups
-    → last_place (drop (k + 1) groups) page ≡ None → last_in 0 (get_or groups k d) page ≡ None → last_place (drop k groups) page ≡ None
-none_here groups k d page less later here =
-    ap (λ l. last_place l page) (drop-cons groups k d less ∙ ap (λ n. get_or groups k d ∷ drop n groups) (sym (add-one k)))
-    ∙ ap (λ o. option_or (option_map in_next o) (option_map in_first (last_in 0 (get_or groups k d) page))) later
-    ∙ ap (option_map in_first) here
-
 found_at : (groups : List (List Frame)) (k : ℕ) (d : List Frame) (page index : ℕ) → k < length groups
     → last_place (drop (suc k) groups) page ≡ None → last_in 0 (get_or groups k d) page ≡ Some index → last_place groups page ≡ Some (k, index)
 found_at [] k d page index less later here = absurd (omega (arith, less))

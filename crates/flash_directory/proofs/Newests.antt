@@ -9,11 +9,11 @@ use Rattle.flash_directory.specs.Heads.{last_in, last_place, in_first, in_next, 
 use Rattle.flash_directory.proofs.Newest.{some_last_in, some_last_place, last_bound, place_bound, size_at, IsPlaceIn}
 
 -- the frame at a place of a group is of the page, and none behind it is
-record IsLastHere (frames : List Frame) (page j : ℕ) : Type 0 where
-  here : option_map (λ (f : Frame). f.page) (slice_get frames j) ≡ Some page
-  behind : in_group (drop (suc j) frames) page ≡ false
+pub record IsLastHere (frames : List Frame) (page j : ℕ) : Type 0 where
+  pub here : option_map (λ (f : Frame). f.page) (slice_get frames j) ≡ Some page
+  pub behind : in_group (drop (suc j) frames) page ≡ false
 
-last_here : (n : ℕ) (frames : List Frame) (page j : ℕ) → last_in n frames page ≡ Some (n + j) → IsLastHere frames page j
+pub last_here : (n : ℕ) (frames : List Frame) (page j : ℕ) → last_in n frames page ≡ Some (n + j) → IsLastHere frames page j
 last_here n [] page j is = absurd (none-some (n + j) is)
 last_here n (frame ∷ frames) page j is = by (last_in (n + 1) frames page) refl is (λ i here. last_here (n + 1) frames page i here)
   where
@@ -34,7 +34,7 @@ last_here n (frame ∷ frames) page j is = by (last_in (n + 1) frames page) refl
     by None here same rest = let it = first (frame.page == page) same in at_first j it.1 it.0 (sym (some_last_in (n + 1) frames page) ∙ ap is_some here)
     by (Some k) here same rest = at_next j k (same_Some k (n + j) same) ((last_bound (n + 1) frames page k here).0) (λ i' is_k. rest i' (here ∙ ap Some is_k))
 
-later_none : (groups : List (List Frame)) (page k j : ℕ) → last_place groups page ≡ Some (k, j) → in_groups (drop (suc k) groups) page ≡ false
+pub later_none : (groups : List (List Frame)) (page k j : ℕ) → last_place groups page ≡ Some (k, j) → in_groups (drop (suc k) groups) page ≡ false
 later_none [] page k j is = absurd (none-some (k, j) is)
 later_none (group ∷ later) page k j is = by (last_place later page) refl (last_in 0 group page) is (λ p here. later_none later page p.0 p.1 here)
   where

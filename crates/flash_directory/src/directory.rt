@@ -1,12 +1,13 @@
-ghost use Rattle.std.specs.Prelude.{◌≡◌, ◌↔◌, ◌+◌, ◌^◌, ◌<◌, ◌≤◌, ◌||◌, not, length, drop, take, map, All, IsTrue, Some, IfOk, IfErr, IfSome, OnOk, OnErr, is_some, slice_get, option_map};
+ghost use Rattle.std.specs.Prelude.{◌≡◌, ◌↔◌, ◌+◌, ◌^◌, ◌<◌, ◌≤◌, ◌==◌, ℕ, nat_eq, length, drop, take, map, All, IsTrue, Some, IfOk, IfErr, IfSome, OnOk, OnErr, is_some, slice_get, if◌then◌else◌};
 ghost use Rattle.byte_fields.specs.FrameHeads.{AreGroupHeads};
-ghost use Rattle.second_chance.specs.Queue.{in_group, in_groups, has_frame, marks, pushed, with_read};
-ghost use Rattle.flash_directory.specs.Heads.{frames_in, last_place, newest, IsNewest, IsQueue};
+ghost use Rattle.second_chance.specs.Queue.{has_frame, marks, pushed, with_read};
+ghost use Rattle.flash_directory.specs.Heads.{frames_in, newest, IsNewest, IsQueue};
 
 use crate::group::Group;
 use crate::place::Place;
+use crate::places::{FRAMES, enter_group, make_way};
 use byte_fields::{FrameHead, Mark};
-use second_chance::Frame;
+use indexmap::IndexMap;
 use site::Stop;
 use std::alloc::Global;
 use std::collections::VecDeque;
@@ -27,17 +28,21 @@ pub struct HeadView<'a> {
 pub struct Directory {
     first: u64,
     groups: VecDeque<Group>,
+    // Where each page's last frame stands.
+    places: IndexMap<u32, Place>,
 }
 
 impl Model for Directory {
     ghost use Rattle.second_chance.specs.Queue.{Queue};
     ghost use Rattle.flash_directory.specs.Heads.{IsQueue};
+    ghost use Rattle.flash_directory.specs.Places.{FindsNewest};
 
     ghost Value = { Queue };
 
     ghost view = { λ d. record { first = d.first; groups = d.groups.items } };
 
-    ghost invariant = { λ d. IsQueue (record { first = d.first; groups = d.groups.items }) };
+    ghost invariant = { λ d. IsQueue (record { first = d.first; groups = d.groups.items })
+        × FindsNewest d.places (record { first = d.first; groups = d.groups.items }) };
 }
 
 impl Directory {
@@ -49,12 +54,17 @@ impl Directory {
         ensures memory { IfErr result (λ stop. stop ≡ Stop.Memory) }
     {
         let mut groups = VecDeque::with_capacity(alloc, heads.list.len())?;
-        for group in heads.list {
-            groups.push_back(Group::of_heads(group))?;
+        let mut places = IndexMap::new(alloc);
+        for (index, group) in heads.list.iter().enumerate() {
+            let group = Group::of_heads(group);
+            places.reserve(FRAMES)?;
+            enter_group(&mut places, &group, heads.first + index as u64);
+            groups.push_back(group)?;
         }
         Ok(Directory {
             first: heads.first,
             groups,
+            places,
         })
     }
 
@@ -87,25 +97,8 @@ impl Directory {
         ensures frame { is_some result ≡ has_frame self.now page }
         ensures last { IfSome result (λ place. IsNewest self.now page place) }
     {
-        let (place, index) = self.find_last(page)?;
-        Some(Place {
-            group: self.first + place as u64,
-            index: index as u8,
-        })
-    }
-
-    /// The place of the group with the last frame of a page, counted from the front, and the frame's place in the group.
-    fn find_last(&self, page: u32) -> Option<(usize, usize)>
-        ensures { result ≡ last_place self.now.groups page }
-    {
-        let mut end = self.groups.len();
-        while end > 0 {
-            end -= 1;
-            if let Some(index) = self.groups[end].last_of(page) {
-                return Some((end, index));
-            }
-        }
-        None
+        let place = self.places.get(&page)?;
+        Some(*place)
     }
 
     /// A group enters the queue behind the others, and the front one leaves where it is said to. Where memory is wanting the
@@ -118,12 +111,16 @@ impl Directory {
         ensures memory { IfErr result (λ stop. stop ≡ Stop.Memory) }
         ensures err { OnErr result (self.new ≡ self.old) }
     {
-        // The group that leaves makes room for the new one, which then takes no memory.
-        if drop_front {
-            self.groups.pop_front();
-            self.first += 1;
-        }
-        self.groups.push_back(Group::of_heads(heads))?;
+        // What wants memory comes first.
+        self.places.reserve(FRAMES)?;
+        make_way(&mut self.groups, &mut self.places, self.first, drop_front)?;
+        self.first = first_then(self.first, drop_front);
+        let group = Group::of_heads(heads);
+        let number = self.first + self.groups.len() as u64;
+        enter_group(&mut self.places, &group, number);
+        let Ok(()) = self.groups.push_back(group) else {
+            unreachable!();
+        };
         Ok(())
     }
 
@@ -132,8 +129,9 @@ impl Directory {
         requires { IsTrue (has_frame self.old page) }
         ensures { self.new ≡ with_read page self.old }
     {
-        if let Some((place, index)) = self.find_last(page) {
-            self.groups[place].set_referenced(index);
+        if let Some(place) = self.newest(page) {
+            let group = (place.group - self.first) as usize;
+            self.groups[group].set_referenced(place.index as usize);
         }
     }
 
@@ -146,10 +144,15 @@ impl Directory {
         ensures few { result ≤ 8 }
     {
         let frames = self.groups[place].as_slice();
+        let group = self.first + place as u64;
         for (index, frame) in frames.iter().enumerate() {
+            let here = Place {
+                group,
+                index: index as u8,
+            };
             into[index] = Mark {
                 page: frame.page,
-                valid: self.is_last(place, &frames[index + 1..], frame.page),
+                valid: self.is_newest(frame.page, here),
                 dirty: frame.dirty,
                 referenced: frame.referenced,
             };
@@ -157,29 +160,21 @@ impl Directory {
         frames.len()
     }
 
-    /// Whether a frame of this page is its last, where these frames of its group stand behind it.
-    fn is_last(&self, place: usize, behind: &[Frame], page: u32) -> bool
-        requires { place < length self.now.groups }
-        ensures { result ≡ not (in_group behind.now page || in_groups (drop (place + 1) self.now.groups) page) }
+    /// Whether the last frame of a page stands here.
+    fn is_newest(&self, page: u32, here: Place) -> bool
+        ensures { IsTrue result ↔ (newest self.now page ≡ Some here) }
     {
-        !(has_page(behind, page) || self.has_later(place, page))
-    }
-
-    /// Whether a page has a frame in a group behind this one.
-    fn has_later(&self, place: usize, page: u32) -> bool
-        requires { place < length self.now.groups }
-        ensures { result ≡ in_groups (drop (place + 1) self.now.groups) page }
-    {
-        self.groups
-            .iter()
-            .skip(place + 1)
-            .any(|group| has_page(group.as_slice(), page))
+        match self.places.get(&page) {
+            Some(place) => *place == here,
+            None => false,
+        }
     }
 }
 
-/// Whether a page has a frame among these.
-fn has_page(frames: &[Frame], page: u32) -> bool
-    ensures { result ≡ in_group frames.now page }
+/// The number of the first group, once the front one left where it is said to.
+fn first_then(first: u64, drop_front: bool) -> u64
+    requires { first < 2 ^ 63 }
+    ensures { result ≡ (if drop_front then first + 1 else first) }
 {
-    frames.iter().any(|frame| frame.page == page)
+    if drop_front { first + 1 } else { first }
 }

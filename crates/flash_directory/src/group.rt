@@ -1,5 +1,5 @@
 ghost use Rattle.std.specs.Prelude.{◌≡◌, ◌<◌, ◌≤◌, length};
-ghost use Rattle.flash_directory.specs.Heads.{frames_in, last_in, read_at};
+ghost use Rattle.flash_directory.specs.Heads.{frames_in, read_at};
 
 use arrayvec::ArrayVec;
 use byte_fields::FrameHead;
@@ -46,19 +46,6 @@ impl Group {
         ensures few { length result.now ≤ 8 }
     {
         self.frames.as_slice()
-    }
-
-    /// Where the last frame of a page stands, and none where the page has none in the group.
-    pub fn last_of(&self, page: u32) -> Option<usize>
-        ensures { result ≡ last_in 0 self.now page }
-    {
-        let mut last = None;
-        for (index, frame) in self.frames.iter().enumerate() {
-            if frame.page == page {
-                last = Some(index);
-            }
-        }
-        last
     }
 
     /// A frame becomes referenced.

@@ -4,6 +4,7 @@
 mod directory;
 mod group;
 mod place;
+mod places;
 #[cfg(test)]
 mod tests;
 

@@ -4,6 +4,7 @@ ghost use Rattle.byte_fields.specs.FrameHeads.{AreGroupHeads};
 
 use crate::{Directory, HeadView, Place};
 use byte_fields::{FrameHead, Mark, are_group_heads};
+use site::Stop;
 use std::test::Fail;
 
 // The heads of a group with these pages, each dirty or not.
@@ -84,5 +85,71 @@ fn a_page_is_found_in_its_last_frame(rt: HostRuntime) -> Result<(), Fail> {
     assert_eq!(rt; marks[1], mark(1, false, false, false));
     assert_eq!(rt; directory.marks(1, &mut marks), 2);
     assert_eq!(rt; marks[1], mark(4, true, true, false));
+    Ok(())
+}
+
+// The heads of a group of eight pages, the first of which has this number.
+fn eight_from(page: u32) -> [FrameHead; 8] {
+    let mut heads = [FrameHead::BLANK; 8];
+    for place in 0..8 {
+        heads[place] = FrameHead {
+            present: true,
+            dirty: true,
+            page: page.wrapping_add(place as u32),
+            lsn: 512,
+        };
+    }
+    heads
+}
+
+// Puts a group of eight pages behind the others, and takes the front one out where there are five, once it is known that it may.
+fn push_eight(directory: &mut Directory, page: u32) -> Result<bool, Stop> {
+    let heads = eight_from(page);
+    if !are_group_heads(&heads) || directory.first() + directory.len() as u64 > 1 << 40 {
+        return Ok(false);
+    }
+    let drop_front = directory.len() >= 5;
+    directory.push_group(&heads, drop_front)?;
+    Ok(true)
+}
+
+// Whether the groups are those numbered from `first` up to `end`, each with the eight pages from eight times its number on.
+fn has_groups(directory: &Directory, first: u64, end: u64) -> bool {
+    if directory.first() != first || directory.len() as u64 != end.wrapping_sub(first) {
+        return false;
+    }
+    for group in 0..9u64 {
+        let page = group as u32 * 8 + 3;
+        let place = if first <= group && group < end {
+            Some(Place { group, index: 3 })
+        } else {
+            None
+        };
+        if directory.newest(page) != place {
+            return false;
+        }
+    }
+    true
+}
+
+// Where memory is refused to a push the directory stays as it was, and the next push is made. `checks/refused_memory.sh` refuses
+// each allocation in turn, and counts on the line that tells of it.
+#[test]
+fn a_refused_push_leaves_the_directory_as_it_was(rt: HostRuntime) -> Result<(), Fail> {
+    let list: &[[FrameHead; 8]] = &[];
+    assert!(rt; are_groups(list));
+    let Ok(mut directory) = Directory::of_groups(rt.alloc(), &HeadView { first: 0, list }) else {
+        println!(rt; "memory was refused")?;
+        return Ok(());
+    };
+    for group in 0..9u64 {
+        let first = group.saturating_sub(5);
+        if push_eight(&mut directory, group as u32 * 8).is_err() {
+            println!(rt; "memory was refused")?;
+            assert!(rt; has_groups(&directory, first, group));
+            assert!(rt; push_eight(&mut directory, group as u32 * 8)?);
+        }
+        assert!(rt; has_groups(&directory, (group + 1).saturating_sub(5), group + 1));
+    }
     Ok(())
 }

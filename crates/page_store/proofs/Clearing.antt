@@ -1,5 +1,5 @@
 -- Pages are marked as unchanged.
-use Rattle.std.proofs.Common.{◌≡◌, ℕ, zero, suc, ◌<◌, ◌==◌, Bool, true, false, not, ◌&&◌, ◌||◌, cond, List, [], ◌∷◌, ◌++◌, length, get_or, take, map, Option, Some, None, option_map, arith, refl, sym, ap, subst, ◌∙◌}
+use Rattle.std.proofs.Common.{◌≡◌, ℕ, ◌==◌, Bool, true, false, not, ◌&&◌, ◌||◌, cond, List, [], ◌∷◌, ◌++◌, map, Option, Some, None, option_map, refl, sym, ap, subst, ◌∙◌}
 use Rattle.std.specs.Prelude.{IsSome}
 use Rattle.std.specs.List.{AllByRecursion, list_any}
 use Rattle.std.proofs.lemmas.Bool.{eqb-true, eqb-false, eq-eqb, ne_eqb}
@@ -9,29 +9,6 @@ use Rattle.buffer_pool.specs.Laws.{ClearedKeepsFrames}
 use Rattle.second_chance.specs.Machine.{saved, saved_page}
 use Rattle.page_store.specs.Caching.{pool_page}
 use Rattle.page_store.specs.Flushing.{cleared_all}
-
--- whether some page is changed, so far
-
-pub any_at : (frames : List Frame) (k : ℕ) (d : Frame) → k < length frames → (get_or frames k d).changed ≡ true → list_any (λ p. p.changed) (map pool_page frames) ≡ true
-any_at [] k d less is = absurd (omega (arith, less))
-any_at (f ∷ fs) zero d less is = ap (λ b. b || list_any (λ p. p.changed) (map pool_page fs)) is
-any_at (f ∷ fs) (suc k) d less is = ap (λ b. f.changed || b) (any_at fs k d (omega (arith, less)) is) ∙ or_true f.changed
-  where
-    or_true : (b : Bool) → (b || true) ≡ true
-    or_true true = refl
-    or_true false = refl
-
-pub none_more : (frames : List Frame) (k : ℕ) (d : Frame) → k < length frames → list_any (λ p. p.changed) (map pool_page (take k frames)) ≡ false → (get_or frames k d).changed ≡ false
-    → list_any (λ p. p.changed) (map pool_page (take (suc k) frames)) ≡ false
-none_more [] k d less none is = absurd (omega (arith, less))
-none_more (f ∷ fs) zero d less none is = ap (λ b. b || false) is
-none_more (f ∷ fs) (suc k) d less none is = by f.changed none (none_more fs k d (omega (arith, less)))
-  where
-    by : (b : Bool) → (b || list_any (λ p. p.changed) (map pool_page (take k fs))) ≡ false
-        → (list_any (λ p. p.changed) (map pool_page (take k fs)) ≡ false → (get_or fs k d).changed ≡ false → list_any (λ p. p.changed) (map pool_page (take (suc k) fs)) ≡ false)
-        → (b || list_any (λ p. p.changed) (map pool_page (take (suc k) fs))) ≡ false
-    by true none rest = absurd cc
-    by false none rest = rest none is
 
 -- one page more is cleared
 pub cleared_push : (pages : List ℕ) (page : ℕ) (frames : List Frame) → cleared_all (pages ++ page ∷ []) frames ≡ cleared (cleared_all pages frames) page
@@ -101,7 +78,7 @@ pub by_content : (pages : List ℕ) (frame : Frame) → (cleared_by pages frame)
 by_content [] frame = refl
 by_content (page ∷ pages) frame = by_content pages (cleared_at page frame) ∙ at_content page frame
 
-by_page : (pages : List ℕ) (frame : Frame) → (cleared_by pages frame).page ≡ frame.page
+pub by_page : (pages : List ℕ) (frame : Frame) → (cleared_by pages frame).page ≡ frame.page
 by_page [] frame = refl
 by_page (page ∷ pages) frame = by_page pages (cleared_at page frame) ∙ at_page page frame
 

@@ -18,3 +18,4 @@ pub mod Unsealed
 pub mod Rings
 pub mod Changing
 pub mod Lines
+pub mod Left

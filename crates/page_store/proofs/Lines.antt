@@ -1,8 +1,8 @@
 -- The lines of a listing, one by one.
-use Rattle.std.proofs.Common.{◌≡◌, ℕ, suc, ◌+◌, List, [], ◌∷◌, ◌++◌, Bool, length, take, map, Option, Some, None, option_map, arith, refl, sym, ap, ◌∙◌, append_assoc, append-nil}
+use Rattle.std.proofs.Common.{◌≡◌, ℕ, suc, ◌+◌, List, [], ◌∷◌, ◌++◌, Bool, length, take, map, Some, arith, refl, sym, ap, ◌∙◌, append_assoc, append-nil}
 use Rattle.std.specs.Prelude.{slice_get}
-use Rattle.std.proofs.lemmas.Option.{slice_get_within, slice_get-get_or, same_Some, none-some}
-use Rattle.std.proofs.lemmas.List.{length-take-le, map-append}
+use Rattle.std.proofs.lemmas.Option.{slice_get_within, slice_get-get_or, same_Some}
+use Rattle.std.proofs.lemmas.List.{length-take-le}
 use Rattle.std.proofs.Math.Seq.{take-suc}
 use Rattle.byte_fields.specs.declared.frame_head.Mark.{Mark}
 use Rattle.record_model.specs.declared.words.CacheLine.{CacheLine}
@@ -57,19 +57,13 @@ next_group first all k ms old before after at is more =
     ∙ ap (λ n. group_lines first (take k all) ++ group_lines (first + n) (ms ∷ [])) count ∙ ap (λ (l : List CacheLine). group_lines first (take k all) ++ l) (append-nil (frame_lines (first + k) 0 ms)) in
     more ∙ ap (λ (l : List CacheLine). l ++ frame_lines (first + k) 0 ms) is ∙ append_assoc old (group_lines first (take k all)) (frame_lines (first + k) 0 ms) ∙ ap (λ (l : List CacheLine). old ++ l) (sym split)
 
-pub next_page : (frames : List Page) (k p : ℕ) (b : Bool) (old before after : List CacheLine) → option_map mark_of (slice_get frames k) ≡ Some (p, b) → before ≡ old ++ map (λ (f : Page). line.Pool f.page f.changed) (take k frames)
-    → after ≡ before ++ line.Pool p b ∷ [] → after ≡ old ++ map (λ (f : Page). line.Pool f.page f.changed) (take (k + 1) frames)
-next_page frames k p b old before after at is more = by (slice_get frames k) refl at
-  where
-    by : (o : Option Page) → slice_get frames k ≡ o → option_map mark_of o ≡ Some (p, b) → after ≡ old ++ map (λ (f : Page). line.Pool f.page f.changed) (take (k + 1) frames)
-    by None there at = absurd (none-some (p, b) at)
-    by (Some f) there at =
-        let own : line.Pool p b ≡ line.Pool f.page f.changed = ap (λ (m : ℕ × Bool). line.Pool m.0 m.1) (sym (same_Some _ _ at)) in
-        let split : map (λ (f : Page). line.Pool f.page f.changed) (take (k + 1) frames) ≡ map (λ (f : Page). line.Pool f.page f.changed) (take k frames) ++ line.Pool p b ∷ [] =
-        ap (map (λ (f : Page). line.Pool f.page f.changed)) (taken_more frames k f there) ∙ map-append (λ (f : Page). line.Pool f.page f.changed) (take k frames) (f ∷ [])
-        ∙ ap (λ l. map (λ (f : Page). line.Pool f.page f.changed) (take k frames) ++ l ∷ []) (sym own) in
-        more ∙ ap (λ (l : List CacheLine). l ++ line.Pool p b ∷ []) is ∙ append_assoc old (map (λ (f : Page). line.Pool f.page f.changed) (take k frames)) (line.Pool p b ∷ [])
-        ∙ ap (λ (l : List CacheLine). old ++ l) (sym split)
+-- the line of a page in memory
+abbrev pub page_line : ℕ × Bool → CacheLine
+page_line m = line.Pool m.0 m.1
+
+pub page_lines : (frames : List Page) → map page_line (map mark_of frames) ≡ map (λ (f : Page). line.Pool f.page f.changed) frames
+page_lines [] = refl
+page_lines (f ∷ fs) = ap (λ (l : List CacheLine). line.Pool f.page f.changed ∷ l) (page_lines fs)
 
 -- the pool's lines are those of the machine's pages
 pub pool_lines : (frames : List Page) → map (λ (f : Page). line.Pool f.page f.changed) frames ≡ map (λ (p : PoolPage). line.Pool p.page p.changed) (map pool_page frames)

@@ -69,7 +69,7 @@ distinct_append : (xs : List Frame) (y : Frame) → AreDistinct xs → AllByRecu
 distinct_append [] y apart others = (tt, tt)
 distinct_append (x ∷ xs) y apart others = (all_append (λ (other : Frame). x.page ≢ other.page) xs (y ∷ []) apart.0 (others.0, tt), distinct_append xs y apart.1 others.1)
 
-distinct_reverse : (xs : List Frame) → AreDistinct xs → AreDistinct (reverse xs)
+pub distinct_reverse : (xs : List Frame) → AreDistinct xs → AreDistinct (reverse xs)
 distinct_reverse [] apart = tt
 distinct_reverse (x ∷ xs) apart =
     subst AreDistinct (sym (turned x xs)) (distinct_append (reverse xs) x (distinct_reverse xs apart.1)

@@ -5,6 +5,7 @@ ghost use Rattle.site.specs.declared.outside.Dev.{Dev};
 ghost use Rattle.site.specs.declared.outside.Stop.{Stop};
 ghost use Rattle.site.specs.State.{State, reads_of, IsQuiet, snapshot_of};
 ghost use Rattle.site.specs.Calls.{Goes, FaultRose};
+ghost use Rattle.site.specs.Faults.{WorkFaults};
 ghost use Rattle.site.specs.Moments.{LeavesOnly};
 ghost use Rattle.image_changes.specs.Changes.{Reaches};
 ghost use Rattle.image_changes.specs.Reached.{LeavesFront};
@@ -35,7 +36,7 @@ use buffer_pool::frames_of_pages;
 use flash_cache::unframed_is_disk;
 use image_changes::{changes_add_up, fronts_add_up};
 use log_store::LogStore;
-use second_chance::{Places, Plan, PoolMark, flushes_save_all, plan_flush};
+use second_chance::{Plan, PoolMark, flushes_save_all, plan_flush};
 use site::{Site, Stop};
 use slotted_page::Page;
 use std::alloc::Global;
@@ -43,72 +44,29 @@ use std::alloc::Global;
 /// The most frames that a group has.
 const GROUP_SIZE: usize = 8;
 
-// The pages that a plan names.
-fn pages_of(alloc: Global, places: &Places) -> Result<Vec<u32>, Stop>
-    ensures pages { IfOk result (λ pages. pages.items ≡ places.now) }
-    ensures memory { IfErr result (λ stop. stop ≡ Stop.Memory) }
-{
-    let mut pages = Vec::new(alloc);
-    for index in 0..places.len() {
-        pages.push(places.at(index))?;
-    }
-    Ok(pages)
-}
-
 impl PageStore {
-    /// Whether a page in the pool is changed.
-    pub(crate) fn has_changed(&self) -> bool
-        ensures { result ≡ wants_flush (cache_of self.now) }
-    {
-        for place in 0..self.pool.len() {
-            if self.pool.mark(place).1 {
-                return true;
-            }
-        }
-        false
-    }
-
-    // Takes up what a plan knows of the page at a place, where that was changed.
-    fn take_up(&self, place: usize, marks: &mut Vec<PoolMark>) -> Result<(), Stop>
-        requires { place < length self.now.pool.frames }
-        ensures marks { OnOk result ((d : Frame) → marks.new.items ≡ marks.old.items
-            ++ map (mark_for self.now.flash.directory) (if (slice_index_or self.now.pool.frames place d).changed
-            then slice_index_or self.now.pool.frames place d ∷ [] else [])) }
-        ensures memory { IfErr result (λ stop. stop ≡ Stop.Memory) }
-    {
-        let (page, changed) = self.pool.mark(place);
-        if !changed {
-            return Ok(());
-        }
-        let framed = self.flash.holds(page);
-        marks.push(PoolMark {
-            page,
-            changed,
-            framed,
-        })?;
-        Ok(())
-    }
-
-    // What a plan knows of the coldest changed pages, as many as a group has room for.
-    fn coldest_changed(&self) -> Result<Vec<PoolMark>, Stop>
+    // What a plan knows of these pages, which are the coldest changed ones.
+    fn changed_marks(&self, pages: &[u32]) -> Result<Vec<PoolMark>, Stop>
+        requires { pages.now ≡ map (λ f. f.page) (chosen self.now.pool.frames) }
         ensures marks { IfOk result (λ marks. marks.items
             ≡ map (mark_for self.now.flash.directory) (chosen self.now.pool.frames)) }
         ensures memory { IfErr result (λ stop. stop ≡ Stop.Memory) }
     {
         let mut marks = Vec::new(self.alloc);
-        let mut place = self.pool.len();
-        while place > 0 {
-            if marks.len() == GROUP_SIZE {
-                return Ok(marks);
-            }
-            place -= 1;
-            self.take_up(place, &mut marks)?;
+        for page in pages {
+            let framed = self.flash.holds(*page);
+            marks.push(PoolMark {
+                page: *page,
+                changed: true,
+                framed,
+            })?;
         }
         Ok(marks)
     }
 
-    // The plan of a push of changed pages, the coldest first.
-    fn plan_for_changed(&self) -> Result<Plan, Stop>
+    // The plan of a push of these pages, which are the coldest changed ones.
+    fn plan_for_changed(&self, pages: &[u32]) -> Result<Plan, Stop>
+        requires pages { pages.now ≡ map (λ f. f.page) (chosen self.now.pool.frames) }
         requires groups { 2 ≤ self.now.flash.geometry.groups }
         requires few { length self.now.flash.directory.groups < self.now.flash.geometry.groups }
         ensures chances { IfOk result (λ plan. plan.chances ≡ []) }
@@ -116,7 +74,7 @@ impl PageStore {
         ensures pulled { IfOk result (λ plan. plan.pulled ≡ map (λ f. f.page) (chosen self.now.pool.frames)) }
         ensures memory { IfErr result (λ stop. stop ≡ Stop.Memory) }
     {
-        let changed = self.coldest_changed()?;
+        let changed = self.changed_marks(pages)?;
         let mut marks = [NO_MARK; 8];
         let count = leaving(&self.flash, &mut marks);
         Ok(plan_flush(Some(&marks[..count]), changed.as_slice()))
@@ -238,6 +196,7 @@ impl PageStore {
         ensures next { OnOk result (log.new.ring.hi
             ≡ (if forces log.old (flushed_first self.old) then log.old.ring.hi + 1 else log.old.ring.hi)) }
         ensures goes { Goes (S.state site.old) (S.state site.new) }
+        ensures faults { WorkFaults result (S.state site.old) (S.state site.new) }
         ensures reads { (S.state site.new).flash_reads ≤ (S.state site.old).flash_reads
             + 8 }
         ensures others { (d : Dev) → d ≢ Dev.Flash
@@ -270,12 +229,18 @@ impl PageStore {
         }
     }
 
-    /// Pushes a group of changed pages, the coldest first, which are then no longer marked as changed.
-    fn push_changed<S: Site>(&mut self, site: &mut S, log: &mut LogStore) -> Result<(), Stop>
+    /// Pushes a group of these pages, which are the coldest changed ones. They are then no longer marked as changed.
+    fn push_changed<S: Site>(
+        &mut self,
+        site: &mut S,
+        log: &mut LogStore,
+        pages: &[u32],
+    ) -> Result<(), Stop>
         requires going { MayGoOn self.old (S.state site.old) }
         requires log_going { log_held.MayGoOn log.old (S.state site.old) }
         requires sizes { log.old.geometry ≡ self.old.flash.geometry }
         requires some { wants_flush (cache_of self.old) ≡ true }
+        requires pages { pages.now ≡ map (λ f. f.page) (chosen self.old.pool.frames) }
         requires room { has_tail log.old ≡ true → HasRoom log.old }
 
         // Of an honest site.
@@ -335,6 +300,7 @@ impl PageStore {
         ensures next { OnOk result (log.new.ring.hi
             ≡ (if forces log.old (flushed_first self.old) then log.old.ring.hi + 1 else log.old.ring.hi)) }
         ensures goes { Goes (S.state site.old) (S.state site.new) }
+        ensures faults { WorkFaults result (S.state site.old) (S.state site.new) }
         ensures reads { (S.state site.new).flash_reads ≤ (S.state site.old).flash_reads
             + 8 }
         ensures others { (d : Dev) → d ≢ Dev.Flash
@@ -356,10 +322,9 @@ impl PageStore {
         ensures stops { IfErr result (λ stop. MayStop stop) }
         ensures foreign { IfErr result (λ stop. stop ≢ Stop.Foreign) }
     {
-        let plan = self.plan_for_changed()?;
-        let pages = pages_of(self.alloc, &plan.pulled)?;
-        let contents = self.contents_of(pages.as_slice())?;
-        self.save(site, log, &plan, pages.as_slice(), contents.as_slice())
+        let plan = self.plan_for_changed(pages)?;
+        let contents = self.contents_of(pages)?;
+        self.save(site, log, &plan, pages, contents.as_slice())
     }
 
     /// Pushes groups of changed pages, the coldest first, until no page in the pool is changed.
@@ -426,6 +391,7 @@ impl PageStore {
         ensures next { OnOk result (log.new.ring.hi ≡ (if forces log.old (flushed_contents self.old)
             then log.old.ring.hi + 1 else log.old.ring.hi)) }
         ensures goes { Goes (S.state site.old) (S.state site.new) }
+        ensures faults { WorkFaults result (S.state site.old) (S.state site.new) }
         ensures reads { (S.state site.new).flash_reads ≤ (S.state site.old).flash_reads
             + 8 * changed_count (cache_of self.old).pool }
         ensures asked { (S.state site.new).flash_reads + 8 * next_group (cache_of self.old)
@@ -453,10 +419,15 @@ impl PageStore {
         flushes_save_all();
         changes_add_up();
         fronts_add_up();
-        while self.has_changed() {
-            if let Err(stop) = self.push_changed(site, log) {
+        // The pool is walked once.
+        let pages = self.pool.coldest_changed(self.alloc, self.pool.len())?;
+        let mut rest = pages.as_slice();
+        while !rest.is_empty() {
+            let (group, behind) = rest.split_at(GROUP_SIZE.min(rest.len()));
+            if let Err(stop) = self.push_changed(site, log, group) {
                 return Err(stop);
             }
+            rest = behind;
         }
         Ok(())
     }

@@ -5,6 +5,7 @@ ghost use Rattle.site.specs.declared.outside.Dev.{Dev};
 ghost use Rattle.site.specs.declared.outside.Stop.{Stop};
 ghost use Rattle.site.specs.State.{State, IsQuiet};
 ghost use Rattle.site.specs.Calls.{Goes, SameReads, FaultRose};
+ghost use Rattle.site.specs.Faults.{WorkFaults};
 ghost use Rattle.site.specs.Moments.{LeavesOnly, ChangesOnly};
 ghost use Rattle.image_changes.specs.Changes.{Reaches};
 ghost use Rattle.image_changes.specs.Reached.{LeavesFront};
@@ -88,6 +89,7 @@ pub fn force_for<S: Site>(site: &mut S, log: &mut LogStore, contents: &[Page]) -
     ensures kept { log.new.kept ≡ log.old.kept }
     ensures geometry { log.new.geometry ≡ log.old.geometry }
     ensures goes { Goes (S.state site.old) (S.state site.new) }
+    ensures faults { WorkFaults result (S.state site.old) (S.state site.new) }
     ensures reads { SameReads (S.state site.old) (S.state site.new) }
 
     // When each answer comes.

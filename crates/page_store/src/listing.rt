@@ -14,6 +14,7 @@ use byte_fields::Mark;
 use flash_cache::FlashCache;
 use record_model::{CacheLine, Listing};
 use site::Stop;
+use std::alloc::Global;
 
 // The line of a frame.
 fn frame_line(group: u64, index: u8, mark: &Mark) -> CacheLine
@@ -59,14 +60,17 @@ fn list_queue(flash: &FlashCache, lines: &mut Listing) -> Result<(), Stop>
 }
 
 // Lists the pages in memory, the one touched last in front.
-fn list_pool(pool: &Pool, lines: &mut Listing) -> Result<(), Stop>
+fn list_pool(alloc: Global, pool: &Pool, lines: &mut Listing) -> Result<(), Stop>
     ensures lines { OnOk result (lines.new
         ≡ lines.old ++ map (λ f. CacheLine.Pool f.page f.changed) pool.now.frames) }
     ensures memory { IfErr result (λ stop. stop ≡ Stop.Memory) }
 {
-    for place in 0..pool.len() {
-        let (page, changed) = pool.mark(place);
-        lines.push(CacheLine::Pool { page, changed })?;
+    let marks = pool.marks(alloc)?;
+    for (page, changed) in &marks {
+        lines.push(CacheLine::Pool {
+            page: *page,
+            changed: *changed,
+        })?;
     }
     Ok(())
 }
@@ -81,7 +85,7 @@ impl PageStore {
     {
         let mut lines = Listing::new(self.alloc);
         list_queue(&self.flash, &mut lines)?;
-        list_pool(&self.pool, &mut lines)?;
+        list_pool(self.alloc, &self.pool, &mut lines)?;
         Ok(lines)
     }
 }

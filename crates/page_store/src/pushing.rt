@@ -5,6 +5,7 @@ ghost use Rattle.site.specs.declared.outside.Dev.{Dev};
 ghost use Rattle.site.specs.declared.outside.Stop.{Stop};
 ghost use Rattle.site.specs.State.{State, reads_of, IsQuiet, snapshot_of};
 ghost use Rattle.site.specs.Calls.{Goes, FaultRose};
+ghost use Rattle.site.specs.Faults.{WorkFaults};
 ghost use Rattle.site.specs.Moments.{LeavesOnly};
 ghost use Rattle.slotted_page.specs.Layout.{IsSound};
 ghost use Rattle.image_changes.specs.Changes.{Reaches};
@@ -166,6 +167,7 @@ impl PageStore {
             ≡ (if forces log.old contents.now then log.old.ring.hi + 1 else log.old.ring.hi)) }
         ensures rises { log.old.ring.hi ≤ log.new.ring.hi }
         ensures goes { Goes (S.state site.old) (S.state site.new) }
+        ensures faults { WorkFaults result (S.state site.old) (S.state site.new) }
         ensures reads { (S.state site.new).flash_reads ≤ (S.state site.old).flash_reads + 8 }
         ensures others { (d : Dev) → d ≢ Dev.Flash
             → reads_of d (S.state site.new) ≡ reads_of d (S.state site.old) }
@@ -259,6 +261,7 @@ impl PageStore {
         ensures next { OnOk result (log.new.ring.hi
             ≡ (if forces log.old (evicted self.old) then log.old.ring.hi + 1 else log.old.ring.hi)) }
         ensures goes { Goes (S.state site.old) (S.state site.new) }
+        ensures faults { WorkFaults result (S.state site.old) (S.state site.new) }
         ensures reads { (S.state site.new).flash_reads ≤ (S.state site.old).flash_reads
             + (if is_pushed (cache_of self.old) then 8 else 0) }
         ensures others { (d : Dev) → d ≢ Dev.Flash
@@ -358,6 +361,7 @@ impl PageStore {
         ensures next { OnOk result (log.new.ring.hi
             ≡ (if forces log.old (pushed_for_room self.old) then log.old.ring.hi + 1 else log.old.ring.hi)) }
         ensures goes { Goes (S.state site.old) (S.state site.new) }
+        ensures faults { WorkFaults result (S.state site.old) (S.state site.new) }
         ensures reads { (S.state site.new).flash_reads ≤ (S.state site.old).flash_reads
             + (if (is_full self.old && is_pushed (cache_of self.old)) then 8 else 0) }
         ensures others { (d : Dev) → d ≢ Dev.Flash

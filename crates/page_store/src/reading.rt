@@ -5,6 +5,7 @@ ghost use Rattle.site.specs.declared.outside.Stop.{Stop};
 ghost use Rattle.site.specs.State.{State, IsQuiet, snapshot_of};
 ghost use Rattle.site.specs.Moments.{LeavesOnly};
 ghost use Rattle.site.specs.Calls.{Goes, FaultRose, IsUnchanged};
+ghost use Rattle.site.specs.Faults.{WorkFaults};
 ghost use Rattle.image_changes.specs.Changes.{Reaches};
 ghost use Rattle.image_changes.specs.Reached.{LeavesFront};
 ghost use Rattle.slotted_page.specs.Layout.{IsSound};
@@ -41,6 +42,7 @@ fn read_disk<S: Site>(site: &mut S, page: u32) -> Result<Page, Stop>
     ensures same { IsTrue (S.state site.old).honest
         → IsUnchanged (S.state site.old) (S.state site.new) }
     ensures goes { Goes (S.state site.old) (S.state site.new) }
+    ensures faults { WorkFaults result (S.state site.old) (S.state site.new) }
     ensures reads { (S.state site.new).disk_reads ≤ (S.state site.old).disk_reads + 1 }
     ensures flash { (S.state site.new).flash_reads ≡ (S.state site.old).flash_reads }
     ensures log { (S.state site.new).log_reads ≡ (S.state site.old).log_reads }
@@ -87,6 +89,7 @@ impl PageStore {
         ensures ended { self.new.ended ≡ self.old.ended }
         ensures going { MayGoOn self.new (S.state site.new) }
         ensures goes { Goes (S.state site.old) (S.state site.new) }
+        ensures faults { WorkFaults result (S.state site.old) (S.state site.new) }
         ensures flash_reads { (S.state site.new).flash_reads ≤ (S.state site.old).flash_reads
             + (if has_frame self.old.flash.directory page then 1 else 0) }
         ensures disk_reads { (S.state site.new).disk_reads ≤ (S.state site.old).disk_reads
@@ -139,6 +142,7 @@ impl PageStore {
         ensures ended { self.new.ended ≡ self.old.ended }
         ensures going { MayGoOn self.new (S.state site.new) }
         ensures goes { Goes (S.state site.old) (S.state site.new) }
+        ensures faults { WorkFaults result (S.state site.old) (S.state site.new) }
         ensures flash_reads { (S.state site.new).flash_reads ≤ (S.state site.old).flash_reads
             + (if has_frame self.old.flash.directory page then 1 else 0) }
         ensures disk_reads { (S.state site.new).disk_reads ≤ (S.state site.old).disk_reads
@@ -227,6 +231,7 @@ impl PageStore {
         ensures next { OnOk result (log.new.ring.hi ≡ (if forces log.old (pushed_for_room self.old)
             then log.old.ring.hi + 1 else log.old.ring.hi)) }
         ensures goes { Goes (S.state site.old) (S.state site.new) }
+        ensures faults { WorkFaults result (S.state site.old) (S.state site.new) }
         ensures flash_reads { (S.state site.new).flash_reads ≤ (S.state site.old).flash_reads
             + (if (is_full self.old && is_pushed (cache_of self.old)) then 8 else 0)
             + (if has_frame (with_way self.old).queue page then 1 else 0) }

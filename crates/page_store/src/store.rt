@@ -6,6 +6,7 @@ ghost use Rattle.site.specs.declared.outside.Stop.{Stop};
 ghost use Rattle.site.specs.Geometry.{HasLimits, HasLengths};
 ghost use Rattle.site.specs.State.{State, Image, reads_of, IsQuiet, snapshot_of};
 ghost use Rattle.site.specs.Calls.{Goes, FaultRose, IsUnchanged};
+ghost use Rattle.site.specs.Faults.{WorkFaults};
 ghost use Rattle.site.specs.Moments.{LeavesOnly};
 ghost use Rattle.image_changes.specs.Changes.{Reaches};
 ghost use Rattle.image_changes.specs.Reached.{LeavesFront};
@@ -78,6 +79,7 @@ impl PageStore {
         ensures same { IsTrue (S.state site.old).honest
             → IsUnchanged (S.state site.old) (S.state site.new) }
         ensures goes { Goes (S.state site.old) (S.state site.new) }
+        ensures faults { WorkFaults result (S.state site.old) (S.state site.new) }
         ensures reads { (S.state site.new).flash_reads
             ≤ (S.state site.old).flash_reads + 2 * geometry.now.groups }
         ensures others { (d : Dev) → d ≢ Dev.Flash
@@ -245,6 +247,7 @@ impl PageStore {
         ensures next { OnOk result (log.new.ring.hi ≡ (if forces log.old (pushed_by_touch self.old page)
             then log.old.ring.hi + 1 else log.old.ring.hi)) }
         ensures goes { Goes (S.state site.old) (S.state site.new) }
+        ensures faults { WorkFaults result (S.state site.old) (S.state site.new) }
         ensures flash_reads { (S.state site.new).flash_reads ≤ (S.state site.old).flash_reads
             + (if pushes (rules self.old) page (cache_of self.old) then 8 else 0)
             + (if finds (rules self.old) page (cache_of self.old) then 1 else 0) }
@@ -345,6 +348,7 @@ impl PageStore {
         ensures next { OnOk result (log.new.ring.hi ≡ (if forces log.old (flushed_contents self.old)
             then log.old.ring.hi + 1 else log.old.ring.hi)) }
         ensures goes { Goes (S.state site.old) (S.state site.new) }
+        ensures faults { WorkFaults result (S.state site.old) (S.state site.new) }
         ensures reads { (S.state site.new).flash_reads ≤ (S.state site.old).flash_reads
             + 8 * changed_count (cache_of self.old).pool }
         ensures asked { (S.state site.new).flash_reads + 8 * next_group (cache_of self.old)

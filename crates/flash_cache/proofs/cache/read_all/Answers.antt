@@ -78,6 +78,7 @@ loop-group-preserved g c =
           ∙ ap (λ (n : ℕ). map heads_of (take n groups)) (sym (longer ∙ add-one k));
       same = λ honest. unchanged_in_sequence old mid new (inv.same honest) (c.read_group.ensures.same (stays_honest old mid inv.goes honest));
       goes = goes_in_sequence old mid new inv.goes c.read_group.ensures.goes;
+      faults = c.in-Ok.ensures.faults ∙ inv.faults;
       reads = omega (arith, inv.reads, c.read_group.ensures.reads, longer);
       others = λ d ne. c.read_group.ensures.others d ne ∙ inv.others d ne;
     }

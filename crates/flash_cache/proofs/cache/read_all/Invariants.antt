@@ -4,6 +4,7 @@ use Rattle.site.specs.declared.outside.Dev.{Dev}
 use Rattle.site.specs.declared.outside.Dev.TheVariants.{Flash}
 use Rattle.site.specs.State.{reads_of}
 use Rattle.site.specs.Calls.{Goes, IsUnchanged}
+use Rattle.site.specs.Faults.{faults_in}
 use Rattle.sealed_ring.specs.Ready.{Fits as RingFits}
 use Rattle.byte_fields.specs.FrameHeads.{AreGroupHeads}
 use Rattle.frame_group.specs.Groups.{Frame, heads_of}
@@ -21,6 +22,7 @@ invariant-loop-group g l =
       frames : IsTrue old.honest → RingFits l.ring old → (first : ℕ) (groups : List (List Frame)) → HasGroups l.geometry first groups old.image → l.list.items ≡ map heads_of (take (length l.list.items) groups);
       same : IsTrue old.honest → IsUnchanged old now;
       goes : Goes old now;
+      faults : faults_in now ≡ faults_in old;
       reads : now.flash_reads ≤ old.flash_reads + length l.list.items;
       others : (d : Dev) → d ≢ Flash → reads_of d now ≡ reads_of d old;
     }

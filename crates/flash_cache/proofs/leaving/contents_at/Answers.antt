@@ -32,6 +32,7 @@ loop-index-preserved g c =
       count = longer ∙ ap (λ (n : ℕ). n + 1) inv.count;
       same = λ honest. unchanged_in_sequence old mid new (inv.same honest) (c.read_frame.ensures.same (stays_honest old mid inv.goes honest));
       goes = goes_in_sequence old mid new inv.goes c.read_frame.ensures.goes;
+      faults = c.in-Ok.ensures.faults ∙ inv.faults;
       reads = omega (arith, inv.reads, c.read_frame.ensures.reads);
       others = λ d ne. c.read_frame.ensures.others d ne ∙ inv.others d ne;
     }

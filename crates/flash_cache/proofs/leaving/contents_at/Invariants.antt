@@ -3,6 +3,7 @@ use Rattle.site.specs.declared.outside.Dev.{Dev}
 use Rattle.site.specs.declared.outside.Dev.TheVariants.{Flash}
 use Rattle.site.specs.State.{reads_of}
 use Rattle.site.specs.Calls.{Goes, IsUnchanged}
+use Rattle.site.specs.Faults.{faults_in}
 use Rattle.sealed_ring.specs.Ring.{unit_at}
 use Rattle.sealed_ring.specs.Ready.{units_in, Fits as RingFits}
 use Rattle.flash_cache.specs.Leaving.{page_at}
@@ -17,6 +18,7 @@ invariant-loop-index g l =
       count : length l.contents.items ≡ l.index;
       same : IsTrue old.honest → IsUnchanged old now;
       goes : Goes old now;
+      faults : faults_in now ≡ faults_in old;
       reads : now.flash_reads ≤ old.flash_reads + l.index;
       others : (d : Dev) → d ≢ Flash → reads_of d now ≡ reads_of d old;
     }

@@ -1,75 +1,41 @@
-use Rattle.std.proofs.Common.{◌≡◌, ◌<◌, ◌++◌, false, [], List, arith, ap, sym, length, take, drop}
+use Rattle.std.proofs.Common.{◌≡◌, ℕ, List, Some, is_some, ap, sym, ◌∙◌}
 use Rattle.buffer_pool.specs.declared.frame.Frame.{Frame}
-use Rattle.buffer_pool.specs.Frames.{State, IsPlace, touched}
-use Rattle.buffer_pool.proofs.Order.{place-le, place_in, none_at, is_found, touched-absent, all_touched, front_touched, length-touched, distinct-touched}
+use Rattle.buffer_pool.specs.declared.kept.Kept.{Kept}
+use Rattle.buffer_pool.specs.Entries.{frames_in}
+use Rattle.buffer_pool.specs.Frames.{frame_of, front_of}
+use Rattle.buffer_pool.proofs.Order.{touched-absent}
+use Rattle.buffer_pool.proofs.Cached.{state, frames-promoted, pool-promoted, front-promoted, is_some-lookup, is_none}
 use Rattle.buffer_pool.proofs.pool.Pool.touch.Goals as goal
 
-pub returns-then-place-len-clause-after : goal.returns-then-place-len-clause-after
-returns-then-place-len-clause-after c =
-    let xs : List Frame = c.self.inside.frames.items in
-    let at : IsPlace xs c.args.page c.place_of-place.result = place_in _ xs c.args.page c.place_of-place.result c.deref.ensures.value c.place_of-place.ensures in
-    let end : c.place_of-place.result ≡ length xs = omega (arith, c.if-place-len.true, c.len.ensures, c.deref.ensures.len, ap length c.deref.ensures.value) in
-    rw (← c.self.view_is) (ap (λ (ys : List Frame). let p : State = record { size = c.self.inside.size; frames = ys } in p)
-    (sym (touched-absent xs c.args.page (none_at xs c.args.page c.place_of-place.result at end))))
-
-pub bring_forward-requires : goal.bring_forward-requires
-bring_forward-requires c = omega (
-  arith,
-  place-le _ _ _ c.place_of-place.ensures,
-  c.if-place-len.false,
-  c.len.ensures,
-  c.deref.ensures.len,
-  ap length c.deref.ensures.value,
-  ap length c.deref_mut.ensures.value,
-)
+-- the answer tells whether the page has a frame
+tells : (c : goal.After-promote) → c.promote.result ≡ is_some (frame_of (frames_in c.self.inside.pages.entries) c.args.page)
+tells c = c.promote.ensures.value ∙ is_some-lookup c.self.inside.pages.entries c.args.page
 
 pub invariant_of-self : goal.invariant_of-self
 invariant_of-self c =
-    let xs : List Frame = c.self.inside.frames.items in
-    let at : IsPlace xs c.args.page c.place_of-place.result = place_in _ xs c.args.page c.place_of-place.result c.deref.ensures.value c.place_of-place.ensures in
-    let less : c.place_of-place.result < length xs =
-    omega (arith, place-le xs c.args.page c.place_of-place.result at, c.if-place-len.false, c.len.ensures, c.deref.ensures.len, ap length c.deref.ensures.value) in
-    let d : Frame = record { page = 0; changed = false; content = [] } in
-    let now : take c.self.inside.frames.len (c.bring_forward.new.frames ++ drop (length c.bring_forward.new.frames) xs) ≡ touched xs c.args.page =
-    all_touched xs c.deref_mut.result.now c.bring_forward.new.frames c.args.page c.place_of-place.result c.self.inside.frames.len d c.self.invariant.distinct at less
-    c.deref_mut.ensures.value c.bring_forward.ensures (omega (arith, c.deref.ensures.len, ap length c.deref.ensures.value)) in
-    rw now (record {
-      few = omega (arith, length-touched xs c.args.page c.place_of-place.result d c.self.invariant.distinct at less, c.self.invariant.few);
-      distinct = distinct-touched xs c.args.page c.self.invariant.distinct;
-    })
+    rw c.promote.ensures.entries (c.self.invariant.0, pool-promoted c.self.inside.size c.self.inside.pages.entries c.args.page c.self.invariant.1)
 
 pub returns-clause-found : goal.returns-clause-found
-returns-clause-found c =
-    let xs : List Frame = c.self.inside.frames.items in
-    let at : IsPlace xs c.args.page c.place_of-place.result = place_in _ xs c.args.page c.place_of-place.result c.deref.ensures.value c.place_of-place.ensures in
-    let less : c.place_of-place.result < length xs =
-    omega (arith, place-le xs c.args.page c.place_of-place.result at, c.if-place-len.false, c.len.ensures, c.deref.ensures.len, ap length c.deref.ensures.value) in
-    let d : Frame = record { page = 0; changed = false; content = [] } in
-    rw (← c.self.view_is) (is_found xs c.args.page c.place_of-place.result d at less)
+returns-clause-found c = rw (← c.self.view_is) (tells c)
 
 pub returns-clause-after : goal.returns-clause-after
 returns-clause-after c =
-    let xs : List Frame = c.self.inside.frames.items in
-    let at : IsPlace xs c.args.page c.place_of-place.result = place_in _ xs c.args.page c.place_of-place.result c.deref.ensures.value c.place_of-place.ensures in
-    let less : c.place_of-place.result < length xs =
-    omega (arith, place-le xs c.args.page c.place_of-place.result at, c.if-place-len.false, c.len.ensures, c.deref.ensures.len, ap length c.deref.ensures.value) in
-    let d : Frame = record { page = 0; changed = false; content = [] } in
-    let now : take c.self.inside.frames.len (c.bring_forward.new.frames ++ drop (length c.bring_forward.new.frames) xs) ≡ touched xs c.args.page =
-    all_touched xs c.deref_mut.result.now c.bring_forward.new.frames c.args.page c.place_of-place.result c.self.inside.frames.len d c.self.invariant.distinct at less
-    c.deref_mut.ensures.value c.bring_forward.ensures (omega (arith, c.deref.ensures.len, ap length c.deref.ensures.value)) in
-    rw (← c.self.view_is) (ap (λ (ys : List Frame). let p : State = record { size = c.self.inside.size; frames = ys } in p) now)
-
-pub returns-clause-front : goal.returns-clause-front
-returns-clause-front c =
-    let xs : List Frame = c.self.inside.frames.items in
-    let at : IsPlace xs c.args.page c.place_of-place.result = place_in _ xs c.args.page c.place_of-place.result c.deref.ensures.value c.place_of-place.ensures in
-    let less : c.place_of-place.result < length xs =
-    omega (arith, place-le xs c.args.page c.place_of-place.result at, c.if-place-len.false, c.len.ensures, c.deref.ensures.len, ap length c.deref.ensures.value) in
-    let d : Frame = record { page = 0; changed = false; content = [] } in
-    let now : take c.self.inside.frames.len (c.bring_forward.new.frames ++ drop (length c.bring_forward.new.frames) xs) ≡ touched xs c.args.page =
-    all_touched xs c.deref_mut.result.now c.bring_forward.new.frames c.args.page c.place_of-place.result c.self.inside.frames.len d c.self.invariant.distinct at less
-    c.deref_mut.ensures.value c.bring_forward.ensures (omega (arith, c.deref.ensures.len, ap length c.deref.ensures.value)) in
-    λ _. rw (← c.self.view_is) (front_touched xs _ c.args.page c.place_of-place.result d c.self.invariant.distinct at less now)
+    rw (← c.self.view_is, c.promote.ensures.entries) (ap (state c.self.inside.size) (frames-promoted c.self.inside.pages.entries c.args.page c.self.invariant.1.distinct))
 
 pub returns-clause-pool : goal.returns-clause-pool
-returns-clause-pool c = invariant_of-self c
+returns-clause-pool c = (invariant_of-self c).1
+
+pub returns-clause-front : goal.returns-clause-front
+returns-clause-front c = λ is.
+    let es : List (ℕ × Kept) = c.self.inside.pages.entries in
+    rw (← c.self.view_is, c.promote.ensures.entries) (front-promoted es c.args.page c.self.invariant.1.distinct (sym (tells c) ∙ is)
+    ∙ ap (λ (xs : List Frame). Some (front_of xs)) (sym (frames-promoted es c.args.page c.self.invariant.1.distinct)))
+
+pub returns-clause-absent : goal.returns-clause-absent
+returns-clause-absent c = λ is. rw (← c.self.view_is) (is_none _ (sym (tells c) ∙ is))
+
+pub returns-clause-same : goal.returns-clause-same
+returns-clause-same c = λ is.
+    let es : List (ℕ × Kept) = c.self.inside.pages.entries in
+    rw (← c.self.view_is, c.promote.ensures.entries) (ap (state c.self.inside.size) (frames-promoted es c.args.page c.self.invariant.1.distinct
+    ∙ touched-absent (frames_in es) c.args.page (is_none _ (sym (tells c) ∙ is))))

@@ -1,9 +1,10 @@
-use Rattle.std.proofs.Common.{◌≡◌, ◌+◌, ◌-◌, ◌||◌, not, false, ℕ, List, Some, get_or, set, take, drop, length, length-drop, arith, sym, ap, ◌∙◌}
+use Rattle.std.proofs.Common.{◌≡◌, ◌+◌, ◌↔◌, IsTrue, false, ℕ, List, Some, get_or, set, take, drop, arith, sym, ap, subst, ◌∙◌}
 use Rattle.std.proofs.Math.ListN.{length-set}
-use Rattle.std.proofs.lemmas.List.{take_all}
 use Rattle.second_chance.specs.declared.frame.Frame.{Frame}
-use Rattle.second_chance.specs.Queue.{Queue, in_group, in_groups, mark_of, group_marks}
+use Rattle.second_chance.specs.Queue.{Queue, mark_of, group_marks}
+use Rattle.flash_directory.specs.Heads.{newest, place_in}
 use Rattle.flash_directory.proofs.Marked.{marks_more, marks_at, marks_all}
+use Rattle.flash_directory.proofs.Keeping.{valid_at}
 use Rattle.flash_directory.proofs.directory.Directory.marks.Goals as goal
 
 blank : Frame
@@ -13,12 +14,17 @@ pub loop-index-preserved : goal.loop-index-preserved
 unfolding blank
 loop-index-preserved c =
     let i : ℕ = c.loop-index.index in
+    let q : Queue = c.args.self.now in
+    let d : List Frame = c.index.result.now in
     let frames : List Frame = c.as_slice-frames.result.now in
-    let later : List (List Frame) = drop (c.args.place + 1) c.args.self.now.groups in
+    let later : List (List Frame) = drop (c.args.place + 1) q.groups in
     let frame : Frame = get_or frames i blank in
-    let behind : take (length frames - (i + 1)) (drop (i + 1) frames) ≡ drop (i + 1) frames = take_all (length frames - (i + 1)) (drop (i + 1) frames) (omega (arith, length-drop (i + 1) frames)) in
+    let frames_are : frames ≡ get_or q.groups c.args.place d =
+    c.as_slice-frames.ensures.frames ∙ c.index.ensures ∙ ap (λ (k : Queue). get_or k.groups c.args.place d) c.self.view_is in
     record {
-      marks = ap (λ v. take (i + 1) (set c.loop-index.into i (mark_of v frame))) (c.is_last.ensures ∙ ap (λ l. not (in_group l frame.page || in_groups later frame.page)) behind)
+      marks = ap (λ v. take (i + 1) (set c.loop-index.into i (mark_of v frame)))
+          (valid_at q c.args.place i d frames blank c.is_newest.result frames_are c.requires c.loop-index-test.true
+          (subst (λ (k : Queue). IsTrue c.is_newest.result ↔ (newest q frame.page ≡ Some (place_in (k.first + c.args.place) i))) c.self.view_is c.is_newest.ensures))
           ∙ marks_more c.loop-index.into frames later i blank c.loop-index-test.true (omega (arith, c.loop-index-test.true, c.as_slice-frames.ensures.few, c.loop-index.invariant.len)) c.loop-index.invariant.marks;
       len = length-set c.loop-index.into i _ ∙ c.loop-index.invariant.len;
     }

@@ -1,6 +1,11 @@
-use Rattle.std.proofs.Common.{◌≡◌, take, map}
+use Rattle.std.proofs.Common.{◌≡◌, length, take, map}
 use Rattle.flash_directory.specs.Heads.{frames_in}
+use Rattle.flash_directory.specs.Places.{FindsNewest}
 use Rattle.flash_directory.proofs.directory.Directory.of_groups.Given as goal
 
-abbrev pub invariant-loop-group : goal.invariant-loop-group
-invariant-loop-group l = l.groups.items ≡ map frames_in (take l.group-index l.group-items)
+abbrev pub invariant-loop-index : goal.invariant-loop-index
+invariant-loop-index l = record {
+  groups : l.groups.items ≡ map frames_in (take l.index l.group-items);
+  places : FindsNewest l.places (record { first = l.heads.first; groups = l.groups.items });
+  count : length l.groups.items ≡ l.index;
+}

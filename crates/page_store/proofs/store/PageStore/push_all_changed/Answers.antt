@@ -19,6 +19,7 @@ use Rattle.page_store.specs.Leaves.{AreReady, LeavesPages, LeavesRings}
 use Rattle.page_store.specs.Stopping.{IsLogAtEnd}
 use Rattle.buffer_pool.specs.declared.frame.Frame.{Frame}
 use Rattle.page_store.specs.Flushing.{chosen, flushed_first, flushed_contents, changed_frames}
+use Rattle.page_store.proofs.Left.{some_left, none_left, front_pages, back_pages, all_changed}
 use Rattle.page_store.proofs.Unsealed.{next_round, nothing_forced, risen_to, forced_by_first, or_first, or_second}
 use Rattle.page_store.proofs.Evictions.{same_pages, stays_pages, stays_sealed}
 use Rattle.page_store.proofs.Bringing.{current_again}
@@ -35,8 +36,8 @@ use Rattle.site.specs.declared.outside.Stop.TheVariants.{Worn}
 use Rattle.flash_cache.specs.Held.{IsWorn}
 use Rattle.page_store.proofs.store.PageStore.push_all_changed.Goals as goal
 
-pub loop-self-init : goal.loop-self-init
-loop-self-init g c =
+pub loop-rest-init : goal.loop-rest-init
+loop-rest-init g c =
     let site = g.S.Site.state c.args.site.now in
     let store = c.args.self.now in
     let log = c.args.log.now in
@@ -76,21 +77,48 @@ loop-self-init g c =
       grows = omega arith;
       rises = omega arith;
       goes = goes_nowhere site;
+      faults = refl;
       reads = omega arith;
       asked = omega arith;
+      pages = c.as_slice-rest.ensures.value ∙ c.in_ok-pages.ensures.pages ∙ all_changed store.pool.frames c.len.result c.len.ensures.len;
       others = λ d ne. refl;
     }
+
+pub returns-in_err-pages-clause-any_moment : goal.returns-in_err-pages-clause-any_moment
+returns-in_err-pages-clause-any_moment g c list ready quiet = stays_pages c.args.self.now c.args.log.now _ _ list (g.S.Site.state c.args.site.now) c.requires.sizes ready quiet
+
+pub returns-in_err-pages-clause-ahead_moment : goal.returns-in_err-pages-clause-ahead_moment
+returns-in_err-pages-clause-ahead_moment g c list ready quiet ahead = stays_sealed _ (g.S.Site.state c.args.site.now) quiet ahead.versions
+
+pub returns-in_err-pages-clause-rings_moment : goal.returns-in_err-pages-clause-rings_moment
+returns-in_err-pages-clause-rings_moment g c newest list ready quiet rings = stays_rings newest _ (g.S.Site.state c.args.site.now) quiet rings
+
+pub returns-in_err-pages-clause-front_moment : goal.returns-in_err-pages-clause-front_moment
+returns-in_err-pages-clause-front_moment g c list ready quiet = none_front _ _ (g.S.Site.state c.args.site.now) quiet
+
+pub returns-in_err-pages-clause-asked : goal.returns-in_err-pages-clause-asked
+returns-in_err-pages-clause-asked g c =
+    let store = c.args.self.now in
+    let some : 1 ≤ (rules_for store).groups = omega (arith, c.requires.going.flash.limits.groups) in
+    let more = flushed_next (rules_for store) (cache_of store) some in
+    omega (arith, more)
+
+pub push_changed-requires-clause-some : goal.push_changed-requires-clause-some
+push_changed-requires-clause-some g c = some_left c.loop-rest.self.pool.frames c.loop-rest.rest.now c.loop-rest.invariant.pages (sym c.is_empty.ensures ∙ c.loop-rest-test.true)
+
+pub push_changed-requires-clause-pages : goal.push_changed-requires-clause-pages
+push_changed-requires-clause-pages g c = c.split_at.ensures.front ∙ front_pages c.loop-rest.self.pool.frames c.loop-rest.rest.now c.loop-rest.invariant.pages c.min.result c.min.ensures
 
 pub returns-in-Err-clause-any_moment : goal.returns-in-Err-clause-any_moment
 returns-in-Err-clause-any_moment g c list ready quiet =
     let old = g.S.Site.state c.args.site.now in
-    let mid = g.S.Site.state c.loop-self.site in
+    let mid = g.S.Site.state c.loop-rest.site in
     let new = g.S.Site.state c.push_changed.new.site in
     let first = c.args.self.now in
-    let store = c.loop-self.self in
+    let store = c.loop-rest.self in
     let log0 = c.args.log.now in
-    let log = c.loop-self.log in
-    let inv = c.loop-self.invariant in
+    let log = c.loop-rest.log in
+    let inv = c.loop-rest.invariant in
     let h = first.flash.geometry in
     let b : Bool = nat_lt log0.ring.hi log.ring.hi in
     let forced : Bool = forces log (flushed_first store) in
@@ -106,26 +134,26 @@ returns-in-Err-clause-any_moment g c list ready quiet =
 pub returns-in-Err-clause-rings_moment : goal.returns-in-Err-clause-rings_moment
 returns-in-Err-clause-rings_moment g c newest list ready quiet rings =
     let old = g.S.Site.state c.args.site.now in
-    let mid = g.S.Site.state c.loop-self.site in
+    let mid = g.S.Site.state c.loop-rest.site in
     let new = g.S.Site.state c.push_changed.new.site in
-    let inv = c.loop-self.invariant in
+    let inv = c.loop-rest.invariant in
     let h = c.args.self.now.flash.geometry in
     let sound = inv.rings_moment newest list ready quiet rings in
     in_sequence old mid new (Leaves (LeavesRings newest h)) sound
     (subst (λ (k : Geometry). LeavesOnly mid new (LeavesRings newest k)) inv.geometry
-    (c.push_changed.ensures.rings_moment newest (sealed_if (nat_lt c.args.log.now.ring.hi c.loop-self.log.ring.hi) list) (inv.ready list ready) (inv.stays_quiet ready.blocks.honest quiet)
+    (c.push_changed.ensures.rings_moment newest (sealed_if (nat_lt c.args.log.now.ring.hi c.loop-rest.log.ring.hi) list) (inv.ready list ready) (inv.stays_quiet ready.blocks.honest quiet)
     (subst (λ (k : Geometry). AreRingsSoundUnder newest k mid.image) (sym inv.geometry) (holds_now old mid (LeavesRings newest h) sound))))
 
 pub returns-in-Err-clause-ahead_moment : goal.returns-in-Err-clause-ahead_moment
 returns-in-Err-clause-ahead_moment g c list ready quiet ahead =
     let old = g.S.Site.state c.args.site.now in
-    let mid = g.S.Site.state c.loop-self.site in
+    let mid = g.S.Site.state c.loop-rest.site in
     let new = g.S.Site.state c.push_changed.new.site in
     let first = c.args.self.now in
-    let store = c.loop-self.self in
+    let store = c.loop-rest.self in
     let log0 = c.args.log.now in
-    let log = c.loop-self.log in
-    let inv = c.loop-self.invariant in
+    let log = c.loop-rest.log in
+    let inv = c.loop-rest.invariant in
     let h = first.flash.geometry in
     let b : Bool = nat_lt log0.ring.hi log.ring.hi in
     let forced : Bool = forces log (flushed_first store) in
@@ -136,39 +164,39 @@ returns-in-Err-clause-ahead_moment g c list ready quiet ahead =
 
 pub returns-in-Err-clause-reads : goal.returns-in-Err-clause-reads
 returns-in-Err-clause-reads g c =
-    let store = c.loop-self.self in
-    let wants : wants_flush (cache_of store) ≡ true = sym c.has_changed.ensures ∙ c.loop-self-test.true in
+    let store = c.loop-rest.self in
+    let wants : wants_flush (cache_of store) ≡ true = some_left c.loop-rest.self.pool.frames c.loop-rest.rest.now c.loop-rest.invariant.pages (sym c.is_empty.ensures ∙ c.loop-rest-test.true) in
     let saves = c.flushes_save_all.ensures.saves_a_page (rules_for store) (cache_of store) wants in
-    omega (arith, c.loop-self.invariant.reads, c.push_changed.ensures.reads, saves)
+    omega (arith, c.loop-rest.invariant.reads, c.push_changed.ensures.reads, saves)
 
-pub loop-self-smaller : goal.loop-self-smaller
-loop-self-smaller g c =
-    let store = c.loop-self.self in
-    let wants : wants_flush (cache_of store) ≡ true = sym c.has_changed.ensures ∙ c.loop-self-test.true in
+pub loop-rest-smaller : goal.loop-rest-smaller
+loop-rest-smaller g c =
+    let store = c.loop-rest.self in
+    let wants : wants_flush (cache_of store) ≡ true = some_left c.loop-rest.self.pool.frames c.loop-rest.rest.now c.loop-rest.invariant.pages (sym c.is_empty.ensures ∙ c.loop-rest-test.true) in
     let saves = c.flushes_save_all.ensures.saves_a_page (rules_for store) (cache_of store) wants in
     let count = ap (λ (k : Cache). changed_count k.pool) c.in_default.ensures.machine in
     omega (arith, saves, count)
 
 pub returns-clause-machine : goal.returns-clause-machine
 returns-clause-machine g c =
-    let store = c.loop-self.self in
-    let none : wants_flush (cache_of store) ≡ false = sym c.has_changed.ensures ∙ c.loop-self-test.false in
-    sym (c.loop-self.invariant.machine ∙ (c.flushes_save_all.ensures.ends (rules_for c.args.self.now) (cache_of store) none).0)
+    let store = c.loop-rest.self in
+    let none : wants_flush (cache_of store) ≡ false = none_left c.loop-rest.self.pool.frames c.loop-rest.rest.now c.loop-rest.invariant.pages (sym c.is_empty.ensures ∙ c.loop-rest-test.false) in
+    sym (c.loop-rest.invariant.machine ∙ (c.flushes_save_all.ensures.ends (rules_for c.args.self.now) (cache_of store) none).0)
 
-pub loop-self-preserved : goal.loop-self-preserved
-loop-self-preserved g c =
+pub loop-rest-preserved : goal.loop-rest-preserved
+loop-rest-preserved g c =
     let old = g.S.Site.state c.args.site.now in
-    let mid = g.S.Site.state c.loop-self.site in
+    let mid = g.S.Site.state c.loop-rest.site in
     let new = g.S.Site.state c.push_changed.new.site in
     let first = c.args.self.now in
-    let store = c.loop-self.self in
+    let store = c.loop-rest.self in
     let log0 = c.args.log.now in
-    let log = c.loop-self.log in
-    let inv = c.loop-self.invariant in
+    let log = c.loop-rest.log in
+    let inv = c.loop-rest.invariant in
     let h = first.flash.geometry in
     let b : Bool = nat_lt log0.ring.hi log.ring.hi in
     let forced : Bool = forces log (flushed_first store) in
-    let wants : wants_flush (cache_of store) ≡ true = sym c.has_changed.ensures ∙ c.loop-self-test.true in
+    let wants : wants_flush (cache_of store) ≡ true = some_left c.loop-rest.self.pool.frames c.loop-rest.rest.now c.loop-rest.invariant.pages (sym c.is_empty.ensures ∙ c.loop-rest-test.true) in
     let saves = c.flushes_save_all.ensures.saves_a_page (rules_for store) (cache_of store) wants in
     let count = ap (λ (k : Cache). changed_count k.pool) c.in_default.ensures.machine in
     let same : rules_for store ≡ rules_for first = λ i. rules_of (inv.size i) (inv.geometry i).groups in
@@ -242,23 +270,26 @@ loop-self-preserved g c =
       grows = omega (arith, inv.grows, c.in_default.ensures.grows);
       rises = omega (arith, inv.rises, c.push_changed.ensures.rises);
       goes = goes_in_sequence old mid new inv.goes c.push_changed.ensures.goes;
+      faults = c.in_default.ensures.faults ∙ inv.faults;
       reads = omega (arith, inv.reads, c.push_changed.ensures.reads, saves, count);
       asked = (let one = ap next_group c.in_default.ensures.machine in let groups : 1 ≤ (rules_for store).groups = omega (arith, inv.going.flash.limits.groups) in let next = changed_next (rules_for store) (cache_of store) groups in omega (arith, inv.asked, c.push_changed.ensures.reads, one, next));
+      pages = c.split_at.ensures.back
+          ∙ back_pages store.pool.frames c.loop-rest.rest.now inv.pages c.min.result c.min.ensures c.push_changed.new.self.pool.frames inv.going.own.pool.distinct c.in_default.ensures.frames;
       others = λ d ne. c.push_changed.ensures.others d ne ∙ inv.others d ne;
     }
 
 pub returns-clause-never_past : goal.returns-clause-never_past
 returns-clause-never_past g c some past =
-    let none : wants_flush (cache_of c.loop-self.self) ≡ false = sym c.has_changed.ensures ∙ c.loop-self-test.false in
-    true≢false (sym some ∙ sym (ap (λ (s : PageStore). wants_flush (cache_of s)) (c.loop-self.invariant.untouched some past)) ∙ none)
+    let none : wants_flush (cache_of c.loop-rest.self) ≡ false = none_left c.loop-rest.self.pool.frames c.loop-rest.rest.now c.loop-rest.invariant.pages (sym c.is_empty.ensures ∙ c.loop-rest-test.false) in
+    true≢false (sym some ∙ sym (ap (λ (s : PageStore). wants_flush (cache_of s)) (c.loop-rest.invariant.untouched some past)) ∙ none)
 
 pub returns-clause-next : goal.returns-clause-next
 returns-clause-next g c =
-    let store = c.loop-self.self in
+    let store = c.loop-rest.self in
     let log0 = c.args.log.now in
-    let log = c.loop-self.log in
-    let inv = c.loop-self.invariant in
-    let none : wants_flush (cache_of store) ≡ false = sym c.has_changed.ensures ∙ c.loop-self-test.false in
+    let log = c.loop-rest.log in
+    let inv = c.loop-rest.invariant in
+    let none : wants_flush (cache_of store) ≡ false = none_left c.loop-rest.self.pool.frames c.loop-rest.rest.now c.loop-rest.invariant.pages (sym c.is_empty.ensures ∙ c.loop-rest-test.false) in
     let b : Bool = nat_lt log0.ring.hi log.ring.hi in
     let is : forces log0 (flushed_contents c.args.self.now) ≡ b = inv.forced ∙ ap (λ (t : Bool). b || t) (nothing_forced (has_tail log) (is_unsealed (end_now log)) store.pool.frames none) ∙ or_false b in
     risen_to log0.ring.hi log.ring.hi (has_tail log0) (has_tail log) inv.end inv.rises ∙ ap {B = ℕ} (λ (t : Bool). if t then log0.ring.hi + 1 else log0.ring.hi) (sym is)
@@ -269,10 +300,10 @@ returns-clause-next g c =
 
 pub returns-in-Err-clause-worn_log : goal.returns-in-Err-clause-worn_log
 returns-in-Err-clause-worn_log g c says =
-    let store = c.loop-self.self in
+    let store = c.loop-rest.self in
     let log0 = c.args.log.now in
-    let log = c.loop-self.log in
-    let inv = c.loop-self.invariant in
+    let log = c.loop-rest.log in
+    let inv = c.loop-rest.invariant in
     let b : Bool = nat_lt log0.ring.hi log.ring.hi in
     let both = c.in-Err.ensures.worn_log says in
     let tail = and_left (has_tail log) _ both.0 in
@@ -281,27 +312,27 @@ returns-in-Err-clause-worn_log g c says =
 
 pub returns-in-Err-clause-left : goal.returns-in-Err-clause-left
 returns-in-Err-clause-left g c honest =
-    let inv = c.loop-self.invariant in
-    c.push_changed.ensures.left (stays_honest (g.S.Site.state c.args.site.now) (g.S.Site.state c.loop-self.site) inv.goes honest) ∙ inv.left honest
+    let inv = c.loop-rest.invariant in
+    c.push_changed.ensures.left (stays_honest (g.S.Site.state c.args.site.now) (g.S.Site.state c.loop-rest.site) inv.goes honest) ∙ inv.left honest
 
 pub returns-in-Err-clause-quiet : goal.returns-in-Err-clause-quiet
 returns-in-Err-clause-quiet g c list ready quiet =
-    c.in-Err.ensures.quiet (sealed_if (nat_lt c.args.log.now.ring.hi c.loop-self.log.ring.hi) list) (c.loop-self.invariant.ready list ready) (c.loop-self.invariant.stays_quiet ready.blocks.honest quiet)
+    c.in-Err.ensures.quiet (sealed_if (nat_lt c.args.log.now.ring.hi c.loop-rest.log.ring.hi) list) (c.loop-rest.invariant.ready list ready) (c.loop-rest.invariant.stays_quiet ready.blocks.honest quiet)
 
 pub returns-in-Err-clause-front_moment : goal.returns-in-Err-clause-front_moment
 returns-in-Err-clause-front_moment g c list ready quiet =
     let old = g.S.Site.state c.args.site.now in
-    let mid = g.S.Site.state c.loop-self.site in
+    let mid = g.S.Site.state c.loop-rest.site in
     let new = g.S.Site.state c.push_changed.new.site in
     let first = c.args.self.now in
-    let store = c.loop-self.self in
+    let store = c.loop-rest.self in
     let log0 = c.args.log.now in
-    let log = c.loop-self.log in
-    let inv = c.loop-self.invariant in
+    let log = c.loop-rest.log in
+    let inv = c.loop-rest.invariant in
     let h = first.flash.geometry in
     let list' = sealed_if (nat_lt log0.ring.hi log.ring.hi) list in
     let s = standing log list' store in
-    let wants : wants_flush (cache_of store) ≡ true = sym c.has_changed.ensures ∙ c.loop-self-test.true in
+    let wants : wants_flush (cache_of store) ≡ true = some_left c.loop-rest.self.pool.frames c.loop-rest.rest.now c.loop-rest.invariant.pages (sym c.is_empty.ensures ∙ c.loop-rest-test.true) in
     let saves = c.flushes_save_all.ensures.saves_a_page (rules_for store) (cache_of store) wants in
     within_push h (flush_changes log0 list first) old mid s (changed_count (cache_of store).pool) (inv.made list ready quiet) c.fronts_add_up.ensures new wants (omega (arith, saves))
     (told_before h (current first old.image) (forces log0 (flushed_contents first)) list old mid (inv.moment list ready quiet))
@@ -310,43 +341,43 @@ returns-in-Err-clause-front_moment g c list ready quiet =
 pub returns-clause-front_moment : goal.returns-clause-front_moment
 returns-clause-front_moment g c list ready quiet =
     let old = g.S.Site.state c.args.site.now in
-    let now = g.S.Site.state c.loop-self.site in
+    let now = g.S.Site.state c.loop-rest.site in
     let first = c.args.self.now in
-    let store = c.loop-self.self in
+    let store = c.loop-rest.self in
     let log0 = c.args.log.now in
-    let log = c.loop-self.log in
+    let log = c.loop-rest.log in
     let h = first.flash.geometry in
-    let so_far = c.loop-self.invariant.made list ready quiet in
-    let none : wants_flush (cache_of store) ≡ false = sym c.has_changed.ensures ∙ c.loop-self-test.false in
+    let so_far = c.loop-rest.invariant.made list ready quiet in
+    let none : wants_flush (cache_of store) ≡ false = none_left c.loop-rest.self.pool.frames c.loop-rest.rest.now c.loop-rest.invariant.pages (sym c.is_empty.ensures ∙ c.loop-rest-test.false) in
     subst (λ (changes : List Change). LeavesFront h changes old now)
     (none_to_come h (flush_changes log0 list first) old now (standing log (sealed_if (nat_lt log0.ring.hi log.ring.hi) list) store) (changed_count (cache_of store).pool) so_far none) so_far.front
 
 pub returns-clause-reaches : goal.returns-clause-reaches
 returns-clause-reaches g c list ready quiet =
     let old = g.S.Site.state c.args.site.now in
-    let now = g.S.Site.state c.loop-self.site in
+    let now = g.S.Site.state c.loop-rest.site in
     let first = c.args.self.now in
-    let store = c.loop-self.self in
+    let store = c.loop-rest.self in
     let log0 = c.args.log.now in
-    let log = c.loop-self.log in
+    let log = c.loop-rest.log in
     let h = first.flash.geometry in
-    let so_far = c.loop-self.invariant.made list ready quiet in
-    let none : wants_flush (cache_of store) ≡ false = sym c.has_changed.ensures ∙ c.loop-self-test.false in
+    let so_far = c.loop-rest.invariant.made list ready quiet in
+    let none : wants_flush (cache_of store) ≡ false = none_left c.loop-rest.self.pool.frames c.loop-rest.rest.now c.loop-rest.invariant.pages (sym c.is_empty.ensures ∙ c.loop-rest-test.false) in
     subst (λ (changes : List Change). Reaches h changes old.image now.image)
     (none_to_come h (flush_changes log0 list first) old now (standing log (sealed_if (nat_lt log0.ring.hi log.ring.hi) list) store) (changed_count (cache_of store).pool) so_far none) so_far.reaches
 
 pub returns-in-Err-clause-worn_end : goal.returns-in-Err-clause-worn_end
 returns-in-Err-clause-worn_end g c list ready says =
-    let inv = c.loop-self.invariant in
+    let inv = c.loop-rest.invariant in
     subst (λ (h : Geometry). IsWorn h (g.S.Site.state c.push_changed.new.site).image) inv.geometry
-    (c.in-Err.ensures.worn_end (sealed_if (nat_lt c.args.log.now.ring.hi c.loop-self.log.ring.hi) list) (inv.ready list ready) says)
+    (c.in-Err.ensures.worn_end (sealed_if (nat_lt c.args.log.now.ring.hi c.loop-rest.log.ring.hi) list) (inv.ready list ready) says)
 
 pub returns-in-Err-clause-asked : goal.returns-in-Err-clause-asked
 returns-in-Err-clause-asked g c =
     let first = c.args.self.now in
-    let store = c.loop-self.self in
-    let inv = c.loop-self.invariant in
-    let wants : wants_flush (cache_of store) ≡ true = sym c.has_changed.ensures ∙ c.loop-self-test.true in
+    let store = c.loop-rest.self in
+    let inv = c.loop-rest.invariant in
+    let wants : wants_flush (cache_of store) ≡ true = some_left c.loop-rest.self.pool.frames c.loop-rest.rest.now c.loop-rest.invariant.pages (sym c.is_empty.ensures ∙ c.loop-rest-test.true) in
     let some : 1 ≤ (rules_for first).groups = omega (arith, c.requires.going.flash.limits.groups) in
     let more = flushed_more c.flushes_save_all.ensures.goes_on (rules_for first) (cache_of store) some wants in
     let same = ap next_group inv.machine in
@@ -355,8 +386,8 @@ returns-in-Err-clause-asked g c =
 pub returns-clause-asked : goal.returns-clause-asked
 returns-clause-asked g c =
     let first = c.args.self.now in
-    let store = c.loop-self.self in
-    let inv = c.loop-self.invariant in
+    let store = c.loop-rest.self in
+    let inv = c.loop-rest.invariant in
     let some : 1 ≤ (rules_for first).groups = omega (arith, c.requires.going.flash.limits.groups) in
     let more = flushed_next (rules_for first) (cache_of store) some in
     let same = ap next_group inv.machine in
@@ -365,9 +396,9 @@ returns-clause-asked g c =
 pub returns-in-Err-clause-overflows : goal.returns-in-Err-clause-overflows
 returns-in-Err-clause-overflows g c is =
     let first = c.args.self.now in
-    let store = c.loop-self.self in
-    let inv = c.loop-self.invariant in
-    let wants : wants_flush (cache_of store) ≡ true = sym c.has_changed.ensures ∙ c.loop-self-test.true in
+    let store = c.loop-rest.self in
+    let inv = c.loop-rest.invariant in
+    let wants : wants_flush (cache_of store) ≡ true = some_left c.loop-rest.self.pool.frames c.loop-rest.rest.now c.loop-rest.invariant.pages (sym c.is_empty.ensures ∙ c.loop-rest-test.true) in
     let some : 1 ≤ (rules_for first).groups = omega (arith, c.requires.going.flash.limits.groups) in
     let more = flushed_more c.flushes_save_all.ensures.goes_on (rules_for first) (cache_of store) some wants in
     let same = ap next_group inv.machine in
@@ -378,6 +409,6 @@ returns-in-Err-clause-overflows g c is =
 
 pub returns-in-Err-clause-worn_log_end : goal.returns-in-Err-clause-worn_log_end
 returns-in-Err-clause-worn_log_end g c list ready says =
-    let inv = c.loop-self.invariant in
+    let inv = c.loop-rest.invariant in
     subst (λ (h : Geometry). IsLogAtEnd h (g.S.Site.state c.push_changed.new.site).image) inv.geometry
-    (c.in-Err.ensures.worn_log_end (sealed_if (nat_lt c.args.log.now.ring.hi c.loop-self.log.ring.hi) list) (inv.ready list ready) says)
+    (c.in-Err.ensures.worn_log_end (sealed_if (nat_lt c.args.log.now.ring.hi c.loop-rest.log.ring.hi) list) (inv.ready list ready) says)

@@ -1,10 +1,11 @@
-use Rattle.std.proofs.Common.{IsTrue, ◌≡◌, ◌≢◌, ◌+◌, ◌*◌, ◌≤◌, true, Option}
+use Rattle.std.proofs.Common.{map, IsTrue, ◌≡◌, ◌≢◌, ◌+◌, ◌*◌, ◌≤◌, true, Option}
 use Rattle.std.specs.Prelude.{◌||◌, ◌^◌}
 use Rattle.std.specs.Prelude.{nat_lt}
 use Rattle.site.specs.declared.outside.Dev.{Dev}
 use Rattle.site.specs.declared.outside.Dev.TheVariants.{Flash}
 use Rattle.site.specs.State.{reads_of, IsQuiet, snapshot_of}
 use Rattle.site.specs.Calls.{Goes}
+use Rattle.site.specs.Faults.{faults_in}
 use Rattle.site.specs.Moments.{LeavesOnly}
 use Rattle.second_chance.specs.Machine.{flushed, wants_flush}
 use Rattle.second_chance.specs.Laws.{changed_count}
@@ -16,14 +17,15 @@ use Rattle.image_meaning.specs.Beside.{AreRingsSoundUnder}
 use Rattle.page_store.specs.Held.{MayGoOn, current}
 use Rattle.page_store.specs.Caching.{next_group, cache_of, rules}
 use Rattle.page_store.specs.Ahead.{IsAhead, AreLogged, AreSealed, LeavesSealed, end_forced, forces}
-use Rattle.page_store.specs.Flushing.{flushed_contents}
+use Rattle.buffer_pool.specs.declared.frame.Frame.{Frame}
+use Rattle.page_store.specs.Flushing.{changed_frames, flushed_contents}
 use Rattle.page_store.specs.Leaves.{AreReady, LeavesPages, LeavesRings, KeepsCurrent}
 use Rattle.page_store.specs.Changing.{standing, flush_changes}
 use Rattle.page_store.proofs.Changing.{HasMade}
 use Rattle.page_store.proofs.store.PageStore.push_all_changed.Given as goal
 
-abbrev pub invariant-loop-self : goal.invariant-loop-self
-invariant-loop-self g l =
+abbrev pub invariant-loop-rest : goal.invariant-loop-rest
+invariant-loop-rest g l =
     let old = g.S.Site.state l.fn.site in
     let now = g.S.Site.state l.site in
     let first = l.fn.self in
@@ -55,10 +57,12 @@ invariant-loop-self g l =
       grows : end_of l.fn.log ≤ end_of l.log;
       rises : l.fn.log.ring.hi ≤ l.log.ring.hi;
       goes : Goes old now;
+      faults : faults_in now ≡ faults_in old;
       reads : now.flash_reads + 8 * changed_count (cache_of l.self).pool ≤ old.flash_reads + 8 * changed_count (cache_of first).pool;
       asked : now.flash_reads + 8 * next_group (cache_of first) ≤ old.flash_reads + 8 * next_group (cache_of l.self);
+      pages : l.rest ≡ map (λ (f : Frame). f.page) (changed_frames l.self.pool.frames);
       others : (d : Dev) → d ≢ Flash → reads_of d now ≡ reads_of d old;
     }
 
-abbrev pub decreases-loop-self : goal.decreases-loop-self
-decreases-loop-self g l = changed_count (cache_of l.self).pool
+abbrev pub decreases-loop-rest : goal.decreases-loop-rest
+decreases-loop-rest g l = changed_count (cache_of l.self).pool

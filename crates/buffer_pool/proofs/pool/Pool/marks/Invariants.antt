@@ -1,0 +1,10 @@
+use Rattle.std.proofs.Common.{◌≡◌, ◌++◌, map, length}
+use Rattle.buffer_pool.specs.Frames.{mark_of}
+use Rattle.buffer_pool.proofs.Walks.{told}
+use Rattle.buffer_pool.proofs.pool.Pool.marks.Given as goal
+
+abbrev pub invariant-loop-page : goal.invariant-loop-page
+invariant-loop-page l = map mark_of l.self.frames ≡ l.marks.items ++ map told l.colder
+
+abbrev pub decreases-loop-page : goal.decreases-loop-page
+decreases-loop-page l = length l.colder

@@ -1,0 +1,12 @@
+use Rattle.std.proofs.Common.{◌≡◌, ◌≤◌, ℕ, nat_eq, take, if◌then◌else◌}
+use Rattle.indexmap.specs.IndexMap.{get, spare}
+use Rattle.second_chance.specs.Queue.{in_group}
+use Rattle.flash_directory.specs.Places.{elsewhere}
+use Rattle.flash_directory.proofs.places.forget_group.Given as goal
+
+abbrev pub invariant-loop-frame : goal.invariant-loop-frame
+invariant-loop-frame l = record {
+  forgotten : (n : ℕ) → get nat_eq l.places n
+      ≡ (if in_group (take l.frame-index l.frame-items) n then elsewhere l.number (get nat_eq l.fn.places n) else get nat_eq l.fn.places n);
+  room : spare l.fn.places ≤ spare l.places;
+}

@@ -1,0 +1,11 @@
+use Rattle.std.proofs.Common.{map, ap, ◌∙◌, take_all}
+use Rattle.page_store.specs.Flushing.{chosen}
+use Rattle.page_store.proofs.Choosing.{changed_mark, changed_marks, chosen_changed}
+use Rattle.page_store.proofs.store.PageStore.changed_marks.Goals as goal
+
+pub returns-clause-marks : goal.returns-clause-marks
+returns-clause-marks c =
+    let store = c.args.self.now in
+    c.loop-page.invariant
+    ∙ ap (map (changed_mark store.flash.directory)) (take_all c.loop-page.page-index c.args.pages.now c.loop-page-test.false ∙ c.requires)
+    ∙ changed_marks store.flash.directory (chosen store.pool.frames) (chosen_changed store.pool.frames)
