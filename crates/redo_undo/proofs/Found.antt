@@ -1,13 +1,13 @@
 -- Undoing what analysis has found, record by record.
 use Rattle.std.proofs.Common.{◌≡◌, ℕ, ◌+◌, ◌-◌, ◌*◌, ◌≤◌, ◌<◌, ◌&&◌, ◌||◌, not, Bool, true, false, List, [], ◌∷◌, ◌++◌, length, Option, None, Some, true≢false, refl, sym, ap, subst, ◌∙◌, arith, append_assoc, append-nil}
 use Rattle.std.specs.List.{list_any}
-use Rattle.std.specs.Prelude.{if◌then◌else◌, map, filter, option_map}
+use Rattle.std.specs.Prelude.{if◌then◌else◌, map, filter}
 use Rattle.std.proofs.lemmas.List.{length-append, length-map}
 use Rattle.std.proofs.lemmas.Option.{none-some, same_Some}
 use Rattle.site.specs.State.{State}
 use Rattle.record_model.specs.State.{Content}
-use Rattle.log_records.specs.declared.log_record.LogRecord.TheVariants.{Clr, End}
-use Rattle.log_records.specs.Log.{Entry, txn_of, is_of, is_loser, is_closed, entries_of}
+use Rattle.log_records.specs.declared.log_record.LogRecord.TheVariants.{End}
+use Rattle.log_records.specs.Log.{Entry, is_of, is_loser, is_closed, entries_of}
 use Rattle.log_records.specs.Unfinished.{left_open, owed, owed_by}
 use Rattle.log_records.specs.Sound.{AreOrderly, InTurn, IsInOrder, last_number, is_known}
 use Rattle.log_laws.specs.Follow.{Follows, IsUndoable}
@@ -25,10 +25,8 @@ use Rattle.analysis.specs.declared.analysis.Loser.{Loser}
 use Rattle.analysis.specs.Open.{Open, found_in, IsTop, Remains}
 use Rattle.analysis.specs.Table.{listed}
 use Rattle.analysis.specs.Read.{IsTable, is_active, open_at}
-use Rattle.redo_undo.specs.declared.undo.Undoing.{Undoing}
 use Rattle.redo_undo.specs.Holding.{Holds, MayGrow, blocks_to}
-use Rattle.redo_undo.specs.Undoing.{Undone}
-use Rattle.redo_undo.specs.UndoingAll.{IsOf, Remain, AreUpTo, IsUndoing, IsGreatest, IsNextUndo, UndoesSome, UndoesAll}
+use Rattle.redo_undo.specs.UndoingAll.{IsOf, Remain, AreUpTo, IsUndoing, IsNextUndo, UndoesSome, UndoesAll}
 use Rattle.redo_undo.specs.Laws.{PageLaws, UndoLaws, FoundLaws}
 use Rattle.redo_undo.proofs.Compensations.{chain}
 use Rattle.redo_undo.proofs.Opens.{all_found}
@@ -228,14 +226,6 @@ module _ (laws : UndoLaws) (log : LogStore) (pages : PageStore) (site : State) (
   one_end t lsn h is owes orderly =
       one_more (record { lsn = lsn; rec = End t }) h is (record { ends_first = λ clr. absurd (true≢false (sym clr)); greatest = λ clr. absurd (true≢false (sym clr)) }) owes orderly
 
-  -- a CLR
-  pub one_clr : (x : Unfinished) (now : Undoing) (u : Undone log pages site newest records table commits x now) → IsTable [] (records ++ record { lsn = now.last; rec = Clr x.txn x.last now.next u.page u.slot u.before } ∷ []) (listed found.table) →
-      ((t : ℕ) → is_loser records t ≡ true → 0 < length (left_open records t)) → IsGreatest records x.txn → UndoesSome log pages site newest records table commits found now.last
-  one_clr x now u is remain greatest =
-      subst (λ (lsn : ℕ). UndoesSome log pages site newest records table commits found lsn) (ap (λ (e : Entry). e.lsn) u.e_is)
-      (one_more u.e u.holds (subst (λ (e : Entry). IsTable [] (records ++ e ∷ []) (listed found.table)) (sym u.e_is) is)
-      (record { ends_first = λ clr. remain; greatest = λ clr. subst (IsGreatest records) (sym u.own) greatest }) u.owes u.orderly)
-
 -- Records in turn.
 
 pub in_turn_join : (P : List Entry → Entry → Type 0) (earlier xs ys : List Entry) → InTurn P earlier xs → InTurn P (earlier ++ xs) ys → InTurn P earlier (xs ++ ys)
@@ -294,8 +284,3 @@ sealed_up_to page_laws laws log pages site newest records table commits known h 
     let used = h.log_holds.ready.records.tail.end in
     let few = ltb-false 2 log.used none in
     below_end (512 * kept_by newest) records (next_lsn p h.log_holds.tail) known (let behind = page_laws.next newest h.log_holds.blocks in omega (arith, hi, next, used, few, at, behind)) order
-
--- the Update that analysis undoes next is the last of all that remain
-pub next_is_greatest : (next : Option (ℕ × ℕ)) (at : ℕ × ℕ) (last : Option Entry) → next ≡ Some at → next ≡ option_map (λ (u : Entry). record { 0 = txn_of u; 1 = u.lsn }) last → (u : Entry) × (last ≡ Some u) × (txn_of u ≡ at.0)
-next_is_greatest next at None some is = absurd (none-some at (sym is ∙ some))
-next_is_greatest next at (Some u) some is = (u, refl, ap (λ (p : ℕ × ℕ). p.0) (same_Some (record { 0 = txn_of u; 1 = u.lsn }) at (sym is ∙ some)))

@@ -49,9 +49,6 @@ pub none_of : {X : Type 0} (xs : List X) → 0 ≡ length xs → xs ≡ []
 none_of [] is = refl
 none_of (x ∷ xs) is = absurd (omega (arith, is))
 
-pub some_of : {X : Type 0} (xs rest : List X) (x : X) → xs ≡ x ∷ rest → 0 < length xs
-some_of xs rest x is = let count = ap length is in omega (arith, count)
-
 -- Of a transaction these Updates are undone: the cache has done what that asks for, and the others are left.
 pub record AsksSoFar (records clrs : List Entry) (txn : ℕ) (old new : PageStore) (before now : State) : Type 0 where
   pub done : List Entry

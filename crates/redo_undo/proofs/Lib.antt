@@ -36,3 +36,4 @@ pub mod WornLogs
 pub mod RingNumbers
 pub mod UndoneNumbers
 pub mod LeftNumbers
+pub mod Calling

@@ -1,8 +1,8 @@
 -- Lists of active transactions.
-use Rattle.std.proofs.Common.{◌≡◌, ◌≢◌, inl, inr, ℕ, suc, ◌+◌, ◌≤◌, ◌<◌, ◌==◌, Bool, true, false, cond, List, [], ◌∷◌, ◌++◌, length, Option, None, Some, refl, sym, ap, subst, ◌∙◌, arith}
+use Rattle.std.proofs.Common.{◌≡◌, ◌≢◌, ℕ, suc, ◌+◌, ◌≤◌, ◌<◌, ◌==◌, Bool, true, false, cond, List, [], ◌∷◌, ◌++◌, length, Option, None, Some, refl, sym, ap, subst, ◌∙◌, arith}
 use Rattle.std.specs.Prelude.{slice_get, map, drop, Result, Ok, Err, OnOk, IfNone}
 use Rattle.std.specs.List.{AllByRecursion}
-use Rattle.std.proofs.lemmas.Bool.{cases_lt, ne_eqb, eq-eqb}
+use Rattle.std.proofs.lemmas.Bool.{ne_eqb, eq-eqb}
 use Rattle.std.proofs.lemmas.List.Sums.{sum_by-cons}
 use Rattle.std.proofs.lemmas.Option.{none-some, same_Some}
 use Rattle.analysis.specs.declared.analysis.Loser.{Loser}
@@ -31,14 +31,6 @@ all_both P Q R f (x ∷ xs) p q = (f x p.0 q.0, all_both P Q R f xs p.1 q.1)
 pub all_by_place : (Q : Loser → Type 0) (table : List Open) → ((k : ℕ) (l : Loser) → k < length table → slice_get (map loser_of table) k ≡ Some l → Q l) → AllByRecursion (λ x. Q (loser_of x)) table
 all_by_place Q [] each = tt
 all_by_place Q (x ∷ table) each = (each 0 (loser_of x) (omega arith) refl, all_by_place Q table (λ k l less is. each (suc k) l (omega (arith, less)) is))
-
-pub one_more_place : (Q : Loser → Type 0) (table : List Open) (place : ℕ) (loser : Loser) → slice_get (map loser_of table) place ≡ Some loser → Q loser →
-    ((k : ℕ) (l : Loser) → k < place → slice_get (map loser_of table) k ≡ Some l → Q l) → (k : ℕ) (l : Loser) → k < place + 1 → slice_get (map loser_of table) k ≡ Some l → Q l
-one_more_place Q table place loser there own each k l less is = elim (cases_lt k place) [
-  | inl before ↦ each k l before is
-  | inr late ↦ let same : k ≡ place = omega (arith, less, late) in
-      subst Q (same_Some loser l (sym there ∙ sym (ap (slice_get (map loser_of table)) same) ∙ is)) own
-]
 
 pub none_found : (t : ℕ) (table : List Open) → AllByRecursion (λ x. x.txn ≢ t) table → found_in table t ≡ None
 none_found t [] all = refl

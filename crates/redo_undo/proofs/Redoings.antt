@@ -1,6 +1,6 @@
 -- Log and pages while the records of an opened log are redone.
-use Rattle.std.proofs.Common.{◌≡◌, ◌⊎◌, inl, inr, ℕ, ◌+◌, ◌*◌, ◌≤◌, ◌<◌, ◌==◌, ◌||◌, ◌&&◌, nat_lt, Bool, true, false, true≢false, IsTrue, List, [], append-nil, length, refl, sym, ap, subst, ◌∙◌, arith}
-use Rattle.std.specs.Prelude.{if◌then◌else◌, Result, Ok, Err, OnOk, Option}
+use Rattle.std.proofs.Common.{◌≡◌, ◌⊎◌, inl, inr, ℕ, ◌+◌, ◌*◌, ◌<◌, ◌==◌, ◌||◌, ◌&&◌, nat_lt, Bool, false, true≢false, IsTrue, List, [], append-nil, length, refl, sym, ap, subst, ◌∙◌, arith}
+use Rattle.std.specs.Prelude.{Result, Ok, Err, OnOk, Option}
 use Rattle.std.specs.List.{AllByRecursion}
 use Rattle.std.proofs.lemmas.Bool.Decides.{nat_tests}
 use Rattle.site.specs.declared.geometry.Geometry.{Geometry}
@@ -8,7 +8,7 @@ use Rattle.site.specs.State.{State, Image, Snapshot, snapshot_of, IsQuiet}
 use Rattle.site.specs.Calls.{Goes, IsUnchanged}
 use Rattle.site.specs.declared.outside.Dev.TheVariants.{Log}
 use Rattle.site.specs.Moments.{Leaves, LeavesOnly, SameBut, ChangesOnly}
-use Rattle.site.specs.Laws.{each_both, each_weaker, holds_now, no_call, unchanged_calm, stays_honest, quiet_leaves, in_sequence}
+use Rattle.site.specs.Laws.{each_both, each_weaker, no_call, unchanged_calm, stays_honest, quiet_leaves}
 use Rattle.sealed_ring.specs.Ring.{IsRing, hi_of}
 use Rattle.image_changes.specs.Rings.{log_shape, KeepsUnits, master_shape, Masters}
 use Rattle.record_model.specs.State.{Content}
@@ -198,14 +198,6 @@ pub ok_five_of : {A E : Type 0} (r : Result A E) (P Q R S T Z : Type 0) → (P �
 ok_five_of (Ok x) P Q R S T Z f p q r s t = f p q r s t
 ok_five_of (Err e) P Q R S T Z f p q r s t = tt
 
-pub ok_three_of : {A E : Type 0} (r : Result A E) (P Q R Z : Type 0) → (P → Q → R → Z) → OnOk r P → OnOk r Q → OnOk r R → OnOk r Z
-ok_three_of (Ok x) P Q R Z f p q r = f p q r
-ok_three_of (Err e) P Q R Z f p q r = tt
-
-pub rises_by : (b : Bool) (n m : ℕ) → m ≡ (if b then n + 1 else n) → n ≤ m
-rises_by true n m is = omega (arith, is)
-rises_by false n m is = omega (arith, is)
-
 -- Nothing was redone yet.
 
 logged_number : (n end : ℕ) → IsTrue ((n == 0) || nat_lt n end) → 0 < n → n < end
@@ -319,15 +311,6 @@ redoing_still redo o log pages old new front goes same h =
       known = subst (λ (i : Image). (page : ℕ) → page < o.sizes.pages → AreKnown front page (lsn_of (current pages i page))) (sym same.image) h.known;
       from = subst (λ (i : Image). (page : ℕ) → page < o.sizes.pages → IsFrom (opened o) front page (lsn_of (current pages i page))) (sym same.image) h.from;
     }
-
--- one call behind others
-pub and_opened : (o : Opening) (old mid new : State) → LeavesOnly old mid (LeavesOpened o old.told) → LeavesOnly mid new (LeavesOpened o mid.told) → LeavesOnly old new (LeavesOpened o old.told)
-and_opened o old mid new first second =
-    let told : mid.told ≡ old.told = (holds_now old mid (LeavesOpened o old.told) first).told in
-    in_sequence old mid new (Leaves (LeavesOpened o old.told)) first (subst (λ (t : List ℕ). LeavesOnly mid new (LeavesOpened o t)) told second)
-
-pub read_quiet : (old new : State) → IsUnchanged old new → IsQuiet old → IsQuiet new
-read_quiet old new same quiet = same.loose ∙ quiet
 
 pub then_read : (o : Opening) (old mid new : State) → LeavesOnly old mid (LeavesOpened o old.told) → IsUnchanged mid new → LeavesOnly old new (LeavesOpened o old.told)
 then_read o old mid new first same = unchanged_calm old mid new (Leaves (LeavesOpened o old.told)) first same

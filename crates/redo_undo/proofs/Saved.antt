@@ -33,7 +33,7 @@ use Rattle.checkpoint.specs.Units.{unit, IsUnit, master_in}
 use Rattle.checkpoint.specs.Newest.{seen}
 use Rattle.sealed_ring.specs.declared.ring.Ring.{Ring}
 use Rattle.sealed_ring.specs.declared.slots.Shape.{Shape}
-use Rattle.sealed_ring.specs.Ready.{Finds, IsUsable}
+use Rattle.sealed_ring.specs.Ready.{Finds}
 use Rattle.sealed_ring.specs.Ring.{Units, FitsIn, IsRing, hi_of}
 use Rattle.image_changes.specs.Rings.{Masters, Blocks, log_shape, KeepsUnits, master_shape}
 use Rattle.image_changes.specs.Changes.{AppendsMaster, Makes, Reaches, ReadsAs}
@@ -413,9 +413,6 @@ finds_kept masters old new shape keeps finds = record {
   hi = subst (λ (s : Shape). masters.hi ≡ hi_of s (content_of s.dev new.image)) (sym shape)
       (subst (λ (s : Shape). masters.hi ≡ hi_of s (content_of s.dev old.image)) shape finds.hi ∙ sym (ap (λ (u : Units). u.hi) keeps.units));
 }
-
-pub usable_still : (masters : Ring) (old new : State) → Goes old new → IsUsable masters old → IsUsable masters new
-usable_still masters old new goes usable = record { fits = subst (FitsIn masters.shape) (sym (goes.sizes masters.shape.dev)) usable.fits; bounded = usable.bounded }
 
 -- one call behind others
 pub then_for : (g g' : Geometry) (old mid new : State) (table : List Content) (commits : ℕ) → g' ≡ g → LeavesOnly old mid (LeavesFor g table commits old.told) → LeavesOnly mid new (LeavesFor g' table commits mid.told) →

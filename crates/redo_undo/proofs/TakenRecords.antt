@@ -3,8 +3,7 @@ use Rattle.std.proofs.Common.{◌≡◌, ℕ, suc, ◌+◌, ◌-◌, ◌*◌, �
 use Rattle.std.specs.Prelude.{⊤, Result, Ok, Err, Option}
 use Rattle.site.specs.Calls.{Goes, IsUnchanged}
 use Rattle.record_model.specs.State.{Content}
-use Rattle.site.specs.State.{State, IsQuiet}
-use Rattle.site.specs.Moments.{LeavesOnly}
+use Rattle.site.specs.State.{State}
 use Rattle.log_records.specs.declared.log_record.LogRecord.{LogRecord}
 use Rattle.log_records.specs.Log.{Entry, entries_from, log_from}
 use Rattle.log_records.specs.Spelling.{IsBlock, used_by}
@@ -18,11 +17,11 @@ use Rattle.page_store.specs.declared.store.PageStore.{PageStore}
 use Rattle.redo_undo.specs.declared.redo_pass.Redone.{Redone}
 use Rattle.redo_undo.specs.Laws.{PageLaws}
 use Rattle.redo_undo.specs.RedoLaws.{RedoLaws}
-use Rattle.redo_undo.specs.Redoing.{IsOpened, Opening, LeavesOpened, HasTaken, asked_of, opened, heard_of}
+use Rattle.redo_undo.specs.Redoing.{IsOpened, Opening, HasTaken, asked_of, opened, heard_of}
 use Rattle.redo_undo.specs.Works.{Asks}
 use Rattle.redo_undo.proofs.BlockRecords.{IsPast, past_none}
 use Rattle.redo_undo.proofs.LogBlocks.{block_of, log_split, log_take, take_whole}
-use Rattle.redo_undo.proofs.Redoings.{nothing_happens, redoing_still, then_read, begins}
+use Rattle.redo_undo.proofs.Redoings.{redoing_still, begins}
 use Rattle.checkpoint.specs.declared.master.Master.{Master}
 use Rattle.checkpoint.specs.Newest.{seen}
 use Rattle.analysis.specs.Taken.{is_taken, Steps, taken}
@@ -31,13 +30,11 @@ use Rattle.log_records.specs.Unfinished.{losers}
 use Rattle.analysis.specs.Table.{listed}
 use Rattle.redo_undo.proofs.RedoWorks.{nothing_asked}
 
--- up to a place of a block all records are taken, and at each moment so far the devices stood for the same table; the cache was asked for
--- their work
+-- up to a place of a block all records are taken, and the cache was asked for their work
 pub record IsPartWay (o : Opening) (log : LogStore) (entry pages : PageStore) (old site : State) (so_far : Redone) (front : List Entry) (block : ℕ) (octets : List ℕ) (used at : ℕ) (records : List LogRecord) : Type 0 where
   pub done : List Entry
   pub past : IsPast block octets used at records done
   pub taken : HasTaken o log pages site so_far (front ++ done)
-  pub moments : IsQuiet old → LeavesOnly old site (LeavesOpened o old.told)
   pub asked : Asks {T = ⊤} (Ok tt) (asked_of o done) entry pages old site
 
 pub part_begins : PageLaws → RedoLaws → (o : Opening) (log : LogStore) (pages : PageStore) (site : State) (so_far : Redone) (front : List Entry) (block : ℕ) (octets : List ℕ) (used : ℕ) (records : List LogRecord) →
@@ -46,7 +43,6 @@ part_begins laws redo o log pages site so_far front block octets used records si
   done = [];
   past = past_none block octets used records is end;
   taken = subst (HasTaken o log pages site so_far) (sym (append-nil front)) h;
-  moments = nothing_happens laws redo o log pages site front h.pages_are sizes;
   asked = nothing_asked pages site;
 }
 
@@ -54,14 +50,10 @@ part_begins laws redo o log pages site so_far front block octets used records si
 abbrev pub place : Opening → ℕ → ℕ
 place o block = block - kept_by o.newest
 
-abbrev pub read_of : Opening → ℕ → List Entry
-read_of o block = log_from (kept_by o.newest) (take (block - kept_by o.newest) o.blocks)
-
--- the first blocks are read, and at each moment so far the devices stood for the same table
+-- the first blocks are read
 pub record IsUpTo (o : Opening) (log : LogStore) (pages : PageStore) (old site : State) (so_far : Redone) (block : ℕ) : Type 0 where
   pub from : kept_by o.newest ≤ block
   pub taken : HasTaken o log pages site so_far (log_from (kept_by o.newest) (take (block - kept_by o.newest) o.blocks))
-  pub moments : IsQuiet old → LeavesOnly old site (LeavesOpened o old.told)
 
 take_nothing : (blocks : List (List LogRecord)) → take 0 blocks ≡ []
 take_nothing [] = refl
@@ -86,7 +78,6 @@ up_to_none laws redo log pages site newest blocks table commits found block size
     record {
       from = omega (arith, is);
       taken = subst (HasTaken o log pages site (record { found = found; records = 0 })) (sym (none_read o block is)) (record { pages_are = first; analysis = analysis; count = refl });
-      moments = nothing_happens laws redo o log pages site [] first sizes;
     }
 
 pub opened_count : (log : LogStore) (pages : PageStore) (site : State) (newest : Option Master) (blocks : List (List LogRecord)) (table : List Content) (commits : ℕ) → IsOpened pages.flash.geometry log pages site newest blocks table commits → log.ring.hi ≡ kept_by newest + length blocks
@@ -95,7 +86,6 @@ opened_count log pages site newest blocks table commits h = let hi = h.ready.blo
 -- the next block was read
 pub record IsNextBlock (o : Opening) (log : LogStore) (pages : PageStore) (old site : State) (so_far : Redone) (block : ℕ) (content : List ℕ) (used : ℕ) : Type 0 where
   pub taken : HasTaken o log pages site so_far (log_from (kept_by o.newest) (take (block - kept_by o.newest) o.blocks))
-  pub moments : IsQuiet old → LeavesOnly old site (LeavesOpened o old.told)
   pub content_is : IsBlock content (block_of o.blocks (block - kept_by o.newest))
   pub used_is : used ≡ used_by (block_of o.blocks (block - kept_by o.newest))
   pub split : log_from (kept_by o.newest) o.blocks ≡ log_from (kept_by o.newest) (take (block - kept_by o.newest) o.blocks)
@@ -114,7 +104,6 @@ module _ (redo : RedoLaws) (o : Opening) (log : LogStore) (pages : PageStore) (o
       let from = up.from in
       record {
         taken = record { pages_are = redoing_still redo o log pages site new (log_from (kept_by o.newest) (take (block - kept_by o.newest) o.blocks)) goes same up.taken.pages_are; analysis = up.taken.analysis; count = up.taken.count };
-        moments = λ quiet. then_read o old site new (up.moments quiet) same;
         content_is = read.0;
         used_is = read.1;
         split = log_split (kept_by o.newest) (block - kept_by o.newest) block o.blocks (omega (arith, from)) inside;

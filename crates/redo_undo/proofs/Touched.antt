@@ -167,14 +167,6 @@ module _ (logs : LogLaws) (laws : PageLaws) (log : LogStore) (pages : PageStore)
 
 -- results
 
-pub ok_three : {A E : Type 0} (r : Result A E) (P Q R Z : Type 0) → (P → Q → R → Z) → OnOk r P → OnOk r Q → OnOk r R → OnOk r Z
-ok_three (Ok x) P Q R Z f p q r = f p q r
-ok_three (Err e) P Q R Z f p q r = tt
-
-pub ok_four : {A E : Type 0} (r : Result A E) (P Q R S Z : Type 0) → (P → Q → R → S → Z) → OnOk r P → OnOk r Q → OnOk r R → OnOk r S → OnOk r Z
-ok_four (Ok x) P Q R S Z f p q r s = f p q r s
-ok_four (Err e) P Q R S Z f p q r s = tt
-
 pub ok_seven : {A E : Type 0} (r : Result A E) (P Q R S T U V Z : Type 0) → (P → Q → R → S → T → U → V → Z) → OnOk r P → OnOk r Q → OnOk r R → OnOk r S → OnOk r T → OnOk r U → OnOk r V → OnOk r Z
 ok_seven (Ok x) P Q R S T U V Z f p q r s t u v = f p q r s t u v
 ok_seven (Err e) P Q R S T U V Z f p q r s t u v = tt

@@ -1,5 +1,5 @@
 -- What the cache has done for some CLRs of a transaction.
-use Rattle.std.proofs.Common.{◌≡◌, ℕ, ◌+◌, true, ◌≤◌, List, [], ◌∷◌, ◌++◌, drop, append_assoc, append-nil, refl, sym, ap, ◌∙◌}
+use Rattle.std.proofs.Common.{◌≡◌, ℕ, ◌+◌, true, ◌≤◌, List, [], ◌∷◌, ◌++◌, drop, append_assoc, append-nil, refl, sym, ap, ◌∙◌, arith, length}
 use Rattle.std.specs.Prelude.{Ok, IsErrOf, ⊤, Option}
 use Rattle.site.specs.declared.outside.Dev.TheVariants.{Flash}
 use Rattle.site.specs.declared.outside.Stop.TheVariants.{Worn}
@@ -23,6 +23,7 @@ use Rattle.redo_undo.proofs.Rollbacks.{starts, goes_on}
 use Rattle.redo_undo.proofs.Asking.{asks_nothing}
 use Rattle.redo_undo.proofs.AskingUndo.{one_more_work}
 use Rattle.redo_undo.proofs.LeftUpdates.{AsksSoFar, left_after_clr}
+use Rattle.std.proofs.lemmas.List.{length-append}
 
 pub asks_none : (records : List Entry) (txn : ℕ) (pages : PageStore) (site : State) → AsksSoFar records [] txn pages pages site site
 asks_none records txn pages site = record {
@@ -58,10 +59,14 @@ starts_asking log pages site newest records table commits x first holds unfinish
 pub goes_on_asking : PageLaws → (laws : UndoLaws) (log : LogStore) (pages : PageStore) (site : State) (newest : Option Master) (records : List Entry) (table : List Content) (commits txn blocks : ℕ) (now : Undoing) (old : PageStore) (before : State) →
     (c : AsksFor log pages site newest records table commits txn blocks now old before) (log' : LogStore) (pages' : PageStore) (new : State) (next : Undoing) (u : Entry) (rest : List Entry) →
     left_open (records ++ c.0.clrs) now.txn ≡ u ∷ rest → Undone log' pages' new newest (records ++ c.0.clrs) table commits (left_of now c.0.remaining) next → blocks_to log' ≤ blocks_to log + 1 → new.log_reads ≤ site.log_reads + 1 →
-    Asks {T = Undoing} (Ok next) (works_of (u ∷ [])) pages pages' site new → AsksFor log' pages' new newest records table commits txn blocks next old before
+    Asks {T = Undoing} (Ok next) (works_of (u ∷ [])) pages pages' site new → (more : AsksFor log' pages' new newest records table commits txn blocks next old before) × (length c.0.clrs + 1 ≤ length more.0.clrs)
 unfolding goes_on
 goes_on_asking page_laws laws log pages site newest records table commits txn blocks now old before c log' pages' new next u rest left done one one_read asks =
-    let made = c.0 in (
-      goes_on page_laws laws log pages site newest records table commits txn blocks before.log_reads now made log' pages' new next done one one_read,
-      asks_one_more laws.left_push next records made.clrs txn old pages pages' before site new c.1 u rest done.e done.clr (done.own ∙ made.same) (sym (ap (left_open (records ++ made.clrs)) made.same) ∙ left) asks,
+    let made = c.0 in
+    let longer : length made.clrs + 1 ≤ length (made.clrs ++ done.e ∷ []) = omega (arith, length-append made.clrs (done.e ∷ [])) in (
+      (
+        goes_on page_laws laws log pages site newest records table commits txn blocks before.log_reads now made log' pages' new next done one one_read,
+        asks_one_more laws.left_push next records made.clrs txn old pages pages' before site new c.1 u rest done.e done.clr (done.own ∙ made.same) (sym (ap (left_open (records ++ made.clrs)) made.same) ∙ left) asks,
+      ),
+      longer,
     )

@@ -1,30 +1,27 @@
 -- The numbers of the rings while records of an opened log are redone, and between the calls of undo.
-use Rattle.std.proofs.Common.{◌≡◌, ℕ, ◌+◌, ◌≤◌, Bool, false, List, [], length, refl, sym, ap, ◌∙◌, arith, Option}
+use Rattle.std.proofs.Common.{◌≡◌, ℕ, ◌+◌, ◌≤◌, Bool, false, List, [], length, refl, sym, ap, ◌∙◌, arith}
 use Rattle.std.specs.Prelude.{Result, OnOk}
 use Rattle.site.specs.declared.geometry.Geometry.{Geometry}
 use Rattle.site.specs.State.{State, Image, snapshot_of}
-use Rattle.site.specs.Calls.{IsUnchanged}
 use Rattle.site.specs.Moments.{LeavesOnly}
 use Rattle.site.specs.Laws.{holds_now}
 use Rattle.sealed_ring.specs.Ring.{Units, hi_of}
 use Rattle.image_changes.specs.Rings.{log_shape, master_shape, KeepsUnits, Masters}
-use Rattle.record_model.specs.State.{Content}
 use Rattle.log_records.specs.Log.{Entry}
 use Rattle.log_store.specs.declared.store.LogStore.{LogStore}
 use Rattle.log_store.specs.LogList.{LogList}
 use Rattle.page_store.specs.declared.store.PageStore.{PageStore}
 use Rattle.page_store.specs.Held.{current}
 use Rattle.page_store.specs.Leaves.{LeavesPages}
-use Rattle.checkpoint.specs.declared.master.Master.{Master}
 use Rattle.image_meaning.specs.Meaning.{kept_by}
-use Rattle.redo_undo.specs.Holding.{Holds, blocks_to}
+use Rattle.redo_undo.specs.Holding.{blocks_to}
 use Rattle.redo_undo.specs.Redoing.{Opening, IsRedoing}
 use Rattle.redo_undo.specs.Numbers.{SkipsNone}
 use Rattle.redo_undo.proofs.WornLogs.{sealed_hi}
 use Rattle.redo_undo.specs.Laws.{PageLaws}
 use Rattle.redo_undo.specs.RedoLaws.{RedoLaws}
 use Rattle.redo_undo.proofs.Redoings.{leaves_so, blocks_left}
-use Rattle.redo_undo.proofs.RingNumbers.{ok_as, ok_always, hi_on, skips_reads, skips_on}
+use Rattle.redo_undo.proofs.RingNumbers.{ok_as, ok_always, hi_on, skips_on}
 
 -- a ring of master units that is kept has the same next number
 pub masters_hi : (old new : Image) → KeepsUnits master_shape old new → hi_of master_shape new.log ≡ hi_of master_shape old.log
@@ -41,27 +38,6 @@ skips_so_far r g old new before now n sizes hi few same =
       masters = omega (arith, same);
       saved = ok_always r _ (let is : hi_of master_shape now.image.log ≡ hi_of master_shape before.image.log + 0 = omega (arith, same) in is);
     }
-
--- a call behind them, together with which they make at most so many
-pub skips_behind : {T E : Type 0} (r : Result T E) (g g' : Geometry) (old mid new : LogStore) (before middle now : State) (n n' : ℕ) → g' ≡ g → blocks_to mid + n' ≤ blocks_to old + n →
-    hi_of master_shape middle.image.log ≡ hi_of master_shape before.image.log → SkipsNone r g' mid new middle now n' 0 → SkipsNone r g old new before now n 0
-skips_behind r g g' old mid new before middle now n n' sizes few saved more =
-    let second = skips_on r g' g mid new middle now n' 0 sizes more in
-    record {
-      log = ok_as r _ _ (λ blocks. omega (arith, blocks, few)) second.log;
-      blocks = let blocks = second.blocks in omega (arith, blocks, few);
-      masters = let masters = second.masters in omega (arith, masters, saved);
-      saved = ok_as r _ _ (λ masters. let all : hi_of master_shape now.image.log ≡ hi_of master_shape before.image.log + 0 = omega (arith, masters, saved) in all) second.saved;
-    }
-
--- a site of which only was read has the same ring of master units
-pub masters_read : (old new : State) → IsUnchanged old new → hi_of master_shape new.image.log ≡ hi_of master_shape old.image.log
-masters_read old new same = ap (λ (i : Image). hi_of master_shape i.log) same.image
-
--- a call that only reads the devices, where log and pages hold together
-pub skips_held : {T E : Type 0} (r : Result T E) (log : LogStore) (pages : PageStore) (old new : State) (newest : Option Master) (records : List Entry) (table : List Content) (commits n : ℕ) → log.geometry ≡ pages.flash.geometry → IsUnchanged old new →
-    Holds log pages old newest records table commits → SkipsNone r pages.flash.geometry log log old new n 0
-skips_held r log pages old new newest records table commits n sizes same h = skips_reads r pages.flash.geometry log old new n (hi_on log.geometry pages.flash.geometry log old.image sizes h.log_holds.ready.blocks.hi) same.image
 
 -- While records are redone the log ends with the blocks that it was opened with.
 module _ (o : Opening) (log : LogStore) (pages : PageStore) (site : State) (front : List Entry) (h : IsRedoing o log pages site front) where

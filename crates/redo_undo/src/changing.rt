@@ -1,7 +1,7 @@
 // What a record of the log has written enters the page in front of the pool.
-ghost use Rattle.std.specs.Prelude.{◌≡◌, ◌≢◌, ◌+◌, ◌*◌, ◌%◌, ◌/◌, ◌<◌, ℕ, List, length, Some, None, option_copied};
+ghost use Rattle.std.specs.Prelude.{◌≡◌, ◌≢◌, ◌+◌, ◌*◌, ◌<◌, ℕ, length, Some, None, option_copied};
 ghost use Rattle.site.specs.State.{State, Image};
-ghost use Rattle.log_records.specs.Log.{Entry, number_of, after_of};
+ghost use Rattle.log_records.specs.Log.{number_of, after_of};
 ghost use Rattle.log_records.specs.Spelling.{HasForm, IsShort};
 ghost use Rattle.slotted_page.specs.Layout.{lsn_of};
 ghost use Rattle.buffer_pool.specs.Frames.{front_of};

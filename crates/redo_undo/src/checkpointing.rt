@@ -3,7 +3,7 @@ ghost use Rattle.std.specs.Prelude.{◌≡◌, ◌≢◌, ◌⊎◌, ◌+◌, �
 ghost use Rattle.site.specs.declared.outside.Dev.{Dev};
 ghost use Rattle.site.specs.declared.outside.Stop.{Stop};
 ghost use Rattle.site.specs.State.{IsQuiet, reads_of};
-ghost use Rattle.site.specs.Calls.{Goes, SameReads, FaultRose};
+ghost use Rattle.site.specs.Calls.{SameReads};
 ghost use Rattle.site.specs.Moments.{LeavesOnly};
 ghost use Rattle.sealed_ring.specs.Ring.{hi_of};
 ghost use Rattle.sealed_ring.specs.Ready.{IsUsable, IsReady, Finds};
@@ -12,7 +12,7 @@ ghost use Rattle.log_records.specs.Log.{Entry};
 ghost use Rattle.log_records.specs.Sound.{AreOrderly, from_block};
 ghost use Rattle.checkpoint.specs.declared.master.Master.{Master};
 ghost use Rattle.checkpoint.specs.Actives.{Ascend};
-ghost use Rattle.image_changes.specs.Rings.{KeepsUnits, master_shape};
+ghost use Rattle.image_changes.specs.Rings.{master_shape};
 ghost use Rattle.flash_cache.specs.Held.{IsWorn};
 ghost use Rattle.second_chance.specs.Machine.{flushed, wants_flush};
 ghost use Rattle.second_chance.specs.Laws.{changed_count};
@@ -23,10 +23,11 @@ ghost use Rattle.page_store.specs.Caching.{cache_of, rules};
 ghost use Rattle.page_store.specs.Stopping.{MayStop};
 ghost use Rattle.image_meaning.specs.Moments.{LeavesTableUnder, LeavesFor};
 ghost use Rattle.image_meaning.specs.Flushed.{first_block};
-ghost use Rattle.redo_undo.specs.Holding.{MayGoOn, Holds, IsLogWorn, blocks_to};
+ghost use Rattle.redo_undo.specs.Holding.{MayGoOn, Holds, blocks_to};
 ghost use Rattle.redo_undo.specs.Checkpointing.{MayBeMade, KeepUnfinished, begins_of, SaveLaws};
 ghost use Rattle.redo_undo.specs.Works.{Asks, checkpoint_works};
 ghost use Rattle.redo_undo.specs.Numbers.{SkipsNone};
+ghost use Rattle.redo_undo.specs.Calls.{Calls, Works, Keeps};
 
 use crate::forcing::force;
 use crate::laws::{beside_laws, log_laws, page_laws};
@@ -71,42 +72,19 @@ fn flush<S: Site>(site: &mut S, log: &mut LogStore, pages: &mut PageStore) -> Re
     ensures holds { (newest : Option Master) (records : List Entry) (table : List Content) (commits : ℕ)
         → Holds log.old pages.old (S.state site.old) newest records table commits
         → OnOk result (Holds log.new pages.new (S.state site.new) newest records table commits) }
-    ensures any_moment { (newest : Option Master) (records : List Entry) (table : List Content) (commits : ℕ)
+    ensures keeps { (newest : Option Master) (records : List Entry) (table : List Content) (commits : ℕ)
         → Holds log.old pages.old (S.state site.old) newest records table commits
-        → IsQuiet (S.state site.old)
-        → LeavesOnly (S.state site.old) (S.state site.new)
-        (LeavesTableUnder newest pages.old.flash.geometry table commits (S.state site.old).told) }
-    ensures numbers { (newest : Option Master) (records : List Entry) (table : List Content) (commits : ℕ)
-        → Holds log.old pages.old (S.state site.old) newest records table commits
-        → IsQuiet (S.state site.old)
-        → SkipsNone result pages.old.flash.geometry log.old log.new (S.state site.old) (S.state site.new) 0 0 }
-    ensures masters { (newest : Option Master) (records : List Entry) (table : List Content) (commits : ℕ)
-        → Holds log.old pages.old (S.state site.old) newest records table commits
-        → OnOk result (KeepsUnits master_shape (S.state site.old).image (S.state site.new).image) }
-    ensures worn_end { (newest : Option Master) (records : List Entry) (table : List Content) (commits : ℕ)
-        → Holds log.old pages.old (S.state site.old) newest records table commits
-        → IsErrOf result (Stop.Worn Dev.Flash) → IsWorn pages.old.flash.geometry (S.state site.new).image }
-    ensures left { IsTrue (S.state site.old).honest → (S.state site.new).left ≡ (S.state site.old).left }
-    ensures stays_quiet { IsTrue (S.state site.old).honest → IsQuiet (S.state site.old)
-        → OnOk result (IsQuiet (S.state site.new)) }
-    ensures quiet { (newest : Option Master) (records : List Entry) (table : List Content) (commits : ℕ)
-        → Holds log.old pages.old (S.state site.old) newest records table commits
-        → IsQuiet (S.state site.old)
-        → IfErr result (λ stop. ((d : Dev) → stop ≢ Stop.Device d) → IsQuiet (S.state site.new)) }
+        → Keeps result pages.old.flash.geometry log.old log.new (S.state site.old) (S.state site.new)
+        (LeavesTableUnder newest pages.old.flash.geometry table commits (S.state site.old).told) 0 0 }
 
     // Of every site.
     ensures asks { Asks result checkpoint_works pages.old pages.new (S.state site.old) (S.state site.new) }
     ensures machine { OnOk result (cache_of pages.new ≡ flushed (rules pages.old) (cache_of pages.old)) }
     ensures clean { OnOk result (wants_flush (cache_of pages.new) ≡ false) }
     ensures sealed { OnOk result (log.new.used ≡ 2) }
-    ensures going { OnOk result (MayGoOn log.new pages.new (S.state site.new)) }
+    ensures works { Works result log.old log.new pages.old pages.new (S.state site.old) (S.state site.new) }
     ensures hi { OnOk result (log.new.ring.hi ≡ log.old.ring.hi) }
     ensures log_going { log_held.MayGoOn log.new (S.state site.new) }
-    ensures kept { log.new.kept ≡ log.old.kept }
-    ensures log_geometry { log.new.geometry ≡ log.old.geometry }
-    ensures geometry { pages.new.flash.geometry ≡ pages.old.flash.geometry }
-    ensures size { pages.new.pool.size ≡ pages.old.pool.size }
-    ensures goes { Goes (S.state site.old) (S.state site.new) }
     ensures reads { (S.state site.new).flash_reads
         ≤ (S.state site.old).flash_reads + 8 * changed_count (cache_of pages.old).pool }
     ensures others { (d : Dev) → d ≢ Dev.Flash
@@ -115,9 +93,6 @@ fn flush<S: Site>(site: &mut S, log: &mut LogStore, pages: &mut PageStore) -> Re
     // When each answer comes.
     ensures worn_log { IsErrOf result (Stop.Worn Dev.Log) → ⊥ }
     ensures worn_flash { IsErrOf result (Stop.Worn Dev.Flash) → pages.new.flash.ring.hi ≡ 2 ^ 40 }
-    ensures device { (d : Dev) → IsErrOf result (Stop.Device d)
-        → FaultRose d (S.state site.old) (S.state site.new) }
-    ensures stops { IfErr result (λ stop. MayStop stop) }
     ensures foreign { IfErr result (λ stop. stop ≢ Stop.Foreign) }
 {
     log_laws();
@@ -201,9 +176,6 @@ fn save_master<S: Site>(
         → OnOk result (IsReady masters.new (S.state site.new)) }
     ensures worn_log_end { Finds masters.old (S.state site.old)
         → IsErrOf result (Stop.Worn Dev.Log) → hi_of master_shape (S.state site.new).image.log ≡ 2 ^ 40 }
-    ensures left { IsTrue (S.state site.old).honest → (S.state site.new).left ≡ (S.state site.old).left }
-    ensures stays_quiet { IsTrue (S.state site.old).honest → IsQuiet (S.state site.old)
-        → OnOk result (IsQuiet (S.state site.new)) }
     ensures quiet { IsQuiet (S.state site.old)
         → IfErr result (λ stop. ((d : Dev) → stop ≢ Stop.Device d) → IsQuiet (S.state site.new)) }
 
@@ -217,13 +189,11 @@ fn save_master<S: Site>(
     ensures ring { OnOk result (masters.new ≡ record masters.old { hi = masters.old.hi + 1 }) }
     ensures shape { masters.new.shape ≡ master_shape }
     ensures usable { IsUsable masters.new (S.state site.new) }
-    ensures goes { Goes (S.state site.old) (S.state site.new) }
+    ensures calls { Calls result (S.state site.old) (S.state site.new) }
     ensures reads { SameReads (S.state site.old) (S.state site.new) }
 
     // When each answer comes.
     ensures worn { IsErrOf result (Stop.Worn Dev.Log) → masters.old.hi ≡ 2 ^ 40 }
-    ensures device { IsErrOf result (Stop.Device Dev.Log)
-        → FaultRose Dev.Log (S.state site.old) (S.state site.new) }
     ensures stops { IfErr result (λ stop. (stop ≡ Stop.Device Dev.Log) ⊎ (stop ≡ Stop.Worn Dev.Log)) }
 {
     save_laws();
@@ -276,17 +246,11 @@ pub fn checkpoint<S: Site>(
         → Holds log.old pages.old (S.state site.old) newest records table commits
         → MayBeMade masters.old (S.state site.old) records active
         → IfOk result (λ master. KeepUnfinished records (from_block master.kept records)) }
-    ensures any_moment { (newest : Option Master) (records : List Entry) (table : List Content)
+    ensures keeps { (newest : Option Master) (records : List Entry) (table : List Content)
         → Holds log.old pages.old (S.state site.old) newest records table commits
         → MayBeMade masters.old (S.state site.old) records active
-        → IsQuiet (S.state site.old)
-        → LeavesOnly (S.state site.old) (S.state site.new)
-        (LeavesFor pages.old.flash.geometry table commits (S.state site.old).told) }
-    ensures numbers { (newest : Option Master) (records : List Entry) (table : List Content)
-        → Holds log.old pages.old (S.state site.old) newest records table commits
-        → MayBeMade masters.old (S.state site.old) records active
-        → IsQuiet (S.state site.old)
-        → SkipsNone result pages.old.flash.geometry log.old log.new (S.state site.old) (S.state site.new) 0 1 }
+        → Keeps result pages.old.flash.geometry log.old log.new (S.state site.old) (S.state site.new)
+        (LeavesFor pages.old.flash.geometry table commits (S.state site.old).told) 0 1 }
     ensures found { (newest : Option Master) (records : List Entry) (table : List Content)
         → Holds log.old pages.old (S.state site.old) newest records table commits
         → MayBeMade masters.old (S.state site.old) records active
@@ -294,13 +258,6 @@ pub fn checkpoint<S: Site>(
     ensures worn_end { (newest : Option Master) (records : List Entry) (table : List Content)
         → Holds log.old pages.old (S.state site.old) newest records table commits
         → IsErrOf result (Stop.Worn Dev.Flash) → IsWorn pages.old.flash.geometry (S.state site.new).image }
-    ensures worn_log_end { (newest : Option Master) (records : List Entry) (table : List Content)
-        → Holds log.old pages.old (S.state site.old) newest records table commits
-        → MayBeMade masters.old (S.state site.old) records active
-        → IsErrOf result (Stop.Worn Dev.Log) → IsLogWorn pages.old.flash.geometry (S.state site.new).image }
-    ensures left { IsTrue (S.state site.old).honest → (S.state site.new).left ≡ (S.state site.old).left }
-    ensures stays_quiet { IsTrue (S.state site.old).honest → IsQuiet (S.state site.old)
-        → OnOk result (IsQuiet (S.state site.new)) }
     ensures quiet { (newest : Option Master) (records : List Entry) (table : List Content)
         → Holds log.old pages.old (S.state site.old) newest records table commits
         → IsQuiet (S.state site.old)
@@ -308,7 +265,7 @@ pub fn checkpoint<S: Site>(
 
     // Of every site.
     ensures master { IfOk result (λ master. (master.redo ≡ log.new.ring.hi) × (master.commits ≡ commits) × (master.active ≡ active)) }
-    ensures keeps { IfOk result (λ master. log.new.kept ≡ master.kept) }
+    ensures kept { IfOk result (λ master. log.new.kept ≡ master.kept) }
     ensures rises { OnOk result (log.old.kept ≤ log.new.kept) }
     ensures least { IfOk result (λ master. min log.new.ring.hi (first_block log.new.ring.hi (begins_of active)) ≤ master.kept) }
     ensures hi { OnOk result (log.new.ring.hi ≡ blocks_to log.old) }
@@ -325,7 +282,7 @@ pub fn checkpoint<S: Site>(
     ensures ring { OnOk result (masters.new ≡ record masters.old { hi = masters.old.hi + 1 }) }
     ensures shape { masters.new.shape ≡ master_shape }
     ensures usable { OnOk result (IsUsable masters.new (S.state site.new)) }
-    ensures goes { Goes (S.state site.old) (S.state site.new) }
+    ensures calls { Calls result (S.state site.old) (S.state site.new) }
     ensures reads { (S.state site.new).flash_reads
         ≤ (S.state site.old).flash_reads + 8 * changed_count (cache_of pages.old).pool }
     ensures others { (d : Dev) → d ≢ Dev.Flash
@@ -334,8 +291,6 @@ pub fn checkpoint<S: Site>(
     // When each answer comes.
     ensures worn_log { IsErrOf result (Stop.Worn Dev.Log) → (log.old.ring.hi ≡ 2 ^ 40) ⊎ (masters.old.hi ≡ 2 ^ 40) }
     ensures worn_flash { IsErrOf result (Stop.Worn Dev.Flash) → pages.new.flash.ring.hi ≡ 2 ^ 40 }
-    ensures device { (d : Dev) → IsErrOf result (Stop.Device d)
-        → FaultRose d (S.state site.old) (S.state site.new) }
     ensures stops { IfErr result (λ stop. MayStop stop) }
     ensures foreign { IfErr result (λ stop. stop ≢ Stop.Foreign) }
 {

@@ -1,9 +1,8 @@
 // A transaction is committed.
-ghost use Rattle.std.specs.Prelude.{◌≡◌, ◌≢◌, ◌⊎◌, ◌+◌, ◌<◌, ◌≤◌, ◌++◌, ◌∷◌, [], ℕ, List, IfOk, OnOk, IfErr, IsErrOf, IsTrue, Option};
+ghost use Rattle.std.specs.Prelude.{◌≡◌, ◌≢◌, ◌⊎◌, ◌+◌, ◌<◌, ◌≤◌, ◌++◌, ◌∷◌, [], ℕ, List, IfOk, OnOk, IfErr, IsErrOf, Option};
 ghost use Rattle.site.specs.declared.outside.Dev.{Dev};
 ghost use Rattle.site.specs.declared.outside.Stop.{Stop};
 ghost use Rattle.site.specs.State.{IsQuiet};
-ghost use Rattle.site.specs.Calls.{Goes, SameReads, FaultRose};
 ghost use Rattle.site.specs.Moments.{LeavesOnly};
 ghost use Rattle.record_model.specs.State.{Content, table_with};
 ghost use Rattle.log_records.specs.declared.log_record.LogRecord.{LogRecord};
@@ -19,6 +18,7 @@ ghost use Rattle.image_meaning.specs.Moments.{LeavesEitherUnder};
 ghost use Rattle.redo_undo.specs.Holding.{MayGoOn, Holds, KeepsPages, IsLogWorn, blocks_to};
 ghost use Rattle.redo_undo.specs.Committing.{MayCommit, CommitLaws};
 ghost use Rattle.redo_undo.specs.Numbers.{SkipsNone};
+ghost use Rattle.redo_undo.specs.Calls.{WorksBeside};
 
 use crate::laws::{beside_laws, log_laws, page_laws};
 use crate::logging::log_record;
@@ -84,9 +84,6 @@ pub fn commit<S: Site>(site: &mut S, log: &mut LogStore, txn: u64, number: u64) 
         → log.old.geometry ≡ pages.flash.geometry
         → Holds log.old pages (S.state site.old) newest records table commits
         → OnOk result (KeepsUnits master_shape (S.state site.old).image (S.state site.new).image) }
-    ensures left { IsTrue (S.state site.old).honest → (S.state site.new).left ≡ (S.state site.old).left }
-    ensures stays_quiet { IsTrue (S.state site.old).honest → IsQuiet (S.state site.old)
-        → OnOk result (IsQuiet (S.state site.new)) }
     ensures quiet { (pages : PageStore) (newest : Option Master) (records : List Entry) (table : List Content) (commits : ℕ)
         → log.old.geometry ≡ pages.flash.geometry
         → Holds log.old pages (S.state site.old) newest records table commits
@@ -95,19 +92,11 @@ pub fn commit<S: Site>(site: &mut S, log: &mut LogStore, txn: u64, number: u64) 
 
     // Of every site.
     ensures rises { IfOk result (λ lsn. (end_of log.old ≤ lsn) × (lsn < end_of log.new)) }
-    ensures going { (pages : PageStore) → MayGoOn log.old pages (S.state site.old)
-        → OnOk result (MayGoOn log.new pages (S.state site.new)) }
-    ensures log_going { log_held.MayGoOn log.new (S.state site.new) }
+    ensures works { WorksBeside result log.old log.new (S.state site.old) (S.state site.new) }
     ensures sealed { OnOk result (log.new.used ≡ 2) }
     ensures blocks { OnOk result (blocks_to log.new ≤ blocks_to log.old + 1) }
-    ensures kept { log.new.kept ≡ log.old.kept }
-    ensures geometry { log.new.geometry ≡ log.old.geometry }
-    ensures goes { Goes (S.state site.old) (S.state site.new) }
-    ensures reads { SameReads (S.state site.old) (S.state site.new) }
 
     // When each answer comes.
-    ensures device { IsErrOf result (Stop.Device Dev.Log)
-        → FaultRose Dev.Log (S.state site.old) (S.state site.new) }
     ensures stops { IfErr result (λ stop. (stop ≡ Stop.Device Dev.Log) ⊎ (stop ≡ Stop.Worn Dev.Log)) }
 {
     commit_laws();

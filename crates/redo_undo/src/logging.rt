@@ -1,16 +1,13 @@
 // A page is touched, a record is logged, and the page is changed.
-ghost use Rattle.std.specs.Prelude.{◌*◌, ◌≡◌, ◌≢◌, ◌⊎◌, ◌+◌, ◌^◌, ◌<◌, ◌≤◌, ◌++◌, ◌∷◌, [], ℕ, List, length, None, IfOk, IsTrue, true, false, OnOk, IfErr, IsErrOf, Option};
+ghost use Rattle.std.specs.Prelude.{◌*◌, ◌≡◌, ◌⊎◌, ◌+◌, ◌^◌, ◌<◌, ◌≤◌, ◌++◌, ◌∷◌, [], ℕ, List, length, None, IfOk, true, false, OnOk, IfErr, IsErrOf, Option};
 ghost use Rattle.site.specs.declared.outside.Dev.{Dev};
 ghost use Rattle.site.specs.declared.outside.Stop.{Stop};
-ghost use Rattle.site.specs.State.{IsQuiet};
-ghost use Rattle.site.specs.Calls.{Goes, SameReads, FaultRose};
-ghost use Rattle.site.specs.Moments.{LeavesOnly};
+ghost use Rattle.site.specs.Calls.{SameReads};
 ghost use Rattle.record_model.specs.State.{Content};
 ghost use Rattle.log_records.specs.declared.log_record.LogRecord.{LogRecord};
 ghost use Rattle.log_records.specs.Log.{Entry, number_of};
 ghost use Rattle.log_records.specs.Sound.{AreOrderly};
 ghost use Rattle.log_records.specs.Spelling.{HasForm};
-ghost use Rattle.flash_cache.specs.Held.{IsWorn};
 ghost use Rattle.log_store.specs.Held as log_held;
 ghost use Rattle.log_store.specs.Held.{end_of, has_tail};
 ghost use Rattle.page_store.specs.declared.store.PageStore.{PageStore};
@@ -18,14 +15,12 @@ ghost use Rattle.second_chance.specs.Machine.{touched, holds};
 ghost use Rattle.buffer_pool.specs.Frames.{front_of};
 ghost use Rattle.page_store.specs.Caching.{cache_of, rules, with_change, pushes};
 ghost use Rattle.page_store.specs.Ahead.{end_forced};
-ghost use Rattle.page_store.specs.Stopping.{MayStop};
-ghost use Rattle.image_changes.specs.Rings.{KeepsUnits, master_shape};
 ghost use Rattle.checkpoint.specs.declared.master.Master.{Master};
 ghost use Rattle.image_meaning.specs.Moments.{LeavesTableUnder};
-ghost use Rattle.redo_undo.specs.Holding.{MayGoOn, HoldsLog, Holds, MayGrow, KeepsPages, IsOnPage, IsLogWorn, blocks_to};
+ghost use Rattle.redo_undo.specs.Holding.{MayGoOn, HoldsLog, Holds, MayGrow, KeepsPages, IsOnPage, blocks_to};
 ghost use Rattle.redo_undo.specs.Committing.{EndsWith};
 ghost use Rattle.redo_undo.specs.Works.{Asks, one_touch};
-ghost use Rattle.redo_undo.specs.Numbers.{SkipsNone};
+ghost use Rattle.redo_undo.specs.Calls.{Works, LogsNothing, WorksBeside, Keeps, KeepsBeside};
 
 use crate::changing::change_front;
 use crate::laws::{beside_laws, log_laws, page_laws};
@@ -51,57 +46,22 @@ pub fn touch<S: Site>(
     ensures holds { (newest : Option Master) (records : List Entry) (table : List Content) (commits : ℕ)
         → Holds log.old pages.old (S.state site.old) newest records table commits
         → OnOk result (Holds log.new pages.new (S.state site.new) newest records table commits) }
-    ensures any_moment { (newest : Option Master) (records : List Entry) (table : List Content) (commits : ℕ)
+    ensures keeps { (newest : Option Master) (records : List Entry) (table : List Content) (commits : ℕ)
         → Holds log.old pages.old (S.state site.old) newest records table commits
-        → IsQuiet (S.state site.old)
-        → LeavesOnly (S.state site.old) (S.state site.new)
-        (LeavesTableUnder newest pages.old.flash.geometry table commits (S.state site.old).told) }
-    ensures numbers { (newest : Option Master) (records : List Entry) (table : List Content) (commits : ℕ)
-        → Holds log.old pages.old (S.state site.old) newest records table commits
-        → IsQuiet (S.state site.old)
-        → SkipsNone result pages.old.flash.geometry log.old log.new (S.state site.old) (S.state site.new) 0 0 }
-    ensures readable { (newest : Option Master) (records : List Entry) (table : List Content) (commits : ℕ)
-        → Holds log.old pages.old (S.state site.old) newest records table commits
-        → IsErrOf result Stop.Foreign → ⊥ }
-    ensures worn_end { (newest : Option Master) (records : List Entry) (table : List Content) (commits : ℕ)
-        → Holds log.old pages.old (S.state site.old) newest records table commits
-        → IsErrOf result (Stop.Worn Dev.Flash) → IsWorn pages.old.flash.geometry (S.state site.new).image }
-    ensures worn_log_end { (newest : Option Master) (records : List Entry) (table : List Content) (commits : ℕ)
-        → Holds log.old pages.old (S.state site.old) newest records table commits
-        → IsErrOf result (Stop.Worn Dev.Log) → IsLogWorn pages.old.flash.geometry (S.state site.new).image }
-    ensures masters { (newest : Option Master) (records : List Entry) (table : List Content) (commits : ℕ)
-        → Holds log.old pages.old (S.state site.old) newest records table commits
-        → OnOk result (KeepsUnits master_shape (S.state site.old).image (S.state site.new).image) }
-    ensures left { IsTrue (S.state site.old).honest → (S.state site.new).left ≡ (S.state site.old).left }
-    ensures stays_quiet { IsTrue (S.state site.old).honest → IsQuiet (S.state site.old)
-        → OnOk result (IsQuiet (S.state site.new)) }
-    ensures quiet { (newest : Option Master) (records : List Entry) (table : List Content) (commits : ℕ)
-        → Holds log.old pages.old (S.state site.old) newest records table commits
-        → IsQuiet (S.state site.old)
-        → IfErr result (λ stop. ((d : Dev) → stop ≢ Stop.Device d) → IsQuiet (S.state site.new)) }
+        → Keeps result pages.old.flash.geometry log.old log.new (S.state site.old) (S.state site.new)
+        (LeavesTableUnder newest pages.old.flash.geometry table commits (S.state site.old).told) 0 0 }
 
     // Of every site.
     ensures machine { OnOk result (cache_of pages.new ≡ touched (rules pages.old) page false (cache_of pages.old)) }
     ensures asks { Asks result (one_touch page) pages.old pages.new (S.state site.old) (S.state site.new) }
     ensures front { OnOk result ((front_of pages.new.pool.frames).page ≡ page) }
     ensures there { OnOk result (0 < length pages.new.pool.frames) }
-    ensures going { OnOk result (MayGoOn log.new pages.new (S.state site.new)) }
-    ensures blocks { OnOk result (blocks_to log.new ≡ blocks_to log.old) }
-    ensures kept { log.new.kept ≡ log.old.kept }
-    ensures log_geometry { log.new.geometry ≡ log.old.geometry }
-    ensures geometry { pages.new.flash.geometry ≡ pages.old.flash.geometry }
-    ensures size { pages.new.pool.size ≡ pages.old.pool.size }
-    ensures rises { OnOk result (end_of log.old ≤ end_of log.new) }
-    ensures goes { Goes (S.state site.old) (S.state site.new) }
-    ensures log_reads { (S.state site.new).log_reads ≡ (S.state site.old).log_reads }
+    ensures logs_nothing { LogsNothing result log.old log.new pages.old pages.new (S.state site.old) (S.state site.new) }
 
     // When each answer comes.
     ensures worn_log { IsErrOf result (Stop.Worn Dev.Log) → log.old.ring.hi ≡ 2 ^ 40 }
     ensures worn_flash { IsErrOf result (Stop.Worn Dev.Flash)
         → (pushes (rules pages.old) page (cache_of pages.old) ≡ true) × (pages.old.flash.ring.hi ≡ 2 ^ 40) }
-    ensures device { (d : Dev) → IsErrOf result (Stop.Device d)
-        → FaultRose d (S.state site.old) (S.state site.new) }
-    ensures stops { IfErr result (λ stop. MayStop stop) }
 {
     log_laws();
     page_laws();
@@ -141,50 +101,22 @@ pub fn log_record<S: Site>(site: &mut S, log: &mut LogStore, rec: &LogRecord) ->
         → Holds log.old pages (S.state site.old) newest records table commits
         → IfOk result (λ lsn. EndsWith pages.flash.geometry log.new pages (S.state site.new) newest records table commits
         (record { lsn = lsn; rec = rec.now })) }
-    ensures any_moment { (pages : PageStore) (newest : Option Master) (records : List Entry) (table : List Content) (commits : ℕ)
-        → MayGoOn log.old pages (S.state site.old)
+    ensures keeps { (pages : PageStore) (newest : Option Master) (records : List Entry) (table : List Content) (commits : ℕ)
         → Holds log.old pages (S.state site.old) newest records table commits
-        → IsQuiet (S.state site.old)
-        → LeavesOnly (S.state site.old) (S.state site.new)
-        (LeavesTableUnder newest pages.flash.geometry table commits (S.state site.old).told) }
-    ensures numbers { (pages : PageStore) (newest : Option Master) (records : List Entry) (table : List Content) (commits : ℕ)
-        → MayGoOn log.old pages (S.state site.old)
-        → Holds log.old pages (S.state site.old) newest records table commits
-        → IsQuiet (S.state site.old)
-        → SkipsNone result log.old.geometry log.old log.new (S.state site.old) (S.state site.new) 1 0 }
-    ensures worn_log_end { (pages : PageStore) (newest : Option Master) (records : List Entry) (table : List Content) (commits : ℕ)
-        → Holds log.old pages (S.state site.old) newest records table commits
-        → IsErrOf result (Stop.Worn Dev.Log) → IsLogWorn log.old.geometry (S.state site.new).image }
-    ensures masters { (pages : PageStore) (newest : Option Master) (records : List Entry) (table : List Content) (commits : ℕ)
-        → Holds log.old pages (S.state site.old) newest records table commits
-        → OnOk result (KeepsUnits master_shape (S.state site.old).image (S.state site.new).image) }
-    ensures left { IsTrue (S.state site.old).honest → (S.state site.new).left ≡ (S.state site.old).left }
-    ensures stays_quiet { IsTrue (S.state site.old).honest → IsQuiet (S.state site.old)
-        → OnOk result (IsQuiet (S.state site.new)) }
-    ensures quiet { (pages : PageStore) (newest : Option Master) (records : List Entry) (table : List Content) (commits : ℕ)
-        → Holds log.old pages (S.state site.old) newest records table commits
-        → IsQuiet (S.state site.old)
-        → IfErr result (λ stop. ((d : Dev) → stop ≢ Stop.Device d) → IsQuiet (S.state site.new)) }
+        → KeepsBeside result log.old log.new pages (S.state site.old) (S.state site.new)
+        (LeavesTableUnder newest pages.flash.geometry table commits (S.state site.old).told) 1 }
 
     // Of every site.
     ensures rises { IfOk result (λ lsn. (end_of log.old ≤ lsn) × (lsn < end_of log.new)) }
     ensures forced { IfOk result (λ lsn. lsn < end_forced log.new) }
-    ensures going { (pages : PageStore) → MayGoOn log.old pages (S.state site.old)
-        → OnOk result (MayGoOn log.new pages (S.state site.new)) }
-    ensures log_going { log_held.MayGoOn log.new (S.state site.new) }
+    ensures works { WorksBeside result log.old log.new (S.state site.old) (S.state site.new) }
     ensures last_block { IfOk result (λ lsn. 512 * log.new.ring.hi ≤ lsn) }
     ensures some { OnOk result (has_tail log.new ≡ true) }
     ensures blocks { OnOk result (blocks_to log.new ≤ blocks_to log.old + 1) }
     ensures hi { log.new.ring.hi ≤ log.old.ring.hi + 1 }
-    ensures kept { log.new.kept ≡ log.old.kept }
-    ensures geometry { log.new.geometry ≡ log.old.geometry }
-    ensures goes { Goes (S.state site.old) (S.state site.new) }
-    ensures reads { SameReads (S.state site.old) (S.state site.new) }
 
     // When each answer comes.
     ensures worn { IsErrOf result (Stop.Worn Dev.Log) → log.old.ring.hi ≡ 2 ^ 40 }
-    ensures device { IsErrOf result (Stop.Device Dev.Log)
-        → FaultRose Dev.Log (S.state site.old) (S.state site.new) }
     ensures stops { IfErr result (λ stop. (stop ≡ Stop.Device Dev.Log) ⊎ (stop ≡ Stop.Worn Dev.Log)) }
 {
     log_laws();
@@ -220,48 +152,20 @@ pub fn log_change<S: Site>(
         → Holds log.old pages.old (S.state site.old) newest records table commits
         → IfOk result (λ lsn. MayGrow log.old pages.old (S.state site.old).image newest records (record { lsn = lsn; rec = rec.now })
         → AreOrderly records → AreOrderly (records ++ record { lsn = lsn; rec = rec.now } ∷ [])) }
-    ensures any_moment { (newest : Option Master) (records : List Entry) (table : List Content) (commits : ℕ)
+    ensures keeps { (newest : Option Master) (records : List Entry) (table : List Content) (commits : ℕ)
         → Holds log.old pages.old (S.state site.old) newest records table commits
-        → IsQuiet (S.state site.old)
-        → LeavesOnly (S.state site.old) (S.state site.new)
-        (LeavesTableUnder newest pages.old.flash.geometry table commits (S.state site.old).told) }
-    ensures numbers { (newest : Option Master) (records : List Entry) (table : List Content) (commits : ℕ)
-        → Holds log.old pages.old (S.state site.old) newest records table commits
-        → IsQuiet (S.state site.old)
-        → SkipsNone result pages.old.flash.geometry log.old log.new (S.state site.old) (S.state site.new) 1 0 }
-    ensures readable { (newest : Option Master) (records : List Entry) (table : List Content) (commits : ℕ)
-        → Holds log.old pages.old (S.state site.old) newest records table commits
-        → IsErrOf result Stop.Foreign → ⊥ }
-    ensures worn_log_end { (newest : Option Master) (records : List Entry) (table : List Content) (commits : ℕ)
-        → Holds log.old pages.old (S.state site.old) newest records table commits
-        → IsErrOf result (Stop.Worn Dev.Log) → IsLogWorn pages.old.flash.geometry (S.state site.new).image }
-    ensures masters { (newest : Option Master) (records : List Entry) (table : List Content) (commits : ℕ)
-        → Holds log.old pages.old (S.state site.old) newest records table commits
-        → OnOk result (KeepsUnits master_shape (S.state site.old).image (S.state site.new).image) }
-    ensures left { IsTrue (S.state site.old).honest → (S.state site.new).left ≡ (S.state site.old).left }
-    ensures stays_quiet { IsTrue (S.state site.old).honest → IsQuiet (S.state site.old)
-        → OnOk result (IsQuiet (S.state site.new)) }
-    ensures quiet { (newest : Option Master) (records : List Entry) (table : List Content) (commits : ℕ)
-        → Holds log.old pages.old (S.state site.old) newest records table commits
-        → IsQuiet (S.state site.old)
-        → IfErr result (λ stop. ((d : Dev) → stop ≢ Stop.Device d) → IsQuiet (S.state site.new)) }
+        → Keeps result pages.old.flash.geometry log.old log.new (S.state site.old) (S.state site.new)
+        (LeavesTableUnder newest pages.old.flash.geometry table commits (S.state site.old).told) 1 0 }
 
     // Of every site.
     ensures machine { OnOk result (cache_of pages.new ≡ with_change (cache_of pages.old)) }
     ensures rises { IfOk result (λ lsn. (end_of log.old ≤ lsn) × (lsn < end_of log.new)) }
-    ensures going { OnOk result (MayGoOn log.new pages.new (S.state site.new)) }
+    ensures works { Works result log.old log.new pages.old pages.new (S.state site.old) (S.state site.new) }
     ensures blocks { OnOk result (blocks_to log.new ≤ blocks_to log.old + 1) }
-    ensures kept { log.new.kept ≡ log.old.kept }
-    ensures log_geometry { log.new.geometry ≡ log.old.geometry }
-    ensures geometry { pages.new.flash.geometry ≡ pages.old.flash.geometry }
-    ensures size { pages.new.pool.size ≡ pages.old.pool.size }
-    ensures goes { Goes (S.state site.old) (S.state site.new) }
     ensures reads { SameReads (S.state site.old) (S.state site.new) }
 
     // When each answer comes.
     ensures worn { IsErrOf result (Stop.Worn Dev.Log) → log.old.ring.hi ≡ 2 ^ 40 }
-    ensures device { IsErrOf result (Stop.Device Dev.Log)
-        → FaultRose Dev.Log (S.state site.old) (S.state site.new) }
     ensures stops { IfErr result (λ stop. (stop ≡ Stop.Device Dev.Log)
         ⊎ ((stop ≡ Stop.Worn Dev.Log) ⊎ (stop ≡ Stop.Foreign))) }
 {

@@ -1,18 +1,11 @@
 // Analysis and redo of a restart: the log is read once, from its kept block on.
-ghost use Rattle.std.specs.Prelude.{◌≡◌, ◌≢◌, ◌⊎◌, ◌+◌, ◌-◌, ◌*◌, ◌^◌, ◌<◌, ◌≤◌, ◌++◌, ◌∷◌, [], ℕ, List, length, None, IsTrue, true, false, IfSome, IfNone, OnOk, IfOk, IfErr, IsErrOf, Option};
-ghost use Rattle.site.specs.declared.outside.Dev.{Dev};
+ghost use Rattle.std.specs.Prelude.{◌≡◌, ◌⊎◌, ◌+◌, ◌-◌, ◌*◌, ◌^◌, ◌<◌, ◌≤◌, ◌++◌, ◌∷◌, [], ℕ, List, length, None, true, false, IfSome, IfNone, OnOk, IfOk, IfErr, IsErrOf, Option};
 ghost use Rattle.site.specs.declared.outside.Stop.{Stop};
-ghost use Rattle.site.specs.State.{IsQuiet};
-ghost use Rattle.site.specs.Calls.{Goes, FaultRose};
-ghost use Rattle.site.specs.Moments.{LeavesOnly};
 ghost use Rattle.record_model.specs.State.{Content};
 ghost use Rattle.log_records.specs.declared.log_record.LogRecord.{LogRecord};
 ghost use Rattle.log_records.specs.Spelling.{HasForm, IsBlock, used_by};
 ghost use Rattle.log_records.specs.Log.{Entry, log_from, entries_from, number_of, txn_by};
-ghost use Rattle.log_store.specs.Held as log_held;
-ghost use Rattle.flash_cache.specs.Held.{IsWorn};
 ghost use Rattle.buffer_pool.specs.Frames.{front_of};
-ghost use Rattle.page_store.specs.Stopping.{MayStop};
 ghost use Rattle.checkpoint.specs.Actives.{Ascend};
 ghost use Rattle.checkpoint.specs.Newest.{seen};
 ghost use Rattle.image_meaning.specs.Meaning.{picture_under, master_of, kept_by, saved_by};
@@ -22,13 +15,12 @@ ghost use Rattle.analysis.specs.Table.{listed};
 ghost use Rattle.analysis.specs.Read as read;
 ghost use Rattle.analysis.specs.Read.{IsAnalysis, IsTable};
 ghost use Rattle.analysis.specs.Taken.{is_named, is_taken, Steps, taken};
-ghost use Rattle.redo_undo.specs.Holding.{MayGoOn, Holds, IsOnPage, IsLogWorn, blocks_to};
+ghost use Rattle.redo_undo.specs.Holding.{MayGoOn, Holds, IsOnPage, blocks_to};
 ghost use Rattle.redo_undo.specs.Redoing.{IsOpened, Opening, LeavesOpened, IsRedoing, HasTaken, touches_of, asked_of, heard_of};
 ghost use Rattle.redo_undo.specs.RedoLaws.{RedoLaws};
 ghost use Rattle.checkpoint.specs.declared.master.Master.{Master};
-ghost use Rattle.image_changes.specs.Rings.{KeepsUnits, master_shape};
 ghost use Rattle.redo_undo.specs.Works.{Asks, one_touch, redo_works};
-ghost use Rattle.redo_undo.specs.Numbers.{SkipsNone};
+ghost use Rattle.redo_undo.specs.Calls.{Works, LogsNothing, Keeps};
 
 use crate::changing::change_front;
 use crate::laws::{log_laws, page_laws};
@@ -151,41 +143,16 @@ fn touch_page<S: Site>(
     // Of an honest site with an opened log.
     ensures redoing { (o : Opening) (front : List Entry) → IsRedoing o log.old pages.old (S.state site.old) front
         → OnOk result (IsRedoing o log.new pages.new (S.state site.new) front) }
-    ensures any_moment { (o : Opening) (front : List Entry) → IsRedoing o log.old pages.old (S.state site.old) front
-        → IsQuiet (S.state site.old)
-        → LeavesOnly (S.state site.old) (S.state site.new) (LeavesOpened o (S.state site.old).told) }
-    ensures numbers { (o : Opening) (front : List Entry) → IsRedoing o log.old pages.old (S.state site.old) front
-        → IsQuiet (S.state site.old)
-        → SkipsNone result pages.old.flash.geometry log.old log.new (S.state site.old) (S.state site.new) 0 0 }
-    ensures readable { (o : Opening) (front : List Entry) → IsRedoing o log.old pages.old (S.state site.old) front
-        → IsErrOf result Stop.Foreign → ⊥ }
-    ensures worn_end { (o : Opening) (front : List Entry) → IsRedoing o log.old pages.old (S.state site.old) front
-        → IsErrOf result (Stop.Worn Dev.Flash) → IsWorn o.sizes (S.state site.new).image }
-    ensures worn_log_end { (o : Opening) (front : List Entry) → IsRedoing o log.old pages.old (S.state site.old) front
-        → IsErrOf result (Stop.Worn Dev.Log) → IsLogWorn o.sizes (S.state site.new).image }
-    ensures left { IsTrue (S.state site.old).honest → (S.state site.new).left ≡ (S.state site.old).left }
-    ensures stays_quiet { IsTrue (S.state site.old).honest → IsQuiet (S.state site.old)
-        → OnOk result (IsQuiet (S.state site.new)) }
-    ensures quiet { (o : Opening) (front : List Entry) → IsRedoing o log.old pages.old (S.state site.old) front
-        → IsQuiet (S.state site.old)
-        → IfErr result (λ stop. ((d : Dev) → stop ≢ Stop.Device d) → IsQuiet (S.state site.new)) }
+    ensures keeps { (o : Opening) (front : List Entry)
+        → IsRedoing o log.old pages.old (S.state site.old) front
+        → Keeps result pages.old.flash.geometry log.old log.new (S.state site.old) (S.state site.new)
+        (LeavesOpened o (S.state site.old).told) 0 0 }
 
     // Of every site.
     ensures asks { Asks result (one_touch page) pages.old pages.new (S.state site.old) (S.state site.new) }
     ensures front { OnOk result ((front_of pages.new.pool.frames).page ≡ page) }
     ensures there { OnOk result (0 < length pages.new.pool.frames) }
-    ensures going { OnOk result (MayGoOn log.new pages.new (S.state site.new)) }
-    ensures blocks { OnOk result (blocks_to log.new ≡ blocks_to log.old) }
-    ensures rises { OnOk result (log.old.ring.hi ≤ log.new.ring.hi) }
-    ensures kept { log.new.kept ≡ log.old.kept }
-    ensures log_geometry { log.new.geometry ≡ log.old.geometry }
-    ensures geometry { pages.new.flash.geometry ≡ pages.old.flash.geometry }
-    ensures size { pages.new.pool.size ≡ pages.old.pool.size }
-    ensures goes { Goes (S.state site.old) (S.state site.new) }
-    ensures log_reads { (S.state site.new).log_reads ≡ (S.state site.old).log_reads }
-    ensures device { (d : Dev) → IsErrOf result (Stop.Device d)
-        → FaultRose d (S.state site.old) (S.state site.new) }
-    ensures stops { IfErr result (λ stop. MayStop stop) }
+    ensures logs_nothing { LogsNothing result log.old log.new pages.old pages.new (S.state site.old) (S.state site.new) }
 {
     page_laws();
     redo_laws();
@@ -207,42 +174,17 @@ fn redo_record<S: Site>(
     ensures redoing { (o : Opening) (front rest : List Entry) → IsRedoing o log.old pages.old (S.state site.old) front
         → log_from (kept_by o.newest) o.blocks ≡ front ++ record { lsn = lsn; rec = rec.now } ∷ rest
         → OnOk result (IsRedoing o log.new pages.new (S.state site.new) (front ++ record { lsn = lsn; rec = rec.now } ∷ [])) }
-    ensures any_moment { (o : Opening) (front : List Entry) → IsRedoing o log.old pages.old (S.state site.old) front
-        → IsQuiet (S.state site.old)
-        → LeavesOnly (S.state site.old) (S.state site.new) (LeavesOpened o (S.state site.old).told) }
-    ensures numbers { (o : Opening) (front : List Entry) → IsRedoing o log.old pages.old (S.state site.old) front
-        → IsQuiet (S.state site.old)
-        → SkipsNone result pages.old.flash.geometry log.old log.new (S.state site.old) (S.state site.new) 0 0 }
-    ensures readable { (o : Opening) (front rest : List Entry) → IsRedoing o log.old pages.old (S.state site.old) front
+    ensures keeps { (o : Opening) (front rest : List Entry)
+        → IsRedoing o log.old pages.old (S.state site.old) front
         → log_from (kept_by o.newest) o.blocks ≡ front ++ record { lsn = lsn; rec = rec.now } ∷ rest
-        → IsErrOf result Stop.Foreign → ⊥ }
-    ensures worn_end { (o : Opening) (front : List Entry) → IsRedoing o log.old pages.old (S.state site.old) front
-        → IsErrOf result (Stop.Worn Dev.Flash) → IsWorn o.sizes (S.state site.new).image }
-    ensures worn_log_end { (o : Opening) (front : List Entry) → IsRedoing o log.old pages.old (S.state site.old) front
-        → IsErrOf result (Stop.Worn Dev.Log) → IsLogWorn o.sizes (S.state site.new).image }
+        → Keeps result pages.old.flash.geometry log.old log.new (S.state site.old) (S.state site.new)
+        (LeavesOpened o (S.state site.old).told) 0 0 }
     ensures asks { (o : Opening) (front rest : List Entry) → IsRedoing o log.old pages.old (S.state site.old) front
         → log_from (kept_by o.newest) o.blocks ≡ front ++ record { lsn = lsn; rec = rec.now } ∷ rest
         → Asks result (touches_of o (record { lsn = lsn; rec = rec.now } ∷ [])) pages.old pages.new (S.state site.old) (S.state site.new) }
-    ensures left { IsTrue (S.state site.old).honest → (S.state site.new).left ≡ (S.state site.old).left }
-    ensures stays_quiet { IsTrue (S.state site.old).honest → IsQuiet (S.state site.old)
-        → OnOk result (IsQuiet (S.state site.new)) }
-    ensures quiet { (o : Opening) (front : List Entry) → IsRedoing o log.old pages.old (S.state site.old) front
-        → IsQuiet (S.state site.old)
-        → IfErr result (λ stop. ((d : Dev) → stop ≢ Stop.Device d) → IsQuiet (S.state site.new)) }
 
     // Of every site.
-    ensures going { OnOk result (MayGoOn log.new pages.new (S.state site.new)) }
-    ensures blocks { OnOk result (blocks_to log.new ≡ blocks_to log.old) }
-    ensures rises { OnOk result (log.old.ring.hi ≤ log.new.ring.hi) }
-    ensures kept { log.new.kept ≡ log.old.kept }
-    ensures log_geometry { log.new.geometry ≡ log.old.geometry }
-    ensures geometry { pages.new.flash.geometry ≡ pages.old.flash.geometry }
-    ensures size { pages.new.pool.size ≡ pages.old.pool.size }
-    ensures goes { Goes (S.state site.old) (S.state site.new) }
-    ensures log_reads { (S.state site.new).log_reads ≡ (S.state site.old).log_reads }
-    ensures device { (d : Dev) → IsErrOf result (Stop.Device d)
-        → FaultRose d (S.state site.old) (S.state site.new) }
-    ensures stops { IfErr result (λ stop. MayStop stop) }
+    ensures logs_nothing { LogsNothing result log.old log.new pages.old pages.new (S.state site.old) (S.state site.new) }
 {
     page_laws();
     redo_laws();
@@ -283,51 +225,21 @@ fn take_record<S: Site>(
         → HasTaken o log.old pages.old (S.state site.old) so_far.old front
         → log_from (kept_by o.newest) o.blocks ≡ front ++ record { lsn = lsn; rec = rec.now } ∷ rest
         → OnOk result (HasTaken o log.new pages.new (S.state site.new) so_far.new (front ++ record { lsn = lsn; rec = rec.now } ∷ [])) }
-    ensures any_moment { (o : Opening) (front : List Entry)
-        → HasTaken o log.old pages.old (S.state site.old) so_far.old front
-        → IsQuiet (S.state site.old)
-        → LeavesOnly (S.state site.old) (S.state site.new) (LeavesOpened o (S.state site.old).told) }
-    ensures numbers { (o : Opening) (front : List Entry)
-        → HasTaken o log.old pages.old (S.state site.old) so_far.old front
-        → IsQuiet (S.state site.old)
-        → SkipsNone result pages.old.flash.geometry log.old log.new (S.state site.old) (S.state site.new) 0 0 }
-    ensures readable { (o : Opening) (front rest : List Entry) → master.now ≡ saved_by o.newest
+    ensures keeps { (o : Opening) (front rest : List Entry) → master.now ≡ saved_by o.newest
         → HasTaken o log.old pages.old (S.state site.old) so_far.old front
         → log_from (kept_by o.newest) o.blocks ≡ front ++ record { lsn = lsn; rec = rec.now } ∷ rest
-        → IsErrOf result Stop.Foreign → ⊥ }
-    ensures worn_end { (o : Opening) (front : List Entry)
-        → HasTaken o log.old pages.old (S.state site.old) so_far.old front
-        → IsErrOf result (Stop.Worn Dev.Flash) → IsWorn o.sizes (S.state site.new).image }
-    ensures worn_log_end { (o : Opening) (front : List Entry)
-        → HasTaken o log.old pages.old (S.state site.old) so_far.old front
-        → IsErrOf result (Stop.Worn Dev.Log) → IsLogWorn o.sizes (S.state site.new).image }
+        → Keeps result pages.old.flash.geometry log.old log.new (S.state site.old) (S.state site.new)
+        (LeavesOpened o (S.state site.old).told) 0 0 }
     ensures asks { (o : Opening) (front rest : List Entry) → master.now ≡ saved_by o.newest
         → HasTaken o log.old pages.old (S.state site.old) so_far.old front
         → log_from (kept_by o.newest) o.blocks ≡ front ++ record { lsn = lsn; rec = rec.now } ∷ rest
         → Asks result (asked_of o (record { lsn = lsn; rec = rec.now } ∷ [])) pages.old pages.new (S.state site.old) (S.state site.new) }
-    ensures left { IsTrue (S.state site.old).honest → (S.state site.new).left ≡ (S.state site.old).left }
-    ensures stays_quiet { IsTrue (S.state site.old).honest → IsQuiet (S.state site.old)
-        → OnOk result (IsQuiet (S.state site.new)) }
-    ensures quiet { (o : Opening) (front : List Entry) → HasTaken o log.old pages.old (S.state site.old) so_far.old front
-        → IsQuiet (S.state site.old)
-        → IfErr result (λ stop. ((d : Dev) → stop ≢ Stop.Device d) → IsQuiet (S.state site.new)) }
 
     // Of every site.
-    ensures going { OnOk result (MayGoOn log.new pages.new (S.state site.new)) }
+    ensures logs_nothing { LogsNothing result log.old log.new pages.old pages.new (S.state site.old) (S.state site.new) }
     ensures found_going { read.MayGoOn so_far.new.found }
     ensures records { OnOk result (so_far.new.records ≡ so_far.old.records + 1) }
     ensures owed { OnOk result (owed_for (listed so_far.new.found.table) ≤ owed_for (listed so_far.old.found.table) + 1) }
-    ensures blocks { OnOk result (blocks_to log.new ≡ blocks_to log.old) }
-    ensures rises { OnOk result (log.old.ring.hi ≤ log.new.ring.hi) }
-    ensures kept { log.new.kept ≡ log.old.kept }
-    ensures log_geometry { log.new.geometry ≡ log.old.geometry }
-    ensures geometry { pages.new.flash.geometry ≡ pages.old.flash.geometry }
-    ensures size { pages.new.pool.size ≡ pages.old.pool.size }
-    ensures goes { Goes (S.state site.old) (S.state site.new) }
-    ensures log_reads { (S.state site.new).log_reads ≡ (S.state site.old).log_reads }
-    ensures device { (d : Dev) → IsErrOf result (Stop.Device d)
-        → FaultRose d (S.state site.old) (S.state site.new) }
-    ensures stops { IfErr result (λ stop. MayStop stop) }
 {
     page_laws();
     redo_laws();
@@ -366,66 +278,25 @@ fn take_block<S: Site>(
         → IsBlock content.now records → used ≡ used_by records
         → log_from (kept_by o.newest) o.blocks ≡ front ++ (entries_from (512 * block + 2) records ++ rest)
         → OnOk result (HasTaken o log.new pages.new (S.state site.new) so_far.new (front ++ entries_from (512 * block + 2) records)) }
-    ensures any_moment { (o : Opening) (front rest : List Entry) (records : List LogRecord) → master.now ≡ saved_by o.newest
+    ensures keeps { (o : Opening) (front rest : List Entry) (records : List LogRecord) → master.now ≡ saved_by o.newest
         → HasTaken o log.old pages.old (S.state site.old) so_far.old front
         → IsBlock content.now records → used ≡ used_by records
         → log_from (kept_by o.newest) o.blocks ≡ front ++ (entries_from (512 * block + 2) records ++ rest)
-        → IsQuiet (S.state site.old)
-        → LeavesOnly (S.state site.old) (S.state site.new) (LeavesOpened o (S.state site.old).told) }
-    ensures numbers { (o : Opening) (front rest : List Entry) (records : List LogRecord) → master.now ≡ saved_by o.newest
-        → HasTaken o log.old pages.old (S.state site.old) so_far.old front
-        → IsBlock content.now records → used ≡ used_by records
-        → log_from (kept_by o.newest) o.blocks ≡ front ++ (entries_from (512 * block + 2) records ++ rest)
-        → IsQuiet (S.state site.old)
-        → SkipsNone result pages.old.flash.geometry log.old log.new (S.state site.old) (S.state site.new) 0 0 }
-    ensures readable { (o : Opening) (front rest : List Entry) (records : List LogRecord) → master.now ≡ saved_by o.newest
-        → HasTaken o log.old pages.old (S.state site.old) so_far.old front
-        → IsBlock content.now records → used ≡ used_by records
-        → log_from (kept_by o.newest) o.blocks ≡ front ++ (entries_from (512 * block + 2) records ++ rest)
-        → IsErrOf result Stop.Foreign → ⊥ }
-    ensures worn_end { (o : Opening) (front rest : List Entry) (records : List LogRecord) → master.now ≡ saved_by o.newest
-        → HasTaken o log.old pages.old (S.state site.old) so_far.old front
-        → IsBlock content.now records → used ≡ used_by records
-        → log_from (kept_by o.newest) o.blocks ≡ front ++ (entries_from (512 * block + 2) records ++ rest)
-        → IsErrOf result (Stop.Worn Dev.Flash) → IsWorn o.sizes (S.state site.new).image }
-    ensures worn_log_end { (o : Opening) (front rest : List Entry) (records : List LogRecord) → master.now ≡ saved_by o.newest
-        → HasTaken o log.old pages.old (S.state site.old) so_far.old front
-        → IsBlock content.now records → used ≡ used_by records
-        → log_from (kept_by o.newest) o.blocks ≡ front ++ (entries_from (512 * block + 2) records ++ rest)
-        → IsErrOf result (Stop.Worn Dev.Log) → IsLogWorn o.sizes (S.state site.new).image }
+        → Keeps result pages.old.flash.geometry log.old log.new (S.state site.old) (S.state site.new)
+        (LeavesOpened o (S.state site.old).told) 0 0 }
     ensures asks { (o : Opening) (front rest : List Entry) (records : List LogRecord) → master.now ≡ saved_by o.newest
         → HasTaken o log.old pages.old (S.state site.old) so_far.old front
         → IsBlock content.now records → used ≡ used_by records
         → log_from (kept_by o.newest) o.blocks ≡ front ++ (entries_from (512 * block + 2) records ++ rest)
         → Asks result (asked_of o (entries_from (512 * block + 2) records)) pages.old pages.new (S.state site.old) (S.state site.new) }
-    ensures left { IsTrue (S.state site.old).honest → (S.state site.new).left ≡ (S.state site.old).left }
-    ensures stays_quiet { IsTrue (S.state site.old).honest → IsQuiet (S.state site.old)
-        → OnOk result (IsQuiet (S.state site.new)) }
-    ensures quiet { (o : Opening) (front rest : List Entry) (records : List LogRecord) → master.now ≡ saved_by o.newest
-        → HasTaken o log.old pages.old (S.state site.old) so_far.old front
-        → IsBlock content.now records → used ≡ used_by records
-        → log_from (kept_by o.newest) o.blocks ≡ front ++ (entries_from (512 * block + 2) records ++ rest)
-        → IsQuiet (S.state site.old)
-        → IfErr result (λ stop. ((d : Dev) → stop ≢ Stop.Device d) → IsQuiet (S.state site.new)) }
 
     // Of every site.
-    ensures going { OnOk result (MayGoOn log.new pages.new (S.state site.new)) }
+    ensures logs_nothing { LogsNothing result log.old log.new pages.old pages.new (S.state site.old) (S.state site.new) }
     ensures found_going { OnOk result (read.MayGoOn so_far.new.found) }
     ensures some { OnOk result (so_far.old.records < so_far.new.records) }
     ensures few { OnOk result (so_far.new.records ≤ so_far.old.records + 503) }
     ensures owed { OnOk result (owed_for (listed so_far.new.found.table) + so_far.old.records
         ≤ owed_for (listed so_far.old.found.table) + so_far.new.records) }
-    ensures blocks { OnOk result (blocks_to log.new ≡ blocks_to log.old) }
-    ensures rises { OnOk result (log.old.ring.hi ≤ log.new.ring.hi) }
-    ensures kept { log.new.kept ≡ log.old.kept }
-    ensures log_geometry { log.new.geometry ≡ log.old.geometry }
-    ensures geometry { pages.new.flash.geometry ≡ pages.old.flash.geometry }
-    ensures size { pages.new.pool.size ≡ pages.old.pool.size }
-    ensures goes { Goes (S.state site.old) (S.state site.new) }
-    ensures log_reads { (S.state site.new).log_reads ≡ (S.state site.old).log_reads }
-    ensures device { (d : Dev) → IsErrOf result (Stop.Device d)
-        → FaultRose d (S.state site.old) (S.state site.new) }
-    ensures stops { IfErr result (λ stop. MayStop stop) }
 {
     page_laws();
     redo_laws();
@@ -479,59 +350,25 @@ pub fn redo<S: Site>(
     ensures count { (newest : Option Master) (blocks : List (List LogRecord)) (table : List Content) (commits : ℕ) → master.now ≡ saved_by newest
         → IsOpened pages.old.flash.geometry log.old pages.old (S.state site.old) newest blocks table commits
         → IfOk result (λ redone. redone.records ≡ length (log_from (kept_by newest) blocks)) }
-    ensures any_moment { (newest : Option Master) (blocks : List (List LogRecord)) (table : List Content) (commits : ℕ) → master.now ≡ saved_by newest
+    ensures keeps { (newest : Option Master) (blocks : List (List LogRecord)) (table : List Content) (commits : ℕ) → master.now ≡ saved_by newest
         → IsOpened pages.old.flash.geometry log.old pages.old (S.state site.old) newest blocks table commits
-        → IsQuiet (S.state site.old)
-        → LeavesOnly (S.state site.old) (S.state site.new)
-        (LeavesTableUnder newest pages.old.flash.geometry table commits (S.state site.old).told) }
-    ensures numbers { (newest : Option Master) (blocks : List (List LogRecord)) (table : List Content) (commits : ℕ) → master.now ≡ saved_by newest
-        → IsOpened pages.old.flash.geometry log.old pages.old (S.state site.old) newest blocks table commits
-        → IsQuiet (S.state site.old)
-        → SkipsNone result pages.old.flash.geometry log.old log.new (S.state site.old) (S.state site.new) 0 0 }
-    ensures readable { (newest : Option Master) (blocks : List (List LogRecord)) (table : List Content) (commits : ℕ) → master.now ≡ saved_by newest
-        → IsOpened pages.old.flash.geometry log.old pages.old (S.state site.old) newest blocks table commits
-        → IsErrOf result Stop.Foreign → ⊥ }
-    ensures worn_end { (newest : Option Master) (blocks : List (List LogRecord)) (table : List Content) (commits : ℕ) → master.now ≡ saved_by newest
-        → IsOpened pages.old.flash.geometry log.old pages.old (S.state site.old) newest blocks table commits
-        → IsErrOf result (Stop.Worn Dev.Flash) → IsWorn pages.old.flash.geometry (S.state site.new).image }
-    ensures worn_log_end { (newest : Option Master) (blocks : List (List LogRecord)) (table : List Content) (commits : ℕ) → master.now ≡ saved_by newest
-        → IsOpened pages.old.flash.geometry log.old pages.old (S.state site.old) newest blocks table commits
-        → IsErrOf result (Stop.Worn Dev.Log) → IsLogWorn pages.old.flash.geometry (S.state site.new).image }
+        → Keeps result pages.old.flash.geometry log.old log.new (S.state site.old) (S.state site.new)
+        (LeavesTableUnder newest pages.old.flash.geometry table commits (S.state site.old).told) 0 0 }
     ensures asks { (newest : Option Master) (blocks : List (List LogRecord)) (table : List Content) (commits : ℕ) → master.now ≡ saved_by newest
         → IsOpened pages.old.flash.geometry log.old pages.old (S.state site.old) newest blocks table commits
         → Asks result (redo_works (picture_under newest pages.old.flash.geometry (S.state site.old).image blocks))
         pages.old pages.new (S.state site.old) (S.state site.new) }
-    ensures masters { (newest : Option Master) (blocks : List (List LogRecord)) (table : List Content) (commits : ℕ) → master.now ≡ saved_by newest
-        → IsOpened pages.old.flash.geometry log.old pages.old (S.state site.old) newest blocks table commits
-        → OnOk result (KeepsUnits master_shape (S.state site.old).image (S.state site.new).image) }
-    ensures left { IsTrue (S.state site.old).honest → (S.state site.new).left ≡ (S.state site.old).left }
-    ensures stays_quiet { IsTrue (S.state site.old).honest → IsQuiet (S.state site.old)
-        → OnOk result (IsQuiet (S.state site.new)) }
-    ensures quiet { (newest : Option Master) (blocks : List (List LogRecord)) (table : List Content) (commits : ℕ) → master.now ≡ saved_by newest
-        → IsOpened pages.old.flash.geometry log.old pages.old (S.state site.old) newest blocks table commits
-        → IsQuiet (S.state site.old)
-        → IfErr result (λ stop. ((d : Dev) → stop ≢ Stop.Device d) → IsQuiet (S.state site.new)) }
 
     // Of every site.
-    ensures going { OnOk result (MayGoOn log.new pages.new (S.state site.new)) }
+    ensures works { Works result log.old log.new pages.old pages.new (S.state site.old) (S.state site.new) }
     ensures found_going { IfOk result (λ redone. read.MayGoOn redone.found) }
     ensures some { IfOk result (λ redone. log.old.ring.hi ≤ log.old.kept + redone.records) }
     ensures few { IfOk result (λ redone. redone.records ≤ 503 * (log.old.ring.hi - log.old.kept)) }
     ensures owed { IfOk result (λ redone. owed_for (listed redone.found.table) ≤ redone.records + length master.now.active) }
     ensures blocks { OnOk result (blocks_to log.new ≡ blocks_to log.old) }
     ensures rises { OnOk result (log.old.ring.hi ≤ log.new.ring.hi) }
-    ensures kept { log.new.kept ≡ log.old.kept }
-    ensures log_geometry { log.new.geometry ≡ log.old.geometry }
-    ensures geometry { pages.new.flash.geometry ≡ pages.old.flash.geometry }
-    ensures size { pages.new.pool.size ≡ pages.old.pool.size }
-    ensures goes { Goes (S.state site.old) (S.state site.new) }
     ensures log_reads { (S.state site.new).log_reads
         ≤ (S.state site.old).log_reads + (log.old.ring.hi - log.old.kept) }
-
-    // When each answer comes.
-    ensures device { (d : Dev) → IsErrOf result (Stop.Device d)
-        → FaultRose d (S.state site.old) (S.state site.new) }
-    ensures stops { IfErr result (λ stop. MayStop stop) }
 {
     log_laws();
     page_laws();

@@ -1,10 +1,7 @@
 // Undoing an Update: a compensation record, and what stood before it.
-ghost use Rattle.std.specs.Prelude.{◌≡◌, ◌≢◌, ◌⊎◌, ◌↔◌, ◌+◌, ◌*◌, ◌<◌, ◌≤◌, ◌++◌, ◌∷◌, [], ◌^◌, ℕ, List, Some, IsTrue, true, false, IfOk, IfErr, IfSome, IfNone, OnOk, IsErrOf, Option};
+ghost use Rattle.std.specs.Prelude.{◌≡◌, ◌≢◌, ◌↔◌, ◌+◌, ◌*◌, ◌<◌, ◌≤◌, ◌++◌, ◌∷◌, [], ◌^◌, ℕ, List, Some, IsTrue, true, false, IfOk, IfErr, IfSome, IfNone, OnOk, IsErrOf, Option};
 ghost use Rattle.site.specs.declared.outside.Dev.{Dev};
 ghost use Rattle.site.specs.declared.outside.Stop.{Stop};
-ghost use Rattle.site.specs.State.{IsQuiet, reads_of};
-ghost use Rattle.site.specs.Calls.{Goes, IsUnchanged, FaultRose};
-ghost use Rattle.site.specs.Moments.{LeavesOnly};
 ghost use Rattle.record_model.specs.State.{Content};
 ghost use Rattle.log_records.specs.declared.log_record.LogRecord.{LogRecord};
 ghost use Rattle.log_records.specs.Log.{Entry, txn_by, is_closing, number_of};
@@ -13,20 +10,17 @@ ghost use Rattle.log_records.specs.Spelling.{IsShort};
 ghost use Rattle.log_records.specs.Unfinished.{left_open};
 ghost use Rattle.log_laws.specs.Analysis.{Unfinished, IsUnfinished};
 ghost use Rattle.log_laws.specs.UndoLaws.{next_by};
-ghost use Rattle.flash_cache.specs.Held.{IsWorn};
 ghost use Rattle.log_store.specs.Held as log_held;
 ghost use Rattle.log_store.specs.Held.{end_of};
 ghost use Rattle.page_store.specs.declared.store.PageStore.{PageStore};
-ghost use Rattle.page_store.specs.Stopping.{MayStop};
-ghost use Rattle.image_changes.specs.Rings.{KeepsUnits, master_shape};
 ghost use Rattle.checkpoint.specs.declared.master.Master.{Master};
 ghost use Rattle.image_meaning.specs.Moments.{LeavesTableUnder};
-ghost use Rattle.redo_undo.specs.Holding.{MayGoOn, Holds, MayGrow, IsLogWorn, blocks_to};
+ghost use Rattle.redo_undo.specs.Holding.{MayGoOn, Holds, MayGrow, blocks_to};
 ghost use Rattle.redo_undo.specs.Undoing.{IsAt, IsWanted, Undone};
 ghost use Rattle.redo_undo.specs.Rollback.{Compensates, RollsBack};
 ghost use Rattle.redo_undo.specs.Works.{Asks, one_change, undo_one_works};
 ghost use Rattle.redo_undo.specs.UndoWorks.{works_of};
-ghost use Rattle.redo_undo.specs.Numbers.{SkipsNone};
+ghost use Rattle.redo_undo.specs.Calls.{Works, ReadsOne, Keeps};
 
 use crate::laws::{beside_laws, found_laws, page_laws, undo_laws};
 use crate::logging::{log_change, log_record, touch};
@@ -97,15 +91,7 @@ fn read_update<S: Site>(log: &LogStore, site: &mut S, at: &Undoing) -> Result<Wa
     ensures form { IfOk result (λ wanted. (wanted.slot < 32) × IsShort wanted.before) }
     ensures exists { IfOk result (λ wanted. wanted.page < log.now.geometry.pages) }
     ensures falls { IfOk result (λ wanted. wanted.prev < at.now.next) }
-    ensures same { IsTrue (S.state site.old).honest
-        → IsUnchanged (S.state site.old) (S.state site.new) }
-    ensures goes { Goes (S.state site.old) (S.state site.new) }
-    ensures log_reads { (S.state site.new).log_reads ≤ (S.state site.old).log_reads + 1 }
-    ensures others { (d : Dev) → d ≢ Dev.Log
-        → reads_of d (S.state site.new) ≡ reads_of d (S.state site.old) }
-    ensures device { IsErrOf result (Stop.Device Dev.Log)
-        → FaultRose Dev.Log (S.state site.old) (S.state site.new) }
-    ensures stops { IfErr result (λ stop. (stop ≡ Stop.Device Dev.Log) ⊎ (stop ≡ Stop.Foreign)) }
+    ensures reads { ReadsOne result (S.state site.old) (S.state site.new) }
 {
     page_laws();
     undo_laws();
@@ -176,51 +162,18 @@ fn compensate<S: Site>(
         (record { lsn = lsn; rec = LogRecord.Clr at.now.txn at.now.last wanted.prev wanted.page wanted.slot wanted.before })
         → AreOrderly records → AreOrderly (records
         ++ record { lsn = lsn; rec = LogRecord.Clr at.now.txn at.now.last wanted.prev wanted.page wanted.slot wanted.before } ∷ [])) }
-    ensures any_moment { (newest : Option Master) (records : List Entry) (table : List Content) (commits : ℕ)
+    ensures keeps { (newest : Option Master) (records : List Entry) (table : List Content) (commits : ℕ)
         → Holds log.old pages.old (S.state site.old) newest records table commits
-        → IsQuiet (S.state site.old)
-        → LeavesOnly (S.state site.old) (S.state site.new)
-        (LeavesTableUnder newest pages.old.flash.geometry table commits (S.state site.old).told) }
-    ensures numbers { (newest : Option Master) (records : List Entry) (table : List Content) (commits : ℕ)
-        → Holds log.old pages.old (S.state site.old) newest records table commits
-        → IsQuiet (S.state site.old)
-        → SkipsNone result pages.old.flash.geometry log.old log.new (S.state site.old) (S.state site.new) 1 0 }
-    ensures readable { (newest : Option Master) (records : List Entry) (table : List Content) (commits : ℕ)
-        → Holds log.old pages.old (S.state site.old) newest records table commits
-        → IsErrOf result Stop.Foreign → ⊥ }
-    ensures worn_end { (newest : Option Master) (records : List Entry) (table : List Content) (commits : ℕ)
-        → Holds log.old pages.old (S.state site.old) newest records table commits
-        → IsErrOf result (Stop.Worn Dev.Flash) → IsWorn pages.old.flash.geometry (S.state site.new).image }
-    ensures worn_log_end { (newest : Option Master) (records : List Entry) (table : List Content) (commits : ℕ)
-        → Holds log.old pages.old (S.state site.old) newest records table commits
-        → IsErrOf result (Stop.Worn Dev.Log) → IsLogWorn pages.old.flash.geometry (S.state site.new).image }
-    ensures masters { (newest : Option Master) (records : List Entry) (table : List Content) (commits : ℕ)
-        → Holds log.old pages.old (S.state site.old) newest records table commits
-        → OnOk result (KeepsUnits master_shape (S.state site.old).image (S.state site.new).image) }
-    ensures left { IsTrue (S.state site.old).honest → (S.state site.new).left ≡ (S.state site.old).left }
-    ensures stays_quiet { IsTrue (S.state site.old).honest → IsQuiet (S.state site.old)
-        → OnOk result (IsQuiet (S.state site.new)) }
-    ensures quiet { (newest : Option Master) (records : List Entry) (table : List Content) (commits : ℕ)
-        → Holds log.old pages.old (S.state site.old) newest records table commits
-        → IsQuiet (S.state site.old)
-        → IfErr result (λ stop. ((d : Dev) → stop ≢ Stop.Device d) → IsQuiet (S.state site.new)) }
+        → Keeps result pages.old.flash.geometry log.old log.new (S.state site.old) (S.state site.new)
+        (LeavesTableUnder newest pages.old.flash.geometry table commits (S.state site.old).told) 1 0 }
 
     // Of every site.
     ensures asks { Asks result (one_change wanted.page) pages.old pages.new (S.state site.old) (S.state site.new) }
     ensures before { IfOk result (λ lsn. lsn < end_of log.new) }
-    ensures going { OnOk result (MayGoOn log.new pages.new (S.state site.new)) }
+    ensures works { Works result log.old log.new pages.old pages.new (S.state site.old) (S.state site.new) }
     ensures blocks { OnOk result (blocks_to log.new ≤ blocks_to log.old + 1) }
-    ensures kept { log.new.kept ≡ log.old.kept }
-    ensures log_geometry { log.new.geometry ≡ log.old.geometry }
-    ensures geometry { pages.new.flash.geometry ≡ pages.old.flash.geometry }
-    ensures size { pages.new.pool.size ≡ pages.old.pool.size }
-    ensures rises { OnOk result (end_of log.old ≤ end_of log.new) }
-    ensures goes { Goes (S.state site.old) (S.state site.new) }
     ensures log_reads { (S.state site.new).log_reads ≡ (S.state site.old).log_reads }
     ensures worn_flash { IsErrOf result (Stop.Worn Dev.Flash) → pages.old.flash.ring.hi ≡ 2 ^ 40 }
-    ensures device { (d : Dev) → IsErrOf result (Stop.Device d)
-        → FaultRose d (S.state site.old) (S.state site.new) }
-    ensures stops { IfErr result (λ stop. MayStop stop) }
 {
     page_laws();
     touch_then_change();
@@ -255,35 +208,11 @@ pub(crate) fn undo_update<S: Site>(
         → Holds log.old pages.old (S.state site.old) newest records table commits
         → IsUnfinished records x → IsAt at x → 0 < x.remaining
         → IfOk result (Undone log.new pages.new (S.state site.new) newest records table commits x) }
-    ensures any_moment { (newest : Option Master) (records : List Entry) (table : List Content) (commits : ℕ)
-        → Holds log.old pages.old (S.state site.old) newest records table commits
-        → IsQuiet (S.state site.old)
-        → LeavesOnly (S.state site.old) (S.state site.new)
-        (LeavesTableUnder newest pages.old.flash.geometry table commits (S.state site.old).told) }
-    ensures numbers { (newest : Option Master) (records : List Entry) (table : List Content) (commits : ℕ)
-        → Holds log.old pages.old (S.state site.old) newest records table commits
-        → IsQuiet (S.state site.old)
-        → SkipsNone result pages.old.flash.geometry log.old log.new (S.state site.old) (S.state site.new) 1 0 }
-    ensures readable { (newest : Option Master) (records : List Entry) (table : List Content) (commits : ℕ) (x : Unfinished)
+    ensures keeps { (newest : Option Master) (records : List Entry) (table : List Content) (commits : ℕ) (x : Unfinished)
         → Holds log.old pages.old (S.state site.old) newest records table commits
         → IsUnfinished records x → IsAt at x → 0 < x.remaining
-        → IfErr result (λ stop. stop ≢ Stop.Foreign) }
-    ensures worn_end { (newest : Option Master) (records : List Entry) (table : List Content) (commits : ℕ)
-        → Holds log.old pages.old (S.state site.old) newest records table commits
-        → IsErrOf result (Stop.Worn Dev.Flash) → IsWorn pages.old.flash.geometry (S.state site.new).image }
-    ensures worn_log_end { (newest : Option Master) (records : List Entry) (table : List Content) (commits : ℕ)
-        → Holds log.old pages.old (S.state site.old) newest records table commits
-        → IsErrOf result (Stop.Worn Dev.Log) → IsLogWorn pages.old.flash.geometry (S.state site.new).image }
-    ensures masters { (newest : Option Master) (records : List Entry) (table : List Content) (commits : ℕ)
-        → Holds log.old pages.old (S.state site.old) newest records table commits
-        → OnOk result (KeepsUnits master_shape (S.state site.old).image (S.state site.new).image) }
-    ensures left { IsTrue (S.state site.old).honest → (S.state site.new).left ≡ (S.state site.old).left }
-    ensures stays_quiet { IsTrue (S.state site.old).honest → IsQuiet (S.state site.old)
-        → OnOk result (IsQuiet (S.state site.new)) }
-    ensures quiet { (newest : Option Master) (records : List Entry) (table : List Content) (commits : ℕ)
-        → Holds log.old pages.old (S.state site.old) newest records table commits
-        → IsQuiet (S.state site.old)
-        → IfErr result (λ stop. ((d : Dev) → stop ≢ Stop.Device d) → IsQuiet (S.state site.new)) }
+        → Keeps result pages.old.flash.geometry log.old log.new (S.state site.old) (S.state site.new)
+        (LeavesTableUnder newest pages.old.flash.geometry table commits (S.state site.old).told) 1 0 }
 
     ensures asks { (newest : Option Master) (records : List Entry) (table : List Content) (commits : ℕ) (x : Unfinished) (u : Entry) (rest : List Entry)
         → Holds log.old pages.old (S.state site.old) newest records table commits
@@ -294,19 +223,10 @@ pub(crate) fn undo_update<S: Site>(
     ensures last { IfOk result (λ now. now.last < end_of log.new) }
     ensures falls { IfOk result (λ now. now.next < at.next) }
     ensures same { IfOk result (λ now. now.txn ≡ at.txn) }
-    ensures going { OnOk result (MayGoOn log.new pages.new (S.state site.new)) }
+    ensures works { Works result log.old log.new pages.old pages.new (S.state site.old) (S.state site.new) }
     ensures blocks { OnOk result (blocks_to log.new ≤ blocks_to log.old + 1) }
-    ensures kept { log.new.kept ≡ log.old.kept }
-    ensures log_geometry { log.new.geometry ≡ log.old.geometry }
-    ensures geometry { pages.new.flash.geometry ≡ pages.old.flash.geometry }
-    ensures size { pages.new.pool.size ≡ pages.old.pool.size }
-    ensures rises { OnOk result (end_of log.old ≤ end_of log.new) }
-    ensures goes { Goes (S.state site.old) (S.state site.new) }
     ensures log_reads { (S.state site.new).log_reads ≤ (S.state site.old).log_reads + 1 }
     ensures worn_flash { IsErrOf result (Stop.Worn Dev.Flash) → pages.old.flash.ring.hi ≡ 2 ^ 40 }
-    ensures device { (d : Dev) → IsErrOf result (Stop.Device d)
-        → FaultRose d (S.state site.old) (S.state site.new) }
-    ensures stops { IfErr result (λ stop. MayStop stop) }
 {
     page_laws();
     undo_laws();
@@ -346,41 +266,11 @@ fn undo_updates<S: Site>(
         → IsUnfinished records x → IsAt first x
         → IfOk result (Compensates log.new pages.new (S.state site.new) newest records table commits x.txn
         (blocks_to log.old) (S.state site.old).log_reads) }
-    ensures any_moment { (newest : Option Master) (records : List Entry) (table : List Content) (commits : ℕ) (x : Unfinished)
+    ensures keeps { (newest : Option Master) (records : List Entry) (table : List Content) (commits : ℕ) (x : Unfinished)
         → Holds log.old pages.old (S.state site.old) newest records table commits
         → IsUnfinished records x → IsAt first x
-        → IsQuiet (S.state site.old)
-        → LeavesOnly (S.state site.old) (S.state site.new)
-        (LeavesTableUnder newest pages.old.flash.geometry table commits (S.state site.old).told) }
-    ensures numbers { (newest : Option Master) (records : List Entry) (table : List Content) (commits : ℕ) (x : Unfinished)
-        → Holds log.old pages.old (S.state site.old) newest records table commits
-        → IsUnfinished records x → IsAt first x
-        → IsQuiet (S.state site.old)
-        → SkipsNone result pages.old.flash.geometry log.old log.new (S.state site.old) (S.state site.new) x.remaining 0 }
-    ensures readable { (newest : Option Master) (records : List Entry) (table : List Content) (commits : ℕ) (x : Unfinished)
-        → Holds log.old pages.old (S.state site.old) newest records table commits
-        → IsUnfinished records x → IsAt first x
-        → IfErr result (λ stop. stop ≢ Stop.Foreign) }
-    ensures worn_end { (newest : Option Master) (records : List Entry) (table : List Content) (commits : ℕ) (x : Unfinished)
-        → Holds log.old pages.old (S.state site.old) newest records table commits
-        → IsUnfinished records x → IsAt first x
-        → IsErrOf result (Stop.Worn Dev.Flash) → IsWorn pages.old.flash.geometry (S.state site.new).image }
-    ensures worn_log_end { (newest : Option Master) (records : List Entry) (table : List Content) (commits : ℕ) (x : Unfinished)
-        → Holds log.old pages.old (S.state site.old) newest records table commits
-        → IsUnfinished records x → IsAt first x
-        → IsErrOf result (Stop.Worn Dev.Log) → IsLogWorn pages.old.flash.geometry (S.state site.new).image }
-    ensures masters { (newest : Option Master) (records : List Entry) (table : List Content) (commits : ℕ) (x : Unfinished)
-        → Holds log.old pages.old (S.state site.old) newest records table commits
-        → IsUnfinished records x → IsAt first x
-        → OnOk result (KeepsUnits master_shape (S.state site.old).image (S.state site.new).image) }
-    ensures left { IsTrue (S.state site.old).honest → (S.state site.new).left ≡ (S.state site.old).left }
-    ensures stays_quiet { IsTrue (S.state site.old).honest → IsQuiet (S.state site.old)
-        → OnOk result (IsQuiet (S.state site.new)) }
-    ensures quiet { (newest : Option Master) (records : List Entry) (table : List Content) (commits : ℕ) (x : Unfinished)
-        → Holds log.old pages.old (S.state site.old) newest records table commits
-        → IsUnfinished records x → IsAt first x
-        → IsQuiet (S.state site.old)
-        → IfErr result (λ stop. ((d : Dev) → stop ≢ Stop.Device d) → IsQuiet (S.state site.new)) }
+        → Keeps result pages.old.flash.geometry log.old log.new (S.state site.old) (S.state site.new)
+        (LeavesTableUnder newest pages.old.flash.geometry table commits (S.state site.old).told) x.remaining 0 }
     ensures log_reads { (newest : Option Master) (records : List Entry) (table : List Content) (commits : ℕ) (x : Unfinished)
         → Holds log.old pages.old (S.state site.old) newest records table commits
         → IsUnfinished records x → IsAt first x
@@ -393,16 +283,7 @@ fn undo_updates<S: Site>(
     // Of every site.
     ensures none { IfOk result (λ now. now.next ≡ now.txn) }
     ensures same { IfOk result (λ now. now.txn ≡ first.txn) }
-    ensures going { OnOk result (MayGoOn log.new pages.new (S.state site.new)) }
-    ensures kept { log.new.kept ≡ log.old.kept }
-    ensures log_geometry { log.new.geometry ≡ log.old.geometry }
-    ensures geometry { pages.new.flash.geometry ≡ pages.old.flash.geometry }
-    ensures size { pages.new.pool.size ≡ pages.old.pool.size }
-    ensures rises { OnOk result (end_of log.old ≤ end_of log.new) }
-    ensures goes { Goes (S.state site.old) (S.state site.new) }
-    ensures device { (d : Dev) → IsErrOf result (Stop.Device d)
-        → FaultRose d (S.state site.old) (S.state site.new) }
-    ensures stops { IfErr result (λ stop. MayStop stop) }
+    ensures works { Works result log.old log.new pages.old pages.new (S.state site.old) (S.state site.new) }
 {
     page_laws();
     undo_laws();
@@ -451,15 +332,7 @@ fn read_last<S: Site>(log: &LogStore, site: &mut S, txn: u64, last: u64) -> Resu
     // Of every site.
     ensures own { IfOk result (λ at. (at.txn ≡ txn) × (at.last ≡ last)) }
     ensures falls { IfOk result (λ at. at.next ≤ last) }
-    ensures same { IsTrue (S.state site.old).honest
-        → IsUnchanged (S.state site.old) (S.state site.new) }
-    ensures goes { Goes (S.state site.old) (S.state site.new) }
-    ensures log_reads { (S.state site.new).log_reads ≤ (S.state site.old).log_reads + 1 }
-    ensures others { (d : Dev) → d ≢ Dev.Log
-        → reads_of d (S.state site.new) ≡ reads_of d (S.state site.old) }
-    ensures device { IsErrOf result (Stop.Device Dev.Log)
-        → FaultRose Dev.Log (S.state site.old) (S.state site.new) }
-    ensures stops { IfErr result (λ stop. (stop ≡ Stop.Device Dev.Log) ⊎ (stop ≡ Stop.Foreign)) }
+    ensures reads { ReadsOne result (S.state site.old) (S.state site.new) }
 {
     page_laws();
     undo_laws();
@@ -501,46 +374,16 @@ pub fn undo_one<S: Site>(
         → Holds log.old pages.old (S.state site.old) newest records table commits
         → IsUnfinished records x → x.txn ≡ txn → x.last ≡ last
         → OnOk result (RollsBack log.new pages.new (S.state site.new) newest records table commits txn) }
-    ensures any_moment { (newest : Option Master) (records : List Entry) (table : List Content) (commits : ℕ) (x : Unfinished)
+    ensures keeps { (newest : Option Master) (records : List Entry) (table : List Content) (commits : ℕ) (x : Unfinished)
         → Holds log.old pages.old (S.state site.old) newest records table commits
         → IsUnfinished records x → x.txn ≡ txn → x.last ≡ last
-        → IsQuiet (S.state site.old)
-        → LeavesOnly (S.state site.old) (S.state site.new)
-        (LeavesTableUnder newest pages.old.flash.geometry table commits (S.state site.old).told) }
-    ensures numbers { (newest : Option Master) (records : List Entry) (table : List Content) (commits : ℕ) (x : Unfinished)
-        → Holds log.old pages.old (S.state site.old) newest records table commits
-        → IsUnfinished records x → x.txn ≡ txn → x.last ≡ last
-        → IsQuiet (S.state site.old)
-        → SkipsNone result pages.old.flash.geometry log.old log.new (S.state site.old) (S.state site.new) (x.remaining + 1) 0 }
-    ensures readable { (newest : Option Master) (records : List Entry) (table : List Content) (commits : ℕ) (x : Unfinished)
-        → Holds log.old pages.old (S.state site.old) newest records table commits
-        → IsUnfinished records x → x.txn ≡ txn → x.last ≡ last
-        → IfErr result (λ stop. stop ≢ Stop.Foreign) }
-    ensures worn_end { (newest : Option Master) (records : List Entry) (table : List Content) (commits : ℕ) (x : Unfinished)
-        → Holds log.old pages.old (S.state site.old) newest records table commits
-        → IsUnfinished records x → x.txn ≡ txn → x.last ≡ last
-        → IsErrOf result (Stop.Worn Dev.Flash) → IsWorn pages.old.flash.geometry (S.state site.new).image }
-    ensures worn_log_end { (newest : Option Master) (records : List Entry) (table : List Content) (commits : ℕ) (x : Unfinished)
-        → Holds log.old pages.old (S.state site.old) newest records table commits
-        → IsUnfinished records x → x.txn ≡ txn → x.last ≡ last
-        → IsErrOf result (Stop.Worn Dev.Log) → IsLogWorn pages.old.flash.geometry (S.state site.new).image }
+        → Keeps result pages.old.flash.geometry log.old log.new (S.state site.old) (S.state site.new)
+        (LeavesTableUnder newest pages.old.flash.geometry table commits (S.state site.old).told) (x.remaining + 1) 0 }
 
     ensures blocks { (newest : Option Master) (records : List Entry) (table : List Content) (commits : ℕ) (x : Unfinished)
         → Holds log.old pages.old (S.state site.old) newest records table commits
         → IsUnfinished records x → x.txn ≡ txn → x.last ≡ last
         → OnOk result (blocks_to log.new ≤ blocks_to log.old + (x.remaining + 1)) }
-    ensures masters { (newest : Option Master) (records : List Entry) (table : List Content) (commits : ℕ) (x : Unfinished)
-        → Holds log.old pages.old (S.state site.old) newest records table commits
-        → IsUnfinished records x → x.txn ≡ txn → x.last ≡ last
-        → OnOk result (KeepsUnits master_shape (S.state site.old).image (S.state site.new).image) }
-    ensures left { IsTrue (S.state site.old).honest → (S.state site.new).left ≡ (S.state site.old).left }
-    ensures stays_quiet { IsTrue (S.state site.old).honest → IsQuiet (S.state site.old)
-        → OnOk result (IsQuiet (S.state site.new)) }
-    ensures quiet { (newest : Option Master) (records : List Entry) (table : List Content) (commits : ℕ) (x : Unfinished)
-        → Holds log.old pages.old (S.state site.old) newest records table commits
-        → IsUnfinished records x → x.txn ≡ txn → x.last ≡ last
-        → IsQuiet (S.state site.old)
-        → IfErr result (λ stop. ((d : Dev) → stop ≢ Stop.Device d) → IsQuiet (S.state site.new)) }
     ensures log_reads { (newest : Option Master) (records : List Entry) (table : List Content) (commits : ℕ) (x : Unfinished)
         → Holds log.old pages.old (S.state site.old) newest records table commits
         → IsUnfinished records x → x.txn ≡ txn → x.last ≡ last
@@ -551,18 +394,7 @@ pub fn undo_one<S: Site>(
         → Asks result (undo_one_works records txn) pages.old pages.new (S.state site.old) (S.state site.new) }
 
     // Of every site.
-    ensures going { OnOk result (MayGoOn log.new pages.new (S.state site.new)) }
-    ensures kept { log.new.kept ≡ log.old.kept }
-    ensures log_geometry { log.new.geometry ≡ log.old.geometry }
-    ensures geometry { pages.new.flash.geometry ≡ pages.old.flash.geometry }
-    ensures size { pages.new.pool.size ≡ pages.old.pool.size }
-    ensures rises { OnOk result (end_of log.old ≤ end_of log.new) }
-    ensures goes { Goes (S.state site.old) (S.state site.new) }
-
-    // When each answer comes.
-    ensures device { (d : Dev) → IsErrOf result (Stop.Device d)
-        → FaultRose d (S.state site.old) (S.state site.new) }
-    ensures stops { IfErr result (λ stop. MayStop stop) }
+    ensures works { Works result log.old log.new pages.old pages.new (S.state site.old) (S.state site.new) }
 {
     page_laws();
     undo_laws();

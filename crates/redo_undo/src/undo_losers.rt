@@ -1,29 +1,23 @@
 // Undoing all transactions that a log leaves unfinished.
-ghost use Rattle.std.specs.Prelude.{◌≡◌, ◌≢◌, ◌⊎◌, ◌+◌, ◌<◌, ◌≤◌, [], ◌∷◌, ◌^◌, ℕ, List, drop, false, None, Some, IsTrue, IfOk, IfErr, IfSome, IfNone, OnOk, IsErrOf, Option};
+ghost use Rattle.std.specs.Prelude.{◌≡◌, ◌⊎◌, ◌+◌, ◌<◌, ◌≤◌, [], ◌∷◌, ◌^◌, ℕ, List, drop, false, None, Some, IfOk, IfErr, IfSome, IfNone, OnOk, IsErrOf, Option};
 ghost use Rattle.site.specs.declared.outside.Dev.{Dev};
 ghost use Rattle.site.specs.declared.outside.Stop.{Stop};
-ghost use Rattle.site.specs.State.{IsQuiet};
-ghost use Rattle.site.specs.Calls.{Goes, SameReads, FaultRose};
-ghost use Rattle.site.specs.Moments.{LeavesOnly};
 ghost use Rattle.record_model.specs.State.{Content};
 ghost use Rattle.log_records.specs.Log.{Entry};
-ghost use Rattle.flash_cache.specs.Held.{IsWorn};
 ghost use Rattle.log_store.specs.Held as log_held;
 ghost use Rattle.log_store.specs.Held.{end_of, has_tail};
 ghost use Rattle.page_store.specs.declared.store.PageStore.{PageStore};
-ghost use Rattle.page_store.specs.Stopping.{MayStop};
 ghost use Rattle.checkpoint.specs.declared.master.Master.{Master};
 ghost use Rattle.image_meaning.specs.Moments.{LeavesTableUnder};
 ghost use Rattle.analysis.specs.Open.{found_in, Replaces, Remains, TakesOut, owed_for};
 ghost use Rattle.analysis.specs.Table.{listed};
 ghost use Rattle.analysis.specs.Read as analysis;
 ghost use Rattle.analysis.specs.Read.{IsTable};
-ghost use Rattle.redo_undo.specs.Holding.{MayGoOn, Holds, IsLogWorn, blocks_to};
+ghost use Rattle.redo_undo.specs.Holding.{MayGoOn, Holds, blocks_to};
 ghost use Rattle.redo_undo.specs.Works.{Asks, undo_works};
 ghost use Rattle.redo_undo.specs.UndoWorks.{works_of, IsLastAt, UndoesUpdates};
-ghost use Rattle.image_changes.specs.Rings.{KeepsUnits, master_shape};
-ghost use Rattle.redo_undo.specs.UndoingAll.{IsOf, Remain, HasNone, IsGreatest, IsUndoing, UndoesSome, UndoesAll};
-ghost use Rattle.redo_undo.specs.Numbers.{SkipsNone};
+ghost use Rattle.redo_undo.specs.UndoingAll.{IsOf, Remain, HasNone, IsUndoing, UndoesAll};
+ghost use Rattle.redo_undo.specs.Calls.{Works, WorksBeside, Keeps};
 
 use crate::laws::{found_laws, page_laws, undo_laws};
 use crate::logging::log_record;
@@ -81,64 +75,28 @@ fn end_one<S: Site>(
     requires none { HasNone (listed found.old.table) txn }
 
     // Of an honest site on which log and pages hold together.
-    ensures undone { (pages : PageStore) (newest : Option Master) (records : List Entry) (table : List Content) (commits known : ℕ)
-        → log.old.geometry ≡ pages.flash.geometry
-        → IsUndoing log.old pages (S.state site.old) newest records table commits found.old known
-        → IfOk result (λ lsn. UndoesSome log.new pages (S.state site.new) newest records table commits found.new lsn) }
-    ensures any_moment { (pages : PageStore) (newest : Option Master) (records : List Entry) (table : List Content) (commits : ℕ)
+    ensures keeps { (pages : PageStore) (newest : Option Master) (records : List Entry) (table : List Content) (commits known : ℕ)
         → MayGoOn log.old pages (S.state site.old)
-        → Holds log.old pages (S.state site.old) newest records table commits
-        → IsQuiet (S.state site.old)
-        → LeavesOnly (S.state site.old) (S.state site.new)
-        (LeavesTableUnder newest pages.flash.geometry table commits (S.state site.old).told) }
-    ensures numbers { (pages : PageStore) (newest : Option Master) (records : List Entry) (table : List Content) (commits : ℕ)
-        → MayGoOn log.old pages (S.state site.old)
-        → Holds log.old pages (S.state site.old) newest records table commits
-        → IsQuiet (S.state site.old)
-        → SkipsNone result log.old.geometry log.old log.new (S.state site.old) (S.state site.new) 1 0 }
-    ensures readable { (pages : PageStore) (newest : Option Master) (records : List Entry) (table : List Content) (commits known : ℕ)
-        → log.old.geometry ≡ pages.flash.geometry
         → IsUndoing log.old pages (S.state site.old) newest records table commits found.old known
-        → IfErr result (λ stop. stop ≢ Stop.Foreign) }
+        → Keeps result pages.flash.geometry log.old log.new (S.state site.old) (S.state site.new)
+        (LeavesTableUnder newest pages.flash.geometry table commits (S.state site.old).told) 1 0 }
     ensures updates { (pages : PageStore) (newest : Option Master) (records : List Entry) (table : List Content) (commits known : ℕ)
         → log.old.geometry ≡ pages.flash.geometry
         → IsUndoing log.old pages (S.state site.old) newest records table commits found.old known
         → IfOk result (λ lsn. UndoesUpdates log.new pages (S.state site.new) newest records table commits found.new lsn []) }
-    ensures worn_log_end { (pages : PageStore) (newest : Option Master) (records : List Entry) (table : List Content) (commits : ℕ)
-        → Holds log.old pages (S.state site.old) newest records table commits
-        → IsErrOf result (Stop.Worn Dev.Log) → IsLogWorn log.old.geometry (S.state site.new).image }
-    ensures masters { (pages : PageStore) (newest : Option Master) (records : List Entry) (table : List Content) (commits : ℕ)
-        → Holds log.old pages (S.state site.old) newest records table commits
-        → OnOk result (KeepsUnits master_shape (S.state site.old).image (S.state site.new).image) }
-    ensures left { IsTrue (S.state site.old).honest → (S.state site.new).left ≡ (S.state site.old).left }
-    ensures stays_quiet { IsTrue (S.state site.old).honest → IsQuiet (S.state site.old)
-        → OnOk result (IsQuiet (S.state site.new)) }
-    ensures quiet { (pages : PageStore) (newest : Option Master) (records : List Entry) (table : List Content) (commits : ℕ)
-        → Holds log.old pages (S.state site.old) newest records table commits
-        → IsQuiet (S.state site.old)
-        → IfErr result (λ stop. ((d : Dev) → stop ≢ Stop.Device d) → IsQuiet (S.state site.new)) }
 
     // Of every site.
     ensures before { IfOk result (λ lsn. lsn < end_of log.new) }
     ensures rises { OnOk result (end_of log.old ≤ end_of log.new) }
-    ensures going { (pages : PageStore) → MayGoOn log.old pages (S.state site.old)
-        → OnOk result (MayGoOn log.new pages (S.state site.new)) }
-    ensures log_going { log_held.MayGoOn log.new (S.state site.new) }
+    ensures works { WorksBeside result log.old log.new (S.state site.old) (S.state site.new) }
     ensures found_going { analysis.MayGoOn found.new }
     ensures takes { OnOk result (TakesOut (listed found.old.table) (listed found.new.table) txn) }
     ensures falls { OnOk result (owed_for (listed found.new.table) < owed_for (listed found.old.table)) }
     ensures commits { found.new.commits ≡ found.old.commits }
     ensures blocks { OnOk result (blocks_to log.new ≤ blocks_to log.old + 1) }
-    ensures kept { log.new.kept ≡ log.old.kept }
-    ensures geometry { log.new.geometry ≡ log.old.geometry }
-    ensures goes { Goes (S.state site.old) (S.state site.new) }
-    ensures log_reads { (S.state site.new).log_reads ≡ (S.state site.old).log_reads }
-    ensures reads { SameReads (S.state site.old) (S.state site.new) }
 
     // When each answer comes.
     ensures worn { IsErrOf result (Stop.Worn Dev.Log) → log.old.ring.hi ≡ 2 ^ 40 }
-    ensures device { (d : Dev) → IsErrOf result (Stop.Device d)
-        → FaultRose d (S.state site.old) (S.state site.new) }
     ensures stops { IfErr result (λ stop. (stop ≡ Stop.Device Dev.Log)
         ⊎ ((stop ≡ Stop.Worn Dev.Log) ⊎ (stop ≡ Stop.Foreign))) }
 {
@@ -169,67 +127,28 @@ fn end_undone<S: Site>(
     requires known { known < end_of log.old }
 
     // Of an honest site on which log and pages hold together.
-    ensures undone { (pages : PageStore) (newest : Option Master) (records : List Entry) (table : List Content) (commits : ℕ)
+    ensures keeps { (pages : PageStore) (newest : Option Master) (records : List Entry) (table : List Content) (commits : ℕ)
         → MayGoOn log.old pages (S.state site.old)
         → IsUndoing log.old pages (S.state site.old) newest records table commits found.old known
-        → IfOk result (λ lsn. UndoesSome log.new pages (S.state site.new) newest records table commits found.new lsn) }
-    ensures any_moment { (pages : PageStore) (newest : Option Master) (records : List Entry) (table : List Content) (commits : ℕ)
-        → MayGoOn log.old pages (S.state site.old)
-        → IsUndoing log.old pages (S.state site.old) newest records table commits found.old known
-        → IsQuiet (S.state site.old)
-        → LeavesOnly (S.state site.old) (S.state site.new)
-        (LeavesTableUnder newest pages.flash.geometry table commits (S.state site.old).told) }
-    ensures numbers { (pages : PageStore) (newest : Option Master) (records : List Entry) (table : List Content) (commits : ℕ)
-        → MayGoOn log.old pages (S.state site.old)
-        → IsUndoing log.old pages (S.state site.old) newest records table commits found.old known
-        → IsQuiet (S.state site.old)
-        → SkipsNone result log.old.geometry log.old log.new (S.state site.old) (S.state site.new) (owed_for (listed found.old.table)) 0 }
-    ensures readable { (pages : PageStore) (newest : Option Master) (records : List Entry) (table : List Content) (commits : ℕ)
-        → MayGoOn log.old pages (S.state site.old)
-        → IsUndoing log.old pages (S.state site.old) newest records table commits found.old known
-        → IfErr result (λ stop. stop ≢ Stop.Foreign) }
+        → Keeps result pages.flash.geometry log.old log.new (S.state site.old) (S.state site.new)
+        (LeavesTableUnder newest pages.flash.geometry table commits (S.state site.old).told) (owed_for (listed found.old.table)) 0 }
     ensures updates { (pages : PageStore) (newest : Option Master) (records : List Entry) (table : List Content) (commits : ℕ)
         → MayGoOn log.old pages (S.state site.old)
         → IsUndoing log.old pages (S.state site.old) newest records table commits found.old known
         → IfOk result (λ lsn. UndoesUpdates log.new pages (S.state site.new) newest records table commits found.new lsn []) }
-    ensures worn_log_end { (pages : PageStore) (newest : Option Master) (records : List Entry) (table : List Content) (commits : ℕ)
-        → MayGoOn log.old pages (S.state site.old)
-        → IsUndoing log.old pages (S.state site.old) newest records table commits found.old known
-        → IsErrOf result (Stop.Worn Dev.Log) → IsLogWorn log.old.geometry (S.state site.new).image }
-    ensures masters { (pages : PageStore) (newest : Option Master) (records : List Entry) (table : List Content) (commits : ℕ)
-        → MayGoOn log.old pages (S.state site.old)
-        → IsUndoing log.old pages (S.state site.old) newest records table commits found.old known
-        → OnOk result (KeepsUnits master_shape (S.state site.old).image (S.state site.new).image) }
-    ensures left { IsTrue (S.state site.old).honest → (S.state site.new).left ≡ (S.state site.old).left }
-    ensures stays_quiet { IsTrue (S.state site.old).honest → IsQuiet (S.state site.old)
-        → OnOk result (IsQuiet (S.state site.new)) }
-    ensures quiet { (pages : PageStore) (newest : Option Master) (records : List Entry) (table : List Content) (commits : ℕ)
-        → MayGoOn log.old pages (S.state site.old)
-        → IsUndoing log.old pages (S.state site.old) newest records table commits found.old known
-        → IsQuiet (S.state site.old)
-        → IfErr result (λ stop. ((d : Dev) → stop ≢ Stop.Device d) → IsQuiet (S.state site.new)) }
 
     // Of every site.
     ensures before { IfOk result (λ lsn. lsn < end_of log.new) }
     ensures rises { OnOk result (end_of log.old ≤ end_of log.new) }
-    ensures going { (pages : PageStore) → MayGoOn log.old pages (S.state site.old)
-        → OnOk result (MayGoOn log.new pages (S.state site.new)) }
-    ensures log_going { log_held.MayGoOn log.new (S.state site.new) }
+    ensures works { WorksBeside result log.old log.new (S.state site.old) (S.state site.new) }
     ensures found_going { analysis.MayGoOn found.new }
     ensures remain { OnOk result (Remain (listed found.new.table)) }
     ensures fewer { OnOk result (owed_for (listed found.new.table) ≤ owed_for (listed found.old.table)) }
     ensures commits { found.new.commits ≡ found.old.commits }
     ensures blocks { OnOk result (blocks_to log.new + owed_for (listed found.new.table)
         ≤ blocks_to log.old + owed_for (listed found.old.table)) }
-    ensures kept { log.new.kept ≡ log.old.kept }
-    ensures geometry { log.new.geometry ≡ log.old.geometry }
-    ensures goes { Goes (S.state site.old) (S.state site.new) }
-    ensures log_reads { (S.state site.new).log_reads ≡ (S.state site.old).log_reads }
-    ensures reads { SameReads (S.state site.old) (S.state site.new) }
 
     // When each answer comes.
-    ensures device { (d : Dev) → IsErrOf result (Stop.Device d)
-        → FaultRose d (S.state site.old) (S.state site.new) }
     ensures stops { IfErr result (λ stop. (stop ≡ Stop.Device Dev.Log)
         ⊎ ((stop ≡ Stop.Worn Dev.Log) ⊎ (stop ≡ Stop.Foreign))) }
 {
@@ -260,22 +179,10 @@ fn undo_greatest<S: Site>(
     requires remain { Remain (listed found.old.table) }
 
     // Of an honest site on which log and pages hold together.
-    ensures undone { (newest : Option Master) (records : List Entry) (table : List Content) (commits known : ℕ)
+    ensures keeps { (newest : Option Master) (records : List Entry) (table : List Content) (commits known : ℕ)
         → IsUndoing log.old pages.old (S.state site.old) newest records table commits found.old known
-        → IsGreatest records loser.txn
-        → IfOk result (λ last. UndoesSome log.new pages.new (S.state site.new) newest records table commits found.new last) }
-    ensures any_moment { (newest : Option Master) (records : List Entry) (table : List Content) (commits : ℕ)
-        → Holds log.old pages.old (S.state site.old) newest records table commits
-        → IsQuiet (S.state site.old)
-        → LeavesOnly (S.state site.old) (S.state site.new)
-        (LeavesTableUnder newest pages.old.flash.geometry table commits (S.state site.old).told) }
-    ensures numbers { (newest : Option Master) (records : List Entry) (table : List Content) (commits : ℕ)
-        → Holds log.old pages.old (S.state site.old) newest records table commits
-        → IsQuiet (S.state site.old)
-        → SkipsNone result pages.old.flash.geometry log.old log.new (S.state site.old) (S.state site.new) 1 0 }
-    ensures readable { (newest : Option Master) (records : List Entry) (table : List Content) (commits known : ℕ)
-        → IsUndoing log.old pages.old (S.state site.old) newest records table commits found.old known
-        → IfErr result (λ stop. stop ≢ Stop.Foreign) }
+        → Keeps result pages.old.flash.geometry log.old log.new (S.state site.old) (S.state site.new)
+        (LeavesTableUnder newest pages.old.flash.geometry table commits (S.state site.old).told) 1 0 }
     ensures updates { (newest : Option Master) (records : List Entry) (table : List Content) (commits known : ℕ) (u : Entry)
         → IsUndoing log.old pages.old (S.state site.old) newest records table commits found.old known
         → IsLastAt records loser.txn lsn u
@@ -284,45 +191,20 @@ fn undo_greatest<S: Site>(
         → IsUndoing log.old pages.old (S.state site.old) newest records table commits found.old known
         → IsLastAt records loser.txn lsn u
         → Asks result (works_of (u ∷ [])) pages.old pages.new (S.state site.old) (S.state site.new) }
-    ensures worn_end { (newest : Option Master) (records : List Entry) (table : List Content) (commits : ℕ)
-        → Holds log.old pages.old (S.state site.old) newest records table commits
-        → IsErrOf result (Stop.Worn Dev.Flash) → IsWorn pages.old.flash.geometry (S.state site.new).image }
-    ensures worn_log_end { (newest : Option Master) (records : List Entry) (table : List Content) (commits : ℕ)
-        → Holds log.old pages.old (S.state site.old) newest records table commits
-        → IsErrOf result (Stop.Worn Dev.Log) → IsLogWorn pages.old.flash.geometry (S.state site.new).image }
-    ensures masters { (newest : Option Master) (records : List Entry) (table : List Content) (commits : ℕ)
-        → Holds log.old pages.old (S.state site.old) newest records table commits
-        → OnOk result (KeepsUnits master_shape (S.state site.old).image (S.state site.new).image) }
-    ensures left { IsTrue (S.state site.old).honest → (S.state site.new).left ≡ (S.state site.old).left }
-    ensures stays_quiet { IsTrue (S.state site.old).honest → IsQuiet (S.state site.old)
-        → OnOk result (IsQuiet (S.state site.new)) }
-    ensures quiet { (newest : Option Master) (records : List Entry) (table : List Content) (commits : ℕ)
-        → Holds log.old pages.old (S.state site.old) newest records table commits
-        → IsQuiet (S.state site.old)
-        → IfErr result (λ stop. ((d : Dev) → stop ≢ Stop.Device d) → IsQuiet (S.state site.new)) }
 
     // Of every site.
     ensures before { IfOk result (λ last. last < end_of log.new) }
-    ensures going { OnOk result (MayGoOn log.new pages.new (S.state site.new)) }
+    ensures works { Works result log.old log.new pages.old pages.new (S.state site.old) (S.state site.new) }
     ensures found_going { analysis.MayGoOn found.new }
     ensures replaces { IfOk result (λ last. Replaces (listed found.old.table) (listed found.new.table) loser.txn
         (λ x. record x { last = last; updates = drop 1 x.updates })) }
     ensures owed { OnOk result (owed_for (listed found.new.table) + 1 ≡ owed_for (listed found.old.table)) }
     ensures commits { found.new.commits ≡ found.old.commits }
     ensures blocks { OnOk result (blocks_to log.new ≤ blocks_to log.old + 1) }
-    ensures kept { log.new.kept ≡ log.old.kept }
-    ensures log_geometry { log.new.geometry ≡ log.old.geometry }
-    ensures geometry { pages.new.flash.geometry ≡ pages.old.flash.geometry }
-    ensures size { pages.new.pool.size ≡ pages.old.pool.size }
-    ensures rises { OnOk result (end_of log.old ≤ end_of log.new) }
-    ensures goes { Goes (S.state site.old) (S.state site.new) }
     ensures log_reads { (S.state site.new).log_reads ≤ (S.state site.old).log_reads + 1 }
 
     // When each answer comes.
     ensures worn_flash { IsErrOf result (Stop.Worn Dev.Flash) → pages.old.flash.ring.hi ≡ 2 ^ 40 }
-    ensures device { (d : Dev) → IsErrOf result (Stop.Device d)
-        → FaultRose d (S.state site.old) (S.state site.new) }
-    ensures stops { IfErr result (λ stop. MayStop stop) }
 {
     page_laws();
     undo_laws();
@@ -358,25 +240,11 @@ fn undo_next<S: Site>(
     requires remain { Remain (listed found.old.table) }
 
     // Of an honest site on which log and pages hold together.
-    ensures undone { (newest : Option Master) (records : List Entry) (table : List Content) (commits : ℕ)
+    ensures keeps { (newest : Option Master) (records : List Entry) (table : List Content) (commits : ℕ) (u : Entry)
         → IsUndoing log.old pages.old (S.state site.old) newest records table commits found.old known
-        → IsGreatest records next.0
-        → IfOk result (λ last. UndoesSome log.new pages.new (S.state site.new) newest records table commits found.new last) }
-    ensures any_moment { (newest : Option Master) (records : List Entry) (table : List Content) (commits : ℕ)
-        → IsUndoing log.old pages.old (S.state site.old) newest records table commits found.old known
-        → IsGreatest records next.0
-        → IsQuiet (S.state site.old)
-        → LeavesOnly (S.state site.old) (S.state site.new)
-        (LeavesTableUnder newest pages.old.flash.geometry table commits (S.state site.old).told) }
-    ensures numbers { (newest : Option Master) (records : List Entry) (table : List Content) (commits : ℕ)
-        → IsUndoing log.old pages.old (S.state site.old) newest records table commits found.old known
-        → IsGreatest records next.0
-        → IsQuiet (S.state site.old)
-        → SkipsNone result pages.old.flash.geometry log.old log.new (S.state site.old) (S.state site.new) (owed_for (listed found.old.table)) 0 }
-    ensures readable { (newest : Option Master) (records : List Entry) (table : List Content) (commits : ℕ)
-        → IsUndoing log.old pages.old (S.state site.old) newest records table commits found.old known
-        → IsGreatest records next.0
-        → IfErr result (λ stop. stop ≢ Stop.Foreign) }
+        → IsLastAt records next.0 next.1 u
+        → Keeps result pages.old.flash.geometry log.old log.new (S.state site.old) (S.state site.new)
+        (LeavesTableUnder newest pages.old.flash.geometry table commits (S.state site.old).told) (owed_for (listed found.old.table)) 0 }
     ensures updates { (newest : Option Master) (records : List Entry) (table : List Content) (commits : ℕ) (u : Entry)
         → IsUndoing log.old pages.old (S.state site.old) newest records table commits found.old known
         → IsLastAt records next.0 next.1 u
@@ -385,47 +253,17 @@ fn undo_next<S: Site>(
         → IsUndoing log.old pages.old (S.state site.old) newest records table commits found.old known
         → IsLastAt records next.0 next.1 u
         → Asks result (works_of (u ∷ [])) pages.old pages.new (S.state site.old) (S.state site.new) }
-    ensures worn_end { (newest : Option Master) (records : List Entry) (table : List Content) (commits : ℕ)
-        → Holds log.old pages.old (S.state site.old) newest records table commits
-        → IsErrOf result (Stop.Worn Dev.Flash) → IsWorn pages.old.flash.geometry (S.state site.new).image }
-    ensures worn_log_end { (newest : Option Master) (records : List Entry) (table : List Content) (commits : ℕ)
-        → IsUndoing log.old pages.old (S.state site.old) newest records table commits found.old known
-        → IsGreatest records next.0
-        → IsErrOf result (Stop.Worn Dev.Log) → IsLogWorn pages.old.flash.geometry (S.state site.new).image }
-    ensures masters { (newest : Option Master) (records : List Entry) (table : List Content) (commits : ℕ)
-        → IsUndoing log.old pages.old (S.state site.old) newest records table commits found.old known
-        → IsGreatest records next.0
-        → OnOk result (KeepsUnits master_shape (S.state site.old).image (S.state site.new).image) }
-    ensures left { IsTrue (S.state site.old).honest → (S.state site.new).left ≡ (S.state site.old).left }
-    ensures stays_quiet { IsTrue (S.state site.old).honest → IsQuiet (S.state site.old)
-        → OnOk result (IsQuiet (S.state site.new)) }
-    ensures quiet { (newest : Option Master) (records : List Entry) (table : List Content) (commits : ℕ)
-        → IsUndoing log.old pages.old (S.state site.old) newest records table commits found.old known
-        → IsGreatest records next.0
-        → IsQuiet (S.state site.old)
-        → IfErr result (λ stop. ((d : Dev) → stop ≢ Stop.Device d) → IsQuiet (S.state site.new)) }
 
     // Of every site.
     ensures before { IfOk result (λ last. last < end_of log.new) }
-    ensures going { OnOk result (MayGoOn log.new pages.new (S.state site.new)) }
+    ensures works { Works result log.old log.new pages.old pages.new (S.state site.old) (S.state site.new) }
     ensures found_going { analysis.MayGoOn found.new }
     ensures remain { OnOk result (Remain (listed found.new.table)) }
     ensures falls { OnOk result (owed_for (listed found.new.table) < owed_for (listed found.old.table)) }
     ensures commits { found.new.commits ≡ found.old.commits }
     ensures blocks { OnOk result (blocks_to log.new + owed_for (listed found.new.table)
         ≤ blocks_to log.old + owed_for (listed found.old.table)) }
-    ensures kept { log.new.kept ≡ log.old.kept }
-    ensures log_geometry { log.new.geometry ≡ log.old.geometry }
-    ensures geometry { pages.new.flash.geometry ≡ pages.old.flash.geometry }
-    ensures size { pages.new.pool.size ≡ pages.old.pool.size }
-    ensures rises { OnOk result (end_of log.old ≤ end_of log.new) }
-    ensures goes { Goes (S.state site.old) (S.state site.new) }
     ensures log_reads { (S.state site.new).log_reads ≤ (S.state site.old).log_reads + 1 }
-
-    // When each answer comes.
-    ensures device { (d : Dev) → IsErrOf result (Stop.Device d)
-        → FaultRose d (S.state site.old) (S.state site.new) }
-    ensures stops { IfErr result (λ stop. MayStop stop) }
 {
     undo_laws();
     found_laws();
@@ -464,72 +302,25 @@ pub fn undo_all<S: Site>(
         → Holds log.old pages.old (S.state site.old) newest records table commits
         → IsTable [] records (listed found.old.table)
         → OnOk result (UndoesAll log.new pages.new (S.state site.new) newest records table commits) }
-    ensures any_moment { (newest : Option Master) (records : List Entry) (table : List Content) (commits : ℕ)
+    ensures keeps { (newest : Option Master) (records : List Entry) (table : List Content) (commits : ℕ)
         → has_tail log.old ≡ false
         → Holds log.old pages.old (S.state site.old) newest records table commits
         → IsTable [] records (listed found.old.table)
-        → IsQuiet (S.state site.old)
-        → LeavesOnly (S.state site.old) (S.state site.new)
-        (LeavesTableUnder newest pages.old.flash.geometry table commits (S.state site.old).told) }
-    ensures numbers { (newest : Option Master) (records : List Entry) (table : List Content) (commits : ℕ)
-        → has_tail log.old ≡ false
-        → Holds log.old pages.old (S.state site.old) newest records table commits
-        → IsTable [] records (listed found.old.table)
-        → IsQuiet (S.state site.old)
-        → SkipsNone result pages.old.flash.geometry log.old log.new (S.state site.old) (S.state site.new) (owed_for (listed found.old.table)) 0 }
-    ensures readable { (newest : Option Master) (records : List Entry) (table : List Content) (commits : ℕ)
-        → has_tail log.old ≡ false
-        → Holds log.old pages.old (S.state site.old) newest records table commits
-        → IsTable [] records (listed found.old.table)
-        → IfErr result (λ stop. stop ≢ Stop.Foreign) }
-    ensures worn_end { (newest : Option Master) (records : List Entry) (table : List Content) (commits : ℕ)
-        → has_tail log.old ≡ false
-        → Holds log.old pages.old (S.state site.old) newest records table commits
-        → IsTable [] records (listed found.old.table)
-        → IsErrOf result (Stop.Worn Dev.Flash) → IsWorn pages.old.flash.geometry (S.state site.new).image }
-    ensures worn_log_end { (newest : Option Master) (records : List Entry) (table : List Content) (commits : ℕ)
-        → has_tail log.old ≡ false
-        → Holds log.old pages.old (S.state site.old) newest records table commits
-        → IsTable [] records (listed found.old.table)
-        → IsErrOf result (Stop.Worn Dev.Log) → IsLogWorn pages.old.flash.geometry (S.state site.new).image }
+        → Keeps result pages.old.flash.geometry log.old log.new (S.state site.old) (S.state site.new)
+        (LeavesTableUnder newest pages.old.flash.geometry table commits (S.state site.old).told) (owed_for (listed found.old.table)) 0 }
     ensures asks { (newest : Option Master) (records : List Entry) (table : List Content) (commits : ℕ)
         → has_tail log.old ≡ false
         → Holds log.old pages.old (S.state site.old) newest records table commits
         → IsTable [] records (listed found.old.table)
         → Asks result (undo_works records) pages.old pages.new (S.state site.old) (S.state site.new) }
-    ensures masters { (newest : Option Master) (records : List Entry) (table : List Content) (commits : ℕ)
-        → has_tail log.old ≡ false
-        → Holds log.old pages.old (S.state site.old) newest records table commits
-        → IsTable [] records (listed found.old.table)
-        → OnOk result (KeepsUnits master_shape (S.state site.old).image (S.state site.new).image) }
-    ensures left { IsTrue (S.state site.old).honest → (S.state site.new).left ≡ (S.state site.old).left }
-    ensures stays_quiet { IsTrue (S.state site.old).honest → IsQuiet (S.state site.old)
-        → OnOk result (IsQuiet (S.state site.new)) }
-    ensures quiet { (newest : Option Master) (records : List Entry) (table : List Content) (commits : ℕ)
-        → has_tail log.old ≡ false
-        → Holds log.old pages.old (S.state site.old) newest records table commits
-        → IsTable [] records (listed found.old.table)
-        → IsQuiet (S.state site.old)
-        → IfErr result (λ stop. ((d : Dev) → stop ≢ Stop.Device d) → IsQuiet (S.state site.new)) }
 
     // Of every site.
-    ensures going { OnOk result (MayGoOn log.new pages.new (S.state site.new)) }
+    ensures works { Works result log.old log.new pages.old pages.new (S.state site.old) (S.state site.new) }
     ensures none { OnOk result (listed found.new.table ≡ []) }
     ensures commits { found.new.commits ≡ found.old.commits }
     ensures blocks { OnOk result (blocks_to log.new ≤ blocks_to log.old + owed_for (listed found.old.table)) }
-    ensures kept { log.new.kept ≡ log.old.kept }
-    ensures log_geometry { log.new.geometry ≡ log.old.geometry }
-    ensures geometry { pages.new.flash.geometry ≡ pages.old.flash.geometry }
-    ensures size { pages.new.pool.size ≡ pages.old.pool.size }
-    ensures rises { OnOk result (end_of log.old ≤ end_of log.new) }
-    ensures goes { Goes (S.state site.old) (S.state site.new) }
     ensures log_reads { (S.state site.new).log_reads
         ≤ (S.state site.old).log_reads + owed_for (listed found.old.table) }
-
-    // When each answer comes.
-    ensures device { (d : Dev) → IsErrOf result (Stop.Device d)
-        → FaultRose d (S.state site.old) (S.state site.new) }
-    ensures stops { IfErr result (λ stop. MayStop stop) }
 {
     page_laws();
     undo_laws();

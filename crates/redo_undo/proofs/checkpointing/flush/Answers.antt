@@ -1,4 +1,4 @@
-use Rattle.std.proofs.Common.{Bool, sym, subst, ◌∙◌, arith}
+use Rattle.std.proofs.Common.{Bool, sym, subst, ◌∙◌, arith, inl, refl, ◌≢◌}
 use Rattle.second_chance.specs.Machine.{rules_of}
 use Rattle.site.specs.declared.outside.Dev.TheVariants.{Disk}
 use Rattle.site.specs.declared.geometry.Geometry.{Geometry}
@@ -12,18 +12,9 @@ use Rattle.redo_undo.proofs.Touched.{forced_tail, leaves_table, touched_holds, o
 use Rattle.redo_undo.proofs.Redoings.{ok_one_of}
 use Rattle.page_store.specs.Held.{current}
 use Rattle.redo_undo.proofs.LeftNumbers.{pages_skip, ready_next}
+use Rattle.site.specs.declared.outside.Stop.TheVariants.{Foreign}
+use Rattle.redo_undo.proofs.Calling.{of_error}
 use Rattle.redo_undo.proofs.checkpointing.flush.Goals as goal
-
-pub returns-clause-any_moment : goal.returns-clause-any_moment
-returns-clause-any_moment g c newest records table commits h quiet =
-    let site = g.S.Site.state c.args.site.now in
-    let log = c.args.log.now in
-    let pages = c.args.pages.now in
-    let ready = h.log_holds.ready in
-    let list : LogList = record { first = kept_by newest; blocks = h.log_holds.blocks; tail = h.log_holds.tail } in
-    leaves_table c.log_laws.ensures c.page_laws.ensures log pages site newest records table commits h c.requires.going.pages_going.own (forces log (flushed_contents pages))
-    (forced_tail log (flushed_contents pages)) (g.S.Site.state c.flush_all.new.site)
-    (c.flush_all.ensures.any_moment list ready quiet) (c.flush_all.ensures.ahead_moment list ready quiet h.log_holds.ahead) (c.flush_all.ensures.rings_moment newest list ready quiet h.log_holds.rings)
 
 pub returns-clause-holds : goal.returns-clause-holds
 returns-clause-holds g c newest records table commits h =
@@ -41,18 +32,6 @@ returns-clause-holds g c newest records table commits h =
     (c.flush_all.ensures.ready list ready) (c.flush_all.ensures.current list ready) (c.flush_all.ensures.ahead list ready h.log_holds.ahead) c.flush_all.ensures.end
     (c.flush_all.ensures.sealed list ready h.log_holds.ahead) (c.flush_all.ensures.rings newest list ready h.log_holds.rings) (c.flush_all.ensures.leaves list ready)
 
-pub returns-clause-masters : goal.returns-clause-masters
-returns-clause-masters g c newest records table commits h =
-    let ready = h.log_holds.ready in
-    ok_one_of c.flush_all.result _ (KeepsUnits master_shape (g.S.Site.state c.args.site.now).image (g.S.Site.state c.flush_all.new.site).image)
-    (λ leaves. leaves.rings Masters (λ same. cc) (λ same. cc)) (c.flush_all.ensures.leaves (record { first = kept_by newest; blocks = h.log_holds.blocks; tail = h.log_holds.tail }) ready)
-
-pub returns-clause-worn_end : goal.returns-clause-worn_end
-returns-clause-worn_end g c newest records table commits h = c.flush_all.ensures.worn_end (record { first = kept_by newest; blocks = h.log_holds.blocks; tail = h.log_holds.tail }) h.log_holds.ready
-
-pub returns-clause-quiet : goal.returns-clause-quiet
-returns-clause-quiet g c newest records table commits h quiet = c.flush_all.ensures.quiet (record { first = kept_by newest; blocks = h.log_holds.blocks; tail = h.log_holds.tail }) h.log_holds.ready quiet
-
 pub returns-clause-asks : goal.returns-clause-asks
 returns-clause-asks g c =
     let asked = c.flush_all.ensures.asked in
@@ -64,12 +43,23 @@ returns-clause-asks g c =
       rules_are = (λ i. rules_of (c.flush_all.ensures.size i) (c.flush_all.ensures.geometry i).groups);
     }
 
-pub returns-clause-numbers : goal.returns-clause-numbers
-returns-clause-numbers g c newest records table commits h quiet =
+pub returns-clause-keeps : goal.returns-clause-keeps
+returns-clause-keeps g c newest records table commits h =
     let site = g.S.Site.state c.args.site.now in
+    let new = g.S.Site.state c.flush_all.new.site in
     let log = c.args.log.now in
     let pages = c.args.pages.now in
     let ready = h.log_holds.ready in
     let list : LogList = record { first = kept_by newest; blocks = h.log_holds.blocks; tail = h.log_holds.tail } in
-    pages_skip c.flush_all.result pages.flash.geometry (current pages site.image) log c.flush_all.new.log list (forces log (flushed_contents pages)) site (g.S.Site.state c.flush_all.new.site) (ready_next pages log list site ready)
-    (forced_tail log (flushed_contents pages)) (c.flush_all.ensures.any_moment list ready quiet) c.flush_all.ensures.end
+    let sealing : Bool = forces log (flushed_contents pages) in
+    let tail = forced_tail log (flushed_contents pages) in
+    record {
+      any_moment = λ quiet. leaves_table c.log_laws.ensures c.page_laws.ensures log pages site newest records table commits h c.requires.going.pages_going.own sealing tail new
+          (c.flush_all.ensures.any_moment list ready quiet) (c.flush_all.ensures.ahead_moment list ready quiet h.log_holds.ahead) (c.flush_all.ensures.rings_moment newest list ready quiet h.log_holds.rings);
+      numbers = λ quiet. pages_skip c.flush_all.result pages.flash.geometry (current pages site.image) log c.flush_all.new.log list sealing site new (ready_next pages log list site ready) tail (c.flush_all.ensures.any_moment list ready quiet) c.flush_all.ensures.end;
+      quiet = c.flush_all.ensures.quiet list ready;
+      worn_log = λ worn. inl (c.flush_all.ensures.worn_log_end list ready worn);
+      worn = c.flush_all.ensures.worn_end list ready;
+      readable = λ is. of_error c.flush_all.result (λ stop. stop ≢ Foreign) Foreign c.flush_all.ensures.foreign is refl;
+      masters = λ none. ok_one_of c.flush_all.result _ (KeepsUnits master_shape site.image new.image) (λ leaves. leaves.rings Masters (λ same. cc) (λ same. cc)) (c.flush_all.ensures.leaves list ready);
+    }

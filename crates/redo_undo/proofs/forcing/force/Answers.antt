@@ -13,21 +13,6 @@ use Rattle.redo_undo.proofs.RingNumbers.{skips_nothing}
 use Rattle.redo_undo.proofs.LeftNumbers.{log_skips, ready_next, same_at_most, ok_both}
 use Rattle.redo_undo.proofs.forcing.force.Goals as goal
 
-pub returns-then-tail_empty-clause-any_moment : goal.returns-then-tail_empty-clause-any_moment
-returns-then-tail_empty-clause-any_moment g c pages newest records table commits going h quiet = nothing_happens c.args.log.now pages (g.S.Site.state c.args.site.now) newest records table commits going.sizes h quiet
-
-pub returns-clause-any_moment : goal.returns-clause-any_moment
-returns-clause-any_moment g c pages newest records table commits going h quiet =
-    let site = g.S.Site.state c.args.site.now in
-    let new = g.S.Site.state c.force.new.site in
-    let log = c.args.log.now in
-    let ready = h.log_holds.ready in
-    let list : LogList = record { first = kept_by newest; blocks = h.log_holds.blocks; tail = h.log_holds.tail } in
-    let fits = found_fits log site quiet ready.blocks in
-    append_leaves c.log_laws.ensures c.page_laws.ensures c.beside_laws.ensures log pages site newest records table commits h going.sizes new (has_tail log) quiet
-    (c.force.ensures.changes ready.blocks.honest) (c.force.ensures.any_moment list fits ready.records) (c.force.ensures.front list fits ready.records quiet)
-    going.pages_going.own (λ some. some)
-
 pub returns-clause-holds : goal.returns-clause-holds
 returns-clause-holds g c pages newest records table commits sizes h =
     let site = g.S.Site.state c.args.site.now in
@@ -44,42 +29,32 @@ returns-clause-holds g c pages newest records table commits sizes h =
     (record { next = next; empty = empty; kept = c.force.ensures.kept; geometry = c.force.ensures.geometry; holds = holds; finds = finds'; reaches = reaches; changes = changes; goes = c.force.ensures.goes }))
     (c.force.ensures.holds list finds ready.records) (c.force.ensures.finds finds) (c.force.ensures.reaches list finds ready.records) c.force.ensures.next c.force.ensures.empty
 
-pub returns-clause-quiet : goal.returns-clause-quiet
-returns-clause-quiet g c pages newest records table commits h quiet =
-    quiet_stops c.force.result (g.S.Site.state c.force.new.site) (g.S.Site.state c.args.site.now) quiet
-    (λ is. ap g.S.Site.state (c.force.ensures.unchanged (inr (c.force.ensures.worn.0 is).1))) c.force.ensures.stops
+pub returns-then-tail_empty-clause-keeps : goal.returns-then-tail_empty-clause-keeps
+returns-then-tail_empty-clause-keeps g c pages newest records table commits h = record {
+  any_moment = λ going quiet. nothing_happens c.args.log.now pages (g.S.Site.state c.args.site.now) newest records table commits going.sizes h quiet;
+  numbers = λ going quiet. skips_nothing _ c.args.log.now.geometry c.args.log.now (g.S.Site.state c.args.site.now) 0 h.log_holds.ready.blocks.hi;
+  quiet = λ quiet. tt;
+  worn_log = λ is. cc;
+  masters = record { units = refl; form = λ form. form };
+}
 
-pub returns-clause-worn_log_end : goal.returns-clause-worn_log_end
-returns-clause-worn_log_end g c pages newest records table commits h is =
-    let worn = (c.force.ensures.worn.0 is).1 in
-    log_at_end c.args.log.now (g.S.Site.state c.args.site.now) (g.S.Site.state c.force.new.site) h.log_holds.ready.blocks (ap g.S.Site.state (c.force.ensures.unchanged (inr worn))) worn
-
-pub returns-then-tail_empty-clause-masters : goal.returns-then-tail_empty-clause-masters
-returns-then-tail_empty-clause-masters g c pages newest records table commits h = record { units = refl; form = λ form. form }
-
-pub returns-clause-masters : goal.returns-clause-masters
-returns-clause-masters g c pages newest records table commits h =
+pub returns-clause-keeps : goal.returns-clause-keeps
+returns-clause-keeps g c pages newest records table commits h =
     let site = g.S.Site.state c.args.site.now in
     let new = g.S.Site.state c.force.new.site in
     let log = c.args.log.now in
     let ready = h.log_holds.ready in
     let list : LogList = record { first = kept_by newest; blocks = h.log_holds.blocks; tail = h.log_holds.tail } in
-    ok_one_of c.force.result _ (KeepsUnits master_shape site.image new.image)
-    (λ reaches. c.ring_kept.ensures log.geometry Masters (changes_if (has_tail log) list) site.image new.image (seals_only (has_tail log) list) reaches)
-    (c.force.ensures.reaches list ready.blocks ready.records)
-
-pub returns-then-tail_empty-clause-numbers : goal.returns-then-tail_empty-clause-numbers
-returns-then-tail_empty-clause-numbers g c pages newest records table commits going h quiet = skips_nothing _ c.args.log.now.geometry c.args.log.now (g.S.Site.state c.args.site.now) 0 h.log_holds.ready.blocks.hi
-
-pub returns-clause-numbers : goal.returns-clause-numbers
-returns-clause-numbers g c pages newest records table commits going h quiet =
-    let site = g.S.Site.state c.args.site.now in
-    let new = g.S.Site.state c.force.new.site in
-    let log = c.args.log.now in
-    let ready = h.log_holds.ready in
-    let list : LogList = record { first = kept_by newest; blocks = h.log_holds.blocks; tail = h.log_holds.tail } in
-    let fits = found_fits log site quiet ready.blocks in
     let some : has_tail log ≡ true = some_now log c.requires.going.low (λ two. true≢false (sym (c.tail_empty.ensures.1 two) ∙ c.if-tail_empty.false)) in
-    log_skips c.ring_kept.ensures c.force.result log.geometry log c.force.new.self list (has_tail log) site new 0 (ready_next pages log list site ready) (λ tail. tail)
-    (c.force.ensures.any_moment list fits ready.records) (c.force.ensures.front list fits ready.records quiet)
-    (ok_both c.force.result _ _ _ (λ next empty. same_at_most log c.force.new.self some next empty) c.force.ensures.next c.force.ensures.empty)
+    record {
+      any_moment = λ going quiet. append_leaves c.log_laws.ensures c.page_laws.ensures c.beside_laws.ensures log pages site newest records table commits h going.sizes new (has_tail log) quiet
+          (c.force.ensures.changes ready.blocks.honest) (c.force.ensures.any_moment list (found_fits log site quiet ready.blocks) ready.records)
+          (c.force.ensures.front list (found_fits log site quiet ready.blocks) ready.records quiet) going.pages_going.own (λ tail. tail);
+      numbers = λ going quiet. log_skips c.ring_kept.ensures c.force.result log.geometry log c.force.new.self list (has_tail log) site new 0 (ready_next pages log list site ready) (λ tail. tail)
+          (c.force.ensures.any_moment list (found_fits log site quiet ready.blocks) ready.records) (c.force.ensures.front list (found_fits log site quiet ready.blocks) ready.records quiet)
+          (ok_both c.force.result _ _ _ (λ next empty. same_at_most log c.force.new.self some next empty) c.force.ensures.next c.force.ensures.empty);
+      quiet = λ quiet. quiet_stops c.force.result new site quiet (λ is. ap g.S.Site.state (c.force.ensures.unchanged (inr (c.force.ensures.worn.0 is).1))) c.force.ensures.stops;
+      worn_log = λ is. (let worn = (c.force.ensures.worn.0 is).1 in log_at_end log site new ready.blocks (ap g.S.Site.state (c.force.ensures.unchanged (inr worn))) worn);
+      masters = ok_one_of c.force.result _ (KeepsUnits master_shape site.image new.image)
+          (λ reaches. c.ring_kept.ensures log.geometry Masters (changes_if (has_tail log) list) site.image new.image (seals_only (has_tail log) list) reaches) (c.force.ensures.reaches list ready.blocks ready.records);
+    }

@@ -20,27 +20,6 @@ use Rattle.redo_undo.proofs.WornLogs.{log_at_end}
 use Rattle.redo_undo.proofs.LeftNumbers.{log_skips, ready_next}
 use Rattle.redo_undo.proofs.logging.log_record.Goals as goal
 
-pub returns-clause-quiet : goal.returns-clause-quiet
-returns-clause-quiet g c pages newest records table commits h quiet =
-    quiet_stops c.append.result (g.S.Site.state c.append.new.site) (g.S.Site.state c.args.site.now) quiet
-    (λ is. ap g.S.Site.state (c.append.ensures.unchanged (inr (c.append.ensures.worn.0 is).1))) c.append.ensures.stops
-
-pub returns-clause-worn_log_end : goal.returns-clause-worn_log_end
-returns-clause-worn_log_end g c pages newest records table commits h is =
-    let worn = (c.append.ensures.worn.0 is).1 in
-    log_at_end c.args.log.now (g.S.Site.state c.args.site.now) (g.S.Site.state c.append.new.site) h.log_holds.ready.blocks (ap g.S.Site.state (c.append.ensures.unchanged (inr worn))) worn
-
-pub returns-clause-any_moment : goal.returns-clause-any_moment
-returns-clause-any_moment g c pages newest records table commits going h quiet =
-    let site = g.S.Site.state c.args.site.now in
-    let new = g.S.Site.state c.append.new.site in
-    let log = c.args.log.now in
-    let ready = h.log_holds.ready in
-    let list : LogList = record { first = kept_by newest; blocks = h.log_holds.blocks; tail = h.log_holds.tail } in
-    append_leaves c.log_laws.ensures c.page_laws.ensures c.beside_laws.ensures log pages site newest records table commits h going.sizes new (overflows log c.args.rec.now) quiet
-    (c.append.ensures.changes ready.blocks.honest) (c.append.ensures.any_moment list (found_fits log site quiet ready.blocks) ready.records) (c.append.ensures.front list (found_fits log site quiet ready.blocks) ready.records quiet)
-    going.pages_going.own (c.beside_laws.ensures.full log c.args.rec.now c.requires.form)
-
 pub returns-clause-pages : goal.returns-clause-pages
 returns-clause-pages g c pages newest records table commits h =
     let site = g.S.Site.state c.args.site.now in
@@ -163,29 +142,28 @@ in_last_block (Ok lsn) old new rec at next = by (overflows old rec) at next
 pub returns-clause-last_block : goal.returns-clause-last_block
 returns-clause-last_block g c = in_last_block c.append.result c.args.log.now c.append.new.self c.args.rec.now c.append.ensures.lsn c.append.ensures.next
 
-pub returns-clause-masters : goal.returns-clause-masters
-returns-clause-masters g c pages newest records table commits h =
+pub returns-clause-keeps : goal.returns-clause-keeps
+returns-clause-keeps g c pages newest records table commits h =
     let site = g.S.Site.state c.args.site.now in
     let new = g.S.Site.state c.append.new.site in
-    let log = c.args.log.now in
-    let ready = h.log_holds.ready in
-    let list : LogList = record { first = kept_by newest; blocks = h.log_holds.blocks; tail = h.log_holds.tail } in
-    let sealing : Bool = overflows log c.args.rec.now in
-    ok_one_of c.append.result _ (KeepsUnits master_shape site.image new.image)
-    (λ reaches. c.ring_kept.ensures log.geometry Masters (changes_if sealing list) site.image new.image (seals_only sealing list) reaches) (c.append.ensures.reaches list ready.blocks ready.records)
-
-pub returns-clause-numbers : goal.returns-clause-numbers
-returns-clause-numbers g c pages newest records table commits going h quiet =
-    let site = g.S.Site.state c.args.site.now in
     let log = c.args.log.now in
     let rec = c.args.rec.now in
     let ready = h.log_holds.ready in
     let list : LogList = record { first = kept_by newest; blocks = h.log_holds.blocks; tail = h.log_holds.tail } in
-    let fits = found_fits log site quiet ready.blocks in
+    let sealing : Bool = overflows log rec in
     let full = c.beside_laws.ensures.full log rec c.requires.form in
-    log_skips c.ring_kept.ensures c.append.result log.geometry log c.append.new.self list (overflows log rec) site (g.S.Site.state c.append.new.site) 1 (ready_next pages log list site ready) full
-    (c.append.ensures.any_moment list fits ready.records) (c.append.ensures.front list fits ready.records quiet)
-    (ok_two c.append.result _ (λ lsn. lsn ≡ next_lsn log rec) (λ lsn. (end_of log ≤ lsn) × (lsn < end_of c.append.new.self)) _
-    (λ lsn next lsn_is rises. most_blocks log c.append.new.self lsn (overflows log rec) full
-    (record { lsn_is = lsn_is; next = next; below = rises.1; low = c.requires.going.low; high = c.append.ensures.going.high }))
-    c.append.ensures.next c.append.ensures.lsn c.append.ensures.rises)
+    record {
+      any_moment = λ going quiet. append_leaves c.log_laws.ensures c.page_laws.ensures c.beside_laws.ensures log pages site newest records table commits h going.sizes new sealing quiet
+          (c.append.ensures.changes ready.blocks.honest) (c.append.ensures.any_moment list (found_fits log site quiet ready.blocks) ready.records)
+          (c.append.ensures.front list (found_fits log site quiet ready.blocks) ready.records quiet) going.pages_going.own full;
+      numbers = λ going quiet. log_skips c.ring_kept.ensures c.append.result log.geometry log c.append.new.self list sealing site new 1 (ready_next pages log list site ready) full
+          (c.append.ensures.any_moment list (found_fits log site quiet ready.blocks) ready.records) (c.append.ensures.front list (found_fits log site quiet ready.blocks) ready.records quiet)
+          (ok_two c.append.result _ (λ lsn. lsn ≡ next_lsn log rec) (λ lsn. (end_of log ≤ lsn) × (lsn < end_of c.append.new.self)) _
+          (λ lsn next lsn_is rises. most_blocks log c.append.new.self lsn sealing full
+          (record { lsn_is = lsn_is; next = next; below = rises.1; low = c.requires.going.low; high = c.append.ensures.going.high }))
+          c.append.ensures.next c.append.ensures.lsn c.append.ensures.rises);
+      quiet = λ quiet. quiet_stops c.append.result new site quiet (λ is. ap g.S.Site.state (c.append.ensures.unchanged (inr (c.append.ensures.worn.0 is).1))) c.append.ensures.stops;
+      worn_log = λ is. (let worn = (c.append.ensures.worn.0 is).1 in log_at_end log site new ready.blocks (ap g.S.Site.state (c.append.ensures.unchanged (inr worn))) worn);
+      masters = ok_one_of c.append.result _ (KeepsUnits master_shape site.image new.image)
+          (λ reaches. c.ring_kept.ensures log.geometry Masters (changes_if sealing list) site.image new.image (seals_only sealing list) reaches) (c.append.ensures.reaches list ready.blocks ready.records);
+    }

@@ -14,17 +14,6 @@ use Rattle.page_store.specs.Held.{current}
 use Rattle.redo_undo.proofs.LeftNumbers.{pages_skip, ready_next}
 use Rattle.redo_undo.proofs.logging.touch.Goals as goal
 
-pub returns-clause-any_moment : goal.returns-clause-any_moment
-returns-clause-any_moment g c newest records table commits h quiet =
-    let site = g.S.Site.state c.args.site.now in
-    let log = c.args.log.now in
-    let pages = c.args.pages.now in
-    let ready = h.log_holds.ready in
-    let list : LogList = record { first = kept_by newest; blocks = h.log_holds.blocks; tail = h.log_holds.tail } in
-    leaves_table c.log_laws.ensures c.page_laws.ensures log pages site newest records table commits h c.requires.going.pages_going.own (forces log (pushed_by_touch pages c.args.page))
-    (forced_tail log (pushed_by_touch pages c.args.page)) (g.S.Site.state c.touch.new.site)
-    (c.touch.ensures.any_moment list ready quiet) (c.touch.ensures.ahead_moment list ready quiet h.log_holds.ahead) (c.touch.ensures.rings_moment newest list ready quiet h.log_holds.rings)
-
 pub returns-clause-holds : goal.returns-clause-holds
 returns-clause-holds g c newest records table commits h =
     let site = g.S.Site.state c.args.site.now in
@@ -42,18 +31,6 @@ returns-clause-holds g c newest records table commits h =
     (c.touch.ensures.ready list ready) (c.touch.ensures.current list ready) (c.touch.ensures.ahead list ready h.log_holds.ahead) c.touch.ensures.end
     (c.touch.ensures.sealed list ready h.log_holds.ahead) (c.touch.ensures.rings newest list ready h.log_holds.rings) (c.touch.ensures.leaves list ready)
 
-pub returns-clause-readable : goal.returns-clause-readable
-returns-clause-readable g c newest records table commits h is = c.touch.ensures.foreign is (record { first = kept_by newest; blocks = h.log_holds.blocks; tail = h.log_holds.tail }) h.log_holds.ready
-
-pub returns-clause-quiet : goal.returns-clause-quiet
-returns-clause-quiet g c newest records table commits h quiet = c.touch.ensures.quiet (record { first = kept_by newest; blocks = h.log_holds.blocks; tail = h.log_holds.tail }) h.log_holds.ready quiet
-
-pub returns-clause-worn_end : goal.returns-clause-worn_end
-returns-clause-worn_end g c newest records table commits h = c.touch.ensures.worn_end (record { first = kept_by newest; blocks = h.log_holds.blocks; tail = h.log_holds.tail }) h.log_holds.ready
-
-pub returns-clause-worn_log_end : goal.returns-clause-worn_log_end
-returns-clause-worn_log_end g c newest records table commits h worn = inl (c.touch.ensures.worn_log_end (record { first = kept_by newest; blocks = h.log_holds.blocks; tail = h.log_holds.tail }) h.log_holds.ready worn)
-
 pub returns-clause-asks : goal.returns-clause-asks
 returns-clause-asks g c =
     let pages = c.args.pages.now in
@@ -66,18 +43,23 @@ returns-clause-asks g c =
       rules_are = (λ i. rules_of (c.touch.ensures.size i) (c.touch.ensures.geometry i).groups);
     }
 
-pub returns-clause-masters : goal.returns-clause-masters
-returns-clause-masters g c newest records table commits h =
-    let ready = h.log_holds.ready in
-    ok_one_of c.touch.result _ (KeepsUnits master_shape (g.S.Site.state c.args.site.now).image (g.S.Site.state c.touch.new.site).image)
-    (λ leaves. leaves.rings Masters (λ same. cc) (λ same. cc)) (c.touch.ensures.leaves (record { first = kept_by newest; blocks = h.log_holds.blocks; tail = h.log_holds.tail }) ready)
-
-pub returns-clause-numbers : goal.returns-clause-numbers
-returns-clause-numbers g c newest records table commits h quiet =
+pub returns-clause-keeps : goal.returns-clause-keeps
+returns-clause-keeps g c newest records table commits h =
     let site = g.S.Site.state c.args.site.now in
+    let new = g.S.Site.state c.touch.new.site in
     let log = c.args.log.now in
     let pages = c.args.pages.now in
     let ready = h.log_holds.ready in
     let list : LogList = record { first = kept_by newest; blocks = h.log_holds.blocks; tail = h.log_holds.tail } in
-    pages_skip c.touch.result pages.flash.geometry (current pages site.image) log c.touch.new.log list (forces log (pushed_by_touch pages c.args.page)) site (g.S.Site.state c.touch.new.site) (ready_next pages log list site ready)
-    (forced_tail log (pushed_by_touch pages c.args.page)) (c.touch.ensures.any_moment list ready quiet) c.touch.ensures.end
+    let sealing : Bool = forces log (pushed_by_touch pages c.args.page) in
+    let tail = forced_tail log (pushed_by_touch pages c.args.page) in
+    record {
+      any_moment = λ quiet. leaves_table c.log_laws.ensures c.page_laws.ensures log pages site newest records table commits h c.requires.going.pages_going.own sealing tail new
+          (c.touch.ensures.any_moment list ready quiet) (c.touch.ensures.ahead_moment list ready quiet h.log_holds.ahead) (c.touch.ensures.rings_moment newest list ready quiet h.log_holds.rings);
+      numbers = λ quiet. pages_skip c.touch.result pages.flash.geometry (current pages site.image) log c.touch.new.log list sealing site new (ready_next pages log list site ready) tail (c.touch.ensures.any_moment list ready quiet) c.touch.ensures.end;
+      quiet = c.touch.ensures.quiet list ready;
+      worn_log = λ worn. inl (c.touch.ensures.worn_log_end list ready worn);
+      worn = c.touch.ensures.worn_end list ready;
+      masters = λ none. ok_one_of c.touch.result _ (KeepsUnits master_shape site.image new.image) (λ leaves. leaves.rings Masters (λ same. cc) (λ same. cc)) (c.touch.ensures.leaves list ready);
+      readable = λ is. c.touch.ensures.foreign is list ready;
+    }

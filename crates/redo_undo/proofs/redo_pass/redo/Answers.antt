@@ -1,6 +1,5 @@
-use Rattle.std.proofs.Common.{◌≡◌, ◌≤◌, ◌+◌, ◌<◌, List, [], length, take, drop, suc, Err, refl, sym, ap, subst, ◌∙◌, arith, ◌-◌}
-use Rattle.std.specs.Prelude.{⊤}
-use Rattle.site.specs.Laws.{stays_honest, goes_in_sequence, goes_nowhere}
+use Rattle.std.proofs.Common.{◌≡◌, ◌≤◌, ◌+◌, ◌<◌, List, [], length, take, drop, suc, Err, refl, sym, subst, ◌∙◌, arith, ◌-◌, inl, ℕ, ◌⊎◌}
+use Rattle.std.specs.Prelude.{⊤, Ok}
 use Rattle.log_records.specs.Log.{Entry, log_from}
 use Rattle.checkpoint.specs.declared.master.Master.{Master}
 use Rattle.checkpoint.specs.Newest.{seen}
@@ -10,28 +9,26 @@ use Rattle.page_store.specs.Caching.{rules}
 use Rattle.redo_undo.specs.Redoing.{Opening, asked_of, heard_of, IsRedoing, HasTaken}
 use Rattle.redo_undo.proofs.LogBlocks.{block_of, log_split}
 use Rattle.redo_undo.proofs.Sames.{going_still, opened_holds}
-use Rattle.redo_undo.proofs.Redoings.{redoing_still, read_quiet, begins, nothing_happens, then_read, and_opened, holds_all}
+use Rattle.redo_undo.proofs.Redoings.{begins, holds_all}
 use Rattle.redo_undo.proofs.TakenRecords.{asks_first, up_to_none, opened_count, finds, next_block, one_more_block, all_blocks, same_stop, unfinished_by}
-use Rattle.site.specs.declared.outside.Stop.TheVariants.{Worn}
-use Rattle.site.specs.declared.outside.Dev.TheVariants.{Flash, Log}
+use Rattle.site.specs.declared.outside.Stop.TheVariants.{Worn, Device, Foreign}
+use Rattle.site.specs.declared.outside.Dev.TheVariants.{Log}
 use Rattle.redo_undo.proofs.RedoWorks.{stops_first, not_worn_log, stops_reading, asks_with_read, asks_more, asks_all, stops_within}
-use Rattle.redo_undo.proofs.RingNumbers.{skips_nothing, skips_again, hi_on}
-use Rattle.redo_undo.proofs.UndoneNumbers.{masters_redoing, skips_redoing, skips_behind}
+use Rattle.redo_undo.specs.Calls.{ReadsOne}
+use Rattle.redo_undo.proofs.Calling.{calls_read, calls_then, keeps_answered, keeps_failed, keeps_opened, keeps_redoing, keeps_refused_by, keeps_then, logs_refused_by, no_error, of_error, works_answered, works_nothing, works_read, works_stopped, works_then, reads_worn}
 use Rattle.redo_undo.proofs.redo_pass.redo.Goals as goal
 
-pub returns-in-Err-clause-any_moment : goal.returns-in-Err-clause-any_moment
-returns-in-Err-clause-any_moment g c newest blocks table commits own h quiet =
-    let site = g.S.Site.state c.args.site.now in
-    let pages = c.args.pages.now in
-    let o : Opening = record { sizes = pages.flash.geometry; image = site.image; newest = newest; blocks = blocks; table = table; commits = commits } in
-    nothing_happens c.page_laws.ensures c.redo_laws.ensures o c.args.log.now pages site [] (begins c.page_laws.ensures c.redo_laws.ensures c.args.log.now pages site newest blocks table commits h) c.requires.going.sizes quiet
+pub returns-in-Err-clause-keeps : goal.returns-in-Err-clause-keeps
+returns-in-Err-clause-keeps g c newest blocks table commits own h =
+    keeps_refused_by c.page_laws.ensures c.redo_laws.ensures (inl c.in-Err.ensures.stops) c.requires.going.sizes
+    (begins c.page_laws.ensures c.redo_laws.ensures c.args.log.now c.args.pages.now (g.S.Site.state c.args.site.now) newest blocks table commits h) (λ same. let memory = c.in-Err.ensures.stops in cc)
 
 pub loop-block-init : goal.loop-block-init
 loop-block-init g c =
     let kept = c.kept-block.ensures in
     let owed = c.in-Ok.ensures.owed in
     record {
-      going = c.requires.going;
+      works = works_nothing c.requires.going;
       found_going = c.in-Ok.ensures.going;
       room = refl;
       some = omega (arith, kept);
@@ -39,13 +36,6 @@ loop-block-init g c =
       owed = omega (arith, owed);
       blocks = refl;
       rises = omega arith;
-      kept = refl;
-      log_geometry = refl;
-      geometry = refl;
-      size = refl;
-      goes = goes_nowhere (g.S.Site.state c.args.site.now);
-      left = λ honest. refl;
-      stays_quiet = λ honest quiet. quiet;
       log_reads = omega arith;
       up_to = λ newest blocks table commits own h.
           let first = h.kept in
@@ -55,70 +45,12 @@ loop-block-init g c =
           let first = h.kept in
           let o : Opening = record { sizes = c.args.pages.now.flash.geometry; image = (g.S.Site.state c.args.site.now).image; newest = newest; blocks = blocks; table = table; commits = commits } in
           asks_first o c.args.pages.now (g.S.Site.state c.args.site.now) c.kept-block.result (omega (arith, kept, first));
+      keeps = λ newest blocks table commits own h. keeps_redoing c.page_laws.ensures c.redo_laws.ensures c.requires.going.sizes
+          (begins c.page_laws.ensures c.redo_laws.ensures c.args.log.now c.args.pages.now (g.S.Site.state c.args.site.now) newest blocks table commits h);
     }
 
-pub returns-in-Err-read_block-clause-any_moment : goal.returns-in-Err-read_block-clause-any_moment
-returns-in-Err-read_block-clause-any_moment g c newest blocks table commits own h quiet =
-    let old = g.S.Site.state c.args.site.now in
-    let o : Opening = record { sizes = c.args.pages.now.flash.geometry; image = old.image; newest = newest; blocks = blocks; table = table; commits = commits } in
-    let up = c.loop-block.invariant.up_to newest blocks table commits own h in
-    then_read o old (g.S.Site.state c.loop-block.site) (g.S.Site.state c.read_block.new.site) (up.moments quiet) (c.read_block.ensures.same up.taken.pages_are.ready.blocks.honest)
-
-pub returns-in-Err-read_block-clause-readable : goal.returns-in-Err-read_block-clause-readable
-returns-in-Err-read_block-clause-readable g c newest blocks table commits own h = λ same.
-    let old = g.S.Site.state c.args.site.now in
-    let mid = g.S.Site.state c.loop-block.site in
-    let o : Opening = record { sizes = c.args.pages.now.flash.geometry; image = old.image; newest = newest; blocks = blocks; table = table; commits = commits } in
-    let up = c.loop-block.invariant.up_to newest blocks table commits own h in
-    c.in-Err-read_block.ensures.readable (record { first = kept_by newest; blocks = blocks; tail = [] }) (finds c.redo_laws.ensures o c.loop-block.log c.loop-block.pages old mid c.loop-block.so_far c.loop-block.block up)
-    up.taken.pages_are.ready.records (let from = up.from in omega (arith, from)) (same_stop _ _ same)
-
 pub take_block-requires-clause-going : goal.take_block-requires-clause-going
-take_block-requires-clause-going g c = going_still c.loop-block.log c.loop-block.pages (g.S.Site.state c.loop-block.site) (g.S.Site.state c.read_block.new.site) c.read_block.ensures.goes c.loop-block.invariant.going
-
-pub returns-in-Err-take_block-clause-any_moment : goal.returns-in-Err-take_block-clause-any_moment
-returns-in-Err-take_block-clause-any_moment g c newest blocks table commits own h quiet =
-    let old = g.S.Site.state c.args.site.now in
-    let mid = g.S.Site.state c.loop-block.site in
-    let read = g.S.Site.state c.read_block.new.site in
-    let o : Opening = record { sizes = c.args.pages.now.flash.geometry; image = old.image; newest = newest; blocks = blocks; table = table; commits = commits } in
-    let up = c.loop-block.invariant.up_to newest blocks table commits own h in
-    let count = opened_count c.args.log.now c.args.pages.now old newest blocks table commits h in
-    let from = c.loop-block.auto.block in
-    let own_kept = h.kept in
-    let inside : c.loop-block.block - kept_by newest < length blocks = omega (arith, count, c.sealed_end-block-end.ensures, c.loop-block-test.true, from, c.kept-block.ensures, own_kept) in
-    let next = next_block c.redo_laws.ensures o c.loop-block.log c.loop-block.pages old mid c.loop-block.so_far c.loop-block.block up read c.read_block.new.into c.in-Ok-read_block.used c.read_block.ensures.goes
-    (c.read_block.ensures.same up.taken.pages_are.ready.blocks.honest) inside
-    (c.in-Ok-read_block.ensures.holds (record { first = kept_by newest; blocks = blocks; tail = [] }) (finds c.redo_laws.ensures o c.loop-block.log c.loop-block.pages old mid c.loop-block.so_far c.loop-block.block up)
-    up.taken.pages_are.ready.records (let from = up.from in omega (arith, from))) in
-    and_opened o old read (g.S.Site.state c.take_block.new.site) (next.moments quiet)
-    (c.take_block.ensures.any_moment o (log_from (kept_by newest) (take (c.loop-block.block - kept_by newest) blocks)) (log_from (c.loop-block.block + 1) (drop (suc (c.loop-block.block - kept_by newest)) blocks)) (block_of blocks (c.loop-block.block - kept_by newest)) own next.taken next.content_is next.used_is next.split
-    (read_quiet mid read (c.read_block.ensures.same up.taken.pages_are.ready.blocks.honest) (c.loop-block.invariant.stays_quiet h.ready.blocks.honest quiet)))
-
-pub returns-in-Err-take_block-clause-readable : goal.returns-in-Err-take_block-clause-readable
-returns-in-Err-take_block-clause-readable g c newest blocks table commits own h = λ same.
-    let old = g.S.Site.state c.args.site.now in
-    let mid = g.S.Site.state c.loop-block.site in
-    let read = g.S.Site.state c.read_block.new.site in
-    let o : Opening = record { sizes = c.args.pages.now.flash.geometry; image = old.image; newest = newest; blocks = blocks; table = table; commits = commits } in
-    let up = c.loop-block.invariant.up_to newest blocks table commits own h in
-    let count = opened_count c.args.log.now c.args.pages.now old newest blocks table commits h in
-    let from = c.loop-block.auto.block in
-    let own_kept = h.kept in
-    let inside : c.loop-block.block - kept_by newest < length blocks = omega (arith, count, c.sealed_end-block-end.ensures, c.loop-block-test.true, from, c.kept-block.ensures, own_kept) in
-    let next = next_block c.redo_laws.ensures o c.loop-block.log c.loop-block.pages old mid c.loop-block.so_far c.loop-block.block up read c.read_block.new.into c.in-Ok-read_block.used c.read_block.ensures.goes
-    (c.read_block.ensures.same up.taken.pages_are.ready.blocks.honest) inside
-    (c.in-Ok-read_block.ensures.holds (record { first = kept_by newest; blocks = blocks; tail = [] }) (finds c.redo_laws.ensures o c.loop-block.log c.loop-block.pages old mid c.loop-block.so_far c.loop-block.block up)
-    up.taken.pages_are.ready.records (let from = up.from in omega (arith, from))) in
-    c.in-Err-take_block.ensures.readable o (log_from (kept_by newest) (take (c.loop-block.block - kept_by newest) blocks)) (log_from (c.loop-block.block + 1) (drop (suc (c.loop-block.block - kept_by newest)) blocks)) (block_of blocks (c.loop-block.block - kept_by newest)) own next.taken next.content_is next.used_is
-    next.split (ap Err (same_stop _ _ same))
-
-pub returns-in-Err-take_block-clause-goes : goal.returns-in-Err-take_block-clause-goes
-returns-in-Err-take_block-clause-goes g c =
-    let old = g.S.Site.state c.args.site.now in
-    let mid = g.S.Site.state c.loop-block.site in
-    let read = g.S.Site.state c.read_block.new.site in
-    goes_in_sequence old read (g.S.Site.state c.take_block.new.site) (goes_in_sequence old mid read c.loop-block.invariant.goes c.read_block.ensures.goes) c.take_block.ensures.goes
+take_block-requires-clause-going g c = going_still c.loop-block.log c.loop-block.pages (g.S.Site.state c.loop-block.site) (g.S.Site.state c.read_block.new.site) c.read_block.ensures.goes c.loop-block.invariant.works.going
 
 pub loop-block-preserved : goal.loop-block-preserved
 loop-block-preserved g c =
@@ -136,31 +68,21 @@ loop-block-preserved g c =
     let some_more = t.some in
     let few_more = t.few in
     let owes = t.owed in
-    let higher = t.rises in
-    let same_reads = t.log_reads in
+    let higher = t.logs_nothing.hi in
+    let same_reads = t.logs_nothing.log_reads in
     let one_read = c.read_block.ensures.reads.here in
     let kept = c.kept-block.ensures in
     let low = c.loop-block.auto.block in
+    let read_one : ReadsOne {T = ℕ} (Ok c.in-Ok-read_block.used) mid read = record { same = c.read_block.ensures.same; goes = c.read_block.ensures.goes; log_reads = c.read_block.ensures.reads.here; others = c.read_block.ensures.reads.others; device = c.in-Ok-read_block.ensures.device; stops = tt; faults = c.in-Ok-read_block.ensures.faults } in
     record {
-      going = t.going;
+      works = works_answered (works_then (works_then i.works (works_read i.works.going read_one)) t.logs_nothing.works);
       found_going = t.found_going;
       room = c.read_block.ensures.room;
       some = omega (arith, some, some_more);
       few = omega (arith, few, few_more, kept, low);
       owed = omega (arith, owed, owes);
-      blocks = t.blocks ∙ i.blocks;
+      blocks = t.logs_nothing.blocks ∙ i.blocks;
       rises = omega (arith, rises, higher);
-      kept = t.kept ∙ i.kept;
-      log_geometry = t.log_geometry ∙ i.log_geometry;
-      geometry = t.geometry ∙ i.geometry;
-      size = t.size ∙ i.size;
-      goes = goes_in_sequence old read new (goes_in_sequence old mid read i.goes c.read_block.ensures.goes) t.goes;
-      left = λ honest.
-          let mid_honest = stays_honest old mid i.goes honest in
-          t.left (stays_honest mid read c.read_block.ensures.goes mid_honest) ∙ (c.read_block.ensures.same mid_honest).left ∙ i.left honest;
-      stays_quiet = λ honest quiet.
-          let mid_honest = stays_honest old mid i.goes honest in
-          t.stays_quiet (stays_honest mid read c.read_block.ensures.goes mid_honest) (read_quiet mid read (c.read_block.ensures.same mid_honest) (i.stays_quiet honest quiet));
       log_reads = omega (arith, reads, same_reads, one_read, kept, low);
       up_to = λ newest blocks table commits own h.
           let o : Opening = record { sizes = c.args.pages.now.flash.geometry; image = old.image; newest = newest; blocks = blocks; table = table; commits = commits } in
@@ -177,9 +99,6 @@ loop-block-preserved g c =
             from = (let low = up.from in omega (arith, low));
             taken = subst (HasTaken o c.take_block.new.log c.take_block.new.pages new c.take_block.new.so_far) (one_more_block o c.loop-block.block up.from inside)
                 (t.taken o (log_from (kept_by newest) (take (c.loop-block.block - kept_by newest) blocks)) (log_from (c.loop-block.block + 1) (drop (suc (c.loop-block.block - kept_by newest)) blocks)) (block_of blocks (c.loop-block.block - kept_by newest)) own next.taken next.content_is next.used_is next.split);
-            moments = λ quiet. and_opened o old read new (next.moments quiet)
-                (t.any_moment o (log_from (kept_by newest) (take (c.loop-block.block - kept_by newest) blocks)) (log_from (c.loop-block.block + 1) (drop (suc (c.loop-block.block - kept_by newest)) blocks)) (block_of blocks (c.loop-block.block - kept_by newest)) own next.taken next.content_is next.used_is next.split
-                (read_quiet mid read (c.read_block.ensures.same up.taken.pages_are.ready.blocks.honest) (i.stays_quiet h.ready.blocks.honest quiet)));
           };
       asked = λ newest blocks table commits own h.
           let o : Opening = record { sizes = c.args.pages.now.flash.geometry; image = old.image; newest = newest; blocks = blocks; table = table; commits = commits } in
@@ -196,6 +115,20 @@ loop-block-preserved g c =
           asks_more o c.args.pages.now c.loop-block.pages c.take_block.new.pages old read new front
           (asks_with_read o c.args.pages.now c.loop-block.pages old mid read front (i.asked newest blocks table commits own h) c.read_block.ensures.reads.others) _ _ _ (sym (one_more_block o c.loop-block.block up.from inside))
           (t.asks o front (log_from (c.loop-block.block + 1) (drop (suc (c.loop-block.block - kept_by newest)) blocks)) (block_of blocks (c.loop-block.block - kept_by newest)) own next.taken next.content_is next.used_is next.split);
+      keeps = λ newest blocks table commits own h.
+          let o : Opening = record { sizes = c.args.pages.now.flash.geometry; image = old.image; newest = newest; blocks = blocks; table = table; commits = commits } in
+          let up = i.up_to newest blocks table commits own h in
+          let count = opened_count c.args.log.now c.args.pages.now old newest blocks table commits h in
+          let from = c.loop-block.auto.block in
+          let own_kept = h.kept in
+          let inside : c.loop-block.block - kept_by newest < length blocks = omega (arith, count, c.sealed_end-block-end.ensures, c.loop-block-test.true, from, c.kept-block.ensures, own_kept) in
+          let next = next_block c.redo_laws.ensures o c.loop-block.log c.loop-block.pages old mid c.loop-block.so_far c.loop-block.block up read c.read_block.new.into c.in-Ok-read_block.used c.read_block.ensures.goes
+          (c.read_block.ensures.same up.taken.pages_are.ready.blocks.honest) inside
+          (c.in-Ok-read_block.ensures.holds (record { first = kept_by newest; blocks = blocks; tail = [] }) (finds c.redo_laws.ensures o c.loop-block.log c.loop-block.pages old mid c.loop-block.so_far c.loop-block.block up)
+          up.taken.pages_are.ready.records (let from = up.from in omega (arith, from))) in
+          let so_far = keeps_then h.ready.blocks.honest i.works.geometry refl i.works.calls (i.keeps newest blocks table commits own h)
+          (keeps_opened c.page_laws.ensures c.redo_laws.ensures {r = Ok c.in-Ok-read_block.used} i.works.going.sizes up.taken.pages_are (c.read_block.ensures.same up.taken.pages_are.ready.blocks.honest) (λ d is. no_error {x = c.in-Ok-read_block.used} {e = Worn d} is) (no_error {x = c.in-Ok-read_block.used} {e = Foreign})) in
+          keeps_answered (keeps_then h.ready.blocks.honest i.works.geometry refl (calls_then i.works.calls (calls_read read_one)) so_far (t.keeps o (log_from (kept_by newest) (take (c.loop-block.block - kept_by newest) blocks)) (log_from (c.loop-block.block + 1) (drop (suc (c.loop-block.block - kept_by newest)) blocks)) (block_of blocks (c.loop-block.block - kept_by newest)) own next.taken next.content_is next.used_is next.split));
     }
 
 pub returns-clause-holds : goal.returns-clause-holds
@@ -207,7 +140,7 @@ returns-clause-holds g c newest blocks table commits own h =
     let most = c.loop-block.auto.block-end in
     let all : c.loop-block.block - kept_by newest ≡ length blocks = omega (arith, count, c.sealed_end-block-end.ensures, c.loop-block-test.false, most) in
     holds_all (opened_holds c.log_laws.ensures c.page_laws.ensures) c.page_laws.ensures c.redo_laws.ensures o c.loop-block.log c.loop-block.pages (g.S.Site.state c.loop-block.site)
-    (subst (IsRedoing o c.loop-block.log c.loop-block.pages (g.S.Site.state c.loop-block.site)) (all_blocks o c.loop-block.block all) up.taken.pages_are) c.loop-block.invariant.going.sizes
+    (subst (IsRedoing o c.loop-block.log c.loop-block.pages (g.S.Site.state c.loop-block.site)) (all_blocks o c.loop-block.block all) up.taken.pages_are) c.loop-block.invariant.works.going.sizes
 
 pub returns-clause-read : goal.returns-clause-read
 returns-clause-read g c newest blocks table commits own h =
@@ -231,87 +164,6 @@ pub returns-clause-unfinished : goal.returns-clause-unfinished
 returns-clause-unfinished g c newest blocks table commits own h =
     let is = returns-clause-read g c newest blocks table commits own h in
     unfinished_by c.redo_laws.ensures (picture_under newest c.args.pages.now.flash.geometry (g.S.Site.state c.args.site.now).image blocks) h.sound.records c.loop-block.so_far.found is.table
-
-pub returns-clause-any_moment : goal.returns-clause-any_moment
-returns-clause-any_moment g c newest blocks table commits own h quiet = (c.loop-block.invariant.up_to newest blocks table commits own h).moments quiet
-
-pub returns-in-Err-read_block-clause-left : goal.returns-in-Err-read_block-clause-left
-returns-in-Err-read_block-clause-left g c honest =
-    let i = c.loop-block.invariant in
-    (c.read_block.ensures.same (stays_honest (g.S.Site.state c.args.site.now) (g.S.Site.state c.loop-block.site) i.goes honest)).left ∙ i.left honest
-
-pub returns-in-Err-take_block-clause-left : goal.returns-in-Err-take_block-clause-left
-returns-in-Err-take_block-clause-left g c honest =
-    let i = c.loop-block.invariant in
-    let old = g.S.Site.state c.args.site.now in
-    let mid = g.S.Site.state c.loop-block.site in
-    let read = g.S.Site.state c.read_block.new.site in
-    let mid_honest = stays_honest old mid i.goes honest in
-    c.take_block.ensures.left (stays_honest mid read c.read_block.ensures.goes mid_honest) ∙ (c.read_block.ensures.same mid_honest).left ∙ i.left honest
-
-pub returns-in-Err-read_block-clause-quiet : goal.returns-in-Err-read_block-clause-quiet
-returns-in-Err-read_block-clause-quiet g c newest blocks table commits own h quiet other =
-    let i = c.loop-block.invariant in
-    let old = g.S.Site.state c.args.site.now in
-    let mid = g.S.Site.state c.loop-block.site in
-    let read = g.S.Site.state c.read_block.new.site in
-    read_quiet mid read (c.read_block.ensures.same (stays_honest old mid i.goes h.ready.blocks.honest)) (i.stays_quiet h.ready.blocks.honest quiet)
-
-pub returns-in-Err-take_block-clause-quiet : goal.returns-in-Err-take_block-clause-quiet
-returns-in-Err-take_block-clause-quiet g c newest blocks table commits own h quiet =
-    let old = g.S.Site.state c.args.site.now in
-    let mid = g.S.Site.state c.loop-block.site in
-    let read = g.S.Site.state c.read_block.new.site in
-    let o : Opening = record { sizes = c.args.pages.now.flash.geometry; image = old.image; newest = newest; blocks = blocks; table = table; commits = commits } in
-    let up = c.loop-block.invariant.up_to newest blocks table commits own h in
-    let count = opened_count c.args.log.now c.args.pages.now old newest blocks table commits h in
-    let from = c.loop-block.auto.block in
-    let own_kept = h.kept in
-    let inside : c.loop-block.block - kept_by newest < length blocks = omega (arith, count, c.sealed_end-block-end.ensures, c.loop-block-test.true, from, c.kept-block.ensures, own_kept) in
-    let next = next_block c.redo_laws.ensures o c.loop-block.log c.loop-block.pages old mid c.loop-block.so_far c.loop-block.block up read c.read_block.new.into c.in-Ok-read_block.used c.read_block.ensures.goes
-    (c.read_block.ensures.same up.taken.pages_are.ready.blocks.honest) inside
-    (c.in-Ok-read_block.ensures.holds (record { first = kept_by newest; blocks = blocks; tail = [] }) (finds c.redo_laws.ensures o c.loop-block.log c.loop-block.pages old mid c.loop-block.so_far c.loop-block.block up)
-    up.taken.pages_are.ready.records (let from = up.from in omega (arith, from))) in
-    c.in-Err-take_block.ensures.quiet o (log_from (kept_by newest) (take (c.loop-block.block - kept_by newest) blocks)) (log_from (c.loop-block.block + 1) (drop (suc (c.loop-block.block - kept_by newest)) blocks)) (block_of blocks (c.loop-block.block - kept_by newest)) own next.taken next.content_is next.used_is
-    next.split (read_quiet mid read (c.read_block.ensures.same up.taken.pages_are.ready.blocks.honest) (c.loop-block.invariant.stays_quiet h.ready.blocks.honest quiet))
-
-pub returns-in-Err-take_block-clause-worn_end : goal.returns-in-Err-take_block-clause-worn_end
-returns-in-Err-take_block-clause-worn_end g c newest blocks table commits own h worn =
-    let old = g.S.Site.state c.args.site.now in
-    let mid = g.S.Site.state c.loop-block.site in
-    let read = g.S.Site.state c.read_block.new.site in
-    let o : Opening = record { sizes = c.args.pages.now.flash.geometry; image = old.image; newest = newest; blocks = blocks; table = table; commits = commits } in
-    let up = c.loop-block.invariant.up_to newest blocks table commits own h in
-    let count = opened_count c.args.log.now c.args.pages.now old newest blocks table commits h in
-    let from = c.loop-block.auto.block in
-    let own_kept = h.kept in
-    let inside : c.loop-block.block - kept_by newest < length blocks = omega (arith, count, c.sealed_end-block-end.ensures, c.loop-block-test.true, from, c.kept-block.ensures, own_kept) in
-    let next = next_block c.redo_laws.ensures o c.loop-block.log c.loop-block.pages old mid c.loop-block.so_far c.loop-block.block up read c.read_block.new.into c.in-Ok-read_block.used c.read_block.ensures.goes
-    (c.read_block.ensures.same up.taken.pages_are.ready.blocks.honest) inside
-    (c.in-Ok-read_block.ensures.holds (record { first = kept_by newest; blocks = blocks; tail = [] }) (finds c.redo_laws.ensures o c.loop-block.log c.loop-block.pages old mid c.loop-block.so_far c.loop-block.block up)
-    up.taken.pages_are.ready.records (let from = up.from in omega (arith, from))) in
-    let same : c.in-Err-take_block.stop ≡ Worn Flash = cc in
-    c.in-Err-take_block.ensures.worn_end o (log_from (kept_by newest) (take (c.loop-block.block - kept_by newest) blocks)) (log_from (c.loop-block.block + 1) (drop (suc (c.loop-block.block - kept_by newest)) blocks)) (block_of blocks (c.loop-block.block - kept_by newest)) own next.taken next.content_is next.used_is
-    next.split (ap Err same)
-
-pub returns-in-Err-take_block-clause-worn_log_end : goal.returns-in-Err-take_block-clause-worn_log_end
-returns-in-Err-take_block-clause-worn_log_end g c newest blocks table commits own h worn =
-    let old = g.S.Site.state c.args.site.now in
-    let mid = g.S.Site.state c.loop-block.site in
-    let read = g.S.Site.state c.read_block.new.site in
-    let o : Opening = record { sizes = c.args.pages.now.flash.geometry; image = old.image; newest = newest; blocks = blocks; table = table; commits = commits } in
-    let up = c.loop-block.invariant.up_to newest blocks table commits own h in
-    let count = opened_count c.args.log.now c.args.pages.now old newest blocks table commits h in
-    let from = c.loop-block.auto.block in
-    let own_kept = h.kept in
-    let inside : c.loop-block.block - kept_by newest < length blocks = omega (arith, count, c.sealed_end-block-end.ensures, c.loop-block-test.true, from, c.kept-block.ensures, own_kept) in
-    let next = next_block c.redo_laws.ensures o c.loop-block.log c.loop-block.pages old mid c.loop-block.so_far c.loop-block.block up read c.read_block.new.into c.in-Ok-read_block.used c.read_block.ensures.goes
-    (c.read_block.ensures.same up.taken.pages_are.ready.blocks.honest) inside
-    (c.in-Ok-read_block.ensures.holds (record { first = kept_by newest; blocks = blocks; tail = [] }) (finds c.redo_laws.ensures o c.loop-block.log c.loop-block.pages old mid c.loop-block.so_far c.loop-block.block up)
-    up.taken.pages_are.ready.records (let from = up.from in omega (arith, from))) in
-    let same : c.in-Err-take_block.stop ≡ Worn Log = cc in
-    c.in-Err-take_block.ensures.worn_log_end o (log_from (kept_by newest) (take (c.loop-block.block - kept_by newest) blocks)) (log_from (c.loop-block.block + 1) (drop (suc (c.loop-block.block - kept_by newest)) blocks)) (block_of blocks (c.loop-block.block - kept_by newest)) own next.taken next.content_is next.used_is
-    next.split (ap Err same)
 
 pub returns-in-Err-clause-asks : goal.returns-in-Err-clause-asks
 returns-in-Err-clause-asks g c newest blocks table commits own h =
@@ -369,28 +221,23 @@ returns-clause-asks g c newest blocks table commits own h =
     let all : c.loop-block.block - kept_by newest ≡ length blocks = omega (arith, count, c.sealed_end-block-end.ensures, c.loop-block-test.false, most) in
     (asks_all _ o c.args.pages.now c.loop-block.pages old (g.S.Site.state c.loop-block.site) _ _ (all_blocks o c.loop-block.block all) (c.loop-block.invariant.asked newest blocks table commits own h))
 
-pub returns-clause-masters : goal.returns-clause-masters
-returns-clause-masters g c newest blocks table commits own h = (c.loop-block.invariant.up_to newest blocks table commits own h).taken.pages_are.masters
-
-pub returns-in-Err-clause-numbers : goal.returns-in-Err-clause-numbers
-returns-in-Err-clause-numbers g c newest blocks table commits own h quiet =
-    skips_nothing _ c.args.pages.now.flash.geometry c.args.log.now (g.S.Site.state c.args.site.now) 0 (hi_on c.args.log.now.geometry c.args.pages.now.flash.geometry c.args.log.now (g.S.Site.state c.args.site.now).image c.requires.going.sizes h.ready.blocks.hi)
-
-pub returns-in-Err-read_block-clause-numbers : goal.returns-in-Err-read_block-clause-numbers
-returns-in-Err-read_block-clause-numbers g c newest blocks table commits own h quiet =
-    let log = c.args.log.now in
-    let pages = c.args.pages.now in
+pub returns-in-Err-read_block-clause-keeps : goal.returns-in-Err-read_block-clause-keeps
+returns-in-Err-read_block-clause-keeps g c newest blocks table commits own h =
     let old = g.S.Site.state c.args.site.now in
     let mid = g.S.Site.state c.loop-block.site in
     let read = g.S.Site.state c.read_block.new.site in
-    let o : Opening = record { sizes = pages.flash.geometry; image = old.image; newest = newest; blocks = blocks; table = table; commits = commits } in
-    let up = c.loop-block.invariant.up_to newest blocks table commits own h in
-    let front = log_from (kept_by newest) (take (c.loop-block.block - kept_by newest) blocks) in
-    skips_redoing _ o log c.loop-block.log pages c.loop-block.pages old read [] front (begins c.page_laws.ensures c.redo_laws.ensures log pages old newest blocks table commits h) (c.loop-block.invariant.log_geometry ∙ c.requires.going.sizes)
-    (redoing_still c.redo_laws.ensures o c.loop-block.log c.loop-block.pages mid read front c.read_block.ensures.goes (c.read_block.ensures.same up.taken.pages_are.ready.blocks.honest) up.taken.pages_are)
+    let o : Opening = record { sizes = c.args.pages.now.flash.geometry; image = old.image; newest = newest; blocks = blocks; table = table; commits = commits } in
+    let i = c.loop-block.invariant in
+    let up = i.up_to newest blocks table commits own h in
+    let stops = c.in-Err-read_block.ensures.stops in
+    keeps_failed (keeps_then h.ready.blocks.honest i.works.geometry refl i.works.calls (i.keeps newest blocks table commits own h)
+    (keeps_opened c.page_laws.ensures c.redo_laws.ensures {T = ℕ} {r = Err c.in-Err-read_block.stop} i.works.going.sizes up.taken.pages_are (c.read_block.ensures.same up.taken.pages_are.ready.blocks.honest)
+    (λ d is. reads_worn d (of_error {T = ℕ} (Err c.in-Err-read_block.stop) (λ stop. (stop ≡ Device Log) ⊎ (stop ≡ Foreign)) (Worn d) stops is))
+    (λ is. c.in-Err-read_block.ensures.readable (record { first = kept_by newest; blocks = blocks; tail = [] }) (finds c.redo_laws.ensures o c.loop-block.log c.loop-block.pages old mid c.loop-block.so_far c.loop-block.block up)
+    up.taken.pages_are.ready.records (let from = up.from in omega (arith, from)) (same_stop _ _ is))))
 
-pub returns-in-Err-take_block-clause-numbers : goal.returns-in-Err-take_block-clause-numbers
-returns-in-Err-take_block-clause-numbers g c newest blocks table commits own h quiet =
+pub returns-in-Err-take_block-clause-keeps : goal.returns-in-Err-take_block-clause-keeps
+returns-in-Err-take_block-clause-keeps g c newest blocks table commits own h =
     let old = g.S.Site.state c.args.site.now in
     let mid = g.S.Site.state c.loop-block.site in
     let read = g.S.Site.state c.read_block.new.site in
@@ -404,25 +251,29 @@ returns-in-Err-take_block-clause-numbers g c newest blocks table commits own h q
     (c.read_block.ensures.same up.taken.pages_are.ready.blocks.honest) inside
     (c.in-Ok-read_block.ensures.holds (record { first = kept_by newest; blocks = blocks; tail = [] }) (finds c.redo_laws.ensures o c.loop-block.log c.loop-block.pages old mid c.loop-block.so_far c.loop-block.block up)
     up.taken.pages_are.ready.records (let from = up.from in omega (arith, from))) in
-    let log = c.args.log.now in
-    let pages = c.args.pages.now in
     let i = c.loop-block.invariant in
-    let same_blocks = i.blocks in
-    let stop = c.in-Err-take_block.stop in
-    let now = g.S.Site.state c.take_block.new.site in
-    let front = log_from (kept_by newest) (take (c.loop-block.block - kept_by newest) blocks) in
-    skips_again stop pages.flash.geometry log c.take_block.new.log old now 0 0
-    (skips_behind (Err stop) pages.flash.geometry c.loop-block.pages.flash.geometry log c.loop-block.log c.take_block.new.log old read now 0 0 i.geometry (omega (arith, same_blocks))
-    (masters_redoing o log c.loop-block.log pages c.loop-block.pages old read [] front (begins c.page_laws.ensures c.redo_laws.ensures log pages old newest blocks table commits h) next.taken.pages_are)
-    (c.in-Err-take_block.ensures.numbers o front (log_from (c.loop-block.block + 1) (drop (suc (c.loop-block.block - kept_by newest)) blocks)) (block_of blocks (c.loop-block.block - kept_by newest)) own next.taken next.content_is next.used_is
-    next.split (read_quiet mid read (c.read_block.ensures.same up.taken.pages_are.ready.blocks.honest) (i.stays_quiet h.ready.blocks.honest quiet))))
+    let read_one : ReadsOne {T = ℕ} (Ok c.in-Ok-read_block.used) mid read = record { same = c.read_block.ensures.same; goes = c.read_block.ensures.goes; log_reads = c.read_block.ensures.reads.here; others = c.read_block.ensures.reads.others; device = c.in-Ok-read_block.ensures.device; stops = tt; faults = c.in-Ok-read_block.ensures.faults } in
+    let first = keeps_then h.ready.blocks.honest i.works.geometry refl i.works.calls (i.keeps newest blocks table commits own h)
+    (keeps_opened c.page_laws.ensures c.redo_laws.ensures {r = Ok c.in-Ok-read_block.used} i.works.going.sizes up.taken.pages_are (c.read_block.ensures.same up.taken.pages_are.ready.blocks.honest) (λ d is. no_error {x = c.in-Ok-read_block.used} {e = Worn d} is) (no_error {x = c.in-Ok-read_block.used} {e = Foreign})) in
+    keeps_failed (keeps_then h.ready.blocks.honest i.works.geometry refl (calls_then i.works.calls (calls_read read_one)) first (c.in-Err-take_block.ensures.keeps o (log_from (kept_by newest) (take (c.loop-block.block - kept_by newest) blocks)) (log_from (c.loop-block.block + 1) (drop (suc (c.loop-block.block - kept_by newest)) blocks)) (block_of blocks (c.loop-block.block - kept_by newest)) own next.taken next.content_is next.used_is next.split))
 
-pub returns-clause-numbers : goal.returns-clause-numbers
-returns-clause-numbers g c newest blocks table commits own h quiet =
-    let log = c.args.log.now in
-    let pages = c.args.pages.now in
-    let old = g.S.Site.state c.args.site.now in
-    let o : Opening = record { sizes = pages.flash.geometry; image = old.image; newest = newest; blocks = blocks; table = table; commits = commits } in
-    let up = c.loop-block.invariant.up_to newest blocks table commits own h in
-    skips_redoing _ o log c.loop-block.log pages c.loop-block.pages old (g.S.Site.state c.loop-block.site) [] (log_from (kept_by newest) (take (c.loop-block.block - kept_by newest) blocks))
-    (begins c.page_laws.ensures c.redo_laws.ensures log pages old newest blocks table commits h) (c.loop-block.invariant.log_geometry ∙ c.requires.going.sizes) up.taken.pages_are
+pub returns-clause-keeps : goal.returns-clause-keeps
+returns-clause-keeps g c newest blocks table commits own h = keeps_answered (c.loop-block.invariant.keeps newest blocks table commits own h)
+
+pub returns-in-Err-clause-works : goal.returns-in-Err-clause-works
+returns-in-Err-clause-works g c = (logs_refused_by (inl c.in-Err.ensures.stops) c.requires.going).works
+
+pub returns-in-Err-read_block-clause-works : goal.returns-in-Err-read_block-clause-works
+returns-in-Err-read_block-clause-works g c =
+    let i = c.loop-block.invariant in
+    let read_one : ReadsOne {T = ℕ} (Err c.in-Err-read_block.stop) (g.S.Site.state c.loop-block.site) (g.S.Site.state c.read_block.new.site) = record { same = c.read_block.ensures.same; goes = c.read_block.ensures.goes; log_reads = c.read_block.ensures.reads.here; others = c.read_block.ensures.reads.others; device = c.in-Err-read_block.ensures.device; stops = c.in-Err-read_block.ensures.stops; faults = c.in-Err-read_block.ensures.faults } in
+    works_stopped i.works (works_read i.works.going read_one)
+
+pub returns-in-Err-take_block-clause-works : goal.returns-in-Err-take_block-clause-works
+returns-in-Err-take_block-clause-works g c =
+    let i = c.loop-block.invariant in
+    let read_one : ReadsOne {T = ℕ} (Ok c.in-Ok-read_block.used) (g.S.Site.state c.loop-block.site) (g.S.Site.state c.read_block.new.site) = record { same = c.read_block.ensures.same; goes = c.read_block.ensures.goes; log_reads = c.read_block.ensures.reads.here; others = c.read_block.ensures.reads.others; device = c.in-Ok-read_block.ensures.device; stops = tt; faults = c.in-Ok-read_block.ensures.faults } in
+    works_stopped (works_then i.works (works_read i.works.going read_one)) c.in-Err-take_block.ensures.logs_nothing.works
+
+pub returns-clause-works : goal.returns-clause-works
+returns-clause-works g c = works_answered c.loop-block.invariant.works

@@ -1,19 +1,19 @@
-use Rattle.std.proofs.Common.{IsTrue, ◌≡◌, ◌+◌, ◌-◌, ◌*◌, ◌≤◌, ℕ, List, length, take}
+use Rattle.std.proofs.Common.{◌≡◌, ◌+◌, ◌-◌, ◌*◌, ◌≤◌, ℕ, List, length, take}
 use Rattle.std.specs.Prelude.{⊤, Ok, Option}
-use Rattle.site.specs.State.{IsQuiet}
-use Rattle.site.specs.Calls.{Goes}
 use Rattle.record_model.specs.State.{Content}
 use Rattle.log_records.specs.declared.log_record.LogRecord.{LogRecord}
 use Rattle.log_records.specs.Log.{log_from}
 use Rattle.analysis.specs.Open.{owed_for}
 use Rattle.analysis.specs.Table.{listed}
 use Rattle.analysis.specs.Read as read
-use Rattle.redo_undo.specs.Holding.{MayGoOn, blocks_to}
+use Rattle.redo_undo.specs.Holding.{blocks_to}
 use Rattle.redo_undo.specs.Redoing.{IsOpened, asked_of}
 use Rattle.redo_undo.specs.Works.{Asks}
 use Rattle.redo_undo.proofs.TakenRecords.{IsUpTo}
 use Rattle.image_meaning.specs.Meaning.{kept_by, saved_by}
 use Rattle.checkpoint.specs.declared.master.Master.{Master}
+use Rattle.redo_undo.specs.Calls.{Keeps, Works}
+use Rattle.image_meaning.specs.Moments.{LeavesTableUnder}
 use Rattle.redo_undo.proofs.redo_pass.redo.Given as goal
 
 abbrev pub invariant-loop-block : goal.invariant-loop-block
@@ -21,7 +21,7 @@ invariant-loop-block g l =
     let old = g.S.Site.state l.fn.site in
     let now = g.S.Site.state l.site in
     record {
-      going : MayGoOn l.log l.pages now;
+      works : Works {T = Unit {0}} (Ok tt) l.fn.log l.log l.fn.pages l.pages old now;
       found_going : read.MayGoOn l.so_far.found;
       room : length l.content ≡ 503;
       some : l.block ≤ l.fn.log.kept + l.so_far.records;
@@ -29,16 +29,11 @@ invariant-loop-block g l =
       owed : owed_for (listed l.so_far.found.table) ≤ l.so_far.records + length l.master.active;
       blocks : blocks_to l.log ≡ blocks_to l.fn.log;
       rises : l.fn.log.ring.hi ≤ l.log.ring.hi;
-      kept : l.log.kept ≡ l.fn.log.kept;
-      log_geometry : l.log.geometry ≡ l.fn.log.geometry;
-      geometry : l.pages.flash.geometry ≡ l.fn.pages.flash.geometry;
-      size : l.pages.pool.size ≡ l.fn.pages.pool.size;
-      goes : Goes old now;
-      left : IsTrue old.honest → now.left ≡ old.left;
-      stays_quiet : IsTrue old.honest → IsQuiet old → IsQuiet now;
       log_reads : now.log_reads ≤ old.log_reads + (l.block - l.fn.log.kept);
       up_to : (newest : Option Master) (blocks : List (List LogRecord)) (table : List Content) (commits : ℕ) → l.master ≡ saved_by newest → IsOpened l.fn.pages.flash.geometry l.fn.log l.fn.pages old newest blocks table commits →
           IsUpTo (record { sizes = l.fn.pages.flash.geometry; image = old.image; newest = newest; blocks = blocks; table = table; commits = commits }) l.log l.pages old now l.so_far l.block;
       asked : (newest : Option Master) (blocks : List (List LogRecord)) (table : List Content) (commits : ℕ) → l.master ≡ saved_by newest → IsOpened l.fn.pages.flash.geometry l.fn.log l.fn.pages old newest blocks table commits →
           Asks {T = ⊤} (Ok tt) (asked_of (record { sizes = l.fn.pages.flash.geometry; image = old.image; newest = newest; blocks = blocks; table = table; commits = commits }) (log_from (kept_by newest) (take (l.block - kept_by newest) blocks))) l.fn.pages l.pages old now;
+      keeps : (newest : Option Master) (blocks : List (List LogRecord)) (table : List Content) (commits : ℕ) → l.master ≡ saved_by newest → IsOpened l.fn.pages.flash.geometry l.fn.log l.fn.pages old newest blocks table commits →
+          Keeps {T = Unit {0}} (Ok tt) l.fn.pages.flash.geometry l.fn.log l.log old now (LeavesTableUnder newest l.fn.pages.flash.geometry table commits old.told) 0 0;
     }

@@ -1,4 +1,4 @@
-use Rattle.std.proofs.Common.{◌≡◌, ◌≤◌, ◌∷◌, [], sym, ap, ◌∙◌, arith}
+use Rattle.std.proofs.Common.{◌≡◌, ◌≤◌, ◌∷◌, [], sym, ap, ◌∙◌, arith, inr, refl}
 use Rattle.site.specs.declared.outside.Stop.TheVariants.{Foreign}
 use Rattle.redo_undo.specs.Redoing.{touches_of}
 use Rattle.std.proofs.lemmas.Option.{none-some}
@@ -11,36 +11,15 @@ use Rattle.second_chance.specs.Machine.{rules_of}
 use Rattle.page_store.specs.Held.{current}
 use Rattle.page_store.specs.Caching.{rules}
 use Rattle.redo_undo.proofs.Changed.{front_is_current}
-use Rattle.redo_undo.proofs.Redoings.{nothing_happens}
 use Rattle.redo_undo.proofs.NextRecords.{page_exists, lsn_sealed, no_change, changed, front_knows}
 use Rattle.redo_undo.proofs.RedoWorks.{stops_first, asks_no_page, stops_in_touch, asks_known, asks_redone}
-use Rattle.redo_undo.proofs.RingNumbers.{skips_nothing, hi_on}
+use Rattle.redo_undo.proofs.Calling.{keeps_redoing, logs_nothing, logs_refused_by}
 use Rattle.redo_undo.proofs.redo_pass.redo_record.Goals as goal
 
 pub returns-in_default-clause-redoing : goal.returns-in_default-clause-redoing
 returns-in_default-clause-redoing g c o front rest h is =
     no_change c.page_laws.ensures c.redo_laws.ensures o c.args.log.now c.args.pages.now (g.S.Site.state c.args.site.now) front h (record { lsn = c.args.lsn; rec = c.args.rec.now }) rest is
     (λ page number exists own at. absurd (none-some number (sym c.in_default.ensures.none ∙ own)))
-
-pub returns-in_default-clause-any_moment : goal.returns-in_default-clause-any_moment
-returns-in_default-clause-any_moment g c o front h quiet =
-    nothing_happens c.page_laws.ensures c.redo_laws.ensures o c.args.log.now c.args.pages.now (g.S.Site.state c.args.site.now) front h c.requires.going.sizes quiet
-
-pub returns-then-page-geometry-clause-any_moment :
-    goal.returns-then-page-geometry-clause-any_moment
-returns-then-page-geometry-clause-any_moment g c o front h quiet =
-    nothing_happens c.page_laws.ensures c.redo_laws.ensures o c.args.log.now c.args.pages.now (g.S.Site.state c.args.site.now) front h c.requires.going.sizes quiet
-
-pub returns-then-page-geometry-clause-readable : goal.returns-then-page-geometry-clause-readable
-returns-then-page-geometry-clause-readable g c o front rest h is = λ same.
-    let on = c.in-Some.ensures.on in
-    let exists = page_exists c.page_laws.ensures c.redo_laws.ensures o c.args.log.now c.args.pages.now (g.S.Site.state c.args.site.now) front h (record { lsn = c.args.lsn; rec = c.args.rec.now }) rest is
-    c.in-Some.page on.0 on.1 on.2 in
-    let all = ap (λ (k : Geometry). k.pages) (c.geometry.ensures ∙ c.requires.going.sizes ∙ h.geometry) in
-    omega (arith, exists, all, c.if-page-geometry.true)
-
-pub returns-in-Err-clause-readable : goal.returns-in-Err-clause-readable
-returns-in-Err-clause-readable g c o front rest h is = λ same. c.in-Err.ensures.readable o front h same
 
 pub returns-then-front_lsn-lsn-clause-redoing : goal.returns-then-front_lsn-lsn-clause-redoing
 returns-then-front_lsn-lsn-clause-redoing g c o front rest h is =
@@ -65,15 +44,6 @@ returns-clause-redoing g c o front rest h is =
     (omega (arith, content, c.front_lsn.ensures, c.if-front_lsn-lsn.false)) (c.change_front.ensures.redoes site.image on.0 on.1) (c.change_front.ensures.others site.image)
     (ap (λ (f : FlashCache). f.geometry) c.change_front.ensures.flash) (c.change_front.ensures.fit site now.ready.pages)
     (c.change_front.ensures.ahead log site.image now.ahead (lsn_sealed c.page_laws.ensures c.redo_laws.ensures o log pages site front now e rest is))
-
-pub returns-in-Err-clause-quiet : goal.returns-in-Err-clause-quiet
-returns-in-Err-clause-quiet g c o front h quiet = c.in-Err.ensures.quiet o front h quiet
-
-pub returns-in-Err-clause-worn_end : goal.returns-in-Err-clause-worn_end
-returns-in-Err-clause-worn_end g c o front h = c.in-Err.ensures.worn_end o front h
-
-pub returns-in-Err-clause-worn_log_end : goal.returns-in-Err-clause-worn_log_end
-returns-in-Err-clause-worn_log_end g c o front h = c.in-Err.ensures.worn_log_end o front h
 
 pub returns-in_default-clause-asks : goal.returns-in_default-clause-asks
 returns-in_default-clause-asks g c o front rest h is =
@@ -114,19 +84,29 @@ returns-clause-asks g c o front rest h is =
     (omega (arith, content, c.front_lsn.ensures, c.if-front_lsn-lsn.false)) c.change_front.new.pages some c.change_front.ensures.machine
     (λ i. rules_of (c.change_front.ensures.size i) (c.change_front.ensures.flash i).geometry.groups)
 
-pub returns-in_default-clause-numbers : goal.returns-in_default-clause-numbers
-returns-in_default-clause-numbers g c o front h quiet =
-    skips_nothing _ c.args.pages.now.flash.geometry c.args.log.now (g.S.Site.state c.args.site.now) 0 (hi_on c.args.log.now.geometry c.args.pages.now.flash.geometry c.args.log.now (g.S.Site.state c.args.site.now).image c.requires.going.sizes h.ready.blocks.hi)
+pub returns-in_default-clause-keeps : goal.returns-in_default-clause-keeps
+returns-in_default-clause-keeps g c o front rest h is = keeps_redoing c.page_laws.ensures c.redo_laws.ensures c.requires.going.sizes h
 
-pub returns-then-page-geometry-clause-numbers : goal.returns-then-page-geometry-clause-numbers
-returns-then-page-geometry-clause-numbers g c o front h quiet =
-    skips_nothing _ c.args.pages.now.flash.geometry c.args.log.now (g.S.Site.state c.args.site.now) 0 (hi_on c.args.log.now.geometry c.args.pages.now.flash.geometry c.args.log.now (g.S.Site.state c.args.site.now).image c.requires.going.sizes h.ready.blocks.hi)
+-- the page exists
+pub returns-then-page-geometry-clause-keeps : goal.returns-then-page-geometry-clause-keeps
+returns-then-page-geometry-clause-keeps g c o front rest h is =
+    let on = c.in-Some.ensures.on in
+    let exists = page_exists c.page_laws.ensures c.redo_laws.ensures o c.args.log.now c.args.pages.now (g.S.Site.state c.args.site.now) front h (record { lsn = c.args.lsn; rec = c.args.rec.now }) rest is
+    c.in-Some.page on.0 on.1 on.2 in
+    let all = ap (λ (k : Geometry). k.pages) (c.geometry.ensures ∙ c.requires.going.sizes ∙ h.geometry) in
+    absurd (omega (arith, exists, all, c.if-page-geometry.true))
 
-pub returns-in-Err-clause-numbers : goal.returns-in-Err-clause-numbers
-returns-in-Err-clause-numbers g c o front h quiet = c.in-Err.ensures.numbers o front h quiet
+pub returns-in-Err-clause-keeps : goal.returns-in-Err-clause-keeps
+returns-in-Err-clause-keeps g c o front rest h is = c.in-Err.ensures.keeps o front h
 
-pub returns-then-front_lsn-lsn-clause-numbers : goal.returns-then-front_lsn-lsn-clause-numbers
-returns-then-front_lsn-lsn-clause-numbers g c o front h quiet = c.in-Ok.ensures.numbers o front h quiet
+pub returns-then-front_lsn-lsn-clause-keeps : goal.returns-then-front_lsn-lsn-clause-keeps
+returns-then-front_lsn-lsn-clause-keeps g c o front rest h is = c.in-Ok.ensures.keeps o front h
 
-pub returns-clause-numbers : goal.returns-clause-numbers
-returns-clause-numbers g c o front h quiet = c.in-Ok.ensures.numbers o front h quiet
+pub returns-clause-keeps : goal.returns-clause-keeps
+returns-clause-keeps g c o front rest h is = c.in-Ok.ensures.keeps o front h
+
+pub returns-in_default-clause-logs_nothing : goal.returns-in_default-clause-logs_nothing
+returns-in_default-clause-logs_nothing g c = logs_nothing c.requires.going
+
+pub returns-then-page-geometry-clause-logs_nothing : goal.returns-then-page-geometry-clause-logs_nothing
+returns-then-page-geometry-clause-logs_nothing g c = logs_refused_by (inr refl) c.requires.going

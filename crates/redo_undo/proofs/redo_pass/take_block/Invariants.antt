@@ -1,16 +1,15 @@
-use Rattle.std.proofs.Common.{IsTrue, ◌-◌, ◌≡◌, ◌+◌, ◌*◌, ◌≤◌, ◌<◌, ◌++◌, List}
-use Rattle.site.specs.State.{IsQuiet}
-use Rattle.site.specs.Calls.{Goes}
+use Rattle.std.proofs.Common.{◌-◌, ◌≡◌, ◌+◌, ◌*◌, ◌≤◌, ◌<◌, ◌++◌, List}
 use Rattle.log_records.specs.declared.log_record.LogRecord.{LogRecord}
 use Rattle.log_records.specs.Spelling.{IsBlock, used_by}
 use Rattle.log_records.specs.Log.{Entry, log_from, entries_from}
 use Rattle.analysis.specs.Open.{owed_for}
 use Rattle.analysis.specs.Table.{listed}
 use Rattle.analysis.specs.Read as read
-use Rattle.redo_undo.specs.Holding.{MayGoOn, blocks_to}
-use Rattle.redo_undo.specs.Redoing.{Opening, HasTaken}
+use Rattle.redo_undo.specs.Redoing.{Opening, HasTaken, LeavesOpened}
 use Rattle.redo_undo.proofs.TakenRecords.{IsPartWay}
 use Rattle.image_meaning.specs.Meaning.{kept_by, saved_by}
+use Rattle.redo_undo.specs.Calls.{Keeps, LogsNothing}
+use Rattle.std.specs.Prelude.{Ok}
 use Rattle.redo_undo.proofs.redo_pass.take_block.Given as goal
 
 abbrev pub invariant-loop-at : goal.invariant-loop-at
@@ -20,24 +19,16 @@ invariant-loop-at g l =
     record {
       low : 2 ≤ l.at;
       high : l.at ≤ l.used;
-      going : MayGoOn l.log l.pages now;
+      logs : LogsNothing {T = Unit {0}} (Ok tt) l.fn.log l.log l.fn.pages l.pages old now;
       found_going : read.MayGoOn l.so_far.found;
       few : l.so_far.records + 2 ≤ l.fn.so_far.records + l.at;
       more : l.fn.so_far.records ≤ l.so_far.records;
       some : 2 < l.at → l.fn.so_far.records < l.so_far.records;
       owed : owed_for (listed l.so_far.found.table) + l.fn.so_far.records ≤ owed_for (listed l.fn.so_far.found.table) + l.so_far.records;
-      blocks : blocks_to l.log ≡ blocks_to l.fn.log;
-      rises : l.fn.log.ring.hi ≤ l.log.ring.hi;
-      kept : l.log.kept ≡ l.fn.log.kept;
-      log_geometry : l.log.geometry ≡ l.fn.log.geometry;
-      geometry : l.pages.flash.geometry ≡ l.fn.pages.flash.geometry;
-      size : l.pages.pool.size ≡ l.fn.pages.pool.size;
-      goes : Goes old now;
-      left : IsTrue old.honest → now.left ≡ old.left;
-      stays_quiet : IsTrue old.honest → IsQuiet old → IsQuiet now;
-      log_reads : now.log_reads ≡ old.log_reads;
       part : (o : Opening) (front rest : List Entry) (records : List LogRecord) → l.master ≡ saved_by o.newest → HasTaken o l.fn.log l.fn.pages old l.fn.so_far front → IsBlock l.content records → l.used ≡ used_by records →
           log_from (kept_by o.newest) o.blocks ≡ front ++ (entries_from (512 * l.block + 2) records ++ rest) → IsPartWay o l.log l.fn.pages l.pages old now l.so_far front l.block l.content l.used l.at records;
+      keeps : (o : Opening) (front rest : List Entry) (records : List LogRecord) → l.master ≡ saved_by o.newest → HasTaken o l.fn.log l.fn.pages old l.fn.so_far front → IsBlock l.content records → l.used ≡ used_by records →
+          log_from (kept_by o.newest) o.blocks ≡ front ++ (entries_from (512 * l.block + 2) records ++ rest) → Keeps {T = Unit {0}} (Ok tt) l.fn.pages.flash.geometry l.fn.log l.log old now (LeavesOpened o old.told) 0 0;
     }
 
 abbrev pub decreases-loop-at : goal.decreases-loop-at

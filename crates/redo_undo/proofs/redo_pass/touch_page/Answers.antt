@@ -1,17 +1,15 @@
-use Rattle.std.proofs.Common.{◌≤◌, Bool, false, [], arith, subst, ◌∙◌, inl}
+use Rattle.std.proofs.Common.{◌≤◌, Bool, false, [], arith, ◌∙◌, inl}
 use Rattle.std.specs.Prelude.{◌≡◌}
 use Rattle.page_store.specs.Ahead.{forces, pushed_by_touch}
 use Rattle.log_store.specs.LogList.{LogList}
 use Rattle.redo_undo.specs.Redoing.{IsRedoing}
-use Rattle.redo_undo.proofs.Redoings.{never_forced, rings_given, rings_of, touch_leaves, touched, ok_five_of}
-use Rattle.flash_cache.specs.Held.{IsWorn}
-use Rattle.site.specs.declared.geometry.Geometry.{Geometry}
+use Rattle.redo_undo.proofs.Redoings.{never_forced, rings_given, rings_of, touch_leaves, touched, ok_five_of, ok_one_of}
 use Rattle.second_chance.specs.Machine.{rules_of}
 use Rattle.page_store.specs.Caching.{cache_of, rules}
 use Rattle.redo_undo.proofs.Asking.{touch_overflows, touch_reads}
 use Rattle.image_meaning.specs.Meaning.{kept_by}
-use Rattle.redo_undo.specs.Holding.{IsLogWorn}
 use Rattle.redo_undo.proofs.UndoneNumbers.{skips_touch}
+use Rattle.image_changes.specs.Rings.{KeepsUnits, Masters, master_shape}
 use Rattle.redo_undo.proofs.redo_pass.touch_page.Goals as goal
 
 pub returns-clause-redoing : goal.returns-clause-redoing
@@ -29,32 +27,6 @@ returns-clause-redoing g c o front h =
     (c.touch.ensures.ready list h.ready) (c.touch.ensures.current list h.ready) (c.touch.ensures.ahead list h.ready h.ahead)
     (c.touch.ensures.leaves list h.ready) (c.touch.ensures.rings o.newest list h.ready (rings_given o log pages site front h))
 
-pub returns-clause-any_moment : goal.returns-clause-any_moment
-returns-clause-any_moment g c o front h quiet =
-    let site = g.S.Site.state c.args.site.now in
-    let new = g.S.Site.state c.touch.new.site in
-    let log = c.args.log.now in
-    let pages = c.args.pages.now in
-    let list : LogList = record { first = kept_by o.newest; blocks = o.blocks; tail = [] } in
-    let sealing : Bool = forces log (pushed_by_touch pages c.args.page) in
-    let never : sealing ≡ false = never_forced log (pushed_by_touch pages c.args.page) h.ready.records.tail.end in
-    touch_leaves c.page_laws.ensures c.redo_laws.ensures o log pages site front h sealing never new (c.touch.ensures.any_moment list h.ready quiet)
-    (rings_of o log pages site front h new (c.touch.ensures.rings_moment o.newest list h.ready quiet (rings_given o log pages site front h))) c.requires.going.pages_going.own
-
-pub returns-clause-readable : goal.returns-clause-readable
-returns-clause-readable g c o front h is = c.touch.ensures.foreign is (record { first = kept_by o.newest; blocks = o.blocks; tail = [] }) h.ready
-
-pub returns-clause-quiet : goal.returns-clause-quiet
-returns-clause-quiet g c o front h quiet = c.touch.ensures.quiet (record { first = kept_by o.newest; blocks = o.blocks; tail = [] }) h.ready quiet
-
-pub returns-clause-worn_end : goal.returns-clause-worn_end
-returns-clause-worn_end g c o front h worn =
-    subst (λ (k : Geometry). IsWorn k (g.S.Site.state c.touch.new.site).image) h.geometry (c.touch.ensures.worn_end (record { first = kept_by o.newest; blocks = o.blocks; tail = [] }) h.ready worn)
-
-pub returns-clause-worn_log_end : goal.returns-clause-worn_log_end
-returns-clause-worn_log_end g c o front h worn =
-    subst (λ (k : Geometry). IsLogWorn k (g.S.Site.state c.touch.new.site).image) h.geometry (inl (c.touch.ensures.worn_log_end (record { first = kept_by o.newest; blocks = o.blocks; tail = [] }) h.ready worn))
-
 pub returns-clause-asks : goal.returns-clause-asks
 returns-clause-asks g c =
     let pages = c.args.pages.now in
@@ -66,13 +38,22 @@ returns-clause-asks g c =
       rules_are = (λ i. rules_of (c.touch.ensures.size i) (c.touch.ensures.geometry i).groups);
     }
 
-pub returns-clause-numbers : goal.returns-clause-numbers
-returns-clause-numbers g c o front h quiet =
+pub returns-clause-keeps : goal.returns-clause-keeps
+returns-clause-keeps g c o front h =
     let site = g.S.Site.state c.args.site.now in
+    let new = g.S.Site.state c.touch.new.site in
     let log = c.args.log.now in
     let pages = c.args.pages.now in
     let list : LogList = record { first = kept_by o.newest; blocks = o.blocks; tail = [] } in
     let sealing : Bool = forces log (pushed_by_touch pages c.args.page) in
     let never : sealing ≡ false = never_forced log (pushed_by_touch pages c.args.page) h.ready.records.tail.end in
-    skips_touch c.page_laws.ensures c.redo_laws.ensures o log pages site front h sealing never (g.S.Site.state c.touch.new.site) c.touch.result c.touch.new.log c.touch.new.self (c.touch.ensures.any_moment list h.ready quiet)
-    (returns-clause-redoing g c o front h)
+    record {
+      any_moment = λ quiet. touch_leaves c.page_laws.ensures c.redo_laws.ensures o log pages site front h sealing never new (c.touch.ensures.any_moment list h.ready quiet)
+          (rings_of o log pages site front h new (c.touch.ensures.rings_moment o.newest list h.ready quiet (rings_given o log pages site front h))) c.requires.going.pages_going.own;
+      numbers = λ quiet. skips_touch c.page_laws.ensures c.redo_laws.ensures o log pages site front h sealing never new c.touch.result c.touch.new.log c.touch.new.self (c.touch.ensures.any_moment list h.ready quiet) (returns-clause-redoing g c o front h);
+      quiet = c.touch.ensures.quiet list h.ready;
+      worn_log = λ worn. inl (c.touch.ensures.worn_log_end list h.ready worn);
+      worn = c.touch.ensures.worn_end list h.ready;
+      readable = λ is. c.touch.ensures.foreign is list h.ready;
+      masters = λ none. ok_one_of c.touch.result _ (KeepsUnits master_shape site.image new.image) (λ leaves. leaves.rings Masters (λ same. cc) (λ same. cc)) (c.touch.ensures.leaves list h.ready);
+    }

@@ -1,0 +1,449 @@
+-- Calls one after the other, each known by its record.
+use Rattle.std.proofs.Common.{◌≡◌, ◌≢◌, ◌⊎◌, inl, inr, ℕ, ◌+◌, ◌≤◌, List, refl, sym, subst, ap, ◌∙◌, arith, Option}
+use Rattle.std.specs.Prelude.{Result, Ok, Err, OnOk, IfOk, IfErr, IsErrOf, IsTrue, ◌<◌}
+use Rattle.site.specs.declared.geometry.Geometry.{Geometry}
+use Rattle.site.specs.declared.outside.Dev.{Dev}
+use Rattle.site.specs.declared.outside.Dev.TheVariants.{Log, Flash, Disk}
+use Rattle.site.specs.declared.outside.Stop.{Stop}
+use Rattle.site.specs.declared.outside.Stop.TheVariants.{Device, Worn, Foreign, Memory}
+use Rattle.site.specs.State.{State, Snapshot, IsQuiet}
+use Rattle.site.specs.Calls.{IsUnchanged, FaultRose}
+use Rattle.site.specs.Faults.{Faults, faults_in, after_work}
+use Rattle.site.specs.Laws.{stays_honest, fault_since, goes_in_sequence, goes_nowhere}
+use Rattle.record_model.specs.State.{Content}
+use Rattle.log_records.specs.Log.{Entry}
+use Rattle.sealed_ring.specs.Ring.{hi_of}
+use Rattle.image_changes.specs.Rings.{log_shape, KeepsUnits, master_shape}
+use Rattle.flash_cache.specs.Held.{IsWorn}
+use Rattle.log_store.specs.declared.store.LogStore.{LogStore}
+use Rattle.log_store.specs.Held as log_held
+use Rattle.log_store.specs.Held.{end_of}
+use Rattle.page_store.specs.declared.store.PageStore.{PageStore}
+use Rattle.page_store.specs.Stopping.{MayStop}
+use Rattle.page_store.specs.Laws.{FitsBeside}
+use Rattle.checkpoint.specs.declared.master.Master.{Master}
+use Rattle.image_meaning.specs.Moments.{LeavesTableUnder}
+use Rattle.redo_undo.specs.Holding.{blocks_to, MayGoOn, Holds, IsLogWorn}
+use Rattle.redo_undo.specs.Calls.{Calls, Works, LogsNothing, WorksBeside, ReadsOne, Keeps, KeepsBeside}
+use Rattle.redo_undo.specs.Laws.{PageLaws}
+use Rattle.redo_undo.specs.RedoLaws.{RedoLaws}
+use Rattle.redo_undo.specs.Redoing.{Opening, IsRedoing, LeavesOpened}
+use Rattle.redo_undo.proofs.Redoings.{nothing_happens, then_read}
+use Rattle.redo_undo.proofs.RingNumbers.{skips_reads, hi_on}
+use Rattle.redo_undo.proofs.Asking.{err_again}
+use Rattle.redo_undo.proofs.Sames.{and_then, going_still, holds_still, leaves_still, units_then}
+use Rattle.redo_undo.proofs.RingNumbers.{ok_as, ok_always, then_skips, skips_again, skips_answered, skips_weaker, skips_on}
+use Rattle.redo_undo.proofs.LeftNumbers.{skips_not_saved}
+use Rattle.redo_undo.proofs.UndoneNumbers.{skips_so_far, masters_hi}
+use Rattle.site.specs.Moments.{LeavesOnly}
+
+pub no_error : {T : Type 0} {x : T} {e : Stop} → IsErrOf {T = T} {E = Stop} (Ok x) e → ⊥
+no_error is = cc
+
+-- what is said of its error
+pub of_error : {T : Type 0} (r : Result T Stop) (P : Stop → Type 0) (e : Stop) → IfErr r P → IsErrOf r e → P e
+of_error (Ok x) P e p is = absurd (no_error {x = x} {e = e} is)
+of_error (Err stop) P e p is = let same : stop ≡ e = cc in subst P same p
+
+-- and where another thing is said then
+pub err_as : {T : Type 0} (r : Result T Stop) (P Q : Stop → Type 0) → ((stop : Stop) → P stop → Q stop) → IfErr r P → IfErr r Q
+err_as (Ok x) P Q f p = tt
+err_as (Err stop) P Q f p = f stop p
+
+pub err_always : {T : Type 0} (r : Result T Stop) (P : Type 0) → P → IfErr r (λ stop. ((d : Dev) → stop ≢ Device d) → P)
+err_always (Ok x) P p = tt
+err_always (Err stop) P p = λ other. p
+
+-- The errors of calls on the log.
+
+-- of a call that reads it
+pub reads_stop : (stop : Stop) → (stop ≡ Device Log) ⊎ (stop ≡ Foreign) → MayStop stop
+reads_stop stop (inl is) = subst MayStop (sym is) tt
+reads_stop stop (inr is) = subst MayStop (sym is) tt
+
+-- of one that appends
+pub log_stops : (stop : Stop) → (stop ≡ Device Log) ⊎ (stop ≡ Worn Log) → MayStop stop
+log_stops stop (inl is) = subst MayStop (sym is) tt
+log_stops stop (inr is) = subst MayStop (sym is) tt
+
+-- of one that does so where there is room
+pub ends_stop : (stop : Stop) → (stop ≡ Device Log) ⊎ ((stop ≡ Worn Log) ⊎ (stop ≡ Foreign)) → MayStop stop
+ends_stop stop (inl is) = subst MayStop (sym is) tt
+ends_stop stop (inr (inl is)) = subst MayStop (sym is) tt
+ends_stop stop (inr (inr is)) = subst MayStop (sym is) tt
+
+-- why a call on the log alone says that a device failed
+log_device : (d : Dev) → d ≢ Log → (Device d ≡ Device Log) ⊎ ((Device d ≡ Worn Log) ⊎ (Device d ≡ Foreign)) → ⊥
+log_device Log other is = other refl
+log_device Flash other (inl is) = cc
+log_device Flash other (inr (inl is)) = cc
+log_device Flash other (inr (inr is)) = cc
+log_device Disk other (inl is) = cc
+log_device Disk other (inr (inl is)) = cc
+log_device Disk other (inr (inr is)) = cc
+
+pub device_of : {T : Type 0} (r : Result T Stop) (before now : State) → IfErr r (λ stop. (stop ≡ Device Log) ⊎ ((stop ≡ Worn Log) ⊎ (stop ≡ Foreign))) →
+    (IsErrOf r (Device Log) → FaultRose Log before now) → (d : Dev) → IsErrOf r (Device d) → FaultRose d before now
+device_of r before now stops rose Log is = rose is
+device_of r before now stops rose Flash is = absurd (log_device Flash (λ same. cc) (of_error r (λ stop. (stop ≡ Device Log) ⊎ ((stop ≡ Worn Log) ⊎ (stop ≡ Foreign))) (Device Flash) stops is))
+device_of r before now stops rose Disk is = absurd (log_device Disk (λ same. cc) (of_error r (λ stop. (stop ≡ Device Log) ⊎ ((stop ≡ Worn Log) ⊎ (stop ≡ Foreign))) (Device Disk) stops is))
+
+read_or : (stop : Stop) → (stop ≡ Device Log) ⊎ (stop ≡ Foreign) → (stop ≡ Device Log) ⊎ ((stop ≡ Worn Log) ⊎ (stop ≡ Foreign))
+read_or stop (inl is) = inl is
+read_or stop (inr is) = inr (inr is)
+
+pub reads_worn : (d : Dev) → (Worn d ≡ Device Log) ⊎ (Worn d ≡ Foreign) → ⊥
+reads_worn d (inl is) = cc
+reads_worn d (inr is) = cc
+
+-- On every site.
+
+pub calls_nothing : {T : Type 0} {x : T} {site : State} → Calls {T = T} (Ok x) site site
+calls_nothing {T = T} {x = x} {site = site} = record {
+  goes = goes_nowhere site;
+  left = λ honest. refl;
+  stays_quiet = λ honest quiet. quiet;
+  device = λ d is. absurd (no_error {T = T} {x = x} {e = Device d} is);
+  faults = refl;
+}
+
+pub calls_then : {A B : Type 0} {a : A} {r : Result B Stop} {before between now : State} → Calls {T = A} (Ok a) before between → Calls r between now → Calls r before now
+calls_then {r = r} {before = before} {between = between} {now = now} first second = record {
+  goes = goes_in_sequence before between now first.goes second.goes;
+  left = λ honest. second.left (stays_honest before between first.goes honest) ∙ first.left honest;
+  stays_quiet = λ honest quiet. second.stays_quiet (stays_honest before between first.goes honest) (first.stays_quiet honest quiet);
+  device = λ d is. fault_since d before between now first.goes (second.device d is);
+  faults = second.faults ∙ ap (λ (f : Faults). after_work r f) first.faults;
+}
+
+-- of an error the answer's type says nothing
+same_error : (A B : Type 0) (stop : Stop) (f : Faults) → after_work {T = A} (Err stop) f ≡ after_work {T = B} (Err stop) f
+same_error A B (Device d) f = refl
+same_error A B Memory f = refl
+same_error A B (Worn d) f = refl
+same_error A B Foreign f = refl
+
+-- one that names no device raises no count
+no_fault : (A : Type 0) (stop : Stop) (f : Faults) → ((d : Dev) → stop ≢ Device d) → after_work {T = A} (Err stop) f ≡ f
+no_fault A (Device d) f other = absurd (other d refl)
+no_fault A Memory f other = refl
+no_fault A (Worn d) f other = refl
+no_fault A Foreign f other = refl
+
+-- the error of a call is the error of its caller
+pub calls_failed : {A B : Type 0} {stop : Stop} {before now : State} → Calls {T = A} (Err stop) before now → Calls {T = B} (Err stop) before now
+calls_failed {A = A} {B = B} {stop = stop} {before = before} first = record {
+  goes = first.goes;
+  left = first.left;
+  stays_quiet = λ honest quiet. tt;
+  device = λ d is. first.device d (err_again stop (Device d) is);
+  faults = first.faults ∙ same_error A B stop (faults_in before);
+}
+
+-- another value of its caller
+pub calls_answered : {A B : Type 0} {a : A} {b : B} {before now : State} → Calls {T = A} (Ok a) before now → Calls {T = B} (Ok b) before now
+calls_answered {B = B} {b = b} first = record { goes = first.goes; left = first.left; stays_quiet = first.stays_quiet; device = λ d is. absurd (no_error {T = B} {x = b} {e = Device d} is); faults = first.faults }
+
+-- its caller refuses what it got
+pub calls_refused : {A B : Type 0} {a : A} {stop : Stop} {before now : State} → ((d : Dev) → stop ≢ Device d) → Calls {T = A} (Ok a) before now → Calls {T = B} (Err stop) before now
+calls_refused {B = B} {stop = stop} {before = before} other first = record {
+  goes = first.goes;
+  left = first.left;
+  stays_quiet = λ honest quiet. tt;
+  device = λ d is. absurd (other d (let same : stop ≡ Device d = cc in same));
+  faults = first.faults ∙ sym (no_fault B stop (faults_in before) other);
+}
+
+pub calls_read : {T : Type 0} {r : Result T Stop} {before now : State} → ReadsOne r before now → Calls r before now
+calls_read {r = r} {before = before} {now = now} read = record {
+  goes = read.goes;
+  left = λ honest. (read.same honest).left;
+  stays_quiet = λ honest quiet. ok_always r _ ((read.same honest).loose ∙ quiet);
+  device = device_of r before now (err_as r _ _ read_or read.stops) read.device;
+  faults = read.faults;
+}
+
+-- Log and pages, on every site.
+
+pub works_nothing : {T : Type 0} {x : T} {log : LogStore} {pages : PageStore} {site : State} → MayGoOn log pages site → Works {T = T} (Ok x) log log pages pages site site
+works_nothing going = record { calls = calls_nothing; going = going; rises = omega arith; kept = refl; log_geometry = refl; geometry = refl; size = refl; stops = tt }
+
+pub works_then : {A B : Type 0} {a : A} {r : Result B Stop} {old mid new : LogStore} {pages between pages' : PageStore} {before middle now : State} →
+    Works {T = A} (Ok a) old mid pages between before middle → Works r mid new between pages' middle now → Works r old new pages pages' before now
+works_then {r = r} first second =
+    let rises = first.rises in
+    record {
+      calls = calls_then first.calls second.calls;
+      going = second.going;
+      rises = ok_as r _ _ (λ more. omega (arith, more, rises)) second.rises;
+      kept = second.kept ∙ first.kept;
+      log_geometry = second.log_geometry ∙ first.log_geometry;
+      geometry = second.geometry ∙ first.geometry;
+      size = second.size ∙ first.size;
+      stops = second.stops;
+    }
+
+pub works_failed : {A B : Type 0} {stop : Stop} {old new : LogStore} {pages pages' : PageStore} {before now : State} → Works {T = A} (Err stop) old new pages pages' before now → Works {T = B} (Err stop) old new pages pages' before now
+works_failed first = record { calls = calls_failed first.calls; going = tt; rises = tt; kept = first.kept; log_geometry = first.log_geometry; geometry = first.geometry; size = first.size; stops = first.stops }
+
+-- it stops behind a call that was Ok
+pub works_stopped : {A B C : Type 0} {a : A} {stop : Stop} {old mid new : LogStore} {pages between pages' : PageStore} {before middle now : State} →
+    Works {T = A} (Ok a) old mid pages between before middle → Works {T = B} (Err stop) mid new between pages' middle now → Works {T = C} (Err stop) old new pages pages' before now
+works_stopped first second = works_failed (works_then first second)
+
+pub works_answered : {A B : Type 0} {a : A} {b : B} {old new : LogStore} {pages pages' : PageStore} {before now : State} → Works {T = A} (Ok a) old new pages pages' before now → Works {T = B} (Ok b) old new pages pages' before now
+works_answered first = record { calls = calls_answered first.calls; going = first.going; rises = first.rises; kept = first.kept; log_geometry = first.log_geometry; geometry = first.geometry; size = first.size; stops = tt }
+
+pub works_refused : {A B : Type 0} {a : A} {stop : Stop} {old new : LogStore} {pages pages' : PageStore} {before now : State} → ((d : Dev) → stop ≢ Device d) → MayStop stop →
+    Works {T = A} (Ok a) old new pages pages' before now → Works {T = B} (Err stop) old new pages pages' before now
+works_refused other stops first = record { calls = calls_refused other first.calls; going = tt; rises = tt; kept = first.kept; log_geometry = first.log_geometry; geometry = first.geometry; size = first.size; stops = stops }
+
+-- what it read is Foreign
+pub works_foreign : {A B : Type 0} {a : A} {old new : LogStore} {pages pages' : PageStore} {before now : State} → Works {T = A} (Ok a) old new pages pages' before now → Works {T = B} (Err Foreign) old new pages pages' before now
+works_foreign first = works_refused (λ d same. cc) tt first
+
+-- before anything is called
+pub works_at_once : {T : Type 0} {log : LogStore} {pages : PageStore} {site : State} → MayGoOn log pages site → Works {T = T} (Err Foreign) log log pages pages site site
+works_at_once going = works_foreign {A = Unit {0}} {a = tt} (works_nothing going)
+
+pub works_read : {T : Type 0} {r : Result T Stop} {log : LogStore} {pages : PageStore} {before now : State} → MayGoOn log pages before → ReadsOne r before now → Works r log log pages pages before now
+works_read {r = r} {log = log} {pages = pages} {before = before} {now = now} going read = record {
+  calls = calls_read read;
+  going = ok_always r _ (going_still log pages before now read.goes going);
+  rises = ok_always r _ (omega arith);
+  kept = refl;
+  log_geometry = refl;
+  geometry = refl;
+  size = refl;
+  stops = err_as r _ _ reads_stop read.stops;
+}
+
+-- a call of the log alone
+pub works_beside : {T : Type 0} {r : Result T Stop} {old new : LogStore} {pages : PageStore} {before now : State} → MayGoOn old pages before → OnOk r (end_of old ≤ end_of new) → IfErr r (λ stop. MayStop stop) →
+    WorksBeside r old new before now → Works r old new pages pages before now
+works_beside {pages = pages} going rises stops beside =
+    record { calls = beside.calls; going = beside.going pages going; rises = rises; kept = beside.kept; log_geometry = beside.geometry; geometry = refl; size = refl; stops = stops }
+
+-- that appends a record
+pub works_appended : {r : Result ℕ Stop} {old new : LogStore} {pages : PageStore} {before now : State} → MayGoOn old pages before → IfOk r (λ lsn. (end_of old ≤ lsn) × (lsn < end_of new)) →
+    IfErr r (λ stop. (stop ≡ Device Log) ⊎ (stop ≡ Worn Log)) → WorksBeside r old new before now → Works r old new pages pages before now
+works_appended {r = r} {old = old} {new = new} going rises stops beside = works_beside going (risen r rises) (err_as r _ _ log_stops stops) beside
+  where
+    risen : (r : Result ℕ Stop) → IfOk r (λ lsn. (end_of old ≤ lsn) × (lsn < end_of new)) → OnOk r (end_of old ≤ end_of new)
+    risen (Ok lsn) rises = omega (arith, rises.0, rises.1)
+    risen (Err stop) rises = tt
+
+-- The same where no record is logged.
+
+pub logs_nothing : {T : Type 0} {x : T} {log : LogStore} {pages : PageStore} {site : State} → MayGoOn log pages site → LogsNothing {T = T} (Ok x) log log pages pages site site
+logs_nothing going = record { works = works_nothing going; blocks = refl; hi = omega arith; log_reads = refl }
+
+pub logs_then : {A B : Type 0} {a : A} {r : Result B Stop} {old mid new : LogStore} {pages between pages' : PageStore} {before middle now : State} →
+    LogsNothing {T = A} (Ok a) old mid pages between before middle → LogsNothing r mid new between pages' middle now → LogsNothing r old new pages pages' before now
+logs_then {r = r} first second =
+    let hi = first.hi in
+    record { works = works_then first.works second.works; blocks = ok_as r _ _ (λ more. more ∙ first.blocks) second.blocks; hi = ok_as r _ _ (λ more. omega (arith, more, hi)) second.hi; log_reads = second.log_reads ∙ first.log_reads }
+
+pub logs_answered : {A B : Type 0} {a : A} {b : B} {old new : LogStore} {pages pages' : PageStore} {before now : State} → LogsNothing {T = A} (Ok a) old new pages pages' before now → LogsNothing {T = B} (Ok b) old new pages pages' before now
+logs_answered first = record { works = works_answered first.works; blocks = first.blocks; hi = first.hi; log_reads = first.log_reads }
+
+pub logs_refused : {A B : Type 0} {a : A} {stop : Stop} {old new : LogStore} {pages pages' : PageStore} {before now : State} → ((d : Dev) → stop ≢ Device d) → MayStop stop →
+    LogsNothing {T = A} (Ok a) old new pages pages' before now → LogsNothing {T = B} (Err stop) old new pages pages' before now
+logs_refused other stops first = record { works = works_refused other stops first.works; blocks = tt; hi = tt; log_reads = first.log_reads }
+
+-- The log alone, on every site.
+
+pub beside_nothing : {T : Type 0} {x : T} {log : LogStore} {site : State} → log_held.MayGoOn log site → WorksBeside {T = T} (Ok x) log log site site
+beside_nothing going = record { calls = calls_nothing; going = λ pages may. may; log_going = going; kept = refl; geometry = refl; reads = λ d. refl }
+
+pub beside_then : {A B : Type 0} {a : A} {r : Result B Stop} {old mid new : LogStore} {before between now : State} → WorksBeside {T = A} (Ok a) old mid before between → WorksBeside r mid new between now → WorksBeside r old new before now
+beside_then first second = record {
+  calls = calls_then first.calls second.calls;
+  going = λ pages may. second.going pages (first.going pages may);
+  log_going = second.log_going;
+  kept = second.kept ∙ first.kept;
+  geometry = second.geometry ∙ first.geometry;
+  reads = λ d. second.reads d ∙ first.reads d;
+}
+
+pub beside_answered : {A B : Type 0} {a : A} {b : B} {old new : LogStore} {before now : State} → WorksBeside {T = A} (Ok a) old new before now → WorksBeside {T = B} (Ok b) old new before now
+beside_answered first = record { calls = calls_answered first.calls; going = first.going; log_going = first.log_going; kept = first.kept; geometry = first.geometry; reads = first.reads }
+
+-- there is no room for it
+pub beside_foreign : {T : Type 0} {log : LogStore} {site : State} → log_held.MayGoOn log site → WorksBeside {T = T} (Err Foreign) log log site site
+beside_foreign {T = T} going = record { calls = calls_refused {A = Unit {0}} {B = T} {a = tt} (λ d same. cc) calls_nothing; going = λ pages may. tt; log_going = going; kept = refl; geometry = refl; reads = λ d. refl }
+
+-- Log and pages, on an honest site.
+
+pub keeps_then : {A B : Type 0} {a : A} {r : Result B Stop} {g g' k k' : Geometry} {old mid new : LogStore} {before between now : State} {newest : Option Master} {table : List Content} {commits n m n' m' : ℕ} →
+    IsTrue before.honest → g' ≡ g → k' ≡ k → Calls {T = A} (Ok a) before between →
+    Keeps {T = A} (Ok a) g old mid before between (LeavesTableUnder newest k table commits before.told) n m → Keeps r g' mid new between now (LeavesTableUnder newest k' table commits between.told) n' m' →
+    Keeps r g old new before now (LeavesTableUnder newest k table commits before.told) (n + n') (m + m')
+keeps_then {a = a} {r = r} {g = g} {g' = g'} {k = k} {k' = k'} {old = old} {mid = mid} {new = new} {before = before} {between = between} {now = now} {newest = newest} {table = table} {commits = commits} {n = n} {m = m} {n' = n'} {m' = m'} honest sizes same calls first second = record {
+  any_moment = λ quiet. and_then newest k k' before between now table commits same (first.any_moment quiet) (second.any_moment (calls.stays_quiet honest quiet));
+  numbers = λ quiet. then_skips r a g old mid new before between now n m n' m' (n + n') (m + m') (first.numbers quiet) (skips_on r g' g mid new between now n' m' sizes (second.numbers (calls.stays_quiet honest quiet))) (omega arith) refl;
+  quiet = λ quiet. second.quiet (calls.stays_quiet honest quiet);
+  worn_log = λ is. subst (λ (x : Geometry). IsLogWorn x now.image) sizes (second.worn_log is);
+  worn = λ is. subst (λ (x : Geometry). IsWorn x now.image) sizes (second.worn is);
+  readable = second.readable;
+  masters = λ none. ok_as r _ _ (units_then before.image between.image now.image (first.masters (let no : m ≡ 0 = omega (arith, none) in no))) (second.masters (let no : m' ≡ 0 = omega (arith, none) in no));
+}
+
+-- no more records than these
+pub keeps_few : {T : Type 0} {r : Result T Stop} {g : Geometry} {old new : LogStore} {before now : State} {P : Snapshot → Type 0} {n k m : ℕ} → n ≤ k → Keeps r g old new before now P n m → Keeps r g old new before now P k m
+keeps_few {r = r} {g = g} {old = old} {new = new} {before = before} {now = now} {n = n} {k = k} {m = m} few first = record {
+  any_moment = first.any_moment;
+  numbers = λ quiet. skips_weaker r g old new before now n k m few (first.numbers quiet);
+  quiet = first.quiet;
+  worn_log = first.worn_log;
+  worn = first.worn;
+  readable = first.readable;
+  masters = first.masters;
+}
+
+pub keeps_failed : {A B : Type 0} {stop : Stop} {g : Geometry} {old new : LogStore} {before now : State} {P : Snapshot → Type 0} {n m : ℕ} → Keeps {T = A} (Err stop) g old new before now P n m → Keeps {T = B} (Err stop) g old new before now P n m
+keeps_failed {stop = stop} {g = g} {old = old} {new = new} {before = before} {now = now} {n = n} {m = m} first = record {
+  any_moment = first.any_moment;
+  numbers = λ quiet. skips_again stop g old new before now n m (first.numbers quiet);
+  quiet = first.quiet;
+  worn_log = λ is. first.worn_log (err_again stop (Worn Log) is);
+  worn = λ is. first.worn (err_again stop (Worn Flash) is);
+  readable = λ is. first.readable (err_again stop Foreign is);
+  masters = λ none. tt;
+}
+
+pub keeps_answered : {A B : Type 0} {a : A} {b : B} {g : Geometry} {old new : LogStore} {before now : State} {P : Snapshot → Type 0} {n m : ℕ} → Keeps {T = A} (Ok a) g old new before now P n m → Keeps {T = B} (Ok b) g old new before now P n m
+keeps_answered {A = A} {B = B} {a = a} {b = b} {g = g} {old = old} {new = new} {before = before} {now = now} {n = n} {m = m} first = record {
+  any_moment = first.any_moment;
+  numbers = λ quiet. skips_answered {A = A} {B = B} a b g old new before now n m (first.numbers quiet);
+  quiet = λ quiet. tt;
+  worn_log = λ is. absurd (no_error {T = B} {x = b} {e = Worn Log} is);
+  worn = λ is. absurd (no_error {T = B} {x = b} {e = Worn Flash} is);
+  readable = no_error {T = B} {x = b} {e = Foreign};
+  masters = first.masters;
+}
+
+-- counted by the blocks that there are
+pub keeps_counted : {A B : Type 0} {a : A} {b : B} {g : Geometry} {old new : LogStore} {before now : State} {P : Snapshot → Type 0} {n k : ℕ} → new.geometry ≡ g → new.ring.hi ≡ hi_of (log_shape new.geometry) now.image.log →
+    blocks_to new ≤ blocks_to old + k → Keeps {T = A} (Ok a) g old new before now P n 0 → Keeps {T = B} (Ok b) g old new before now P k 0
+keeps_counted {A = A} {B = B} {a = a} {b = b} {g = g} {old = old} {new = new} {before = before} {now = now} {n = n} {k = k} sizes hi few first =
+    let answered = keeps_answered {A = A} {B = B} {a = a} {b = b} first in
+    record {
+      any_moment = first.any_moment;
+      numbers = λ quiet. skips_so_far {T = B} {E = Stop} (Ok b) g old new before now k sizes hi few (masters_hi before.image now.image (first.masters refl));
+      quiet = answered.quiet;
+      worn_log = answered.worn_log;
+      worn = answered.worn;
+      readable = answered.readable;
+      masters = first.masters;
+    }
+
+-- where nothing is written
+pub keeps_still : {T : Type 0} {r : Result T Stop} {g : Geometry} {log : LogStore} {before now : State} {P : Snapshot → Type 0} → (IsQuiet before → LeavesOnly before now P) → log.ring.hi ≡ hi_of (log_shape g) before.image.log → IsUnchanged before now →
+    ((d : Dev) → IsErrOf r (Worn d) → ⊥) → (IsErrOf r Foreign → ⊥) → Keeps r g log log before now P 0 0
+keeps_still {r = r} {g = g} {log = log} {before = before} {now = now} moments hi same worn readable = record {
+  any_moment = moments;
+  numbers = λ quiet. skips_reads r g log before now 0 hi same.image;
+  quiet = λ quiet. err_always r _ (same.loose ∙ quiet);
+  worn_log = λ is. absurd (worn Log is);
+  worn = λ is. absurd (worn Flash is);
+  readable = readable;
+  masters = λ none. ok_always r _ (subst (KeepsUnits master_shape before.image) (sym same.image) (record { units = refl; form = λ form. form }));
+}
+
+unchanged : {site : State} → IsUnchanged site site
+unchanged = record { image = refl; loose = refl; told = refl; left = refl; past = refl }
+
+pub keeps_unchanged : {T : Type 0} {r : Result T Stop} {log : LogStore} {pages : PageStore} {before now : State} {newest : Option Master} {records : List Entry} {table : List Content} {commits : ℕ} →
+    log.geometry ≡ pages.flash.geometry → Holds log pages before newest records table commits → IsUnchanged before now → ((d : Dev) → IsErrOf r (Worn d) → ⊥) → (IsErrOf r Foreign → ⊥) →
+    Keeps r pages.flash.geometry log log before now (LeavesTableUnder newest pages.flash.geometry table commits before.told) 0 0
+keeps_unchanged {log = log} {pages = pages} {before = before} {now = now} {newest = newest} {records = records} {table = table} {commits = commits} sizes h same =
+    keeps_still (leaves_still log pages before now newest records table commits sizes same h) (hi_on log.geometry pages.flash.geometry log before.image sizes h.log_holds.ready.blocks.hi) same
+
+-- while records of an opened log are redone
+pub keeps_opened : PageLaws → RedoLaws → {T : Type 0} {r : Result T Stop} {o : Opening} {log : LogStore} {pages : PageStore} {before now : State} {front : List Entry} → log.geometry ≡ pages.flash.geometry → IsRedoing o log pages before front → IsUnchanged before now →
+    ((d : Dev) → IsErrOf r (Worn d) → ⊥) → (IsErrOf r Foreign → ⊥) → Keeps r pages.flash.geometry log log before now (LeavesOpened o before.told) 0 0
+keeps_opened laws redo {o = o} {log = log} {pages = pages} {before = before} {now = now} {front = front} sizes h same =
+    keeps_still (λ quiet. then_read o before before now (nothing_happens laws redo o log pages before front h sizes quiet) same) (hi_on log.geometry pages.flash.geometry log before.image sizes h.ready.blocks.hi) same
+
+pub keeps_redoing : PageLaws → RedoLaws → {T : Type 0} {x : T} {o : Opening} {log : LogStore} {pages : PageStore} {site : State} {front : List Entry} → log.geometry ≡ pages.flash.geometry → IsRedoing o log pages site front →
+    Keeps {T = T} (Ok x) pages.flash.geometry log log site site (LeavesOpened o site.told) 0 0
+keeps_redoing laws redo {T = T} {x = x} sizes h = keeps_opened laws redo sizes h unchanged (λ d is. no_error {T = T} {x = x} {e = Worn d} is) (no_error {T = T} {x = x} {e = Foreign})
+
+-- analysis refuses the next record
+found_stops : (stop : Stop) → (stop ≡ Memory) ⊎ (stop ≡ Foreign) → MayStop stop
+found_stops stop (inl is) = subst MayStop (sym is) tt
+found_stops stop (inr is) = subst MayStop (sym is) tt
+
+found_device : (stop : Stop) → (stop ≡ Memory) ⊎ (stop ≡ Foreign) → (d : Dev) → stop ≢ Device d
+found_device stop (inl is) = λ d same. cc
+found_device stop (inr is) = λ d same. cc
+
+found_worn : (stop : Stop) → (stop ≡ Memory) ⊎ (stop ≡ Foreign) → (d : Dev) → stop ≢ Worn d
+found_worn stop (inl is) = λ d same. cc
+found_worn stop (inr is) = λ d same. cc
+
+pub logs_refused_by : {T : Type 0} {stop : Stop} {log : LogStore} {pages : PageStore} {site : State} → (stop ≡ Memory) ⊎ (stop ≡ Foreign) → MayGoOn log pages site → LogsNothing {T = T} (Err stop) log log pages pages site site
+logs_refused_by {stop = stop} stops going = logs_refused {A = Unit {0}} {a = tt} (found_device stop stops) (found_stops stop stops) (logs_nothing going)
+
+pub keeps_refused_by : PageLaws → RedoLaws → {T : Type 0} {stop : Stop} {o : Opening} {log : LogStore} {pages : PageStore} {site : State} {front : List Entry} → (stop ≡ Memory) ⊎ (stop ≡ Foreign) → log.geometry ≡ pages.flash.geometry → IsRedoing o log pages site front → stop ≢ Foreign →
+    Keeps {T = T} (Err stop) pages.flash.geometry log log site site (LeavesOpened o site.told) 0 0
+keeps_refused_by laws redo {stop = stop} stops sizes h readable =
+    keeps_opened laws redo sizes h unchanged (λ d is. found_worn stop stops d (let same : stop ≡ Worn d = cc in same)) (λ is. readable (let same : stop ≡ Foreign = cc in same))
+
+-- where only a record is read
+pub keeps_read : {T : Type 0} {r : Result T Stop} {log : LogStore} {pages : PageStore} {before now : State} {newest : Option Master} {records : List Entry} {table : List Content} {commits : ℕ} →
+    log.geometry ≡ pages.flash.geometry → Holds log pages before newest records table commits → ReadsOne r before now → IfErr r (λ stop. stop ≢ Foreign) →
+    Keeps r pages.flash.geometry log log before now (LeavesTableUnder newest pages.flash.geometry table commits before.told) 0 0
+keeps_read {r = r} sizes h read readable =
+    keeps_unchanged sizes h (read.same h.log_holds.ready.blocks.honest) (λ d is. reads_worn d (of_error r (λ stop. (stop ≡ Device Log) ⊎ (stop ≡ Foreign)) (Worn d) read.stops is)) (λ is. of_error r (λ stop. stop ≢ Foreign) Foreign readable is refl)
+
+pub keeps_nothing : {T : Type 0} {x : T} {log : LogStore} {pages : PageStore} {site : State} {newest : Option Master} {records : List Entry} {table : List Content} {commits : ℕ} →
+    log.geometry ≡ pages.flash.geometry → Holds log pages site newest records table commits → Keeps {T = T} (Ok x) pages.flash.geometry log log site site (LeavesTableUnder newest pages.flash.geometry table commits site.told) 0 0
+keeps_nothing {T = T} {x = x} sizes h =
+    keeps_unchanged sizes h unchanged (λ d is. no_error {T = T} {x = x} {e = Worn d} is) (no_error {T = T} {x = x} {e = Foreign})
+
+-- log and pages hold together behind it
+pub held_read : FitsBeside → {T : Type 0} {r : Result T Stop} {log : LogStore} {pages : PageStore} {before now : State} {newest : Option Master} {records : List Entry} {table : List Content} {commits : ℕ} →
+    Holds log pages before newest records table commits → ReadsOne r before now → Holds log pages now newest records table commits
+held_read fits {log = log} {pages = pages} {before = before} {now = now} {newest = newest} {records = records} {table = table} {commits = commits} h read =
+    holds_still fits log pages before now newest records table commits read.goes (read.same h.log_holds.ready.blocks.honest) h
+
+-- an append says of the flash that it is worn, or of the log that it is Foreign, never
+appends_worn : (stop : Stop) → (stop ≡ Device Log) ⊎ (stop ≡ Worn Log) → stop ≢ Worn Flash
+appends_worn stop (inl is) = λ same. cc
+appends_worn stop (inr is) = λ same. cc
+
+foreign_not : (stop : Stop) → (stop ≡ Device Log) ⊎ (stop ≡ Worn Log) → stop ≢ Foreign
+foreign_not stop (inl is) = λ same. cc
+foreign_not stop (inr is) = λ same. cc
+
+pub appends_foreign : {T : Type 0} (r : Result T Stop) → IfErr r (λ stop. (stop ≡ Device Log) ⊎ (stop ≡ Worn Log)) → IsErrOf r Foreign → ⊥
+appends_foreign r stops is = of_error r (λ stop. stop ≢ Foreign) Foreign (err_as r _ _ foreign_not stops) is refl
+
+pub keeps_appended : {T : Type 0} {r : Result T Stop} {old new : LogStore} {pages : PageStore} {before now : State} {P : Snapshot → Type 0} {n : ℕ} → MayGoOn old pages before → IfErr r (λ stop. (stop ≡ Device Log) ⊎ (stop ≡ Worn Log)) →
+    KeepsBeside r old new pages before now P n → Keeps r pages.flash.geometry old new before now P n 0
+keeps_appended {r = r} {old = old} {new = new} {pages = pages} {before = before} {now = now} {n = n} going stops beside = record {
+  any_moment = beside.any_moment going;
+  numbers = λ quiet. skips_on r old.geometry pages.flash.geometry old new before now n 0 going.sizes (beside.numbers going quiet);
+  quiet = beside.quiet;
+  worn_log = λ is. subst (λ (x : Geometry). IsLogWorn x now.image) going.sizes (beside.worn_log is);
+  worn = λ is. absurd (of_error r (λ stop. stop ≢ Worn Flash) (Worn Flash) (err_as r _ _ appends_worn stops) is refl);
+  readable = appends_foreign r stops;
+  masters = λ none. beside.masters;
+}
+
+-- a call that stops before a checkpoint is made, under whatever newest master
+pub keeps_unsaved : {A B : Type 0} {stop : Stop} {g : Geometry} {old new : LogStore} {before now : State} {P R : Snapshot → Type 0} {n : ℕ} → (LeavesOnly before now P → LeavesOnly before now R) →
+    Keeps {T = A} (Err stop) g old new before now P n 0 → Keeps {T = B} (Err stop) g old new before now R n 1
+keeps_unsaved {B = B} {stop = stop} {g = g} {old = old} {new = new} {before = before} {now = now} {n = n} more first =
+    let again = keeps_failed {B = B} first in
+    record {
+      any_moment = λ quiet. more (first.any_moment quiet);
+      numbers = λ quiet. skips_not_saved stop g old new before now n 0 1 (omega arith) (again.numbers quiet);
+      quiet = first.quiet;
+      worn_log = again.worn_log;
+      worn = again.worn;
+      readable = again.readable;
+      masters = λ none. tt;
+    }
