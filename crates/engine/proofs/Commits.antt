@@ -1,8 +1,6 @@
 -- A session's commit.
 use Rattle.std.proofs.Common.{◌≡◌, ℕ, ◌+◌, ◌++◌, ◌∷◌, [], List, None, Some, inl, inr, ⊎_elim, refl, sym, ap, subst, ◌∙◌, arith, IsTrue}
-use Rattle.site.specs.State.{State as Site}
-use Rattle.site.specs.Moments.{LeavesOnly}
-use Rattle.site.specs.Laws.{leaves_weaker}
+use Rattle.site.specs.State.{State as Site, Snapshot}
 use Rattle.record_model.specs.State.{State, Write, session_at, writes_of, table_with}
 use Rattle.record_model.specs.Step.{effect, with_session}
 use Rattle.record_model.specs.declared.words.Command.TheVariants as command
@@ -40,15 +38,14 @@ writes_are engine site s entry fits at =
     let found = some_active fits.newest fits.records engine.active s fits.sessions entry.session entry at in
     sym (ap writes_of found.is ∙ found.under_way.is_active.writes_are)
 
-pub commits_either : (engine : Engine) (old new : Site) (s : State) (entry : Active) (fits : Fits engine old s) → entry_of engine.active entry.session ≡ Some entry →
-    LeavesOnly old new (moments.LeavesEitherFor (sizes_of engine.store) s.table (table_with s.table (writes_in entry.begin fits.records)) s.commits old.told) → LeavesOnly old new (LeavesEither (sizes_of engine.store) s (effect s (command.Commit entry.session)) old.told)
-commits_either engine old new s entry fits at leaves =
+pub commits_either : (engine : Engine) {old : Site} (s : State) (entry : Active) (fits : Fits engine old s) → entry_of engine.active entry.session ≡ Some entry → (snapshot : Snapshot) →
+    moments.LeavesEitherFor (sizes_of engine.store) s.table (table_with s.table (writes_in entry.begin fits.records)) s.commits old.told snapshot → LeavesEither (sizes_of engine.store) s (effect s (command.Commit entry.session)) old.told snapshot
+commits_either engine {old = old} s entry fits at snapshot q =
     let g = sizes_of engine.store in
-    leaves_weaker old new (moments.LeavesEitherFor g s.table (table_with s.table (writes_in entry.begin fits.records)) s.commits old.told) (LeavesEither g s (effect s (command.Commit entry.session)) old.told)
-    (λ snapshot q. record {
+    record {
       told = q.told;
       stands = ⊎_elim (λ before. inl before) (λ after. inr (subst (λ (ws : List Write). Stands g snapshot.image (table_with s.table ws) (s.commits + 1)) (writes_are engine old s entry fits at) after)) q.stands;
-    }) leaves
+    }
 
 pub committed_fits : (engine mid last : Engine) (old new : Site) (s : State) (entry : Active) (lsn : ℕ) (fits : Fits engine old s) → IsTable engine.active → entry_of engine.active entry.session ≡ Some entry → IsTrue new.honest →
     Holds mid.store new fits.newest (fits.records ++ record { lsn = lsn; rec = Commit entry.begin (engine.commits + 1) } ∷ []) (table_with s.table (writes_in entry.begin fits.records)) (s.commits + 1) →

@@ -2,6 +2,7 @@ pub mod Aborts
 pub mod Actives
 pub mod Apart
 pub mod Changes
+pub mod Calling
 pub mod Checkpoints
 pub mod Commits
 pub mod Firsts

@@ -2,15 +2,20 @@
 //! the model leaves; a crash at any moment leaves devices that stand for a table after a prefix of the commits.
 #![tactic(auto)]
 
+mod checkpointing;
 mod engine;
 mod laws;
+mod reading;
 mod restart;
 mod scan;
 mod sessions;
+mod setting;
 mod store;
 #[cfg(test)]
 mod tests;
+mod transactions;
 mod values;
+mod writing;
 
 pub use engine::Engine;
 pub use laws::{queue_is_on_flash, rest_counts_nothing};

@@ -1,36 +1,33 @@
 // Restart: the pages get what they lack of the log, what it leaves unfinished is undone, and a checkpoint is made.
-ghost use Rattle.std.specs.Prelude.{Option, ◌*◌, ◌≡◌, ◌≢◌, ◌⊎◌, ◌+◌, ◌^◌, ◌<◌, ◌≤◌, ℕ, List, [], take, IsTrue, IfOk, IfErr, OnOk, IsErrOf};
+ghost use Rattle.std.specs.Prelude.{Option, ◌*◌, ◌≡◌, ◌+◌, ◌^◌, ◌<◌, ◌≤◌, ℕ, List, IsTrue, IfOk, IfErr, OnOk, IsErrOf};
 ghost use Rattle.site.specs.declared.outside.Dev.{Dev};
 ghost use Rattle.site.specs.declared.outside.Stop.{Stop};
 ghost use Rattle.site.specs.declared.geometry.Geometry.{Geometry};
 ghost use Rattle.site.specs.Geometry.{HasLimits, HasLengths};
 ghost use Rattle.site.specs.State.{State, IsQuiet};
 ghost use Rattle.site.specs.Calls.{Goes, IsUnchanged, FaultRose};
-ghost use Rattle.site.specs.Moments.{LeavesOnly};
+ghost use Rattle.site.specs.Faults.{WorkFaults};
 ghost use Rattle.record_model.specs.State.{Content};
 ghost use Rattle.log_records.specs.declared.log_record.LogRecord.{LogRecord};
 ghost use Rattle.log_records.specs.Sound.{Means};
-ghost use Rattle.log_store.specs.Held.{end_of};
 ghost use Rattle.log_store.specs.Held as log_held;
 ghost use Rattle.checkpoint.specs.declared.master.Master.{Master};
-ghost use Rattle.checkpoint.specs.Actives.{Ascend};
 ghost use Rattle.analysis.specs.Open.{owed_for};
 ghost use Rattle.analysis.specs.Laws.{OneTable, TableOfUnfinished, OwedOfUnfinished};
 ghost use Rattle.analysis.specs.Taken.{TakenCommits};
 ghost use Rattle.redo_undo.specs.Works.{WorksAddUp, ReadsAddUp, ReadsForMore, OverflowsWithMore};
 ghost use Rattle.analysis.specs.Table.{listed};
 ghost use Rattle.analysis.specs.Read as analysis;
-ghost use Rattle.flash_cache.specs.Held.{IsWorn};
 ghost use Rattle.page_store.specs.Stopping.{MayStop};
 ghost use Rattle.image_meaning.specs.Meaning.{picture_under};
-ghost use Rattle.redo_undo.specs.Holding.{blocks_to, IsLogWorn};
-ghost use Rattle.engine.specs.Going.{MayWork, sizes_of};
+ghost use Rattle.engine.specs.Going.{sizes_of};
 ghost use Rattle.engine.specs.Image.{log_under, IsSound, Stands};
 ghost use Rattle.engine.specs.Leaves.{HasNoSizes, IsRefused, LeavesTable};
-ghost use Rattle.engine.specs.Restarting.{MayRecover, IsReady, RestartedAs};
+ghost use Rattle.engine.specs.Restarting.{MayRecover, IsReady, RestartedAs, Restarts, Recovers};
+ghost use Rattle.engine.specs.Calls.{Ends};
 ghost use Rattle.engine.specs.Paging.{AsksFrom, cache_on, restart_works};
 ghost use Rattle.engine.specs.Numbers.{RestartsWithin};
-ghost use Rattle.page_store.specs.Caching.{cache_of, rules};
+ghost use Rattle.page_store.specs.Caching.{cache_of};
 ghost use Rattle.second_chance.specs.Machine.{rules_of};
 
 use crate::store::Store;
@@ -130,6 +127,7 @@ fn open<S: Site>(
     ensures pool { IfOk result (λ opened. opened.pages.pool.size ≡ pool) }
     ensures empty { IfOk result (λ opened. opened.log.used ≡ 2) }
     ensures goes { Goes (S.state site.old) (S.state site.new) }
+    ensures faults { WorkFaults result (S.state site.old) (S.state site.new) }
 
     // When each answer comes.
     ensures device { (d : Dev) → IsErrOf result (Stop.Device d)
@@ -198,57 +196,11 @@ fn recover<S: Site>(alloc: Global, site: &mut S, opened: Opened) -> Result<Resta
     // Of an honest site that stands for a table after so many commits.
     ensures recovers { (newest : Option Master) (blocks : List (List LogRecord)) (table : List Content) (commits : ℕ)
         → IsReady opened (S.state site.old) newest blocks table commits
-        → IfOk result (λ restarted. RestartedAs restarted (S.state site.new) table commits) }
-    ensures any_moment { (newest : Option Master) (blocks : List (List LogRecord)) (table : List Content) (commits : ℕ)
-        → IsReady opened (S.state site.old) newest blocks table commits
-        → IsQuiet (S.state site.old)
-        → LeavesOnly (S.state site.old) (S.state site.new)
-        (LeavesTable opened.pages.flash.geometry table commits (S.state site.old).told) }
-    ensures numbers { (newest : Option Master) (blocks : List (List LogRecord)) (table : List Content) (commits : ℕ)
-        → IsReady opened (S.state site.old) newest blocks table commits
-        → IsQuiet (S.state site.old)
-        → RestartsWithin result (λ restarted. restarted.store.log) opened.pages.flash.geometry (log_under newest blocks) (S.state site.old) (S.state site.new) }
-    ensures readable { (newest : Option Master) (blocks : List (List LogRecord)) (table : List Content) (commits : ℕ)
-        → IsReady opened (S.state site.old) newest blocks table commits
-        → IsErrOf result Stop.Foreign → ⊥ }
-    ensures quiet { (newest : Option Master) (blocks : List (List LogRecord)) (table : List Content) (commits : ℕ)
-        → IsReady opened (S.state site.old) newest blocks table commits
-        → IsQuiet (S.state site.old)
-        → IfErr result (λ stop. ((d : Dev) → stop ≢ Stop.Device d) → IsQuiet (S.state site.new)) }
-    ensures left { IsTrue (S.state site.old).honest
-        → (S.state site.new).left ≡ (S.state site.old).left }
-    ensures stays_quiet { IsTrue (S.state site.old).honest → IsQuiet (S.state site.old)
-        → OnOk result (IsQuiet (S.state site.new)) }
-    ensures asks { (newest : Option Master) (blocks : List (List LogRecord)) (table : List Content) (commits : ℕ)
-        → IsReady opened (S.state site.old) newest blocks table commits
-        → AsksFrom result (λ restarted. restarted.store.pages) (rules opened.pages)
-        (restart_works (picture_under newest opened.pages.flash.geometry (S.state site.old).image blocks)) (cache_of opened.pages)
-        0 (S.state site.old) (S.state site.new) }
+        → Recovers result opened (S.state site.old) (S.state site.new) newest blocks table commits }
 
     // Of every site.
-    ensures going { IfOk result (λ restarted. MayWork restarted.store (S.state site.new)) }
-    ensures blocks { IfOk result (λ restarted. restarted.blocks
-        ≡ (sizes_of restarted.store).blocks) }
-    ensures room { IfOk result (λ restarted. blocks_to restarted.store.log
-        < restarted.store.log.kept + restarted.blocks) }
-    ensures commits { IfOk result (λ restarted. restarted.commits ≤ end_of restarted.store.log) }
-    ensures made { IfOk result (λ restarted. restarted.store.made ≡ 0) }
+    ensures restarts { Restarts result opened.pages.pool.size (S.state site.old) (S.state site.new) }
     ensures sizes { IfOk result (λ restarted. sizes_of restarted.store ≡ opened.pages.flash.geometry) }
-    ensures pool { IfOk result (λ restarted. restarted.store.pages.pool.size ≡ opened.pages.pool.size) }
-    ensures goes { Goes (S.state site.old) (S.state site.new) }
-
-    // When each answer comes.
-    ensures device { (d : Dev) → IsErrOf result (Stop.Device d)
-        → FaultRose d (S.state site.old) (S.state site.new) }
-    ensures worn_log { (newest : Option Master) (blocks : List (List LogRecord)) (table : List Content) (commits : ℕ)
-        → IsReady opened (S.state site.old) newest blocks table commits
-        → IsErrOf result (Stop.Worn Dev.Log)
-        → IsLogWorn opened.pages.flash.geometry (S.state site.new).image }
-    ensures worn { (newest : Option Master) (blocks : List (List LogRecord)) (table : List Content) (commits : ℕ)
-        → IsReady opened (S.state site.old) newest blocks table commits
-        → IsErrOf result (Stop.Worn Dev.Flash)
-        → IsWorn opened.pages.flash.geometry (S.state site.new).image }
-    ensures stops { IfErr result (λ stop. MayStop stop) }
 {
     recovery_laws();
     let Opened {
@@ -303,27 +255,13 @@ pub fn restart<S: Site>(alloc: Global, site: &mut S, pool: u32) -> Result<Restar
         → IsSound newest g (S.state site.old).image blocks
         → Means (picture_under newest g (S.state site.old).image blocks) table commits
         → IfOk result (λ restarted. RestartedAs restarted (S.state site.new) table commits × (sizes_of restarted.store ≡ g)) }
-    ensures any_moment { IsTrue (S.state site.old).honest → IsQuiet (S.state site.old)
+    ensures ends { IsTrue (S.state site.old).honest
         → (g : Geometry) (table : List Content) (commits : ℕ)
         → Stands g (S.state site.old).image table commits
-        → LeavesOnly (S.state site.old) (S.state site.new)
-        (LeavesTable g table commits (S.state site.old).told) }
+        → Ends result g (S.state site.old) (S.state site.new) (LeavesTable g table commits (S.state site.old).told) }
     ensures numbers { IsTrue (S.state site.old).honest → IsQuiet (S.state site.old)
         → (g : Geometry) (newest : Option Master) (blocks : List (List LogRecord)) → IsSound newest g (S.state site.old).image blocks
         → RestartsWithin result (λ restarted. restarted.store.log) g (log_under newest blocks) (S.state site.old) (S.state site.new) }
-    ensures readable { IsTrue (S.state site.old).honest
-        → (g : Geometry) (table : List Content) (commits : ℕ)
-        → Stands g (S.state site.old).image table commits
-        → IsErrOf result Stop.Foreign → ⊥ }
-    ensures quiet { IsTrue (S.state site.old).honest → IsQuiet (S.state site.old)
-        → (g : Geometry) (table : List Content) (commits : ℕ)
-        → Stands g (S.state site.old).image table commits
-        → IfErr result (λ stop. ((d : Dev) → stop ≢ Stop.Device d) → IsQuiet (S.state site.new)) }
-    ensures left { IsTrue (S.state site.old).honest
-        → (S.state site.new).left ≡ (S.state site.old).left }
-    ensures stays_quiet { IsTrue (S.state site.old).honest → IsQuiet (S.state site.old)
-        → OnOk result (IsQuiet (S.state site.new)) }
-
     ensures asks { IsTrue (S.state site.old).honest
         → (g : Geometry) (newest : Option Master) (blocks : List (List LogRecord)) → IsSound newest g (S.state site.old).image blocks
         → AsksFrom result (λ restarted. restarted.store.pages) (rules_of pool g.groups)
@@ -331,27 +269,8 @@ pub fn restart<S: Site>(alloc: Global, site: &mut S, pool: u32) -> Result<Restar
         (2 * g.groups) (S.state site.old) (S.state site.new) }
 
     // Of every site.
-    ensures going { IfOk result (λ restarted. MayWork restarted.store (S.state site.new)) }
-    ensures blocks { IfOk result (λ restarted. restarted.blocks
-        ≡ (sizes_of restarted.store).blocks) }
-    ensures room { IfOk result (λ restarted. blocks_to restarted.store.log
-        < restarted.store.log.kept + restarted.blocks) }
-    ensures commits { IfOk result (λ restarted. restarted.commits ≤ end_of restarted.store.log) }
-    ensures made { IfOk result (λ restarted. restarted.store.made ≡ 0) }
-    ensures pool { IfOk result (λ restarted. restarted.store.pages.pool.size ≡ pool) }
-    ensures goes { Goes (S.state site.old) (S.state site.new) }
-
-    // When each answer comes.
-    ensures device { (d : Dev) → IsErrOf result (Stop.Device d)
-        → FaultRose d (S.state site.old) (S.state site.new) }
-    ensures worn_log { IsTrue (S.state site.old).honest → (g : Geometry) (table : List Content) (commits : ℕ)
-        → Stands g (S.state site.old).image table commits
-        → IsErrOf result (Stop.Worn Dev.Log) → IsLogWorn g (S.state site.new).image }
-    ensures worn { IsTrue (S.state site.old).honest → (g : Geometry) (table : List Content) (commits : ℕ)
-        → Stands g (S.state site.old).image table commits
-        → IsErrOf result (Stop.Worn Dev.Flash) → IsWorn g (S.state site.new).image }
+    ensures restarts { Restarts result pool (S.state site.old) (S.state site.new) }
     ensures refuses { HasNoSizes (S.state site.old) → IsRefused result site.old site.new }
-    ensures stops { IfErr result (λ stop. MayStop stop) }
 {
     works_add_up();
     let geometry = match geometry_of(site) {

@@ -1,6 +1,5 @@
 // How the table of active sessions changes, and with it what they owe the log.
-ghost use Rattle.std.specs.Prelude.{◌≡◌, ◌+◌, ◌^◌, ◌<◌, ◌≤◌, ℕ, map, All, Some, None, IsSome, IsNone, option_map};
-ghost use Rattle.std.specs.Option.{ForSome};
+ghost use Rattle.std.specs.Prelude.{◌≡◌, ◌+◌, ◌^◌, ◌<◌, ◌≤◌, ℕ, map, All, Some, None, option_map};
 ghost use Rattle.txn_table.specs.Entries.{IsTable, entry_of, ChangesOnly, after_write, counted_from, owed};
 ghost use Rattle.txn_table.specs.declared.active.Active.{Active};
 ghost use Rattle.checkpoint.specs.Actives.{Ascend};

@@ -1,10 +1,8 @@
 // Log and pages of a run: the records that it logs, and the pages that they change.
-ghost use Rattle.std.specs.Prelude.{Option, map, reverse, ◌≡◌, ◌≢◌, ◌⊎◌, ◌+◌, ◌*◌, ◌/◌, ◌^◌, ◌<◌, ◌≤◌, ◌++◌, ◌∷◌, [], ℕ, List, length, IsTrue, IfOk, OnOk, IfErr, IsErrOf};
+ghost use Rattle.std.specs.Prelude.{Option, map, reverse, ◌≡◌, ◌≢◌, ◌⊎◌, ◌+◌, ◌*◌, ◌/◌, ◌^◌, ◌<◌, ◌≤◌, ◌++◌, ◌∷◌, [], ℕ, List, length, IfOk, OnOk, IfErr};
 ghost use Rattle.site.specs.declared.outside.Dev.{Dev};
 ghost use Rattle.site.specs.declared.outside.Stop.{Stop};
-ghost use Rattle.site.specs.State.{State, IsQuiet};
-ghost use Rattle.site.specs.Calls.{Goes, FaultRose};
-ghost use Rattle.site.specs.Moments.{LeavesOnly};
+ghost use Rattle.site.specs.State.{State};
 ghost use Rattle.record_model.specs.State.{Content, Write, table_with};
 ghost use Rattle.log_records.specs.declared.log_record.LogRecord.{LogRecord};
 ghost use Rattle.log_records.specs.Log.{Entry};
@@ -12,13 +10,12 @@ ghost use Rattle.log_records.specs.Spelling.{IsShort};
 ghost use Rattle.log_records.specs.Unfinished as unfinished;
 ghost use Rattle.log_laws.specs.Follow.{writes_in, IsActive};
 ghost use Rattle.log_store.specs.Held.{end_of};
-ghost use Rattle.flash_cache.specs.Held.{IsWorn};
 ghost use Rattle.page_store.specs.Held.{IsStore};
 ghost use Rattle.page_store.specs.Stopping.{MayStop};
 ghost use Rattle.checkpoint.specs.declared.master.Master.{Master};
 ghost use Rattle.image_meaning.specs.Meaning.{master_of};
 ghost use Rattle.image_meaning.specs.Moments.{LeavesEitherFor};
-ghost use Rattle.redo_undo.specs.Holding.{blocks_to, IsLogWorn};
+ghost use Rattle.redo_undo.specs.Holding.{blocks_to};
 ghost use Rattle.redo_undo.specs.Holding as both;
 ghost use Rattle.redo_undo.specs.Checkpointing.{MayBeMade, begins_of};
 ghost use Rattle.image_meaning.specs.Flushed.{first_block};
@@ -28,7 +25,7 @@ ghost use Rattle.engine.specs.Going.{MayWork, sizes_of};
 ghost use Rattle.engine.specs.Holding.{Holds, HasCheckpoint, MayGrow, IsInFront, shown_in, update_by};
 ghost use Rattle.engine.specs.Rollback.{RollsBack};
 ghost use Rattle.engine.specs.Leaves.{LeavesTable};
-ghost use Rattle.redo_undo.specs.Numbers.{SkipsNone};
+ghost use Rattle.engine.specs.Calls.{Calls, Works, Keeps};
 ghost use Rattle.record_model.specs.Touches.{write_touch};
 ghost use Rattle.redo_undo.specs.Works.{Asks, one_touch, checkpoint_works};
 ghost use Rattle.page_store.specs.Caching.{cache_of, rules, with_change};
@@ -93,43 +90,18 @@ impl Store {
             → Holds self.old (S.state site.old) newest records table commits
             → IfOk result (λ lsn. MayGrow self.old (S.state site.old) newest records (record { lsn = lsn; rec = LogRecord.Begin })
             → Holds self.new (S.state site.new) newest (records ++ record { lsn = lsn; rec = LogRecord.Begin } ∷ []) table commits) }
-        ensures any_moment { (newest : Option Master) (records : List Entry) (table : List Content) (commits : ℕ)
+        ensures keeps { (newest : Option Master) (records : List Entry) (table : List Content) (commits : ℕ)
             → Holds self.old (S.state site.old) newest records table commits
-            → IsQuiet (S.state site.old)
-            → LeavesOnly (S.state site.old) (S.state site.new)
-            (LeavesTable (sizes_of self.old) table commits (S.state site.old).told) }
-        ensures numbers { (newest : Option Master) (records : List Entry) (table : List Content) (commits : ℕ)
-            → Holds self.old (S.state site.old) newest records table commits
-            → IsQuiet (S.state site.old)
-            → SkipsNone result (sizes_of self.old) self.old.log self.new.log (S.state site.old) (S.state site.new) 1 0 }
-        ensures left { IsTrue (S.state site.old).honest
-            → (S.state site.new).left ≡ (S.state site.old).left }
-        ensures stays_quiet { IsTrue (S.state site.old).honest → IsQuiet (S.state site.old)
-            → OnOk result (IsQuiet (S.state site.new)) }
-        ensures quiet { (newest : Option Master) (records : List Entry) (table : List Content) (commits : ℕ)
-            → Holds self.old (S.state site.old) newest records table commits
-            → IsQuiet (S.state site.old)
-            → IfErr result (λ stop. ((d : Dev) → stop ≢ Stop.Device d) → IsQuiet (S.state site.new)) }
+            → Keeps result self.old self.new (S.state site.old) (S.state site.new)
+            (LeavesTable (sizes_of self.old) table commits (S.state site.old).told) 1 0 }
 
         // Of every site.
-        ensures going { OnOk result (MayWork self.new (S.state site.new)) }
-        ensures made { OnOk result (self.new.made ≡ self.old.made + 1) }
-        ensures blocks { OnOk result (blocks_to self.new.log ≤ blocks_to self.old.log + 1) }
+        ensures works { Works result self.old self.new (S.state site.old) (S.state site.new) 1 }
         ensures rises { IfOk result (λ lsn. (end_of self.old.log ≤ lsn) × (lsn < end_of self.new.log)) }
         ensures last_block { IfOk result (λ lsn. 512 * self.new.log.ring.hi ≤ lsn) }
         ensures asks { Asks result ([]) self.old.pages self.new.pages
             (S.state site.old) (S.state site.new) }
-        ensures kept { self.new.log.kept ≡ self.old.log.kept }
-        ensures sizes { sizes_of self.new ≡ sizes_of self.old }
         ensures pages { self.new.pages ≡ self.old.pages }
-        ensures goes { Goes (S.state site.old) (S.state site.new) }
-
-        // When each answer comes.
-        ensures device { (d : Dev) → IsErrOf result (Stop.Device d)
-            → FaultRose d (S.state site.old) (S.state site.new) }
-        ensures worn_log { (newest : Option Master) (records : List Entry) (table : List Content) (commits : ℕ)
-            → Holds self.old (S.state site.old) newest records table commits
-            → IsErrOf result (Stop.Worn Dev.Log) → IsLogWorn (sizes_of self.old) (S.state site.new).image }
         ensures stops { IfErr result (λ stop. (stop ≡ Stop.Device Dev.Log) ⊎ (stop ≡ Stop.Worn Dev.Log)) }
     {
         match log_record(site, &mut self.log, &LogRecord::Begin) {
@@ -150,49 +122,18 @@ impl Store {
         ensures holds { (newest : Option Master) (records : List Entry) (table : List Content) (commits : ℕ)
             → Holds self.old (S.state site.old) newest records table commits
             → OnOk result (Holds self.new (S.state site.new) newest records table commits) }
-        ensures any_moment { (newest : Option Master) (records : List Entry) (table : List Content) (commits : ℕ)
+        ensures keeps { (newest : Option Master) (records : List Entry) (table : List Content) (commits : ℕ)
             → Holds self.old (S.state site.old) newest records table commits
-            → IsQuiet (S.state site.old)
-            → LeavesOnly (S.state site.old) (S.state site.new)
-            (LeavesTable (sizes_of self.old) table commits (S.state site.old).told) }
-        ensures numbers { (newest : Option Master) (records : List Entry) (table : List Content) (commits : ℕ)
-            → Holds self.old (S.state site.old) newest records table commits
-            → IsQuiet (S.state site.old)
-            → SkipsNone result (sizes_of self.old) self.old.log self.new.log (S.state site.old) (S.state site.new) 0 0 }
-        ensures readable { (newest : Option Master) (records : List Entry) (table : List Content) (commits : ℕ)
-            → Holds self.old (S.state site.old) newest records table commits
-            → IsErrOf result Stop.Foreign → ⊥ }
-        ensures left { IsTrue (S.state site.old).honest
-            → (S.state site.new).left ≡ (S.state site.old).left }
-        ensures stays_quiet { IsTrue (S.state site.old).honest → IsQuiet (S.state site.old)
-            → OnOk result (IsQuiet (S.state site.new)) }
-        ensures quiet { (newest : Option Master) (records : List Entry) (table : List Content) (commits : ℕ)
-            → Holds self.old (S.state site.old) newest records table commits
-            → IsQuiet (S.state site.old)
-            → IfErr result (λ stop. ((d : Dev) → stop ≢ Stop.Device d) → IsQuiet (S.state site.new)) }
+            → Keeps result self.old self.new (S.state site.old) (S.state site.new)
+            (LeavesTable (sizes_of self.old) table commits (S.state site.old).told) 0 0 }
 
         // Of every site.
-        ensures going { OnOk result (MayWork self.new (S.state site.new)) }
+        ensures works { Works result self.old self.new (S.state site.old) (S.state site.new) 0 }
         ensures front { OnOk result (IsInFront self.new number) }
         ensures made { self.new.made ≡ self.old.made }
         ensures blocks { OnOk result (blocks_to self.new.log ≡ blocks_to self.old.log) }
-        ensures rises { OnOk result (end_of self.old.log ≤ end_of self.new.log) }
         ensures asks { Asks result (one_touch (number / 32)) self.old.pages self.new.pages
             (S.state site.old) (S.state site.new) }
-        ensures kept { self.new.log.kept ≡ self.old.log.kept }
-        ensures sizes { sizes_of self.new ≡ sizes_of self.old }
-        ensures goes { Goes (S.state site.old) (S.state site.new) }
-
-        // When each answer comes.
-        ensures device { (d : Dev) → IsErrOf result (Stop.Device d)
-            → FaultRose d (S.state site.old) (S.state site.new) }
-        ensures worn_log { (newest : Option Master) (records : List Entry) (table : List Content) (commits : ℕ)
-            → Holds self.old (S.state site.old) newest records table commits
-            → IsErrOf result (Stop.Worn Dev.Log) → IsLogWorn (sizes_of self.old) (S.state site.new).image }
-        ensures worn { (newest : Option Master) (records : List Entry) (table : List Content) (commits : ℕ)
-            → Holds self.old (S.state site.old) newest records table commits
-            → IsErrOf result (Stop.Worn Dev.Flash) → IsWorn (sizes_of self.old) (S.state site.new).image }
-        ensures stops { IfErr result (λ stop. MayStop stop) }
     {
         touch(site, &mut self.log, &mut self.pages, number / SLOTS)
     }
@@ -238,45 +179,17 @@ impl Store {
             → Holds self.new (S.state site.new) newest (records
             ++ record { lsn = lsn; rec = update_by txn prev number (shown_in self.old (S.state site.old) records number) after.now } ∷ [])
             table commits) }
-        ensures any_moment { (newest : Option Master) (records : List Entry) (table : List Content) (commits : ℕ)
+        ensures keeps { (newest : Option Master) (records : List Entry) (table : List Content) (commits : ℕ)
             → Holds self.old (S.state site.old) newest records table commits
-            → IsQuiet (S.state site.old)
-            → LeavesOnly (S.state site.old) (S.state site.new)
-            (LeavesTable (sizes_of self.old) table commits (S.state site.old).told) }
-        ensures numbers { (newest : Option Master) (records : List Entry) (table : List Content) (commits : ℕ)
-            → Holds self.old (S.state site.old) newest records table commits
-            → IsQuiet (S.state site.old)
-            → SkipsNone result (sizes_of self.old) self.old.log self.new.log (S.state site.old) (S.state site.new) 1 0 }
-        ensures readable { (newest : Option Master) (records : List Entry) (table : List Content) (commits : ℕ)
-            → Holds self.old (S.state site.old) newest records table commits
-            → IsErrOf result Stop.Foreign → ⊥ }
-        ensures left { IsTrue (S.state site.old).honest
-            → (S.state site.new).left ≡ (S.state site.old).left }
-        ensures stays_quiet { IsTrue (S.state site.old).honest → IsQuiet (S.state site.old)
-            → OnOk result (IsQuiet (S.state site.new)) }
-        ensures quiet { (newest : Option Master) (records : List Entry) (table : List Content) (commits : ℕ)
-            → Holds self.old (S.state site.old) newest records table commits
-            → IsQuiet (S.state site.old)
-            → IfErr result (λ stop. ((d : Dev) → stop ≢ Stop.Device d) → IsQuiet (S.state site.new)) }
+            → Keeps result self.old self.new (S.state site.old) (S.state site.new)
+            (LeavesTable (sizes_of self.old) table commits (S.state site.old).told) 1 0 }
 
         // Of every site.
-        ensures going { OnOk result (MayWork self.new (S.state site.new)) }
-        ensures made { OnOk result (self.new.made ≡ self.old.made + 1) }
-        ensures blocks { OnOk result (blocks_to self.new.log ≤ blocks_to self.old.log + 1) }
+        ensures works { Works result self.old self.new (S.state site.old) (S.state site.new) 1 }
         ensures rises { IfOk result (λ lsn. (end_of self.old.log ≤ lsn) × (lsn < end_of self.new.log)) }
         ensures machine { OnOk result (cache_of self.new.pages ≡ with_change (cache_of self.old.pages)) }
         ensures rules_stay { rules self.new.pages ≡ rules self.old.pages }
         ensures reads { SameReads (S.state site.old) (S.state site.new) }
-        ensures kept { self.new.log.kept ≡ self.old.log.kept }
-        ensures sizes { sizes_of self.new ≡ sizes_of self.old }
-        ensures goes { Goes (S.state site.old) (S.state site.new) }
-
-        // When each answer comes.
-        ensures device { (d : Dev) → IsErrOf result (Stop.Device d)
-            → FaultRose d (S.state site.old) (S.state site.new) }
-        ensures worn_log { (newest : Option Master) (records : List Entry) (table : List Content) (commits : ℕ)
-            → Holds self.old (S.state site.old) newest records table commits
-            → IsErrOf result (Stop.Worn Dev.Log) → IsLogWorn (sizes_of self.old) (S.state site.new).image }
         ensures stops { IfErr result (λ stop. (stop ≡ Stop.Device Dev.Log) ⊎ ((stop ≡ Stop.Worn Dev.Log) ⊎ (stop ≡ Stop.Foreign))) }
     {
         let update = LogRecord::Update {
@@ -309,43 +222,18 @@ impl Store {
             → IfOk result (λ lsn. Holds self.new (S.state site.new) newest
             (records ++ record { lsn = lsn; rec = LogRecord.Commit txn number } ∷ [])
             (table_with table (writes_in txn records)) (commits + 1)) }
-        ensures any_moment { (newest : Option Master) (records : List Entry) (table : List Content) (commits : ℕ)
+        ensures keeps { (newest : Option Master) (records : List Entry) (table : List Content) (commits : ℕ)
             → Holds self.old (S.state site.old) newest records table commits
             → MayCommit newest records txn number commits
-            → IsQuiet (S.state site.old)
-            → LeavesOnly (S.state site.old) (S.state site.new)
-            (LeavesEitherFor (sizes_of self.old) table (table_with table (writes_in txn records)) commits (S.state site.old).told) }
-        ensures numbers { (newest : Option Master) (records : List Entry) (table : List Content) (commits : ℕ)
-            → Holds self.old (S.state site.old) newest records table commits
-            → MayCommit newest records txn number commits
-            → IsQuiet (S.state site.old)
-            → SkipsNone result (sizes_of self.old) self.old.log self.new.log (S.state site.old) (S.state site.new) 1 0 }
-        ensures left { IsTrue (S.state site.old).honest
-            → (S.state site.new).left ≡ (S.state site.old).left }
-        ensures stays_quiet { IsTrue (S.state site.old).honest → IsQuiet (S.state site.old)
-            → OnOk result (IsQuiet (S.state site.new)) }
-        ensures quiet { (newest : Option Master) (records : List Entry) (table : List Content) (commits : ℕ)
-            → Holds self.old (S.state site.old) newest records table commits
-            → IsQuiet (S.state site.old)
-            → IfErr result (λ stop. ((d : Dev) → stop ≢ Stop.Device d) → IsQuiet (S.state site.new)) }
+            → Keeps result self.old self.new (S.state site.old) (S.state site.new)
+            (LeavesEitherFor (sizes_of self.old) table (table_with table (writes_in txn records)) commits
+            (S.state site.old).told) 1 0 }
 
         // Of every site.
-        ensures going { OnOk result (MayWork self.new (S.state site.new)) }
-        ensures made { OnOk result (self.new.made ≡ self.old.made + 1) }
-        ensures blocks { OnOk result (blocks_to self.new.log ≤ blocks_to self.old.log + 1) }
+        ensures works { Works result self.old self.new (S.state site.old) (S.state site.new) 1 }
         ensures rises { IfOk result (λ lsn. (end_of self.old.log ≤ lsn) × (lsn < end_of self.new.log)) }
         ensures asks { Asks result ([]) self.old.pages self.new.pages
             (S.state site.old) (S.state site.new) }
-        ensures kept { self.new.log.kept ≡ self.old.log.kept }
-        ensures sizes { sizes_of self.new ≡ sizes_of self.old }
-        ensures goes { Goes (S.state site.old) (S.state site.new) }
-
-        // When each answer comes.
-        ensures device { (d : Dev) → IsErrOf result (Stop.Device d)
-            → FaultRose d (S.state site.old) (S.state site.new) }
-        ensures worn_log { (newest : Option Master) (records : List Entry) (table : List Content) (commits : ℕ)
-            → Holds self.old (S.state site.old) newest records table commits
-            → IsErrOf result (Stop.Worn Dev.Log) → IsLogWorn (sizes_of self.old) (S.state site.new).image }
         ensures stops { IfErr result (λ stop. (stop ≡ Stop.Device Dev.Log) ⊎ (stop ≡ Stop.Worn Dev.Log)) }
     {
         match commit(site, &mut self.log, txn, number) {
@@ -371,61 +259,21 @@ impl Store {
             → (writes : List Write) → IsActive (master_of newest) records entry.begin entry.last writes
             → length writes ≡ entry.writes
             → OnOk result (RollsBack self.new (S.state site.new) newest records table commits entry.begin entry.writes) }
-        ensures any_moment { (newest : Option Master) (records : List Entry) (table : List Content) (commits : ℕ)
-            → Holds self.old (S.state site.old) newest records table commits
-            → (writes : List Write) → IsActive (master_of newest) records entry.begin entry.last writes
-            → IsQuiet (S.state site.old)
-            → LeavesOnly (S.state site.old) (S.state site.new)
-            (LeavesTable (sizes_of self.old) table commits (S.state site.old).told) }
-        ensures numbers { (newest : Option Master) (records : List Entry) (table : List Content) (commits : ℕ)
-            → Holds self.old (S.state site.old) newest records table commits
-            → (writes : List Write) → IsActive (master_of newest) records entry.begin entry.last writes
-            → length writes ≡ entry.writes
-            → IsQuiet (S.state site.old)
-            → SkipsNone result (sizes_of self.old) self.old.log self.new.log (S.state site.old) (S.state site.new) (entry.writes + 1) 0 }
-        ensures readable { (newest : Option Master) (records : List Entry) (table : List Content) (commits : ℕ)
+        ensures keeps { (newest : Option Master) (records : List Entry) (table : List Content) (commits : ℕ)
             → Holds self.old (S.state site.old) newest records table commits
             → (writes : List Write) → IsActive (master_of newest) records entry.begin entry.last writes
             → length writes ≡ entry.writes → unfinished.owed records ≡ owed + (entry.writes + 1)
-            → IsErrOf result Stop.Foreign → ⊥ }
+            → Keeps result self.old self.new (S.state site.old) (S.state site.new)
+            (LeavesTable (sizes_of self.old) table commits (S.state site.old).told) (entry.writes + 1) 0 }
         ensures asks { (newest : Option Master) (records : List Entry) (table : List Content) (commits : ℕ)
             → Holds self.old (S.state site.old) newest records table commits
             → (writes : List Write) → IsActive (master_of newest) records entry.begin entry.last writes
             → Asks result (map (λ write. write_touch write.0) (reverse writes)) self.old.pages self.new.pages
             (S.state site.old) (S.state site.new) }
-        ensures left { IsTrue (S.state site.old).honest
-            → (S.state site.new).left ≡ (S.state site.old).left }
-        ensures stays_quiet { IsTrue (S.state site.old).honest → IsQuiet (S.state site.old)
-            → OnOk result (IsQuiet (S.state site.new)) }
-        ensures quiet { (newest : Option Master) (records : List Entry) (table : List Content) (commits : ℕ)
-            → Holds self.old (S.state site.old) newest records table commits
-            → (writes : List Write) → IsActive (master_of newest) records entry.begin entry.last writes
-            → length writes ≡ entry.writes
-            → IsQuiet (S.state site.old)
-            → IfErr result (λ stop. ((d : Dev) → stop ≢ Stop.Device d) → IsQuiet (S.state site.new)) }
 
         // Of every site.
-        ensures going { OnOk result (MayWork self.new (S.state site.new)) }
-        ensures made { OnOk result (self.new.made ≡ self.old.made + (entry.writes + 1)) }
-        ensures blocks { OnOk result (blocks_to self.new.log ≤ blocks_to self.old.log + (entry.writes + 1)) }
+        ensures works { Works result self.old self.new (S.state site.old) (S.state site.new) (entry.writes + 1) }
         ensures room { OnOk result (blocks_to self.new.log + owed < self.new.log.kept + (sizes_of self.new).blocks) }
-        ensures rises { OnOk result (end_of self.old.log ≤ end_of self.new.log) }
-        ensures kept { self.new.log.kept ≡ self.old.log.kept }
-        ensures sizes { sizes_of self.new ≡ sizes_of self.old }
-        ensures goes { Goes (S.state site.old) (S.state site.new) }
-
-        // When each answer comes.
-        ensures device { (d : Dev) → IsErrOf result (Stop.Device d)
-            → FaultRose d (S.state site.old) (S.state site.new) }
-        ensures worn_log { (newest : Option Master) (records : List Entry) (table : List Content) (commits : ℕ)
-            → Holds self.old (S.state site.old) newest records table commits
-            → (writes : List Write) → IsActive (master_of newest) records entry.begin entry.last writes
-            → IsErrOf result (Stop.Worn Dev.Log) → IsLogWorn (sizes_of self.old) (S.state site.new).image }
-        ensures worn { (newest : Option Master) (records : List Entry) (table : List Content) (commits : ℕ)
-            → Holds self.old (S.state site.old) newest records table commits
-            → (writes : List Write) → IsActive (master_of newest) records entry.begin entry.last writes
-            → IsErrOf result (Stop.Worn Dev.Flash) → IsWorn (sizes_of self.old) (S.state site.new).image }
-        ensures stops { IfErr result (λ stop. MayStop stop) }
     {
         sessions_are_undone();
         let before = self.blocks();
@@ -471,27 +319,14 @@ impl Store {
             → both.Holds self.old.log self.old.pages (S.state site.old) newest records table commits
             → MayBeMade self.old.masters (S.state site.old) records active
             → OnOk result (HasCheckpoint self.new (S.state site.new) records table commits active) }
-        ensures any_moment { (newest : Option Master) (records : List Entry) (table : List Content)
+        ensures keeps { (newest : Option Master) (records : List Entry) (table : List Content)
             → both.Holds self.old.log self.old.pages (S.state site.old) newest records table commits
             → MayBeMade self.old.masters (S.state site.old) records active
-            → IsQuiet (S.state site.old)
-            → LeavesOnly (S.state site.old) (S.state site.new)
-            (LeavesTable (sizes_of self.old) table commits (S.state site.old).told) }
-        ensures numbers { (newest : Option Master) (records : List Entry) (table : List Content)
-            → both.Holds self.old.log self.old.pages (S.state site.old) newest records table commits
-            → MayBeMade self.old.masters (S.state site.old) records active
-            → IsQuiet (S.state site.old)
-            → SkipsNone result (sizes_of self.old) self.old.log self.new.log (S.state site.old) (S.state site.new) 0 1 }
-        ensures left { IsTrue (S.state site.old).honest
-            → (S.state site.new).left ≡ (S.state site.old).left }
-        ensures stays_quiet { IsTrue (S.state site.old).honest → IsQuiet (S.state site.old)
-            → OnOk result (IsQuiet (S.state site.new)) }
-        ensures quiet { (newest : Option Master) (records : List Entry) (table : List Content)
-            → both.Holds self.old.log self.old.pages (S.state site.old) newest records table commits
-            → IsQuiet (S.state site.old)
-            → IfErr result (λ stop. ((d : Dev) → stop ≢ Stop.Device d) → IsQuiet (S.state site.new)) }
+            → Keeps result self.old self.new (S.state site.old) (S.state site.new)
+            (LeavesTable (sizes_of self.old) table commits (S.state site.old).told) 0 1 }
 
         // Of every site.
+        ensures calls { Calls result (S.state site.old) (S.state site.new) }
         ensures going { OnOk result (MayWork self.new (S.state site.new)) }
         ensures made { OnOk result (self.new.made + first ≡ self.old.made) }
         ensures blocks { OnOk result (blocks_to self.new.log ≡ blocks_to self.old.log) }
@@ -500,19 +335,6 @@ impl Store {
             (S.state site.old) (S.state site.new) }
         ensures kept { OnOk result (self.old.log.kept ≤ self.new.log.kept) }
         ensures sizes { sizes_of self.new ≡ sizes_of self.old }
-        ensures goes { Goes (S.state site.old) (S.state site.new) }
-
-        // When each answer comes.
-        ensures device { (d : Dev) → IsErrOf result (Stop.Device d)
-            → FaultRose d (S.state site.old) (S.state site.new) }
-        ensures worn_log { (newest : Option Master) (records : List Entry) (table : List Content)
-            → both.Holds self.old.log self.old.pages (S.state site.old) newest records table commits
-            → MayBeMade self.old.masters (S.state site.old) records active
-            → IsErrOf result (Stop.Worn Dev.Log) → IsLogWorn (sizes_of self.old) (S.state site.new).image }
-        ensures worn { (newest : Option Master) (records : List Entry) (table : List Content)
-            → both.Holds self.old.log self.old.pages (S.state site.old) newest records table commits
-            → MayBeMade self.old.masters (S.state site.old) records active
-            → IsErrOf result (Stop.Worn Dev.Flash) → IsWorn (sizes_of self.old) (S.state site.new).image }
         ensures stops { IfErr result (λ stop. MayStop stop) }
         ensures foreign { IfErr result (λ stop. stop ≢ Stop.Foreign) }
     {

@@ -10,7 +10,7 @@ use Rattle.log_store.specs.Held as log_held
 use Rattle.sealed_ring.specs.Ring.{hi_of}
 use Rattle.image_changes.specs.Rings.{log_shape}
 use Rattle.engine.specs.Image.{IsSound}
-use Rattle.site.specs.Laws.{stays_honest}
+use Rattle.site.specs.Laws.{stays_honest, unchanged_in_sequence, goes_in_sequence}
 use Rattle.site.specs.declared.outside.Stop.TheVariants.{Foreign}
 use Rattle.image_meaning.specs.Meaning.{AreOctetsSoundUnder, kept_by, saved_by}
 use Rattle.engine.proofs.Openings.{has_groups, groups_on, first_on, there_is_newest, masters_form, kept_is, both_go_on, ready_now, err_again}
@@ -138,3 +138,36 @@ returns-in-Err-keep_from-clause-flash_reads g c = let f = c.start.ensures.others
 
 pub returns-in-Err-keep_from-clause-disk_reads : goal.returns-in-Err-keep_from-clause-disk_reads
 returns-in-Err-keep_from-clause-disk_reads g c = c.newest.ensures.others Disk (λ e. cc) ∙ c.start-2.ensures.others Disk (λ e. cc) ∙ c.start.ensures.others Disk (λ e. cc)
+
+pub returns-in-Ok-keep_from-clause-same : goal.returns-in-Ok-keep_from-clause-same
+returns-in-Ok-keep_from-clause-same g c honest =
+    let old = g.S.Site.state c.args.site.now in
+    let mid = g.S.Site.state c.start.new.site in
+    let found = g.S.Site.state c.start-2.new.site in
+    let new = g.S.Site.state c.newest.new.site in
+    let honest_mid = stays_honest old mid c.start.ensures.goes honest in
+    let honest_found = stays_honest mid found c.start-2.ensures.goes honest_mid in
+    unchanged_in_sequence old mid new (c.start.ensures.same honest) (unchanged_in_sequence mid found new (c.start-2.ensures.same honest_mid) (c.newest.ensures.same honest_found))
+
+pub returns-in-Err-keep_from-clause-same : goal.returns-in-Err-keep_from-clause-same
+returns-in-Err-keep_from-clause-same g c honest =
+    let old = g.S.Site.state c.args.site.now in
+    let mid = g.S.Site.state c.start.new.site in
+    let found = g.S.Site.state c.start-2.new.site in
+    let new = g.S.Site.state c.newest.new.site in
+    let honest_mid = stays_honest old mid c.start.ensures.goes honest in
+    let honest_found = stays_honest mid found c.start-2.ensures.goes honest_mid in
+    unchanged_in_sequence old mid new (c.start.ensures.same honest) (unchanged_in_sequence mid found new (c.start-2.ensures.same honest_mid) (c.newest.ensures.same honest_found))
+
+pub returns-in-Err-newest-clause-same : goal.returns-in-Err-newest-clause-same
+returns-in-Err-newest-clause-same g c honest =
+    let old = g.S.Site.state c.args.site.now in
+    let mid = g.S.Site.state c.start.new.site in
+    let found = g.S.Site.state c.start-2.new.site in
+    let new = g.S.Site.state c.newest.new.site in
+    let honest_mid = stays_honest old mid c.start.ensures.goes honest in
+    let honest_found = stays_honest mid found c.start-2.ensures.goes honest_mid in
+    unchanged_in_sequence old mid new (c.start.ensures.same honest) (unchanged_in_sequence mid found new (c.start-2.ensures.same honest_mid) (c.newest.ensures.same honest_found))
+
+pub returns-in-Err-keep_from-clause-goes : goal.returns-in-Err-keep_from-clause-goes
+returns-in-Err-keep_from-clause-goes g c = goes_in_sequence _ _ _ c.start.ensures.goes (goes_in_sequence _ _ _ c.start-2.ensures.goes c.newest.ensures.goes)

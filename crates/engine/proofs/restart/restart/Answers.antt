@@ -1,26 +1,26 @@
 use Rattle.engine.specs.Paging.{cache_on, restart_works}
 use Rattle.second_chance.specs.Machine.{rules_of}
-use Rattle.site.specs.declared.outside.Dev.TheVariants.{Flash}
-use Rattle.site.specs.declared.outside.Stop.TheVariants.{Worn}
+use Rattle.site.specs.declared.outside.Dev.TheVariants.{Log, Flash}
+use Rattle.site.specs.declared.outside.Stop.TheVariants.{Worn, Foreign}
 use Rattle.log_records.specs.Log.{table_of}
 use Rattle.engine.proofs.Asking.{from_found, not_found}
-use Rattle.std.proofs.Common.{◌≡◌, ◌∙◌, sym, subst, ◌*◌, ap, refl, arith}
+use Rattle.std.specs.Prelude.{Ok, IfOk}
+use Rattle.std.proofs.Common.{◌≡◌, ◌∙◌, ℕ, sym, subst, ◌*◌, ap, refl, arith}
 use Rattle.site.specs.State.{IsQuiet}
 use Rattle.site.specs.declared.geometry.Geometry.{Geometry}
 use Rattle.log_records.specs.Sound.{Means, commit_count}
-use Rattle.flash_cache.specs.Held.{IsWorn}
 use Rattle.image_meaning.specs.Meaning.{picture_under}
-use Rattle.redo_undo.specs.Holding.{IsLogWorn}
 use Rattle.engine.specs.Going.{sizes_of}
 use Rattle.engine.specs.Image.{IsSound}
 use Rattle.engine.specs.Restarting.{IsReady, RestartedAs}
-use Rattle.engine.proofs.Moments.{err_again, and_then}
+use Rattle.engine.specs.declared.restart.Opened.{Opened}
+use Rattle.engine.specs.Leaves.{LeavesTable}
+use Rattle.engine.specs.Calls.{Ends}
+use Rattle.engine.proofs.Calling.{calls_failed, calls_stopped, calls_behind, ends_ok, ends_then}
+use Rattle.engine.proofs.Moments.{err_again}
 use Rattle.engine.proofs.Openings.{if_ok_both, stands_still}
 use Rattle.engine.proofs.RingCounts.{restart_unmoved, restart_behind}
 use Rattle.engine.proofs.restart.restart.Goals as goal
-
-pub returns-in-Err-open-clause-any_moment : goal.returns-in-Err-open-clause-any_moment
-returns-in-Err-open-clause-any_moment g c honest quiet k table commits stands = stands_still k (g.S.Site.state c.args.site.now) (g.S.Site.state c.open.new.site) table commits quiet (c.open.ensures.same honest) stands
 
 pub returns-clause-opens : goal.returns-clause-opens
 returns-clause-opens g c honest k newest blocks table commits sound means =
@@ -31,61 +31,61 @@ returns-clause-opens g c honest k newest blocks table commits sound means =
     let ready : IsReady c.in-Ok-open.opened mid newest blocks table commits = c.in-Ok-open.ensures.ready honest newest blocks table commits
     (subst (λ (x : Geometry). IsSound newest x old.image blocks) (sym same) sound) (subst (λ (x : Geometry). Means (picture_under newest x old.image blocks) table commits) (sym same) means) in
     if_ok_both c.recover.result (λ r. RestartedAs r new table commits) (λ r. sizes_of r.store ≡ c.in-Ok-open.opened.pages.flash.geometry) (λ r. RestartedAs r new table commits × (sizes_of r.store ≡ k))
-    (λ r done sizes. (done, sizes ∙ c.in-Ok-open.ensures.sizes ∙ same)) (c.recover.ensures.recovers newest blocks table commits ready) c.recover.ensures.sizes
+    (λ r done sizes. (done, sizes ∙ c.in-Ok-open.ensures.sizes ∙ same)) (c.recover.ensures.recovers newest blocks table commits ready).restarted c.recover.ensures.sizes
 
-pub returns-clause-any_moment : goal.returns-clause-any_moment
-returns-clause-any_moment g c honest quiet k table commits stands =
+pub returns-in-Err-clause-ends : goal.returns-in-Err-clause-ends
+returns-in-Err-clause-ends g c honest k table commits stands = absurd (c.in-Err.ensures.found k stands.stands.sound.octets.limits stands.stands.sound.octets.lengths).0
+
+pub returns-in-Err-open-clause-ends : goal.returns-in-Err-open-clause-ends
+returns-in-Err-open-clause-ends g c honest k table commits stands =
+    let old = g.S.Site.state c.args.site.now in
+    let stop = c.in-Err-open.stop in
+    let same : c.in-Ok.geometry ≡ k = (c.in-Ok.ensures.found k stands.stands.sound.octets.limits stands.stands.sound.octets.lengths).1 in
+    let unchanged = c.open.ensures.same honest in
+    record {
+      any_moment = λ quiet. stands_still k old (g.S.Site.state c.open.new.site) table commits quiet unchanged stands;
+      quiet = λ quiet other. unchanged.loose ∙ quiet;
+      worn_log = λ is. absurd (c.in-Err-open.ensures.unworn Log (err_again stop (Worn Log) is));
+      worn = λ is. absurd (c.in-Err-open.ensures.unworn Flash (err_again stop (Worn Flash) is));
+      readable = λ is. c.in-Err-open.ensures.readable honest stands.newest stands.stands.blocks (subst (λ (x : Geometry). IsSound stands.newest x old.image stands.stands.blocks) (sym same) stands.stands.sound) (err_again stop Foreign is);
+    }
+
+pub returns-clause-ends : goal.returns-clause-ends
+returns-clause-ends g c honest k table commits stands =
     let old = g.S.Site.state c.args.site.now in
     let mid = g.S.Site.state c.open.new.site in
-    let new = g.S.Site.state c.recover.new.site in
     let same : c.in-Ok.geometry ≡ k = (c.in-Ok.ensures.found k stands.stands.sound.octets.limits stands.stands.sound.octets.lengths).1 in
     let ready : IsReady c.in-Ok-open.opened mid stands.newest stands.stands.blocks table commits = c.in-Ok-open.ensures.ready honest stands.newest stands.stands.blocks table commits
     (subst (λ (x : Geometry). IsSound stands.newest x old.image stands.stands.blocks) (sym same) stands.stands.sound) (subst (λ (x : Geometry). Means (picture_under stands.newest x old.image stands.stands.blocks) table commits) (sym same) stands.stands.means) in
     let unchanged = c.open.ensures.same honest in
-    let quiet_mid : IsQuiet mid = unchanged.loose ∙ quiet in
-    and_then k c.in-Ok-open.opened.pages.flash.geometry old mid new table commits (c.in-Ok-open.ensures.sizes ∙ same) (stands_still k old mid table commits quiet unchanged stands)
-    (c.recover.ensures.any_moment stands.newest stands.stands.blocks table commits ready quiet_mid)
+    let first : Ends {T = Opened} (Ok c.in-Ok-open.opened) k old mid (LeavesTable k table commits old.told) = ends_ok (λ quiet. stands_still k old mid table commits quiet unchanged stands) in
+    ends_then (λ quiet. unchanged.loose ∙ quiet) (c.in-Ok-open.ensures.sizes ∙ same) first (c.recover.ensures.recovers stands.newest stands.stands.blocks table commits ready).ends
 
-pub returns-clause-readable : goal.returns-clause-readable
-returns-clause-readable g c honest k table commits stands =
-    let old = g.S.Site.state c.args.site.now in
-    let mid = g.S.Site.state c.open.new.site in
-    let new = g.S.Site.state c.recover.new.site in
-    let same : c.in-Ok.geometry ≡ k = (c.in-Ok.ensures.found k stands.stands.sound.octets.limits stands.stands.sound.octets.lengths).1 in
-    let ready : IsReady c.in-Ok-open.opened mid stands.newest stands.stands.blocks table commits = c.in-Ok-open.ensures.ready honest stands.newest stands.stands.blocks table commits
-    (subst (λ (x : Geometry). IsSound stands.newest x old.image stands.stands.blocks) (sym same) stands.stands.sound) (subst (λ (x : Geometry). Means (picture_under stands.newest x old.image stands.stands.blocks) table commits) (sym same) stands.stands.means) in
-    c.recover.ensures.readable stands.newest stands.stands.blocks table commits ready
+pub returns-in-Err-open-clause-restarts : goal.returns-in-Err-open-clause-restarts
+returns-in-Err-open-clause-restarts g c = record {
+  calls = calls_failed (calls_stopped c.open.ensures.goes c.open.ensures.same c.in-Err-open.ensures.device c.in-Err-open.ensures.faults);
+  going = tt;
+  blocks = tt;
+  room = tt;
+  commits = tt;
+  made = tt;
+  pool = tt;
+  stops = c.in-Err-open.ensures.stops;
+}
 
-pub returns-clause-quiet : goal.returns-clause-quiet
-returns-clause-quiet g c honest quiet k table commits stands =
-    let old = g.S.Site.state c.args.site.now in
-    let mid = g.S.Site.state c.open.new.site in
-    let new = g.S.Site.state c.recover.new.site in
-    let same : c.in-Ok.geometry ≡ k = (c.in-Ok.ensures.found k stands.stands.sound.octets.limits stands.stands.sound.octets.lengths).1 in
-    let ready : IsReady c.in-Ok-open.opened mid stands.newest stands.stands.blocks table commits = c.in-Ok-open.ensures.ready honest stands.newest stands.stands.blocks table commits
-    (subst (λ (x : Geometry). IsSound stands.newest x old.image stands.stands.blocks) (sym same) stands.stands.sound) (subst (λ (x : Geometry). Means (picture_under stands.newest x old.image stands.stands.blocks) table commits) (sym same) stands.stands.means) in
-    let quiet_mid : IsQuiet mid = (c.open.ensures.same honest).loose ∙ quiet in
-    c.recover.ensures.quiet stands.newest stands.stands.blocks table commits ready quiet_mid
-
-pub returns-clause-worn : goal.returns-clause-worn
-returns-clause-worn g c honest k table commits stands is =
-    let old = g.S.Site.state c.args.site.now in
-    let mid = g.S.Site.state c.open.new.site in
-    let new = g.S.Site.state c.recover.new.site in
-    let same : c.in-Ok.geometry ≡ k = (c.in-Ok.ensures.found k stands.stands.sound.octets.limits stands.stands.sound.octets.lengths).1 in
-    let ready : IsReady c.in-Ok-open.opened mid stands.newest stands.stands.blocks table commits = c.in-Ok-open.ensures.ready honest stands.newest stands.stands.blocks table commits
-    (subst (λ (x : Geometry). IsSound stands.newest x old.image stands.stands.blocks) (sym same) stands.stands.sound) (subst (λ (x : Geometry). Means (picture_under stands.newest x old.image stands.stands.blocks) table commits) (sym same) stands.stands.means) in
-    subst (λ (x : Geometry). IsWorn x new.image) (c.in-Ok-open.ensures.sizes ∙ same) (c.recover.ensures.worn stands.newest stands.stands.blocks table commits ready is)
-
-pub returns-clause-worn_log : goal.returns-clause-worn_log
-returns-clause-worn_log g c honest k table commits stands is =
-    let old = g.S.Site.state c.args.site.now in
-    let mid = g.S.Site.state c.open.new.site in
-    let new = g.S.Site.state c.recover.new.site in
-    let same : c.in-Ok.geometry ≡ k = (c.in-Ok.ensures.found k stands.stands.sound.octets.limits stands.stands.sound.octets.lengths).1 in
-    let ready : IsReady c.in-Ok-open.opened mid stands.newest stands.stands.blocks table commits = c.in-Ok-open.ensures.ready honest stands.newest stands.stands.blocks table commits
-    (subst (λ (x : Geometry). IsSound stands.newest x old.image stands.stands.blocks) (sym same) stands.stands.sound) (subst (λ (x : Geometry). Means (picture_under stands.newest x old.image stands.stands.blocks) table commits) (sym same) stands.stands.means) in
-    subst (λ (x : Geometry). IsLogWorn x new.image) (c.in-Ok-open.ensures.sizes ∙ same) (c.recover.ensures.worn_log stands.newest stands.stands.blocks table commits ready is)
+pub returns-clause-restarts : goal.returns-clause-restarts
+returns-clause-restarts g c =
+    let behind = c.recover.ensures.restarts in
+    record {
+      calls = calls_behind c.open.ensures.goes c.open.ensures.same c.in-Ok-open.ensures.faults behind.calls;
+      going = behind.going;
+      blocks = behind.blocks;
+      room = behind.room;
+      commits = behind.commits;
+      made = behind.made;
+      pool = subst (λ (n : ℕ). IfOk c.recover.result (λ restarted. restarted.store.pages.pool.size ≡ n)) c.in-Ok-open.ensures.pool behind.pool;
+      stops = behind.stops;
+    }
 
 pub returns-in-Err-clause-asks : goal.returns-in-Err-clause-asks
 returns-in-Err-clause-asks g c honest k newest blocks sound = absurd (c.in-Err.ensures.found k sound.octets.limits sound.octets.lengths).0
@@ -114,7 +114,7 @@ returns-clause-asks g c honest k newest blocks sound =
     let unchanged = c.open.ensures.same honest in
     from_found _ _ _ (rules_of c.args.pool k.groups) _ (restart_works p) _ (cache_on k old.image) (2 * k.groups) old mid new
     (λ i. rules_of (c.in-Ok-open.ensures.pool i) (sizes i).groups) (λ i. restart_works (picture_under newest (sizes i) (unchanged.image i) blocks)) (c.in-Ok-open.ensures.cache honest newest blocks there ∙ ap (λ (x : Geometry). cache_on x old.image) same)
-    (omega (arith, flash, groups)) c.open.ensures.disk_reads (c.recover.ensures.asks newest blocks (table_of p.log p.pages) (commit_count p) ready)
+    (omega (arith, flash, groups)) c.open.ensures.disk_reads (c.recover.ensures.recovers newest blocks (table_of p.log p.pages) (commit_count p) ready).asks
 
 pub returns-in-Err-clause-numbers : goal.returns-in-Err-clause-numbers
 returns-in-Err-clause-numbers g c honest quiet k newest blocks sound = absurd (c.in-Err.ensures.found k sound.octets.limits sound.octets.lengths).0
@@ -134,4 +134,4 @@ returns-clause-numbers g c honest quiet k newest blocks sound =
     let ready : IsReady c.in-Ok-open.opened mid newest blocks (table_of p.log p.pages) (commit_count p) = c.in-Ok-open.ensures.ready honest newest blocks (table_of p.log p.pages) (commit_count p) there (subst (λ (x : Geometry). Means (picture_under newest x old.image blocks) (table_of p.log p.pages) (commit_count p)) (sym same) means) in
     let unchanged = c.open.ensures.same honest in
     let quiet_mid : IsQuiet mid = unchanged.loose ∙ quiet in
-    restart_behind c.recover.result _ c.in-Ok-open.opened.pages.flash.geometry k _ old mid new (c.in-Ok-open.ensures.sizes ∙ same) unchanged.image (c.recover.ensures.numbers newest blocks (table_of p.log p.pages) (commit_count p) ready quiet_mid)
+    restart_behind c.recover.result _ c.in-Ok-open.opened.pages.flash.geometry k _ old mid new (c.in-Ok-open.ensures.sizes ∙ same) unchanged.image ((c.recover.ensures.recovers newest blocks (table_of p.log p.pages) (commit_count p) ready).numbers quiet_mid)

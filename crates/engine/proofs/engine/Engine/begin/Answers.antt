@@ -1,79 +1,25 @@
-use Rattle.std.proofs.Common.{◌≡◌, sym, subst, arith}
-use Rattle.std.specs.Prelude.{OnOk, IfOk, Err, if◌then◌else◌}
-use Rattle.site.specs.declared.geometry.Geometry.{Geometry}
-use Rattle.record_model.specs.Step.{Outcome}
 use Rattle.record_model.specs.declared.words.Command.TheVariants.{Begin}
-use Rattle.record_model.specs.declared.words.Reply.{Reply}
-use Rattle.redo_undo.specs.Holding.{IsLogWorn}
 use Rattle.engine.specs.Going.{sizes_of}
-use Rattle.engine.specs.Fits.{Fits, checkpointed_if}
-use Rattle.engine.proofs.Moments.{and_then, err_again}
-use Rattle.engine.proofs.Asking.{asks_same, asks_then, asks_stopped, has_group}
-use Rattle.engine.proofs.Firsts.{step_where, touches_where}
-use Rattle.engine.proofs.RingCounts.{count_first, count_then, count_failed, run_makes}
+use Rattle.engine.specs.Fits.{checkpointed_if}
+use Rattle.engine.specs.Leaves.{LeavesTable}
+use Rattle.engine.proofs.Calling.{first_then, first_failed, late_table, serves_then, serves_failed}
 use Rattle.engine.proofs.engine.Engine.begin.Goals as goal
 
-pub returns-in-Ok-clause-reply : goal.returns-in-Ok-clause-reply
-returns-in-Ok-clause-reply g c s fits =
-    let known = c.wants_checkpoint_to_begin-wanted.ensures s (g.S.Site.state c.args.site.now) fits in
-    subst (λ (o : Outcome). IfOk c.begin_now.result (λ (r : Reply). r ≡ o.reply)) (sym (step_where s (Begin c.args.session) c.wants_checkpoint_to_begin-wanted.result known))
-    (c.begin_now.ensures.reply (checkpointed_if c.wants_checkpoint_to_begin-wanted.result s) (c.in-Ok.ensures.after s fits))
-
-pub returns-in-Ok-clause-after : goal.returns-in-Ok-clause-after
-returns-in-Ok-clause-after g c s fits =
-    let known = c.wants_checkpoint_to_begin-wanted.ensures s (g.S.Site.state c.args.site.now) fits in
-    subst (λ (o : Outcome). OnOk c.begin_now.result (Fits c.begin_now.new.self (g.S.Site.state c.begin_now.new.site) o.after)) (sym (step_where s (Begin c.args.session) c.wants_checkpoint_to_begin-wanted.result known))
-    (c.begin_now.ensures.after (checkpointed_if c.wants_checkpoint_to_begin-wanted.result s) (c.in-Ok.ensures.after s fits))
-
-pub returns-in-Ok-clause-any_moment : goal.returns-in-Ok-clause-any_moment
-returns-in-Ok-clause-any_moment g c s fits quiet =
-    and_then (sizes_of c.args.self.now.store) (sizes_of c.checkpoint_if.new.self.store) (g.S.Site.state c.args.site.now) (g.S.Site.state c.checkpoint_if.new.site) (g.S.Site.state c.begin_now.new.site) s.table s.commits c.checkpoint_if.ensures.sizes
-    (c.checkpoint_if.ensures.any_moment s fits quiet)
-    (c.begin_now.ensures.any_moment (checkpointed_if c.wants_checkpoint_to_begin-wanted.result s) (c.in-Ok.ensures.after s fits) (c.in-Ok.ensures.stays_quiet fits.honest quiet))
-
-pub returns-in-Ok-clause-quiet : goal.returns-in-Ok-clause-quiet
-returns-in-Ok-clause-quiet g c s fits quiet =
-    c.begin_now.ensures.quiet (checkpointed_if c.wants_checkpoint_to_begin-wanted.result s) (c.in-Ok.ensures.after s fits) (c.in-Ok.ensures.stays_quiet fits.honest quiet)
-
-pub returns-in-Ok-clause-asks : goal.returns-in-Ok-clause-asks
-returns-in-Ok-clause-asks g c s fits =
-    let known = c.wants_checkpoint_to_begin-wanted.ensures s (g.S.Site.state c.args.site.now) fits in
-    asks_same _ _ _ _ _ _ _ (touches_where s (Begin c.args.session) c.wants_checkpoint_to_begin-wanted.result known)
-    (asks_then c.works_add_up.ensures.works c.works_add_up.ensures.reads c.in-Ok.field-0 _ _ _ _ _ _ _ _ _ c.in-Ok.ensures.asks
-    (c.begin_now.ensures.asks (checkpointed_if c.wants_checkpoint_to_begin-wanted.result s) (c.in-Ok.ensures.after s fits)))
-
-pub returns-in-Err-clause-asks : goal.returns-in-Err-clause-asks
-returns-in-Err-clause-asks g c s fits =
-    let known = c.wants_checkpoint_to_begin-wanted.ensures s (g.S.Site.state c.args.site.now) fits in
-    asks_same _ _ _ _ _ _ _ (touches_where s (Begin c.args.session) c.wants_checkpoint_to_begin-wanted.result known)
-    (asks_stopped c.works_add_up.ensures.more c.works_add_up.ensures.overflow c.in-Err.stop _ _ _ _ _ _ (has_group c.requires.going) c.in-Err.ensures.asks)
-
-pub returns-in-Ok-clause-worn_log : goal.returns-in-Ok-clause-worn_log
-returns-in-Ok-clause-worn_log g c s fits is =
-    subst (λ (k : Geometry). IsLogWorn k (g.S.Site.state c.begin_now.new.site).image) c.checkpoint_if.ensures.sizes
-    (c.begin_now.ensures.worn_log (checkpointed_if c.wants_checkpoint_to_begin-wanted.result s) (c.in-Ok.ensures.after s fits) is)
-
-pub returns-in-Err-clause-worn_log : goal.returns-in-Err-clause-worn_log
-returns-in-Err-clause-worn_log g c s fits is = c.in-Err.ensures.worn_log s fits (err_again _ _ is)
-
-pub returns-in-Err-clause-worn : goal.returns-in-Err-clause-worn
-returns-in-Err-clause-worn g c s fits is = c.in-Err.ensures.worn s fits (err_again _ _ is)
-
-pub returns-in-Ok-clause-numbers : goal.returns-in-Ok-clause-numbers
-returns-in-Ok-clause-numbers g c s fits quiet =
+pub returns-in-Ok-clause-answers : goal.returns-in-Ok-clause-answers
+returns-in-Ok-clause-answers g c s fits =
     let old = g.S.Site.state c.args.site.now in
     let wanted = c.wants_checkpoint_to_begin-wanted.result in
-    let known = c.wants_checkpoint_to_begin-wanted.ensures s old fits in
-    let first = c.in-Ok.ensures.numbers s fits quiet in
-    let second = c.begin_now.ensures.numbers (checkpointed_if wanted s) (c.in-Ok.ensures.after s fits) (c.in-Ok.ensures.stays_quiet fits.honest quiet) in
-    count_first c.begin_now.result c.args.self.now c.begin_now.new.self old (g.S.Site.state c.begin_now.new.site) s (Begin c.args.session) wanted known
-    (count_then c.begin_now.result c.in-Ok.field-0 c.args.self.now c.checkpoint_if.new.self c.begin_now.new.self old (g.S.Site.state c.checkpoint_if.new.site) (g.S.Site.state c.begin_now.new.site) s (checkpointed_if wanted s) _ (if wanted then 1 else 0) 0 (if wanted then 1 else 0) c.checkpoint_if.ensures.sizes first second (omega arith))
+    first_then (Begin c.args.session) (c.wants_checkpoint_to_begin-wanted.ensures s old fits) (λ o. LeavesTable (sizes_of c.args.self.now.store) s.table s.commits old.told) c.works_add_up.ensures.works c.works_add_up.ensures.reads fits.honest
+    (λ x p. p) (late_table c.in-Ok.ensures.serves.sizes) c.in-Ok.ensures.serves (c.in-Ok.ensures.does s fits) c.in-Ok.ensures.asks (c.begin_now.ensures.answers (checkpointed_if wanted s) (c.in-Ok.ensures.does s fits).after_fits)
 
-pub returns-in-Err-clause-numbers : goal.returns-in-Err-clause-numbers
-returns-in-Err-clause-numbers g c s fits quiet =
+pub returns-in-Ok-clause-serves : goal.returns-in-Ok-clause-serves
+returns-in-Ok-clause-serves g c = serves_then c.in-Ok.ensures.serves c.begin_now.ensures.serves
+
+pub returns-in-Err-clause-answers : goal.returns-in-Err-clause-answers
+returns-in-Err-clause-answers g c s fits =
     let old = g.S.Site.state c.args.site.now in
-    let wanted = c.wants_checkpoint_to_begin-wanted.result in
-    let known = c.wants_checkpoint_to_begin-wanted.ensures s old fits in
-    let more = run_makes (checkpointed_if wanted s) (Begin c.args.session) in
-    count_first (Err c.in-Err.stop) c.args.self.now c.checkpoint_if.new.self old (g.S.Site.state c.checkpoint_if.new.site) s (Begin c.args.session) wanted known
-    (count_failed c.in-Err.stop c.args.self.now c.checkpoint_if.new.self c.checkpoint_if.new.self old (g.S.Site.state c.checkpoint_if.new.site) s (checkpointed_if wanted s) _ (if wanted then 1 else 0) more (c.in-Err.ensures.numbers s fits quiet))
+    first_failed (Begin c.args.session) (c.wants_checkpoint_to_begin-wanted.ensures s old fits) (λ o. LeavesTable (sizes_of c.args.self.now.store) s.table s.commits old.told) c.works_add_up.ensures.more c.works_add_up.ensures.overflow c.requires.going
+    (λ x p. p) (c.in-Err.ensures.does s fits) c.in-Err.ensures.asks
+
+pub returns-in-Err-clause-serves : goal.returns-in-Err-clause-serves
+returns-in-Err-clause-serves g c = serves_failed c.in-Err.ensures.serves

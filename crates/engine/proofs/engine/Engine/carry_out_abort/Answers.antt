@@ -1,14 +1,13 @@
 use Rattle.record_model.specs.State.{Session, writes_of}
 use Rattle.record_model.specs.Touches.{write_touch, CacheWork}
 use Rattle.engine.proofs.Asking.{asks_same, asks_ok, asks_err}
-use Rattle.std.proofs.Common.{refl, sym, arith, ap, Option, Some, List, map, reverse, length, ◌+◌}
+use Rattle.std.proofs.Common.{refl, sym, arith, ap, Option, Some, List, map, reverse, length}
 use Rattle.site.specs.Laws.{stays_honest}
 use Rattle.engine.specs.declared.engine.Engine.{Engine}
-use Rattle.engine.proofs.Moments.{err_again}
 use Rattle.engine.proofs.Owing.{owes, entry_is}
 use Rattle.engine.proofs.Actives.{some_active}
 use Rattle.engine.proofs.Aborts.{aborted_fits}
-use Rattle.engine.proofs.RingCounts.{counts_answered, counts_failed}
+use Rattle.engine.proofs.Calling.{does_of, keeps_answered, keeps_failed}
 use Rattle.engine.proofs.engine.Engine.carry_out_abort.Goals as goal
 
 pub roll_back-requires-clause-few : goal.roll_back-requires-clause-few
@@ -16,49 +15,6 @@ roll_back-requires-clause-few g c =
     let part = owes c.args.self.now.active c.args.entry.session c.args.entry c.requires.going.table c.requires.active in
     let bounded = c.requires.going.bounded in
     omega (arith, part, bounded)
-
-pub returns-in-Ok-clause-after : goal.returns-in-Ok-clause-after
-returns-in-Ok-clause-after g c s fits =
-    let engine = c.args.self.now in
-    let old = g.S.Site.state c.args.site.now in
-    let new = g.S.Site.state c.roll_back.new.site in
-    let mid : Engine = record engine { store = c.roll_back.new.self } in
-    let found = some_active fits.newest fits.records engine.active s fits.sessions c.args.entry.session c.args.entry c.requires.active in
-    let count = sym found.under_way.count in
-    let back = c.in-Ok.ensures.undone fits.newest fits.records s.table s.commits fits.holds found.session.writes found.under_way.is_active count in
-    aborted_fits engine mid _ old new s c.args.entry fits c.requires.going.table c.requires.active (stays_honest old new c.roll_back.ensures.goes fits.honest) back
-    refl c.in-Ok.ensures.made c.release.ensures c.remove.ensures.entry c.remove.ensures.owed refl refl refl
-
-pub returns-in-Ok-clause-any_moment : goal.returns-in-Ok-clause-any_moment
-returns-in-Ok-clause-any_moment g c s fits =
-    let engine = c.args.self.now in
-    let found = some_active fits.newest fits.records engine.active s fits.sessions c.args.entry.session c.args.entry c.requires.active in
-    let count = sym found.under_way.count in
-    c.roll_back.ensures.any_moment fits.newest fits.records s.table s.commits fits.holds found.session.writes found.under_way.is_active
-
-pub returns-in-Err-clause-any_moment : goal.returns-in-Err-clause-any_moment
-returns-in-Err-clause-any_moment g c s fits =
-    let engine = c.args.self.now in
-    let found = some_active fits.newest fits.records engine.active s fits.sessions c.args.entry.session c.args.entry c.requires.active in
-    let count = sym found.under_way.count in
-    c.roll_back.ensures.any_moment fits.newest fits.records s.table s.commits fits.holds found.session.writes found.under_way.is_active
-
-pub returns-in-Err-clause-quiet : goal.returns-in-Err-clause-quiet
-returns-in-Err-clause-quiet g c s fits =
-    let engine = c.args.self.now in
-    let found = some_active fits.newest fits.records engine.active s fits.sessions c.args.entry.session c.args.entry c.requires.active in
-    let count = sym found.under_way.count in
-    c.in-Err.ensures.quiet fits.newest fits.records s.table s.commits fits.holds found.session.writes found.under_way.is_active count
-
-pub returns-in-Err-clause-foreign : goal.returns-in-Err-clause-foreign
-returns-in-Err-clause-foreign g c is s fits =
-    let engine = c.args.self.now in
-    let found = some_active fits.newest fits.records engine.active s fits.sessions c.args.entry.session c.args.entry c.requires.active in
-    let count = sym found.under_way.count in
-    let part = owes engine.active c.args.entry.session c.args.entry c.requires.going.table c.requires.active in
-    let are = fits.sessions.owes in
-    let all = c.owed.ensures in
-    c.in-Err.ensures.readable fits.newest fits.records s.table s.commits fits.holds found.session.writes found.under_way.is_active count (omega (arith, are, all, part)) (err_again _ _ is)
 
 pub overflow_add-owed : goal.overflow_add-owed
 overflow_add-owed g c =
@@ -71,10 +27,33 @@ overflow_sub-owed g c =
     let all = c.owed.ensures in
     omega (arith, part, all)
 
-pub returns-in-Err-clause-worn : goal.returns-in-Err-clause-worn
-returns-in-Err-clause-worn g c s fits is =
-    let found = some_active fits.newest fits.records c.args.self.now.active s fits.sessions c.args.entry.session c.args.entry c.requires.active in
-    c.in-Err.ensures.worn fits.newest fits.records s.table s.commits fits.holds found.session.writes found.under_way.is_active (err_again _ _ is)
+pub returns-in-Ok-clause-does : goal.returns-in-Ok-clause-does
+returns-in-Ok-clause-does g c s fits =
+    let engine = c.args.self.now in
+    let found = some_active fits.newest fits.records engine.active s fits.sessions c.args.entry.session c.args.entry c.requires.active in
+    let count = sym found.under_way.count in
+    let many = ap (λ (o : Option Session). length (writes_of o)) found.is in
+    let part = owes engine.active c.args.entry.session c.args.entry c.requires.going.table c.requires.active in
+    let are = fits.sessions.owes in
+    let all = c.owed.ensures in
+    let old = g.S.Site.state c.args.site.now in
+    let new = g.S.Site.state c.roll_back.new.site in
+    let mid : Engine = record engine { store = c.roll_back.new.self } in
+    does_of (omega (arith, count, many))
+    (aborted_fits engine mid _ old new s c.args.entry fits c.requires.going.table c.requires.active (stays_honest old new c.roll_back.ensures.works.calls.goes fits.honest) (c.in-Ok.ensures.undone fits.newest fits.records s.table s.commits fits.holds found.session.writes found.under_way.is_active count)
+    refl c.in-Ok.ensures.works.made c.release.ensures c.remove.ensures.entry c.remove.ensures.owed refl refl refl)
+    (keeps_answered (c.in-Ok.ensures.keeps fits.newest fits.records s.table s.commits fits.holds found.session.writes found.under_way.is_active count (omega (arith, are, all, part))))
+
+pub returns-in-Err-clause-does : goal.returns-in-Err-clause-does
+returns-in-Err-clause-does g c s fits =
+    let engine = c.args.self.now in
+    let found = some_active fits.newest fits.records engine.active s fits.sessions c.args.entry.session c.args.entry c.requires.active in
+    let count = sym found.under_way.count in
+    let many = ap (λ (o : Option Session). length (writes_of o)) found.is in
+    let part = owes engine.active c.args.entry.session c.args.entry c.requires.going.table c.requires.active in
+    let are = fits.sessions.owes in
+    let all = c.owed.ensures in
+    does_of (omega (arith, count, many)) tt (keeps_failed (c.in-Err.ensures.keeps fits.newest fits.records s.table s.commits fits.holds found.session.writes found.under_way.is_active count (omega (arith, are, all, part))))
 
 undone_by : Option Session → List CacheWork
 undone_by o = map (λ write. write_touch write.0) (reverse (writes_of o))
@@ -90,24 +69,3 @@ unfolding undone_by
 returns-in-Ok-clause-asks g c s fits =
     let found = some_active fits.newest fits.records c.args.self.now.active s fits.sessions c.args.entry.session c.args.entry c.requires.active in
     asks_same _ _ (undone_by (Some found.session)) _ _ _ _ (ap undone_by found.is) (asks_ok c.in-Ok.field-0 _ (undone_by (Some found.session)) _ _ _ _ (c.in-Ok.ensures.asks fits.newest fits.records s.table s.commits fits.holds found.session.writes found.under_way.is_active))
-
-pub returns-in-Err-clause-worn_log : goal.returns-in-Err-clause-worn_log
-returns-in-Err-clause-worn_log g c s fits is =
-    let found = some_active fits.newest fits.records c.args.self.now.active s fits.sessions c.args.entry.session c.args.entry c.requires.active in
-    c.in-Err.ensures.worn_log fits.newest fits.records s.table s.commits fits.holds found.session.writes found.under_way.is_active (err_again _ _ is)
-
-pub returns-in-Err-clause-numbers : goal.returns-in-Err-clause-numbers
-returns-in-Err-clause-numbers g c s fits quiet =
-    let engine = c.args.self.now in
-    let found = some_active fits.newest fits.records engine.active s fits.sessions c.args.entry.session c.args.entry c.requires.active in
-    let count = sym found.under_way.count in
-    let many = ap (λ (o : Option Session). length (writes_of o)) found.is in
-    counts_failed c.in-Err.stop engine _ _ _ s _ (c.args.entry.writes + 1) 0 (c.in-Err.ensures.numbers fits.newest fits.records s.table s.commits fits.holds found.session.writes found.under_way.is_active count quiet) (omega (arith, count, many))
-
-pub returns-in-Ok-clause-numbers : goal.returns-in-Ok-clause-numbers
-returns-in-Ok-clause-numbers g c s fits quiet =
-    let engine = c.args.self.now in
-    let found = some_active fits.newest fits.records engine.active s fits.sessions c.args.entry.session c.args.entry c.requires.active in
-    let count = sym found.under_way.count in
-    let many = ap (λ (o : Option Session). length (writes_of o)) found.is in
-    counts_answered c.in-Ok.field-0 _ engine _ _ _ s _ (c.args.entry.writes + 1) 0 (c.in-Ok.ensures.numbers fits.newest fits.records s.table s.commits fits.holds found.session.writes found.under_way.is_active count quiet) (omega (arith, count, many))

@@ -6,18 +6,14 @@ use Rattle.engine.proofs.Meanings.{begins_late, fresh_behind}
 use Rattle.engine.proofs.Settings.{begin_at, may_begin}
 use Rattle.engine.proofs.Actives.{begun, none_active}
 use Rattle.engine.proofs.Locks.{locks_stay, at_set}
-use Rattle.engine.proofs.Moments.{err_again}
-use Rattle.engine.proofs.RingCounts.{counts_answered, counts_failed}
+use Rattle.engine.proofs.Calling.{does_of, keeps_failed, keeps_answered, serves_of, works_failed}
 use Rattle.engine.proofs.engine.Engine.carry_out_begin.Goals as goal
 
-pub returns-in-Err-clause-any_moment : goal.returns-in-Err-clause-any_moment
-returns-in-Err-clause-any_moment g c s fits = c.begin.ensures.any_moment fits.newest fits.records s.table s.commits fits.holds
+pub returns-in-Err-clause-does : goal.returns-in-Err-clause-does
+returns-in-Err-clause-does g c s fits = does_of (omega arith) tt (keeps_failed (c.in-Err.ensures.keeps fits.newest fits.records s.table s.commits fits.holds))
 
-pub returns-clause-any_moment : goal.returns-clause-any_moment
-returns-clause-any_moment g c s fits = c.begin.ensures.any_moment fits.newest fits.records s.table s.commits fits.holds
-
-pub returns-clause-after : goal.returns-clause-after
-returns-clause-after g c s fits =
+pub returns-clause-does : goal.returns-clause-does
+returns-clause-does g c s fits =
     let engine = c.args.self.now in
     let old = g.S.Site.state c.args.site.now in
     let new = g.S.Site.state c.begin.new.site in
@@ -31,32 +27,24 @@ returns-clause-after g c s fits =
     let none = none_active fits.newest fits.records engine.active s fits.sessions n c.requires.absent in
     let count = fits.sessions.count in
     let small = c.requires.session in
-    let made = c.in-Ok.ensures.made in
+    let made = c.in-Ok.ensures.works.made in
     let more = c.add.ensures.owed in
-    record {
-      honest = stays_honest old new c.begin.ensures.goes fits.honest;
+    does_of (omega arith) (record {
+      honest = stays_honest old new c.begin.ensures.works.calls.goes fits.honest;
       newest = fits.newest;
       records = fits.records ++ begin_at lsn ∷ [];
       holds = c.in-Ok.ensures.holds fits.newest fits.records s.table s.commits fits.holds may;
       counts = record { commits = fits.counts.commits; made = let before = fits.counts.made in omega (arith, made, before); cap = fits.counts.cap };
       sessions = begun fits.newest fits.records engine.active c.add.new.active s n lsn engine.store.made _ fits.sessions small c.requires.absent c.add.ensures.entry (omega (arith, more)) fresh late refl refl fits.counts.made refl;
       locks_are = locks_stay engine.locks s _ (at_set writes_of s.sessions n _ None (omega (arith, small, count)) none refl) (at_set reads_of s.sessions n _ None (omega (arith, small, count)) none refl) fits.locks_are;
-    }
+    })
+    (keeps_answered (c.in-Ok.ensures.keeps fits.newest fits.records s.table s.commits fits.holds))
+
+pub returns-in-Err-clause-serves : goal.returns-in-Err-clause-serves
+returns-in-Err-clause-serves g c = serves_of (works_failed c.in-Err.ensures.works) tt
 
 pub returns-in-Err-clause-asks : goal.returns-in-Err-clause-asks
 returns-in-Err-clause-asks g c = asks_err c.in-Err.stop [] _ _ _ _ c.in-Err.ensures.asks
 
 pub returns-clause-asks : goal.returns-clause-asks
 returns-clause-asks g c = asks_ok c.in-Ok.begin _ [] _ _ _ _ c.in-Ok.ensures.asks
-
-pub returns-in-Err-clause-quiet : goal.returns-in-Err-clause-quiet
-returns-in-Err-clause-quiet g c s fits = c.in-Err.ensures.quiet fits.newest fits.records s.table s.commits fits.holds
-
-pub returns-in-Err-clause-worn_log : goal.returns-in-Err-clause-worn_log
-returns-in-Err-clause-worn_log g c s fits is = c.in-Err.ensures.worn_log fits.newest fits.records s.table s.commits fits.holds (err_again _ _ is)
-
-pub returns-in-Err-clause-numbers : goal.returns-in-Err-clause-numbers
-returns-in-Err-clause-numbers g c s fits quiet = counts_failed c.in-Err.stop c.args.self.now _ _ _ s _ 1 0 (c.in-Err.ensures.numbers fits.newest fits.records s.table s.commits fits.holds quiet) (omega arith)
-
-pub returns-clause-numbers : goal.returns-clause-numbers
-returns-clause-numbers g c s fits quiet = counts_answered c.in-Ok.begin _ c.args.self.now _ _ _ s _ 1 0 (c.in-Ok.ensures.numbers fits.newest fits.records s.table s.commits fits.holds quiet) (omega arith)

@@ -1,6 +1,6 @@
-use Rattle.std.proofs.Common.{ℕ, ◌≤◌, ◌+◌, List, refl, sym, subst, arith}
+use Rattle.std.specs.Prelude.{Ok}
+use Rattle.std.proofs.Common.{ℕ, Err, ◌≤◌, ◌+◌, List, refl, sym, subst, arith}
 use Rattle.site.specs.Laws.{stays_honest}
-use Rattle.site.specs.Moments.{LeavesOnly}
 use Rattle.checkpoint.specs.declared.pairs.Pair.{Pair}
 use Rattle.image_meaning.specs.Flushed.{first_block}
 use Rattle.redo_undo.specs.Holding as both
@@ -9,10 +9,10 @@ use Rattle.redo_undo.specs.Checkpointing.{MayBeMade, begins_of}
 use Rattle.engine.specs.Going.{sizes_of}
 use Rattle.engine.specs.Holding.{HasCheckpoint}
 use Rattle.engine.specs.Leaves.{LeavesTable}
-use Rattle.engine.proofs.Moments.{err_again}
 use Rattle.engine.proofs.Keeping.{LetsGo, lets_go}
 use Rattle.engine.proofs.Checkpoints.{may_be_made, goes_on, fits_after}
-use Rattle.engine.proofs.RingCounts.{counts_answered, counts_failed}
+use Rattle.engine.specs.Calls.{Keeps}
+use Rattle.engine.proofs.Calling.{calls_answered, does_of, keeps_answered, keeps_failed}
 use Rattle.engine.proofs.engine.Engine.carry_out_checkpoint.Goals as goal
 
 pub checkpoint-requires-clause-first : goal.checkpoint-requires-clause-first
@@ -37,81 +37,41 @@ count_from-requires g c =
     let go = subst (LetsGo c.args.self.now) (sym c.unwrap_or-first.ensures) (lets_go c.args.self.now (g.S.Site.state c.args.site.now) c.oldest_born.result c.requires.going c.oldest_born.ensures) in
     record { born = go.early }
 
-pub returns-in-Ok-clause-after : goal.returns-in-Ok-clause-after
-returns-in-Ok-clause-after g c s fits =
+pub returns-in-Ok-clause-does : goal.returns-in-Ok-clause-does
+returns-in-Ok-clause-does g c s fits =
     let engine = c.args.self.now in
     let old = g.S.Site.state c.args.site.now in
     let new = g.S.Site.state c.checkpoint.new.site in
-    let go = subst (LetsGo engine) (sym c.unwrap_or-first.ensures) (lets_go engine old c.oldest_born.result c.requires.going c.oldest_born.ensures) in
     let holds = subst (λ (n : ℕ). both.Holds engine.store.log engine.store.pages old fits.newest fits.records s.table n) (sym fits.counts.commits) fits.holds.both in
     let may = subst (MayBeMade engine.store.masters old fits.records) (sym c.named-named.ensures.named) (may_be_made engine old s fits c.requires.going.table) in
+    let go = subst (LetsGo engine) (sym c.unwrap_or-first.ensures) (lets_go engine old c.oldest_born.result c.requires.going c.oldest_born.ensures) in
     let made = c.in-Ok.ensures.checkpoint fits.newest fits.records s.table holds may in
     let has = subst (λ (n : ℕ). HasCheckpoint c.checkpoint.new.self new fits.records s.table n c.named-named.result) fits.counts.commits made in
-    fits_after c.sessions_outlive.ensures engine _ old new s c.unwrap_or-first.result fits c.requires.going.table go (stays_honest old new c.checkpoint.ensures.goes fits.honest)
-    (subst (HasCheckpoint c.checkpoint.new.self new fits.records s.table s.commits) c.named-named.ensures.named has) c.count_from.ensures.entries c.count_from.ensures.owed c.in-Ok.ensures.made refl refl refl
+    does_of (omega arith)
+    (fits_after c.sessions_outlive.ensures engine _ old new s c.unwrap_or-first.result fits c.requires.going.table go (stays_honest old new c.checkpoint.ensures.calls.goes fits.honest)
+    (subst (HasCheckpoint c.checkpoint.new.self new fits.records s.table s.commits) c.named-named.ensures.named has) c.count_from.ensures.entries c.count_from.ensures.owed c.in-Ok.ensures.made refl refl refl)
+    (keeps_answered (subst (λ (n : ℕ). Keeps {T = Unit {0}} (Ok c.in-Ok.field-0) engine.store c.checkpoint.new.self old new (LeavesTable (sizes_of engine.store) s.table n old.told) 0 1) fits.counts.commits (c.in-Ok.ensures.keeps fits.newest fits.records s.table holds may)))
 
-pub returns-in-Ok-clause-going : goal.returns-in-Ok-clause-going
-returns-in-Ok-clause-going g c =
+pub returns-in-Err-clause-does : goal.returns-in-Err-clause-does
+returns-in-Err-clause-does g c s fits =
+    let engine = c.args.self.now in
+    let old = g.S.Site.state c.args.site.now in
+    let new = g.S.Site.state c.checkpoint.new.site in
+    let holds = subst (λ (n : ℕ). both.Holds engine.store.log engine.store.pages old fits.newest fits.records s.table n) (sym fits.counts.commits) fits.holds.both in
+    let may = subst (MayBeMade engine.store.masters old fits.records) (sym c.named-named.ensures.named) (may_be_made engine old s fits c.requires.going.table) in
+    does_of (omega arith) tt
+    (keeps_failed (subst (λ (n : ℕ). Keeps {T = Unit {0}} (Err c.in-Err.stop) engine.store c.checkpoint.new.self old new (LeavesTable (sizes_of engine.store) s.table n old.told) 0 1) fits.counts.commits (c.in-Err.ensures.keeps fits.newest fits.records s.table holds may)))
+
+pub returns-in-Ok-clause-serves : goal.returns-in-Ok-clause-serves
+returns-in-Ok-clause-serves g c =
     let engine = c.args.self.now in
     let old = g.S.Site.state c.args.site.now in
     let new = g.S.Site.state c.checkpoint.new.site in
     let go = subst (LetsGo engine) (sym c.unwrap_or-first.ensures) (lets_go engine old c.oldest_born.result c.requires.going c.oldest_born.ensures) in
-    goes_on engine _ old new c.unwrap_or-first.result c.requires.going go c.in-Ok.ensures.going c.requires.going.going refl c.checkpoint.ensures.sizes c.count_from.ensures.table
-    c.count_from.ensures.entries c.count_from.ensures.owed c.in-Ok.ensures.made c.in-Ok.ensures.blocks c.in-Ok.ensures.kept c.in-Ok.ensures.end refl
-
-pub returns-in-Ok-clause-any_moment : goal.returns-in-Ok-clause-any_moment
-returns-in-Ok-clause-any_moment g c s fits quiet =
-    let engine = c.args.self.now in
-    let old = g.S.Site.state c.args.site.now in
-    let new = g.S.Site.state c.checkpoint.new.site in
-    let holds = subst (λ (n : ℕ). both.Holds engine.store.log engine.store.pages old fits.newest fits.records s.table n) (sym fits.counts.commits) fits.holds.both in
-    let may = subst (MayBeMade engine.store.masters old fits.records) (sym c.named-named.ensures.named) (may_be_made engine old s fits c.requires.going.table) in
-    subst (λ (n : ℕ). LeavesOnly old new (LeavesTable (sizes_of engine.store) s.table n old.told)) fits.counts.commits (c.checkpoint.ensures.any_moment fits.newest fits.records s.table holds may quiet)
-
-pub returns-in-Err-clause-any_moment : goal.returns-in-Err-clause-any_moment
-returns-in-Err-clause-any_moment g c s fits quiet =
-    let engine = c.args.self.now in
-    let old = g.S.Site.state c.args.site.now in
-    let new = g.S.Site.state c.checkpoint.new.site in
-    let holds = subst (λ (n : ℕ). both.Holds engine.store.log engine.store.pages old fits.newest fits.records s.table n) (sym fits.counts.commits) fits.holds.both in
-    let may = subst (MayBeMade engine.store.masters old fits.records) (sym c.named-named.ensures.named) (may_be_made engine old s fits c.requires.going.table) in
-    subst (λ (n : ℕ). LeavesOnly old new (LeavesTable (sizes_of engine.store) s.table n old.told)) fits.counts.commits (c.checkpoint.ensures.any_moment fits.newest fits.records s.table holds may quiet)
-
-pub returns-in-Err-clause-quiet : goal.returns-in-Err-clause-quiet
-returns-in-Err-clause-quiet g c s fits quiet =
-    let engine = c.args.self.now in
-    let old = g.S.Site.state c.args.site.now in
-    let holds = subst (λ (n : ℕ). both.Holds engine.store.log engine.store.pages old fits.newest fits.records s.table n) (sym fits.counts.commits) fits.holds.both in
-    c.in-Err.ensures.quiet fits.newest fits.records s.table holds quiet
-
-pub returns-in-Err-clause-worn_log : goal.returns-in-Err-clause-worn_log
-returns-in-Err-clause-worn_log g c s fits is =
-    let engine = c.args.self.now in
-    let old = g.S.Site.state c.args.site.now in
-    let holds = subst (λ (n : ℕ). both.Holds engine.store.log engine.store.pages old fits.newest fits.records s.table n) (sym fits.counts.commits) fits.holds.both in
-    let may = subst (MayBeMade engine.store.masters old fits.records) (sym c.named-named.ensures.named) (may_be_made engine old s fits c.requires.going.table) in
-    c.in-Err.ensures.worn_log fits.newest fits.records s.table holds may (err_again _ _ is)
-
-pub returns-in-Err-clause-worn : goal.returns-in-Err-clause-worn
-returns-in-Err-clause-worn g c s fits is =
-    let engine = c.args.self.now in
-    let old = g.S.Site.state c.args.site.now in
-    let holds = subst (λ (n : ℕ). both.Holds engine.store.log engine.store.pages old fits.newest fits.records s.table n) (sym fits.counts.commits) fits.holds.both in
-    let may = subst (MayBeMade engine.store.masters old fits.records) (sym c.named-named.ensures.named) (may_be_made engine old s fits c.requires.going.table) in
-    c.in-Err.ensures.worn fits.newest fits.records s.table holds may (err_again _ _ is)
-
-pub returns-in-Ok-clause-numbers : goal.returns-in-Ok-clause-numbers
-returns-in-Ok-clause-numbers g c s fits quiet =
-    let engine = c.args.self.now in
-    let old = g.S.Site.state c.args.site.now in
-    let holds = subst (λ (n : ℕ). both.Holds engine.store.log engine.store.pages old fits.newest fits.records s.table n) (sym fits.counts.commits) fits.holds.both in
-    let may = subst (MayBeMade engine.store.masters old fits.records) (sym c.named-named.ensures.named) (may_be_made engine old s fits c.requires.going.table) in
-    counts_answered c.in-Ok.field-0 tt engine _ _ _ s _ 0 1 (c.in-Ok.ensures.numbers fits.newest fits.records s.table holds may quiet) (omega arith)
-
-pub returns-in-Err-clause-numbers : goal.returns-in-Err-clause-numbers
-returns-in-Err-clause-numbers g c s fits quiet =
-    let engine = c.args.self.now in
-    let old = g.S.Site.state c.args.site.now in
-    let holds = subst (λ (n : ℕ). both.Holds engine.store.log engine.store.pages old fits.newest fits.records s.table n) (sym fits.counts.commits) fits.holds.both in
-    let may = subst (MayBeMade engine.store.masters old fits.records) (sym c.named-named.ensures.named) (may_be_made engine old s fits c.requires.going.table) in
-    counts_failed c.in-Err.stop engine _ _ _ s _ 0 1 (c.in-Err.ensures.numbers fits.newest fits.records s.table holds may quiet) (omega arith)
+    record {
+      calls = calls_answered c.in-Ok.ensures.calls;
+      going = goes_on engine _ old new c.unwrap_or-first.result c.requires.going go c.in-Ok.ensures.going c.requires.going.going refl c.checkpoint.ensures.sizes c.count_from.ensures.table
+          c.count_from.ensures.entries c.count_from.ensures.owed c.in-Ok.ensures.made c.in-Ok.ensures.blocks c.in-Ok.ensures.kept c.in-Ok.ensures.end refl;
+      sizes = c.checkpoint.ensures.sizes;
+      stops = tt;
+    }

@@ -9,17 +9,10 @@ use Rattle.record_model.specs.Step.{found}
 use Rattle.engine.specs.declared.engine.Engine.{Engine}
 use Rattle.engine.specs.Going.{sizes_of}
 use Rattle.engine.specs.Fits.{Fits}
-use Rattle.engine.proofs.Moments.{err_again}
 use Rattle.engine.proofs.Meanings.{busy_read_is, got_is}
 use Rattle.engine.proofs.Writes.{touched_fits}
-use Rattle.engine.proofs.RingCounts.{counts_answered, counts_failed}
+use Rattle.engine.proofs.Calling.{does_of, keeps_failed, keeps_answered, serves_of, works_failed}
 use Rattle.engine.proofs.engine.Engine.carry_out_get.Goals as goal
-
-pub returns-in-Ok-clause-any_moment : goal.returns-in-Ok-clause-any_moment
-returns-in-Ok-clause-any_moment g c s fits = c.touch.ensures.any_moment fits.newest fits.records s.table s.commits fits.holds
-
-pub returns-in-Err-clause-any_moment : goal.returns-in-Err-clause-any_moment
-returns-in-Err-clause-any_moment g c s fits = c.touch.ensures.any_moment fits.newest fits.records s.table s.commits fits.holds
 
 pub returns-in-Ok-clause-reply : goal.returns-in-Ok-clause-reply
 returns-in-Ok-clause-reply g c s fits =
@@ -29,47 +22,29 @@ returns-in-Ok-clause-reply g c s fits =
     let number = c.args.number in
     let holds = c.in-Ok.ensures.holds fits.newest fits.records s.table s.commits fits.holds in
     let mid : Engine = record engine { store = c.touch.new.self } in
-    let fits_mid : Fits mid new s = touched_fits engine c.touch.new.self old new s fits (stays_honest old new c.touch.ensures.goes fits.honest) holds c.touch.ensures.made in
-    let same = ap (λ (x : Geometry). x.pages) c.touch.ensures.sizes in
+    let fits_mid : Fits mid new s = touched_fits engine c.touch.new.self old new s fits (stays_honest old new c.touch.ensures.works.calls.goes fits.honest) holds c.touch.ensures.made in
+    let same = ap (λ (x : Geometry). x.pages) c.touch.ensures.works.sizes in
     let some = c.requires.number in
     let less : number < 32 * (sizes_of c.touch.new.self).pages = omega (arith, same, some) in
     let free : model.busy_read s None number ≡ None = sym (busy_read_is engine.locks s fits.locks_are None number) ∙ c.requires.free in
     c.found.ensures ∙ ap found (c.shown.ensures.shown new fits.newest fits.records s.table s.commits holds ∙ sym (got_is mid new s fits_mid number c.requires.going.table less free))
 
-pub returns-in-Ok-clause-after : goal.returns-in-Ok-clause-after
-returns-in-Ok-clause-after g c s fits =
-    let engine = c.args.self.now in
+pub returns-in-Err-clause-does : goal.returns-in-Err-clause-does
+returns-in-Err-clause-does g c s fits = does_of (omega arith) tt (keeps_failed (c.in-Err.ensures.keeps fits.newest fits.records s.table s.commits fits.holds))
+
+pub returns-in-Ok-clause-does : goal.returns-in-Ok-clause-does
+returns-in-Ok-clause-does g c s fits =
     let old = g.S.Site.state c.args.site.now in
     let new = g.S.Site.state c.touch.new.site in
-    let number = c.args.number in
     let holds = c.in-Ok.ensures.holds fits.newest fits.records s.table s.commits fits.holds in
-    let mid : Engine = record engine { store = c.touch.new.self } in
-    let fits_mid : Fits mid new s = touched_fits engine c.touch.new.self old new s fits (stays_honest old new c.touch.ensures.goes fits.honest) holds c.touch.ensures.made in
-    let same = ap (λ (x : Geometry). x.pages) c.touch.ensures.sizes in
-    let some = c.requires.number in
-    let less : number < 32 * (sizes_of c.touch.new.self).pages = omega (arith, same, some) in
-    fits_mid
+    does_of (omega arith) (touched_fits c.args.self.now c.touch.new.self old new s fits (stays_honest old new c.touch.ensures.works.calls.goes fits.honest) holds c.touch.ensures.made)
+    (keeps_answered (c.in-Ok.ensures.keeps fits.newest fits.records s.table s.commits fits.holds))
 
-pub returns-in-Err-clause-quiet : goal.returns-in-Err-clause-quiet
-returns-in-Err-clause-quiet g c s fits = c.in-Err.ensures.quiet fits.newest fits.records s.table s.commits fits.holds
-
-pub returns-in-Err-clause-foreign : goal.returns-in-Err-clause-foreign
-returns-in-Err-clause-foreign g c is s fits = c.in-Err.ensures.readable fits.newest fits.records s.table s.commits fits.holds (err_again _ _ is)
-
-pub returns-in-Err-clause-worn : goal.returns-in-Err-clause-worn
-returns-in-Err-clause-worn g c s fits is = c.in-Err.ensures.worn fits.newest fits.records s.table s.commits fits.holds (err_again _ _ is)
+pub returns-in-Err-clause-serves : goal.returns-in-Err-clause-serves
+returns-in-Err-clause-serves g c = serves_of (works_failed c.in-Err.ensures.works) tt
 
 pub returns-in-Err-clause-asks : goal.returns-in-Err-clause-asks
 returns-in-Err-clause-asks g c = asks_err c.in-Err.stop (one_touch (c.args.number / 32)) _ _ _ _ c.in-Err.ensures.asks
 
 pub returns-in-Ok-clause-asks : goal.returns-in-Ok-clause-asks
 returns-in-Ok-clause-asks g c = asks_ok c.in-Ok.field-0 _ (one_touch (c.args.number / 32)) _ _ _ _ c.in-Ok.ensures.asks
-
-pub returns-in-Err-clause-worn_log : goal.returns-in-Err-clause-worn_log
-returns-in-Err-clause-worn_log g c s fits is = c.in-Err.ensures.worn_log fits.newest fits.records s.table s.commits fits.holds (err_again _ _ is)
-
-pub returns-in-Err-clause-numbers : goal.returns-in-Err-clause-numbers
-returns-in-Err-clause-numbers g c s fits quiet = counts_failed c.in-Err.stop c.args.self.now _ _ _ s _ 0 0 (c.in-Err.ensures.numbers fits.newest fits.records s.table s.commits fits.holds quiet) (omega arith)
-
-pub returns-in-Ok-clause-numbers : goal.returns-in-Ok-clause-numbers
-returns-in-Ok-clause-numbers g c s fits quiet = counts_answered c.in-Ok.field-0 _ c.args.self.now _ _ _ s _ 0 0 (c.in-Ok.ensures.numbers fits.newest fits.records s.table s.commits fits.holds quiet) (omega arith)

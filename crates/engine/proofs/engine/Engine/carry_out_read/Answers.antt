@@ -9,24 +9,11 @@ use Rattle.record_model.specs.State.{Content}
 use Rattle.engine.specs.declared.engine.Engine.{Engine}
 use Rattle.engine.specs.Going.{sizes_of}
 use Rattle.engine.specs.Fits.{Fits}
-use Rattle.engine.proofs.Moments.{err_again}
 use Rattle.engine.proofs.Meanings.{busy_read_is, seen_is}
 use Rattle.engine.proofs.Replies.{has}
 use Rattle.engine.proofs.Writes.{read_fits, touched_fits}
-use Rattle.engine.proofs.RingCounts.{counts_answered, counts_failed, counts_refused}
+use Rattle.engine.proofs.Calling.{does_of, keeps_failed, keeps_answered, keeps_no_memory, serves_of, works_failed, works_answered, works_no_memory}
 use Rattle.engine.proofs.engine.Engine.carry_out_read.Goals as goal
-
-pub returns-in-Ok-add-clause-any_moment : goal.returns-in-Ok-add-clause-any_moment
-returns-in-Ok-add-clause-any_moment g c s fits = c.touch.ensures.any_moment fits.newest fits.records s.table s.commits fits.holds
-
-pub returns-in-Err-clause-any_moment : goal.returns-in-Err-clause-any_moment
-returns-in-Err-clause-any_moment g c s fits = c.touch.ensures.any_moment fits.newest fits.records s.table s.commits fits.holds
-
-pub returns-in-Err-add-clause-any_moment : goal.returns-in-Err-add-clause-any_moment
-returns-in-Err-add-clause-any_moment g c s fits = c.touch.ensures.any_moment fits.newest fits.records s.table s.commits fits.holds
-
-pub returns-in-Err-add-clause-quiet : goal.returns-in-Err-add-clause-quiet
-returns-in-Err-add-clause-quiet g c s fits quiet = λ other. c.in-Ok.ensures.stays_quiet fits.honest quiet
 
 pub returns-in-Ok-add-clause-content : goal.returns-in-Ok-add-clause-content
 returns-in-Ok-add-clause-content g c s fits =
@@ -36,8 +23,8 @@ returns-in-Ok-add-clause-content g c s fits =
     let number = c.args.number in
     let holds = c.in-Ok.ensures.holds fits.newest fits.records s.table s.commits fits.holds in
     let mid : Engine = record engine { store = c.touch.new.self } in
-    let fits_mid : Fits mid new s = touched_fits engine c.touch.new.self old new s fits (stays_honest old new c.touch.ensures.goes fits.honest) holds c.touch.ensures.made in
-    let same = ap (λ (x : Geometry). x.pages) c.touch.ensures.sizes in
+    let fits_mid : Fits mid new s = touched_fits engine c.touch.new.self old new s fits (stays_honest old new c.touch.ensures.works.calls.goes fits.honest) holds c.touch.ensures.made in
+    let same = ap (λ (x : Geometry). x.pages) c.touch.ensures.works.sizes in
     let some = c.requires.number in
     let less : number < 32 * (sizes_of c.touch.new.self).pages = omega (arith, same, some) in
     let n = c.args.session in
@@ -45,29 +32,54 @@ returns-in-Ok-add-clause-content g c s fits =
     let free : model.busy_read s (Some n) number ≡ None = sym (busy_read_is engine.locks s fits.locks_are (Some n) number) ∙ c.requires.free in
     c.shown.ensures.shown new fits.newest fits.records s.table s.commits holds ∙ sym (seen_is mid new s fits_mid n number own.own c.requires.going.table less own.is free)
 
-pub returns-in-Ok-add-clause-after : goal.returns-in-Ok-add-clause-after
-returns-in-Ok-add-clause-after g c s fits =
+pub returns-in-Err-clause-does : goal.returns-in-Err-clause-does
+returns-in-Err-clause-does g c s fits = does_of (omega arith) tt (keeps_failed (c.in-Err.ensures.keeps fits.newest fits.records s.table s.commits fits.holds))
+
+pub returns-in-Err-add-clause-does : goal.returns-in-Err-add-clause-does
+returns-in-Err-add-clause-does g c s fits = does_of (omega arith) tt (keeps_no_memory fits.honest c.in-Ok.ensures.works (c.in-Ok.ensures.keeps fits.newest fits.records s.table s.commits fits.holds))
+
+pub returns-in-Ok-add-clause-does : goal.returns-in-Ok-add-clause-does
+returns-in-Ok-add-clause-does g c s fits =
     let engine = c.args.self.now in
     let old = g.S.Site.state c.args.site.now in
     let new = g.S.Site.state c.touch.new.site in
     let number = c.args.number in
     let holds = c.in-Ok.ensures.holds fits.newest fits.records s.table s.commits fits.holds in
     let mid : Engine = record engine { store = c.touch.new.self } in
-    let fits_mid : Fits mid new s = touched_fits engine c.touch.new.self old new s fits (stays_honest old new c.touch.ensures.goes fits.honest) holds c.touch.ensures.made in
-    let same = ap (λ (x : Geometry). x.pages) c.touch.ensures.sizes in
+    let fits_mid : Fits mid new s = touched_fits engine c.touch.new.self old new s fits (stays_honest old new c.touch.ensures.works.calls.goes fits.honest) holds c.touch.ensures.made in
+    let same = ap (λ (x : Geometry). x.pages) c.touch.ensures.works.sizes in
     let some = c.requires.number in
     let less : number < 32 * (sizes_of c.touch.new.self).pages = omega (arith, same, some) in
     let own = has _ c.requires.active in
-    read_fits mid c.add.new.self new s c.args.session number own.own fits_mid c.requires.going.table own.is c.in-Ok-add.ensures.ok
+    does_of (omega arith) (read_fits mid c.add.new.self new s c.args.session number own.own fits_mid c.requires.going.table own.is c.in-Ok-add.ensures.ok)
+    (keeps_answered (c.in-Ok.ensures.keeps fits.newest fits.records s.table s.commits fits.holds))
 
-pub returns-in-Err-clause-quiet : goal.returns-in-Err-clause-quiet
-returns-in-Err-clause-quiet g c s fits = c.in-Err.ensures.quiet fits.newest fits.records s.table s.commits fits.holds
+pub returns-in-Err-clause-serves : goal.returns-in-Err-clause-serves
+returns-in-Err-clause-serves g c = serves_of (works_failed c.in-Err.ensures.works) tt
 
-pub returns-in-Err-clause-foreign : goal.returns-in-Err-clause-foreign
-returns-in-Err-clause-foreign g c is s fits = c.in-Err.ensures.readable fits.newest fits.records s.table s.commits fits.holds (err_again _ _ is)
+pub returns-in-Err-add-clause-serves : goal.returns-in-Err-add-clause-serves
+returns-in-Err-add-clause-serves g c = serves_of (works_no_memory c.in-Ok.ensures.works) tt
 
-pub returns-in-Err-clause-worn : goal.returns-in-Err-clause-worn
-returns-in-Err-clause-worn g c s fits is = c.in-Err.ensures.worn fits.newest fits.records s.table s.commits fits.holds (err_again _ _ is)
+pub returns-in-Ok-add-clause-serves : goal.returns-in-Ok-add-clause-serves
+returns-in-Ok-add-clause-serves g c =
+    let going = c.requires.going in
+    let blocks = c.in-Ok.ensures.blocks in
+    let made = c.touch.ensures.made in
+    let kept = c.touch.ensures.works.kept in
+    let rises = c.in-Ok.ensures.works.rises in
+    serves_of (works_answered c.in-Ok.ensures.works) (record {
+      store = c.in-Ok.ensures.works.going;
+      going = going.going;
+      cap = going.cap ∙ ap (λ (x : Geometry). x.blocks) (sym c.touch.ensures.works.sizes);
+      table = going.table;
+      room = let room = going.room in omega (arith, blocks, room, kept);
+      since = λ n entry at. let since = going.since n entry at in omega (arith, blocks, made, since);
+      bounded = let bounded = going.bounded in omega (arith, bounded, made);
+      budget = let budget = going.budget in omega (arith, budget, made);
+      commits = let commits = going.commits in omega (arith, commits, rises);
+      lasts = λ n entry at. let lasts = going.lasts n entry at in (lasts.0, omega (arith, lasts.1, rises));
+      differ = going.differ;
+    })
 
 pub returns-in-Err-clause-asks : goal.returns-in-Err-clause-asks
 returns-in-Err-clause-asks g c = asks_err c.in-Err.stop (one_touch (c.args.number / 32)) _ _ _ _ c.in-Err.ensures.asks
@@ -77,36 +89,3 @@ returns-in-Err-add-clause-asks g c = asks_fails c.in-Ok.field-0 Memory (one_touc
 
 pub returns-in-Ok-add-clause-asks : goal.returns-in-Ok-add-clause-asks
 returns-in-Ok-add-clause-asks g c = asks_ok c.in-Ok.field-0 _ (one_touch (c.args.number / 32)) _ _ _ _ c.in-Ok.ensures.asks
-
-pub returns-in-Err-clause-worn_log : goal.returns-in-Err-clause-worn_log
-returns-in-Err-clause-worn_log g c s fits is = c.in-Err.ensures.worn_log fits.newest fits.records s.table s.commits fits.holds (err_again _ _ is)
-
-pub returns-in-Ok-add-clause-going : goal.returns-in-Ok-add-clause-going
-returns-in-Ok-add-clause-going g c =
-    let going = c.requires.going in
-    let blocks = c.in-Ok.ensures.blocks in
-    let made = c.touch.ensures.made in
-    let kept = c.touch.ensures.kept in
-    let rises = c.in-Ok.ensures.rises in
-    record {
-      store = c.in-Ok.ensures.going;
-      going = going.going;
-      cap = going.cap ∙ ap (λ (x : Geometry). x.blocks) (sym c.touch.ensures.sizes);
-      table = going.table;
-      room = let room = going.room in omega (arith, blocks, room, kept);
-      since = λ n entry at. let since = going.since n entry at in omega (arith, blocks, made, since);
-      bounded = let bounded = going.bounded in omega (arith, bounded, made);
-      budget = let budget = going.budget in omega (arith, budget, made);
-      commits = let commits = going.commits in omega (arith, commits, rises);
-      lasts = λ n entry at. let lasts = going.lasts n entry at in (lasts.0, omega (arith, lasts.1, rises));
-      differ = going.differ;
-    }
-
-pub returns-in-Err-clause-numbers : goal.returns-in-Err-clause-numbers
-returns-in-Err-clause-numbers g c s fits quiet = counts_failed c.in-Err.stop c.args.self.now _ _ _ s _ 0 0 (c.in-Err.ensures.numbers fits.newest fits.records s.table s.commits fits.holds quiet) (omega arith)
-
-pub returns-in-Err-add-clause-numbers : goal.returns-in-Err-add-clause-numbers
-returns-in-Err-add-clause-numbers g c s fits quiet = counts_refused c.in-Ok.field-0 Memory c.args.self.now _ _ _ s _ 0 0 (c.in-Ok.ensures.numbers fits.newest fits.records s.table s.commits fits.holds quiet) (omega arith)
-
-pub returns-in-Ok-add-clause-numbers : goal.returns-in-Ok-add-clause-numbers
-returns-in-Ok-add-clause-numbers g c s fits quiet = counts_answered c.in-Ok.field-0 _ c.args.self.now _ _ _ s _ 0 0 (c.in-Ok.ensures.numbers fits.newest fits.records s.table s.commits fits.holds quiet) (omega arith)

@@ -1,22 +1,22 @@
-use Rattle.image_meaning.proofs.Leaving.{under_leaves_for}
-use Rattle.engine.proofs.Asking.{asks_same, asks_nothing}
-use Rattle.std.proofs.Common.{◌≡◌, ℕ, [], Some, inl, refl, sym, ap, subst, ◌∙◌, arith}
-use Rattle.site.specs.Moments.{LeavesOnly}
-use Rattle.site.specs.Laws.{leaves_weaker}
+use Rattle.std.proofs.Common.{◌≡◌, ℕ, Some, refl, sym, ap, subst, ◌∙◌, arith}
+use Rattle.std.specs.Prelude.{Result}
+use Rattle.site.specs.declared.outside.Stop.{Stop}
 use Rattle.site.specs.State.{State as Site}
 use Rattle.record_model.specs.State.{State}
-use Rattle.record_model.specs.Step.{Outcome, effect}
+use Rattle.record_model.specs.Step.{effect}
+use Rattle.record_model.specs.declared.words.Reply.{Reply}
 use Rattle.record_model.specs.declared.words.Command.TheVariants.{Commit}
 use Rattle.txn_table.specs.declared.active.Active.{Active}
 use Rattle.txn_table.specs.Entries.{entry_of}
 use Rattle.engine.specs.declared.engine.Engine.{Engine}
 use Rattle.engine.specs.Going.{sizes_of}
 use Rattle.engine.specs.Fits.{Fits, IsCarriedOut}
-use Rattle.engine.specs.Leaves.{LeavesTable, LeavesEither}
+use Rattle.engine.specs.Leaves.{LeavesEither}
+use Rattle.engine.specs.Calls.{Does}
 use Rattle.engine.proofs.Actives.{some_active}
 use Rattle.engine.proofs.Owing.{entry_is}
 use Rattle.engine.proofs.Replies.{carried_out, wants_active_is, refused_session}
-use Rattle.engine.proofs.RingCounts.{count_none, count_known, count_failed, count_same}
+use Rattle.engine.proofs.Calling.{answered_as, does_nothing, does_weaker, does_failed, asks_rest, early, still}
 use Rattle.engine.proofs.engine.Engine.commit.Goals as goal
 
 runs : (engine : Engine) (site : Site) (s : State) (n : ℕ) (entry : Active) → Fits engine site s → entry_of engine.active n ≡ Some entry → IsCarriedOut s (Commit n)
@@ -24,81 +24,27 @@ runs engine site s n entry fits at =
     let found = some_active fits.newest fits.records engine.active s fits.sessions n entry at in
     carried_out s (Commit n) (wants_active_is s n found.session found.is) refl
 
-pub returns-in_default-clause-any_moment : goal.returns-in_default-clause-any_moment
-returns-in_default-clause-any_moment g c s fits quiet =
-    let old = g.S.Site.state c.args.site.now in
-    let g0 = (sizes_of c.args.self.now.store) in
-    leaves_weaker old old (LeavesTable g0 s.table s.commits old.told) (LeavesEither g0 s _ old.told) (λ snapshot q. record { told = q.told; stands = inl q.stands })
-    (under_leaves_for fits.newest _ _ _ s.table s.commits _ (c.hold_together.ensures.moment c.args.self.now.store.log c.args.self.now.store.pages old fits.newest fits.records s.table s.commits c.requires.going.store.both.sizes fits.holds.both quiet))
+of_session : {r : Result Reply Stop} {old new : Engine} {before now : Site} {s : State} (n k : ℕ) → n ≡ k → Does r old new before now s (effect s (Commit n)) (LeavesEither (sizes_of old.store) s (effect s (Commit n)) before.told) 0 →
+    Does r old new before now s (effect s (Commit k)) (LeavesEither (sizes_of old.store) s (effect s (Commit k)) before.told) 0
+of_session {r = r} {old = old} {new = new} {before = before} {now = now} {s = s} n k same does = subst (λ (j : ℕ). Does r old new before now s (effect s (Commit j)) (LeavesEither (sizes_of old.store) s (effect s (Commit j)) before.told) 0) same does
 
 pub carry_out_commit-requires-clause-active : goal.carry_out_commit-requires-clause-active
 carry_out_commit-requires-clause-active g c =
     let at = sym c.find.ensures.entry ∙ c.in-Some.is in
     ap (entry_of c.args.self.now.active) (entry_is c.args.self.now.active c.args.session c.in-Some.entry c.requires.going.table at).session ∙ at
 
-pub returns-in-Ok-clause-reply : goal.returns-in-Ok-clause-reply
-returns-in-Ok-clause-reply g c s fits =
-    c.in-Ok.ensures.done s fits ∙ sym (ap (λ (o : Outcome). o.reply) (runs c.args.self.now (g.S.Site.state c.args.site.now) s c.args.session c.in-Some.entry fits (sym c.find.ensures.entry ∙ c.in-Some.is)).0)
-
-pub returns-in-Ok-clause-after : goal.returns-in-Ok-clause-after
-returns-in-Ok-clause-after g c s fits =
-    let at = sym c.find.ensures.entry ∙ c.in-Some.is in
-    let new = g.S.Site.state c.carry_out_commit.new.site in
-    let same = (entry_is c.args.self.now.active c.args.session c.in-Some.entry c.requires.going.table at).session in
-    subst (λ (o : Outcome). Fits c.carry_out_commit.new.self new o.after) (sym (runs c.args.self.now (g.S.Site.state c.args.site.now) s c.args.session c.in-Some.entry fits at).0)
-    (subst (λ (k : ℕ). Fits c.carry_out_commit.new.self new (effect s (Commit k))) same (c.in-Ok.ensures.after s fits))
-
-pub returns-in-Ok-clause-any_moment : goal.returns-in-Ok-clause-any_moment
-returns-in-Ok-clause-any_moment g c s fits quiet =
-    let at = sym c.find.ensures.entry ∙ c.in-Some.is in
+pub returns-in_default-clause-answers : goal.returns-in_default-clause-answers
+returns-in_default-clause-answers g c s fits =
     let old = g.S.Site.state c.args.site.now in
-    let new = g.S.Site.state c.carry_out_commit.new.site in
-    let g0 = (sizes_of c.args.self.now.store) in
-    let same = (entry_is c.args.self.now.active c.args.session c.in-Some.entry c.requires.going.table at).session in
-    subst (λ (o : Outcome). LeavesOnly old new (LeavesEither g0 s o.after old.told)) (sym (runs c.args.self.now old s c.args.session c.in-Some.entry fits at).0)
-    (subst (λ (k : ℕ). LeavesOnly old new (LeavesEither g0 s (effect s (Commit k)) old.told)) same (c.carry_out_commit.ensures.any_moment s fits quiet))
+    answered_as (λ o. LeavesEither (sizes_of c.args.self.now.store) s o.after old.told) (refused_session c.args.self.now old s (Commit c.args.session) c.args.session fits (sym c.find.ensures.entry ∙ c.in_default.is) refl)
+    (does_weaker (early (sizes_of c.args.self.now.store) s s old.told) (does_nothing fits c.requires.going (still c.hold_together.ensures.moment fits c.requires.going))) refl asks_rest
 
-pub returns-in-Err-clause-any_moment : goal.returns-in-Err-clause-any_moment
-returns-in-Err-clause-any_moment g c s fits quiet =
-    let at = sym c.find.ensures.entry ∙ c.in-Some.is in
+pub returns-in-Ok-clause-answers : goal.returns-in-Ok-clause-answers
+returns-in-Ok-clause-answers g c s fits =
     let old = g.S.Site.state c.args.site.now in
-    let new = g.S.Site.state c.carry_out_commit.new.site in
-    let g0 = (sizes_of c.args.self.now.store) in
-    let same = (entry_is c.args.self.now.active c.args.session c.in-Some.entry c.requires.going.table at).session in
-    subst (λ (o : Outcome). LeavesOnly old new (LeavesEither g0 s o.after old.told)) (sym (runs c.args.self.now old s c.args.session c.in-Some.entry fits at).0)
-    (subst (λ (k : ℕ). LeavesOnly old new (LeavesEither g0 s (effect s (Commit k)) old.told)) same (c.carry_out_commit.ensures.any_moment s fits quiet))
+    answered_as (λ o. LeavesEither (sizes_of c.args.self.now.store) s o.after old.told) (runs c.args.self.now old s c.args.session c.in-Some.entry fits (sym c.find.ensures.entry ∙ c.in-Some.is)) (of_session _ _ (entry_is c.args.self.now.active c.args.session c.in-Some.entry c.requires.going.table (sym c.find.ensures.entry ∙ c.in-Some.is)).session (c.in-Ok.ensures.does s fits)) (c.in-Ok.ensures.done s fits) c.in-Ok.ensures.asks
 
-pub returns-in_default-clause-asks : goal.returns-in_default-clause-asks
-returns-in_default-clause-asks g c s fits =
-    let none = sym c.find.ensures.entry ∙ c.in_default.is in
-    asks_same _ _ [] _ _ _ _ (refused_session c.args.self.now (g.S.Site.state c.args.site.now) s (Commit c.args.session) c.args.session fits none refl).1 (asks_nothing _ c.args.self.now.store.pages _ _ (λ dev. refl) (λ is. cc))
-
-pub returns-in-Ok-clause-asks : goal.returns-in-Ok-clause-asks
-returns-in-Ok-clause-asks g c s fits =
-    let at = sym c.find.ensures.entry ∙ c.in-Some.is in
-    asks_same _ _ [] _ _ _ _ (runs c.args.self.now (g.S.Site.state c.args.site.now) s c.args.session c.in-Some.entry fits at).1 c.in-Ok.ensures.asks
-
-pub returns-in-Err-clause-asks : goal.returns-in-Err-clause-asks
-returns-in-Err-clause-asks g c s fits =
-    let at = sym c.find.ensures.entry ∙ c.in-Some.is in
-    asks_same _ _ [] _ _ _ _ (runs c.args.self.now (g.S.Site.state c.args.site.now) s c.args.session c.in-Some.entry fits at).1 c.in-Err.ensures.asks
-
-pub returns-in_default-clause-numbers : goal.returns-in_default-clause-numbers
-returns-in_default-clause-numbers g c s fits quiet =
-    let none = sym c.find.ensures.entry ∙ c.in_default.is in
-    count_none _ c.args.self.now (g.S.Site.state c.args.site.now) s _ _ fits c.requires.going (refused_session c.args.self.now (g.S.Site.state c.args.site.now) s (Commit c.args.session) c.args.session fits none refl).0
-
-pub returns-in-Ok-clause-numbers : goal.returns-in-Ok-clause-numbers
-returns-in-Ok-clause-numbers g c s fits quiet =
-    let at = sym c.find.ensures.entry ∙ c.in-Some.is in
-    let same = (entry_is c.args.self.now.active c.args.session c.in-Some.entry c.requires.going.table at).session in
-    count_known _ _ _ _ _ s _ _ 0 (runs c.args.self.now (g.S.Site.state c.args.site.now) s c.args.session c.in-Some.entry fits at).0
-    (count_same _ _ _ _ _ s (effect s (Commit c.in-Some.entry.session)) (effect s (Commit c.args.session)) 0 (ap (λ (k : ℕ). (effect s (Commit k)).made) same) (c.in-Ok.ensures.numbers s fits quiet))
-
-pub returns-in-Err-clause-numbers : goal.returns-in-Err-clause-numbers
-returns-in-Err-clause-numbers g c s fits quiet =
-    let at = sym c.find.ensures.entry ∙ c.in-Some.is in
-    let same = (entry_is c.args.self.now.active c.args.session c.in-Some.entry c.requires.going.table at).session in
-    let made = ap (λ (k : ℕ). (effect s (Commit k)).made) same in
-    count_known _ _ _ _ _ s _ _ 0 (runs c.args.self.now (g.S.Site.state c.args.site.now) s c.args.session c.in-Some.entry fits at).0
-    (count_failed c.in-Err.stop _ c.carry_out_commit.new.self _ _ _ s (effect s (Commit c.in-Some.entry.session)) (effect s (Commit c.args.session)) 0 (omega (arith, made)) (c.in-Err.ensures.numbers s fits quiet))
+pub returns-in-Err-clause-answers : goal.returns-in-Err-clause-answers
+returns-in-Err-clause-answers g c s fits =
+    let old = g.S.Site.state c.args.site.now in
+    answered_as (λ o. LeavesEither (sizes_of c.args.self.now.store) s o.after old.told) (runs c.args.self.now old s c.args.session c.in-Some.entry fits (sym c.find.ensures.entry ∙ c.in-Some.is)) (of_session _ _ (entry_is c.args.self.now.active c.args.session c.in-Some.entry c.requires.going.table (sym c.find.ensures.entry ∙ c.in-Some.is)).session (does_failed (omega arith) (c.in-Err.ensures.does s fits))) tt c.in-Err.ensures.asks

@@ -1,53 +1,27 @@
-use Rattle.image_meaning.proofs.Leaving.{under_leaves_for}
+use Rattle.std.proofs.Common.{refl, ap, ◌∙◌, arith, true}
+use Rattle.record_model.specs.Step.{found}
 use Rattle.engine.proofs.Moments.{err_again}
-use Rattle.engine.proofs.Asking.{asks_same, asks_nothing, asks_ok, asks_err}
-use Rattle.std.proofs.Common.{sym, ap, subst, ◌∙◌, [], refl, arith}
-use Rattle.record_model.specs.Step.{Outcome, found}
-use Rattle.engine.specs.Fits.{Fits}
-use Rattle.engine.proofs.RingCounts.{count_none, count_known, count_failed, count_answered}
+use Rattle.engine.proofs.Asking.{asks_ok, asks_err}
+use Rattle.engine.proofs.Calling.{answered, does_nothing, does_answered, does_failed, asks_rest, still, serves_answered, serves_ended}
 use Rattle.engine.proofs.engine.Engine.read.Goals as goal
 
-pub returns-in-Some-clause-reply : goal.returns-in-Some-clause-reply
-returns-in-Some-clause-reply g c s fits = sym (ap (λ (o : Outcome). o.reply) (c.in-Some.ensures.refused s (g.S.Site.state c.args.site.now) fits).0)
+pub returns-in-Some-clause-answers : goal.returns-in-Some-clause-answers
+returns-in-Some-clause-answers g c s fits =
+    answered (c.in-Some.ensures.refused s (g.S.Site.state c.args.site.now) fits) (does_nothing fits c.requires.going (still c.hold_together.ensures.moment fits c.requires.going)) refl asks_rest
 
-pub returns-in-Some-clause-any_moment : goal.returns-in-Some-clause-any_moment
-returns-in-Some-clause-any_moment g c s fits = λ quiet. under_leaves_for fits.newest _ _ _ s.table s.commits _ (c.hold_together.ensures.moment c.args.self.now.store.log c.args.self.now.store.pages (g.S.Site.state c.args.site.now) fits.newest fits.records s.table s.commits c.requires.going.store.both.sizes fits.holds.both quiet)
+pub returns-in-Ok-clause-answers : goal.returns-in-Ok-clause-answers
+returns-in-Ok-clause-answers g c s fits =
+    answered (c.in_default.ensures.accepted s (g.S.Site.state c.args.site.now) fits) (does_answered (c.in-Ok.ensures.does s fits)) (c.found.ensures ∙ ap found (c.in-Ok.ensures.content s fits)) (asks_ok c.in-Ok.content _ _ _ _ _ _ c.in-Ok.ensures.asks)
 
-pub returns-in-Ok-clause-reply : goal.returns-in-Ok-clause-reply
-returns-in-Ok-clause-reply g c s fits =
-    c.found.ensures ∙ ap found (c.in-Ok.ensures.content s fits) ∙ sym (ap (λ (o : Outcome). o.reply) (c.in_default.ensures.accepted s (g.S.Site.state c.args.site.now) fits).0)
+pub returns-in-Err-clause-answers : goal.returns-in-Err-clause-answers
+returns-in-Err-clause-answers g c s fits =
+    answered (c.in_default.ensures.accepted s (g.S.Site.state c.args.site.now) fits) (does_failed (omega arith) (c.in-Err.ensures.does s fits)) tt (asks_err c.in-Err.stop _ _ _ _ _ c.in-Err.ensures.asks)
 
-pub returns-in-Ok-clause-after : goal.returns-in-Ok-clause-after
-returns-in-Ok-clause-after g c s fits =
-    subst (λ (o : Outcome). Fits c.carry_out_read.new.self (g.S.Site.state c.carry_out_read.new.site) o.after) (sym (c.in_default.ensures.accepted s (g.S.Site.state c.args.site.now) fits).0) (c.in-Ok.ensures.after s fits)
+pub returns-in-Ok-clause-serves : goal.returns-in-Ok-clause-serves
+returns-in-Ok-clause-serves g c = serves_answered c.in-Ok.ensures.serves
 
-pub returns-in-Some-clause-asks : goal.returns-in-Some-clause-asks
-returns-in-Some-clause-asks g c s fits =
-    asks_same _ _ [] _ _ _ _ (c.in-Some.ensures.refused s (g.S.Site.state c.args.site.now) fits).1 (asks_nothing _ c.args.self.now.store.pages _ _ (λ dev. refl) (λ is. cc))
-
-pub returns-in-Ok-clause-asks : goal.returns-in-Ok-clause-asks
-returns-in-Ok-clause-asks g c s fits = asks_same _ _ _ _ _ _ _ (c.in_default.ensures.accepted s (g.S.Site.state c.args.site.now) fits).1 (asks_ok c.in-Ok.content _ _ _ _ _ _ c.in-Ok.ensures.asks)
-
-pub returns-in-Err-clause-asks : goal.returns-in-Err-clause-asks
-returns-in-Err-clause-asks g c s fits = asks_same _ _ _ _ _ _ _ (c.in_default.ensures.accepted s (g.S.Site.state c.args.site.now) fits).1 (asks_err c.in-Err.stop _ _ _ _ _ c.in-Err.ensures.asks)
-
-pub returns-in-Err-clause-worn : goal.returns-in-Err-clause-worn
-returns-in-Err-clause-worn g c s fits is = c.in-Err.ensures.worn s fits (err_again _ _ is)
-
-pub returns-in-Err-clause-foreign : goal.returns-in-Err-clause-foreign
-returns-in-Err-clause-foreign g c is s fits = c.in-Err.ensures.foreign (err_again _ _ is) s fits
+pub returns-in-Err-clause-serves : goal.returns-in-Err-clause-serves
+returns-in-Err-clause-serves g c = serves_ended true c.in-Err.ensures.serves
 
 pub returns-in-Err-clause-worn_flash : goal.returns-in-Err-clause-worn_flash
 returns-in-Err-clause-worn_flash g c is = c.in-Err.ensures.asks.worn (err_again _ _ is)
-
-pub returns-in-Err-clause-worn_log : goal.returns-in-Err-clause-worn_log
-returns-in-Err-clause-worn_log g c s fits is = c.in-Err.ensures.worn_log s fits (err_again _ _ is)
-
-pub returns-in-Some-clause-numbers : goal.returns-in-Some-clause-numbers
-returns-in-Some-clause-numbers g c s fits quiet = count_none _ c.args.self.now (g.S.Site.state c.args.site.now) s _ _ fits c.requires.going (c.in-Some.ensures.refused s (g.S.Site.state c.args.site.now) fits).0
-
-pub returns-in-Ok-clause-numbers : goal.returns-in-Ok-clause-numbers
-returns-in-Ok-clause-numbers g c s fits quiet = count_known _ _ _ _ _ s _ _ 0 (c.in_default.ensures.accepted s (g.S.Site.state c.args.site.now) fits).0 (count_answered c.in-Ok.content _ _ _ _ _ s _ 0 (c.in-Ok.ensures.numbers s fits quiet))
-
-pub returns-in-Err-clause-numbers : goal.returns-in-Err-clause-numbers
-returns-in-Err-clause-numbers g c s fits quiet = count_known _ _ _ _ _ s _ _ 0 (c.in_default.ensures.accepted s (g.S.Site.state c.args.site.now) fits).0 (count_failed c.in-Err.stop _ c.carry_out_read.new.self _ _ _ s _ _ 0 (omega arith) (c.in-Err.ensures.numbers s fits quiet))

@@ -1,7 +1,6 @@
 use Rattle.std.proofs.Common.{[]}
 use Rattle.engine.proofs.Asking.{asks_ok, asks_err}
-use Rattle.engine.proofs.Moments.{err_again}
-use Rattle.redo_undo.proofs.RingNumbers.{skips_answered, skips_again}
+use Rattle.engine.proofs.Calling.{keeps_answered, keeps_failed, works_answered, works_failed}
 use Rattle.engine.proofs.engine.Engine.seal_commit.Goals as goal
 
 pub returns-in-Ok-clause-holds : goal.returns-in-Ok-clause-holds
@@ -13,11 +12,14 @@ returns-in-Ok-clause-asks g c = asks_ok c.in-Ok.field-0 _ [] _ _ _ _ c.in-Ok.ens
 pub returns-in-Err-clause-asks : goal.returns-in-Err-clause-asks
 returns-in-Err-clause-asks g c = asks_err c.in-Err.stop [] _ _ _ _ c.in-Err.ensures.asks
 
-pub returns-in-Err-clause-worn_log : goal.returns-in-Err-clause-worn_log
-returns-in-Err-clause-worn_log g c newest records table commits holds is = c.in-Err.ensures.worn_log newest records table commits holds (err_again _ _ is)
+pub returns-in-Ok-clause-keeps : goal.returns-in-Ok-clause-keeps
+returns-in-Ok-clause-keeps g c newest records table commits h may = keeps_answered (c.in-Ok.ensures.keeps newest records table commits h may)
 
-pub returns-in-Ok-clause-numbers : goal.returns-in-Ok-clause-numbers
-returns-in-Ok-clause-numbers g c newest records table commits h may quiet = skips_answered c.in-Ok.field-0 _ _ _ _ _ _ 1 0 (c.in-Ok.ensures.numbers newest records table commits h may quiet)
+pub returns-in-Err-clause-keeps : goal.returns-in-Err-clause-keeps
+returns-in-Err-clause-keeps g c newest records table commits h may = keeps_failed (c.in-Err.ensures.keeps newest records table commits h may)
 
-pub returns-in-Err-clause-numbers : goal.returns-in-Err-clause-numbers
-returns-in-Err-clause-numbers g c newest records table commits h may quiet = skips_again c.in-Err.stop _ _ _ _ _ 1 0 (c.in-Err.ensures.numbers newest records table commits h may quiet)
+pub returns-in-Ok-clause-works : goal.returns-in-Ok-clause-works
+returns-in-Ok-clause-works g c = works_answered c.in-Ok.ensures.works
+
+pub returns-in-Err-clause-works : goal.returns-in-Err-clause-works
+returns-in-Err-clause-works g c = works_failed c.in-Err.ensures.works

@@ -1,71 +1,41 @@
-use Rattle.image_meaning.proofs.Leaving.{under_leaves_for}
-use Rattle.engine.proofs.Moments.{err_again}
-use Rattle.engine.proofs.Asking.{asks_same, asks_nothing}
-use Rattle.std.proofs.Common.{◌∷◌, [], inl, sym, ap, subst, ◌∙◌, refl, arith}
-use Rattle.site.specs.Moments.{LeavesOnly}
-use Rattle.site.specs.Laws.{leaves_weaker}
-use Rattle.record_model.specs.State.{Content}
-use Rattle.record_model.specs.Step.{Outcome, making, committed}
+use Rattle.std.proofs.Common.{◌≡◌, ◌∷◌, [], refl, subst, ℕ, arith}
+use Rattle.std.specs.Prelude.{Result}
+use Rattle.site.specs.declared.outside.Stop.{Stop}
+use Rattle.site.specs.State.{State as Site}
+use Rattle.record_model.specs.State.{Content, State}
+use Rattle.record_model.specs.Step.{making, committed}
+use Rattle.record_model.specs.declared.words.Reply.{Reply}
+use Rattle.engine.specs.declared.engine.Engine.{Engine}
 use Rattle.engine.specs.Going.{sizes_of}
-use Rattle.engine.specs.Fits.{Fits}
-use Rattle.engine.specs.Leaves.{LeavesTable, LeavesEither}
-use Rattle.engine.proofs.RingCounts.{count_none, count_known, count_failed, count_same}
+use Rattle.engine.specs.Leaves.{LeavesEither}
+use Rattle.engine.specs.Calls.{Does}
+use Rattle.engine.proofs.Moments.{err_again}
+use Rattle.engine.proofs.Calling.{answered_as, does_nothing, does_weaker, does_failed, asks_rest, early, still}
 use Rattle.engine.proofs.engine.Engine.set_now.Goals as goal
 
-pub returns-in-Some-clause-reply : goal.returns-in-Some-clause-reply
-returns-in-Some-clause-reply g c s fits = sym (ap (λ (o : Outcome). o.reply) (c.in-Some.ensures.refused s (g.S.Site.state c.args.site.now) fits).0)
+-- what is written is the value
+written : {r : Result Reply Stop} {old new : Engine} {before now : Site} {s : State} (number : ℕ) {x y : Content} → x ≡ y →
+    Does r old new before now s (making 3 (committed s ((number, x) ∷ []))) (LeavesEither (sizes_of old.store) s (making 3 (committed s ((number, x) ∷ []))) before.told) 0 →
+    Does r old new before now s (making 3 (committed s ((number, y) ∷ []))) (LeavesEither (sizes_of old.store) s (making 3 (committed s ((number, y) ∷ []))) before.told) 0
+written {r = r} {old = old} {new = new} {before = before} {now = now} {s = s} number is does =
+    subst (λ (x : Content). Does r old new before now s (making 3 (committed s ((number, x) ∷ []))) (LeavesEither (sizes_of old.store) s (making 3 (committed s ((number, x) ∷ []))) before.told) 0) is does
 
-pub returns-in-Some-clause-any_moment : goal.returns-in-Some-clause-any_moment
-returns-in-Some-clause-any_moment g c s fits quiet =
+pub returns-in-Some-clause-answers : goal.returns-in-Some-clause-answers
+returns-in-Some-clause-answers g c s fits =
     let old = g.S.Site.state c.args.site.now in
-    let geometry = (sizes_of c.args.self.now.store) in
-    leaves_weaker old old (LeavesTable geometry s.table s.commits old.told) (LeavesEither geometry s _ old.told) (λ snapshot q. record { told = q.told; stands = inl q.stands })
-    (under_leaves_for fits.newest _ _ _ s.table s.commits _ (c.hold_together.ensures.moment c.args.self.now.store.log c.args.self.now.store.pages old fits.newest fits.records s.table s.commits c.requires.going.store.both.sizes fits.holds.both quiet))
+    answered_as (λ o. LeavesEither (sizes_of c.args.self.now.store) s o.after old.told) (c.in-Some.ensures.refused s old fits)
+    (does_weaker (early (sizes_of c.args.self.now.store) s s old.told) (does_nothing fits c.requires.going (still c.hold_together.ensures.moment fits c.requires.going)))
+    refl asks_rest
 
-pub returns-in-Ok-clause-any_moment : goal.returns-in-Ok-clause-any_moment
-returns-in-Ok-clause-any_moment g c s fits quiet =
-    let old = g.S.Site.state c.args.site.now in
-    let new = g.S.Site.state c.carry_out_set.new.site in
-    let geometry = (sizes_of c.args.self.now.store) in
-    subst (λ (o : Outcome). LeavesOnly old new (LeavesEither geometry s o.after old.told)) (sym (c.in_default.ensures.accepted s old fits).0)
-    (subst (λ (after : Content). LeavesOnly old new (LeavesEither geometry s (making 3 (committed s ((c.args.number, after) ∷ []))) old.told)) c.value_of-after.ensures (c.carry_out_set.ensures.any_moment s fits quiet))
+pub returns-in-Ok-clause-answers : goal.returns-in-Ok-clause-answers
+returns-in-Ok-clause-answers g c s fits =
+    answered_as (λ o. LeavesEither (sizes_of c.args.self.now.store) s o.after (g.S.Site.state c.args.site.now).told) (c.in_default.ensures.accepted s (g.S.Site.state c.args.site.now) fits)
+    (written c.args.number c.value_of-after.ensures (c.in-Ok.ensures.does s fits)) (c.in-Ok.ensures.reply s fits) c.in-Ok.ensures.asks
 
-pub returns-in-Err-clause-any_moment : goal.returns-in-Err-clause-any_moment
-returns-in-Err-clause-any_moment g c s fits quiet =
-    let old = g.S.Site.state c.args.site.now in
-    let new = g.S.Site.state c.carry_out_set.new.site in
-    let geometry = (sizes_of c.args.self.now.store) in
-    subst (λ (o : Outcome). LeavesOnly old new (LeavesEither geometry s o.after old.told)) (sym (c.in_default.ensures.accepted s old fits).0)
-    (subst (λ (after : Content). LeavesOnly old new (LeavesEither geometry s (making 3 (committed s ((c.args.number, after) ∷ []))) old.told)) c.value_of-after.ensures (c.carry_out_set.ensures.any_moment s fits quiet))
-
-pub returns-in-Ok-clause-reply : goal.returns-in-Ok-clause-reply
-returns-in-Ok-clause-reply g c s fits =
-    c.in-Ok.ensures.done s fits ∙ sym (ap (λ (o : Outcome). o.reply) (c.in_default.ensures.accepted s (g.S.Site.state c.args.site.now) fits).0)
-
-pub returns-in-Ok-clause-after : goal.returns-in-Ok-clause-after
-returns-in-Ok-clause-after g c s fits =
-    let new = g.S.Site.state c.carry_out_set.new.site in
-    subst (λ (o : Outcome). Fits c.carry_out_set.new.self new o.after) (sym (c.in_default.ensures.accepted s (g.S.Site.state c.args.site.now) fits).0)
-    (subst (λ (after : Content). Fits c.carry_out_set.new.self new (making 3 (committed s ((c.args.number, after) ∷ [])))) c.value_of-after.ensures (c.in-Ok.ensures.after s fits))
-
-pub returns-in-Some-clause-asks : goal.returns-in-Some-clause-asks
-returns-in-Some-clause-asks g c s fits =
-    asks_same _ _ [] _ _ _ _ (c.in-Some.ensures.refused s (g.S.Site.state c.args.site.now) fits).1 (asks_nothing _ c.args.self.now.store.pages _ _ (λ dev. refl) (λ is. cc))
-
-pub returns-in-Ok-clause-asks : goal.returns-in-Ok-clause-asks
-returns-in-Ok-clause-asks g c s fits = asks_same _ _ _ _ _ _ _ (c.in_default.ensures.accepted s (g.S.Site.state c.args.site.now) fits).1 c.in-Ok.ensures.asks
-
-pub returns-in-Err-clause-asks : goal.returns-in-Err-clause-asks
-returns-in-Err-clause-asks g c s fits = asks_same _ _ _ _ _ _ _ (c.in_default.ensures.accepted s (g.S.Site.state c.args.site.now) fits).1 c.in-Err.ensures.asks
+pub returns-in-Err-clause-answers : goal.returns-in-Err-clause-answers
+returns-in-Err-clause-answers g c s fits =
+    answered_as (λ o. LeavesEither (sizes_of c.args.self.now.store) s o.after (g.S.Site.state c.args.site.now).told) (c.in_default.ensures.accepted s (g.S.Site.state c.args.site.now) fits)
+    (does_failed (omega arith) (written c.args.number c.value_of-after.ensures (c.in-Err.ensures.does s fits))) tt c.in-Err.ensures.asks
 
 pub returns-in-Err-clause-worn_flash : goal.returns-in-Err-clause-worn_flash
 returns-in-Err-clause-worn_flash g c is = c.in-Err.ensures.asks.worn (err_again _ _ is)
-
-pub returns-in-Some-clause-numbers : goal.returns-in-Some-clause-numbers
-returns-in-Some-clause-numbers g c s fits quiet = count_none _ c.args.self.now (g.S.Site.state c.args.site.now) s _ _ fits c.requires.going (c.in-Some.ensures.refused s (g.S.Site.state c.args.site.now) fits).0
-
-pub returns-in-Ok-clause-numbers : goal.returns-in-Ok-clause-numbers
-returns-in-Ok-clause-numbers g c s fits quiet = count_known _ _ _ _ _ s _ _ 0 (c.in_default.ensures.accepted s (g.S.Site.state c.args.site.now) fits).0 (count_same _ _ _ _ _ s (making 3 (committed s ((c.args.number, c.value_of-after.result) ∷ []))) _ 0 refl (c.in-Ok.ensures.numbers s fits quiet))
-
-pub returns-in-Err-clause-numbers : goal.returns-in-Err-clause-numbers
-returns-in-Err-clause-numbers g c s fits quiet = count_known _ _ _ _ _ s _ _ 0 (c.in_default.ensures.accepted s (g.S.Site.state c.args.site.now) fits).0 (count_failed c.in-Err.stop _ c.carry_out_set.new.self _ _ _ s (making 3 (committed s ((c.args.number, c.value_of-after.result) ∷ []))) _ 0 (omega arith) (c.in-Err.ensures.numbers s fits quiet))

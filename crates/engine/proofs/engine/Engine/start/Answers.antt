@@ -2,9 +2,7 @@ use Rattle.engine.proofs.Asking.{from_other, from_other_err, from_other_fails, m
 use Rattle.std.proofs.Common.{◌∙◌, refl, ap, rules}
 use Rattle.site.specs.Laws.{stays_honest}
 use Rattle.site.specs.declared.geometry.Geometry.{Geometry}
-use Rattle.site.specs.declared.outside.Dev.TheVariants.{Log, Flash}
-use Rattle.site.specs.declared.outside.Stop.TheVariants.{Worn, Foreign}
-use Rattle.engine.proofs.Openings.{err_again}
+use Rattle.engine.proofs.Calling.{calls_failed, calls_answered, calls_no_memory, ends_failed, ends_answered, ends_no_memory}
 use Rattle.engine.proofs.Starts.{started}
 use Rattle.engine.proofs.RingCounts.{restart_again, restart_stopped, restart_answered}
 use Rattle.engine.proofs.engine.Engine.start.Goals as goal
@@ -14,17 +12,26 @@ returns-clause-opens g c honest k s opening =
     let old = g.S.Site.state c.args.site.now in
     let new = g.S.Site.state c.restart.new.site in
     let done = c.in-Ok.ensures.opens honest k opening.newest opening.blocks s.table s.commits opening.sound opening.means in
-    let blocks = c.in-Ok.ensures.blocks ∙ ap (λ (x : Geometry). x.blocks) done.1 in
-    (started c.owed_none.ensures k old.image new s c.in-Ok.restarted _ (stays_honest old new c.restart.ensures.goes honest) opening done.0 blocks refl refl refl (search rules) (search rules), done.1)
+    let blocks = c.in-Ok.ensures.restarts.blocks ∙ ap (λ (x : Geometry). x.blocks) done.1 in
+    (started c.owed_none.ensures k old.image new s c.in-Ok.restarted _ (stays_honest old new c.restart.ensures.restarts.calls.goes honest) opening done.0 blocks refl refl refl (search rules) (search rules), done.1)
 
-pub returns-in-Err-clause-foreign : goal.returns-in-Err-clause-foreign
-returns-in-Err-clause-foreign g c is honest k table commits stands = c.in-Err.ensures.readable honest k table commits stands (err_again c.in-Err.stop Foreign is)
+pub returns-in-Err-clause-ends : goal.returns-in-Err-clause-ends
+returns-in-Err-clause-ends g c honest k table commits stands = ends_failed (c.in-Err.ensures.ends honest k table commits stands)
 
-pub returns-in-Err-clause-worn : goal.returns-in-Err-clause-worn
-returns-in-Err-clause-worn g c honest k table commits stands is = c.in-Err.ensures.worn honest k table commits stands (err_again c.in-Err.stop (Worn Flash) is)
+pub returns-in-Err-new-clause-ends : goal.returns-in-Err-new-clause-ends
+returns-in-Err-new-clause-ends g c honest k table commits stands = ends_no_memory c.in-Err-new.ensures.memory honest c.in-Ok.ensures.restarts.calls (c.in-Ok.ensures.ends honest k table commits stands)
 
-pub returns-in-Err-clause-worn_log : goal.returns-in-Err-clause-worn_log
-returns-in-Err-clause-worn_log g c honest k table commits stands is = c.in-Err.ensures.worn_log honest k table commits stands (err_again c.in-Err.stop (Worn Log) is)
+pub returns-clause-ends : goal.returns-clause-ends
+returns-clause-ends g c honest k table commits stands = ends_answered (c.in-Ok.ensures.ends honest k table commits stands)
+
+pub returns-in-Err-clause-calls : goal.returns-in-Err-clause-calls
+returns-in-Err-clause-calls g c = calls_failed c.in-Err.ensures.restarts.calls
+
+pub returns-in-Err-new-clause-calls : goal.returns-in-Err-new-clause-calls
+returns-in-Err-new-clause-calls g c = calls_no_memory c.in-Err-new.ensures.memory c.in-Ok.ensures.restarts.calls
+
+pub returns-clause-calls : goal.returns-clause-calls
+returns-clause-calls g c = calls_answered c.in-Ok.ensures.restarts.calls
 
 pub returns-in-Err-clause-asks : goal.returns-in-Err-clause-asks
 returns-in-Err-clause-asks g c honest k newest blocks sound = from_other_err c.in-Err.stop _ _ _ _ _ _ _ _ (c.in-Err.ensures.asks honest k newest blocks sound)

@@ -1,7 +1,8 @@
-use Rattle.std.proofs.Common.{◌≡◌, ap, Err}
 use Rattle.site.specs.declared.outside.Dev.TheVariants.{Log, Flash}
 use Rattle.site.specs.declared.outside.Stop.TheVariants.{Worn}
 use Rattle.redo_undo.proofs.RingNumbers.{skips_again, skips_answered}
+use Rattle.engine.proofs.Moments.{err_again}
+use Rattle.engine.proofs.Calling.{keeps_ok, no_foreign}
 use Rattle.engine.proofs.store.Store.checkpoint.Goals as goal
 
 pub returns-in-Ok-clause-checkpoint : goal.returns-in-Ok-clause-checkpoint
@@ -16,18 +17,16 @@ returns-in-Ok-clause-checkpoint g c newest records table h may = record {
   keeps = c.in-Ok.ensures.unfinished newest records table h may;
 }
 
-pub returns-in-Err-clause-worn_log : goal.returns-in-Err-clause-worn_log
-returns-in-Err-clause-worn_log g c newest records table h may is =
-    let same : c.in-Err.stop ≡ Worn Log = cc in
-    c.in-Err.ensures.worn_log_end newest records table h may (ap Err same)
+pub returns-in-Ok-clause-keeps : goal.returns-in-Ok-clause-keeps
+returns-in-Ok-clause-keeps g c newest records table h may =
+    keeps_ok ((c.checkpoint.ensures.keeps newest records table h may).any_moment) (λ quiet. skips_answered c.in-Ok.field-0 tt _ _ _ _ _ 0 1 ((c.in-Ok.ensures.keeps newest records table h may).numbers quiet))
 
-pub returns-in-Err-clause-worn : goal.returns-in-Err-clause-worn
-returns-in-Err-clause-worn g c newest records table h may is =
-    let same : c.in-Err.stop ≡ Worn Flash = cc in
-    c.in-Err.ensures.worn_end newest records table h (ap Err same)
-
-pub returns-in-Ok-clause-numbers : goal.returns-in-Ok-clause-numbers
-returns-in-Ok-clause-numbers g c newest records table h may quiet = skips_answered c.in-Ok.field-0 tt _ _ _ _ _ 0 1 (c.in-Ok.ensures.numbers newest records table h may quiet)
-
-pub returns-in-Err-clause-numbers : goal.returns-in-Err-clause-numbers
-returns-in-Err-clause-numbers g c newest records table h may quiet = skips_again c.in-Err.stop _ _ _ _ _ 0 1 (c.in-Err.ensures.numbers newest records table h may quiet)
+pub returns-in-Err-clause-keeps : goal.returns-in-Err-clause-keeps
+returns-in-Err-clause-keeps g c newest records table h may = record {
+  any_moment = (c.checkpoint.ensures.keeps newest records table h may).any_moment;
+  numbers = λ quiet. skips_again c.in-Err.stop _ _ _ _ _ 0 1 ((c.in-Err.ensures.keeps newest records table h may).numbers quiet);
+  quiet = c.in-Err.ensures.quiet newest records table h;
+  worn_log = λ is. (c.in-Err.ensures.keeps newest records table h may).worn_log (err_again c.in-Err.stop (Worn Log) is);
+  worn = λ is. c.in-Err.ensures.worn_end newest records table h (err_again c.in-Err.stop (Worn Flash) is);
+  readable = no_foreign c.in-Err.stop c.in-Err.ensures.foreign;
+}

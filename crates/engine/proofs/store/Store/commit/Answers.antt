@@ -7,6 +7,7 @@ use Rattle.redo_undo.proofs.Saved.{finds_kept}
 use Rattle.image_meaning.proofs.Leaving.{under_leaves_either_for}
 use Rattle.engine.proofs.Asking.{asks_nothing, not_worn_flash}
 use Rattle.redo_undo.proofs.RingNumbers.{skips_on}
+use Rattle.engine.proofs.Calling.{keeps_ok, log_is_read}
 use Rattle.engine.proofs.store.Store.commit.Goals as goal
 
 pub returns-in-Ok-clause-holds : goal.returns-in-Ok-clause-holds
@@ -17,28 +18,25 @@ returns-in-Ok-clause-holds g c newest records table commits h may =
       masters = finds_kept c.args.self.now.masters (g.S.Site.state c.args.site.now) (g.S.Site.state c.commit.new.site) c.requires.going.shape (c.in-Ok.ensures.masters c.args.self.now.pages newest records table commits c.requires.going.both.sizes h.both) h.masters;
     }
 
-pub returns-in-Ok-clause-any_moment : goal.returns-in-Ok-clause-any_moment
-returns-in-Ok-clause-any_moment g c newest records table commits h may = λ quiet. under_leaves_either_for newest _ _ _ table _ commits _ (c.commit.ensures.any_moment c.args.self.now.pages newest records table commits c.requires.going.both h.both may quiet)
-
-pub returns-in-Err-clause-any_moment : goal.returns-in-Err-clause-any_moment
-returns-in-Err-clause-any_moment g c newest records table commits h may = λ quiet. under_leaves_either_for newest _ _ _ table _ commits _ (c.commit.ensures.any_moment c.args.self.now.pages newest records table commits c.requires.going.both h.both may quiet)
-
-pub returns-in-Err-clause-quiet : goal.returns-in-Err-clause-quiet
-returns-in-Err-clause-quiet g c newest records table commits h = c.in-Err.ensures.quiet c.args.self.now.pages newest records table commits c.requires.going.both.sizes h.both
-
 pub returns-in-Ok-clause-asks : goal.returns-in-Ok-clause-asks
-returns-in-Ok-clause-asks g c = asks_nothing _ c.args.self.now.pages _ _ c.commit.ensures.reads (λ is. cc)
+returns-in-Ok-clause-asks g c = asks_nothing _ c.args.self.now.pages _ _ c.commit.ensures.works.reads (λ is. cc)
 
 pub returns-in-Err-clause-asks : goal.returns-in-Err-clause-asks
-returns-in-Err-clause-asks g c = asks_nothing _ c.args.self.now.pages _ _ c.commit.ensures.reads (not_worn_flash c.in-Err.stop c.in-Err.ensures.stops)
+returns-in-Err-clause-asks g c = asks_nothing _ c.args.self.now.pages _ _ c.commit.ensures.works.reads (not_worn_flash c.in-Err.stop c.in-Err.ensures.stops)
 
-pub returns-in-Err-clause-worn_log : goal.returns-in-Err-clause-worn_log
-returns-in-Err-clause-worn_log g c newest records table commits h is =
-    let same : c.in-Err.stop ≡ Worn Log = cc in
-    subst (λ (x : Geometry). IsLogWorn x (g.S.Site.state c.commit.new.site).image) c.requires.going.both.sizes (c.in-Err.ensures.worn_log_end c.args.self.now.pages newest records table commits c.requires.going.both.sizes h.both (ap Err same))
+pub returns-in-Ok-clause-keeps : goal.returns-in-Ok-clause-keeps
+returns-in-Ok-clause-keeps g c newest records table commits h may =
+    keeps_ok (λ quiet. under_leaves_either_for newest _ _ _ table _ commits _ (c.commit.ensures.any_moment c.args.self.now.pages newest records table commits c.requires.going.both h.both may quiet))
+    (λ quiet. skips_on _ c.args.self.now.log.geometry _ _ _ _ _ 1 0 c.requires.going.both.sizes (c.in-Ok.ensures.numbers c.args.self.now.pages newest records table commits c.requires.going.both h.both may quiet))
 
-pub returns-in-Ok-clause-numbers : goal.returns-in-Ok-clause-numbers
-returns-in-Ok-clause-numbers g c newest records table commits h may quiet = skips_on _ c.args.self.now.log.geometry _ _ _ _ _ 1 0 c.requires.going.both.sizes (c.in-Ok.ensures.numbers c.args.self.now.pages newest records table commits c.requires.going.both h.both may quiet)
-
-pub returns-in-Err-clause-numbers : goal.returns-in-Err-clause-numbers
-returns-in-Err-clause-numbers g c newest records table commits h may quiet = skips_on _ c.args.self.now.log.geometry _ _ _ _ _ 1 0 c.requires.going.both.sizes (c.in-Err.ensures.numbers c.args.self.now.pages newest records table commits c.requires.going.both h.both may quiet)
+pub returns-in-Err-clause-keeps : goal.returns-in-Err-clause-keeps
+returns-in-Err-clause-keeps g c newest records table commits h may = record {
+  any_moment = λ quiet. under_leaves_either_for newest _ _ _ table _ commits _ (c.commit.ensures.any_moment c.args.self.now.pages newest records table commits c.requires.going.both h.both may quiet);
+  numbers = λ quiet. skips_on _ c.args.self.now.log.geometry _ _ _ _ _ 1 0 c.requires.going.both.sizes (c.in-Err.ensures.numbers c.args.self.now.pages newest records table commits c.requires.going.both h.both may quiet);
+  quiet = c.in-Err.ensures.quiet c.args.self.now.pages newest records table commits c.requires.going.both.sizes h.both;
+  worn_log = λ is.
+      let same : c.in-Err.stop ≡ Worn Log = cc in
+      subst (λ (x : Geometry). IsLogWorn x (g.S.Site.state c.commit.new.site).image) c.requires.going.both.sizes (c.in-Err.ensures.worn_log_end c.args.self.now.pages newest records table commits c.requires.going.both.sizes h.both (ap Err same));
+  worn = λ is. absurd (not_worn_flash c.in-Err.stop c.in-Err.ensures.stops is);
+  readable = log_is_read c.in-Err.stop c.in-Err.ensures.stops;
+}

@@ -1,9 +1,11 @@
 use Rattle.image_meaning.proofs.Leaving.{under_leaves_for}
-use Rattle.std.proofs.Common.{◌≡◌, ◌+◌, ◌++◌, ◌∷◌, [], sym, subst, ap, Err}
+use Rattle.std.proofs.Common.{refl, ◌≡◌, ◌+◌, ◌++◌, ◌∷◌, [], sym, subst, ap, Err}
 use Rattle.log_records.specs.declared.log_record.LogRecord.{LogRecord}
 use Rattle.redo_undo.proofs.Saved.{finds_kept}
-use Rattle.site.specs.declared.outside.Dev.TheVariants.{Log}
+use Rattle.site.specs.declared.outside.Dev.TheVariants.{Log, Flash}
 use Rattle.site.specs.declared.outside.Stop.TheVariants.{Worn}
+use Rattle.engine.proofs.Asking.{not_worn}
+use Rattle.engine.proofs.Calling.{keeps_ok}
 use Rattle.engine.specs.Holding.{Holds, MayGrow, shown_in, update_by}
 use Rattle.engine.proofs.store.Store.update.Goals as goal
 
@@ -21,28 +23,24 @@ returns-in-Ok-clause-holds g c newest records table commits h = λ may.
     (record {
       both = c.in-Ok.ensures.holds newest records table commits h.both grows;
       orderly = c.in-Ok.ensures.orderly newest records table commits h.both grows h.orderly;
-      masters = finds_kept store.masters old new c.requires.going.shape (c.in-Ok.ensures.masters newest records table commits h.both) h.masters;
+      masters = finds_kept store.masters old new c.requires.going.shape ((c.in-Ok.ensures.keeps newest records table commits h.both).masters refl) h.masters;
     })
 
-pub returns-in-Ok-clause-any_moment : goal.returns-in-Ok-clause-any_moment
-returns-in-Ok-clause-any_moment g c newest records table commits h = λ quiet. under_leaves_for newest _ _ _ table commits _ (c.log_change.ensures.any_moment newest records table commits h.both quiet)
+pub returns-in-Ok-clause-keeps : goal.returns-in-Ok-clause-keeps
+returns-in-Ok-clause-keeps g c newest records table commits h =
+    keeps_ok (λ quiet. under_leaves_for newest _ _ _ table commits _ ((c.log_change.ensures.keeps newest records table commits h.both).any_moment quiet))
+    ((c.in-Ok.ensures.keeps newest records table commits h.both).numbers)
 
-pub returns-in-Err-clause-any_moment : goal.returns-in-Err-clause-any_moment
-returns-in-Err-clause-any_moment g c newest records table commits h = λ quiet. under_leaves_for newest _ _ _ table commits _ (c.log_change.ensures.any_moment newest records table commits h.both quiet)
-
-pub returns-in-Err-clause-readable : goal.returns-in-Err-clause-readable
-returns-in-Err-clause-readable g c newest records table commits h = c.in-Err.ensures.readable newest records table commits h.both
-
-pub returns-in-Err-clause-quiet : goal.returns-in-Err-clause-quiet
-returns-in-Err-clause-quiet g c newest records table commits h = c.in-Err.ensures.quiet newest records table commits h.both
-
-pub returns-in-Err-clause-worn_log : goal.returns-in-Err-clause-worn_log
-returns-in-Err-clause-worn_log g c newest records table commits h is =
-    let same : c.in-Err.stop ≡ Worn Log = cc in
-    c.in-Err.ensures.worn_log_end newest records table commits h.both (ap Err same)
-
-pub returns-in-Ok-clause-numbers : goal.returns-in-Ok-clause-numbers
-returns-in-Ok-clause-numbers g c newest records table commits h quiet = c.in-Ok.ensures.numbers newest records table commits h.both quiet
-
-pub returns-in-Err-clause-numbers : goal.returns-in-Err-clause-numbers
-returns-in-Err-clause-numbers g c newest records table commits h quiet = c.in-Err.ensures.numbers newest records table commits h.both quiet
+pub returns-in-Err-clause-keeps : goal.returns-in-Err-clause-keeps
+returns-in-Err-clause-keeps g c newest records table commits h = record {
+  any_moment = λ quiet. under_leaves_for newest _ _ _ table commits _ ((c.log_change.ensures.keeps newest records table commits h.both).any_moment quiet);
+  numbers = (c.in-Err.ensures.keeps newest records table commits h.both).numbers;
+  quiet = (c.in-Err.ensures.keeps newest records table commits h.both).quiet;
+  worn_log = λ is.
+      let same : c.in-Err.stop ≡ Worn Log = cc in
+      (c.in-Err.ensures.keeps newest records table commits h.both).worn_log (ap Err same);
+  worn = λ is.
+      let same : c.in-Err.stop ≡ Worn Flash = cc in
+      absurd (not_worn c.in-Err.stop c.in-Err.ensures.stops same);
+  readable = (c.in-Err.ensures.keeps newest records table commits h.both).readable;
+}

@@ -1,0 +1,474 @@
+-- Calls one after the other, each known by its record.
+use Rattle.std.proofs.Common.{◌≡◌, ◌≢◌, ◌⊎◌, inl, inr, ⊎_elim, ℕ, ◌+◌, ◌≤◌, List, [], ◌∷◌, Bool, true, false, refl, sym, subst, ap, ◌∙◌, arith}
+use Rattle.std.specs.Prelude.{Result, Ok, Err, OnOk, IfOk, IsErrOf, IsTrue, if◌then◌else◌}
+use Rattle.site.specs.declared.outside.Dev.{Dev}
+use Rattle.site.specs.declared.outside.Dev.TheVariants.{Log, Flash}
+use Rattle.site.specs.declared.outside.Stop.{Stop}
+use Rattle.site.specs.declared.outside.Stop.TheVariants.{Device, Worn, Memory, Foreign}
+use Rattle.site.specs.declared.geometry.Geometry.{Geometry}
+use Rattle.site.specs.State.{State as Site, Snapshot, IsQuiet}
+use Rattle.site.specs.Moments.{Leaves, LeavesOnly}
+use Rattle.site.specs.Calls.{Goes, FaultRose, IsUnchanged}
+use Rattle.site.specs.Faults.{Faults, faults_in, after_work, WorkFaults}
+use Rattle.site.specs.Laws.{in_sequence, holds_now, leaves_weaker, stays_honest, fault_since, goes_in_sequence}
+use Rattle.record_model.specs.State.{Content, State, Write, table_with}
+use Rattle.record_model.specs.Step.{Outcome, makes_checkpoint, making, committed}
+use Rattle.record_model.specs.Touches.{CacheWork, command_touches}
+use Rattle.record_model.specs.declared.words.Command.{Command}
+use Rattle.record_model.specs.declared.words.Reply.{Reply}
+use Rattle.flash_cache.specs.Held.{IsWorn}
+use Rattle.image_meaning.specs.Moments as moments
+use Rattle.page_store.specs.declared.store.PageStore.{PageStore}
+use Rattle.page_store.specs.Stopping.{MayStop}
+use Rattle.redo_undo.specs.Holding.{IsLogWorn}
+use Rattle.redo_undo.specs.Numbers.{SkipsNone}
+use Rattle.redo_undo.specs.HoldingLaws.{HoldsMoment}
+use Rattle.image_meaning.proofs.Leaving.{under_leaves_for}
+use Rattle.redo_undo.specs.Works.{Asks, WorksAddUp, ReadsAddUp, ReadsForMore, OverflowsWithMore, checkpoint_works}
+pub use Rattle.redo_undo.proofs.Calling.{calls_nothing, calls_then, calls_failed, calls_answered, calls_refused}
+use Rattle.redo_undo.proofs.RingNumbers.{ok_as, skips_on, then_skips, skips_again, skips_answered, skips_refused, skips_weaker}
+use Rattle.engine.specs.declared.store.Store.{Store}
+use Rattle.engine.specs.declared.engine.Engine.{Engine}
+use Rattle.engine.specs.Going.{MayGoOn, sizes_of}
+use Rattle.engine.specs.Fits.{Fits, run, run_now, checkpointed_if, with_write}
+use Rattle.engine.specs.Image.{Stands}
+use Rattle.engine.specs.Leaves.{LeavesTable, LeavesEither}
+use Rattle.engine.specs.Numbers.{checkpoints_by, CountsOn}
+use Rattle.engine.specs.Calls.{Calls, Ends, Works, Keeps, Serves, Does, Answers}
+use Rattle.engine.proofs.Moments.{err_again, stop_is, and_then}
+use Rattle.engine.proofs.Asking.{asks_nothing, asks_same, asks_then, asks_stopped, has_group}
+use Rattle.engine.proofs.RingCounts.{counts, count_failed, count_answered, count_refused, count_then, run_makes, count_nothing}
+use Rattle.engine.proofs.Firsts.{step_where, touches_where}
+
+no_error : {T : Type 0} {x : T} {e : Stop} → IsErrOf {T = T} {E = Stop} (Ok x) e → ⊥
+no_error is = cc
+
+-- On every site.
+
+-- where a call stops, an honest site is as it was
+pub calls_stopped : {T : Type 0} {stop : Stop} {before now : Site} → Goes before now → (IsTrue before.honest → IsUnchanged before now) → ((d : Dev) → IsErrOf {T = T} (Err stop) (Device d) → FaultRose d before now) → WorkFaults {T = T} (Err stop) before now → Calls {T = T} (Err stop) before now
+calls_stopped goes same device faults = record { goes = goes; left = λ honest. (same honest).left; stays_quiet = λ honest quiet. tt; device = device; faults = faults }
+
+-- a call behind one that left an honest site as it was
+pub calls_behind : {T : Type 0} {r : Result T Stop} {before between now : Site} → Goes before between → (IsTrue before.honest → IsUnchanged before between) → faults_in between ≡ faults_in before → Calls r between now → Calls r before now
+calls_behind {r = r} {before = before} {between = between} {now = now} goes same faults second = record {
+  goes = goes_in_sequence before between now goes second.goes;
+  left = λ honest. second.left (stays_honest before between goes honest) ∙ (same honest).left;
+  stays_quiet = λ honest quiet. second.stays_quiet (stays_honest before between goes honest) ((same honest).loose ∙ quiet);
+  device = λ d is. fault_since d before between now goes (second.device d is);
+  faults = second.faults ∙ ap (λ (f : Faults). after_work r f) faults;
+}
+
+-- Log and pages, on every site.
+
+pub works_then : {A B : Type 0} {a : A} {r : Result B Stop} {old mid new : Store} {before between now : Site} {n n' : ℕ} →
+    Works {T = A} (Ok a) old mid before between n → Works r mid new between now n' → Works r old new before now (n + n')
+works_then {r = r} {old = old} {new = new} {n = n} {n' = n'} first second =
+    let made = first.made in
+    let blocks = first.blocks in
+    let rises = first.rises in
+    record {
+      calls = calls_then first.calls second.calls;
+      going = second.going;
+      made = ok_as r _ _ (λ more. let all : new.made ≡ old.made + (n + n') = omega (arith, more, made) in all) second.made;
+      blocks = ok_as r _ _ (λ more. omega (arith, more, blocks)) second.blocks;
+      rises = ok_as r _ _ (λ more. omega (arith, more, rises)) second.rises;
+      kept = second.kept ∙ first.kept;
+      sizes = second.sizes ∙ first.sizes;
+      stops = second.stops;
+    }
+
+pub works_failed : {A B : Type 0} {stop : Stop} {old new : Store} {before now : Site} {n : ℕ} → Works {T = A} (Err stop) old new before now n → Works {T = B} (Err stop) old new before now n
+works_failed first = record { calls = calls_failed first.calls; going = tt; made = tt; blocks = tt; rises = tt; kept = first.kept; sizes = first.sizes; stops = first.stops }
+
+-- it stops before all that it may log is logged
+pub works_before : {A B : Type 0} {stop : Stop} {old new : Store} {before now : Site} {n k : ℕ} → Works {T = A} (Err stop) old new before now n → Works {T = B} (Err stop) old new before now k
+works_before first = record { calls = calls_failed first.calls; going = tt; made = tt; blocks = tt; rises = tt; kept = first.kept; sizes = first.sizes; stops = first.stops }
+
+-- it stops behind a call that was Ok
+pub works_stopped : {A B C : Type 0} {a : A} {stop : Stop} {old mid new : Store} {before between now : Site} {n n' k : ℕ} →
+    Works {T = A} (Ok a) old mid before between n → Works {T = B} (Err stop) mid new between now n' → Works {T = C} (Err stop) old new before now k
+works_stopped first second = works_before (works_then first second)
+
+pub works_answered : {A B : Type 0} {a : A} {b : B} {old new : Store} {before now : Site} {n : ℕ} → Works {T = A} (Ok a) old new before now n → Works {T = B} (Ok b) old new before now n
+works_answered first = record { calls = calls_answered first.calls; going = first.going; made = first.made; blocks = first.blocks; rises = first.rises; kept = first.kept; sizes = first.sizes; stops = tt }
+
+-- Log and pages, on an honest site.
+
+pub keeps_then : {A B : Type 0} {a : A} {r : Result B Stop} {old mid new : Store} {before between now : Site} {P Q R : Snapshot → Type 0} {i n m n' m' : ℕ} → IsTrue before.honest →
+    ((s : Snapshot) → P s → R s) → (LeavesOnly before between P → (s : Snapshot) → Q s → R s) →
+    Works {T = A} (Ok a) old mid before between i → Keeps {T = A} (Ok a) old mid before between P n m → Keeps r mid new between now Q n' m' → Keeps r old new before now R (n + n') (m + m')
+keeps_then {a = a} {r = r} {old = old} {mid = mid} {new = new} {before = before} {between = between} {now = now} {P = P} {Q = Q} {R = R} {n = n} {m = m} {n' = n'} {m' = m'} honest early late works first second = record {
+  any_moment = λ quiet.
+      let begun = first.any_moment quiet in
+      in_sequence before between now (Leaves R) (leaves_weaker before between P R early begun) (leaves_weaker between now Q R (late begun) (second.any_moment (works.calls.stays_quiet honest quiet)));
+  numbers = λ quiet. then_skips r a (sizes_of old) old.log mid.log new.log before between now n m n' m' (n + n') (m + m') (first.numbers quiet)
+      (skips_on r (sizes_of mid) (sizes_of old) mid.log new.log between now n' m' works.sizes (second.numbers (works.calls.stays_quiet honest quiet))) (omega arith) refl;
+  quiet = λ quiet. second.quiet (works.calls.stays_quiet honest quiet);
+  worn_log = λ is. subst (λ (g : Geometry). IsLogWorn g now.image) works.sizes (second.worn_log is);
+  worn = λ is. subst (λ (g : Geometry). IsWorn g now.image) works.sizes (second.worn is);
+  readable = second.readable;
+}
+
+-- the table stays as it was
+pub keeps_both : {A B : Type 0} {a : A} {r : Result B Stop} {old mid new : Store} {before between now : Site} {table : List Content} {commits i n m n' m' : ℕ} → IsTrue before.honest →
+    Works {T = A} (Ok a) old mid before between i → Keeps {T = A} (Ok a) old mid before between (LeavesTable (sizes_of old) table commits before.told) n m →
+    Keeps r mid new between now (LeavesTable (sizes_of mid) table commits between.told) n' m' → Keeps r old new before now (LeavesTable (sizes_of old) table commits before.told) (n + n') (m + m')
+keeps_both {old = old} {before = before} {between = between} {table = table} {commits = commits} honest works first second =
+    keeps_then honest (λ s p. p) (λ begun s q. record {
+      told = q.told ∙ (holds_now before between (LeavesTable (sizes_of old) table commits before.told) begun).told;
+      stands = subst (λ (g : Geometry). Stands g s.image table commits) works.sizes q.stands;
+    }) works first second
+
+pub keeps_weaker : {T : Type 0} {r : Result T Stop} {old new : Store} {before now : Site} {P R : Snapshot → Type 0} {n m : ℕ} → ((s : Snapshot) → P s → R s) → Keeps r old new before now P n m → Keeps r old new before now R n m
+keeps_weaker {before = before} {now = now} {P = P} {R = R} more first = record {
+  any_moment = λ quiet. leaves_weaker before now P R more (first.any_moment quiet);
+  numbers = first.numbers;
+  quiet = first.quiet;
+  worn_log = first.worn_log;
+  worn = first.worn;
+  readable = first.readable;
+}
+
+pub keeps_before : {A B : Type 0} {stop : Stop} {old new : Store} {before now : Site} {P : Snapshot → Type 0} {n k m : ℕ} → n ≤ k → Keeps {T = A} (Err stop) old new before now P n m → Keeps {T = B} (Err stop) old new before now P k m
+keeps_before {A = A} {B = B} {stop = stop} {old = old} {new = new} {before = before} {now = now} {n = n} {k = k} {m = m} few first = record {
+  any_moment = first.any_moment;
+  numbers = λ quiet. skips_weaker {T = B} (Err stop) (sizes_of old) old.log new.log before now n k m few (skips_again {A = A} {B = B} stop (sizes_of old) old.log new.log before now n m (first.numbers quiet));
+  quiet = first.quiet;
+  worn_log = λ is. first.worn_log (err_again stop (Worn Log) is);
+  worn = λ is. first.worn (err_again stop (Worn Flash) is);
+  readable = λ is. first.readable (err_again stop Foreign is);
+}
+
+pub keeps_failed : {A B : Type 0} {stop : Stop} {old new : Store} {before now : Site} {P : Snapshot → Type 0} {n m : ℕ} → Keeps {T = A} (Err stop) old new before now P n m → Keeps {T = B} (Err stop) old new before now P n m
+keeps_failed first = keeps_before (omega arith) first
+
+pub keeps_answered : {A B : Type 0} {a : A} {b : B} {old new : Store} {before now : Site} {P : Snapshot → Type 0} {n m : ℕ} → Keeps {T = A} (Ok a) old new before now P n m → Keeps {T = B} (Ok b) old new before now P n m
+keeps_answered {A = A} {B = B} {a = a} {b = b} {old = old} {new = new} {before = before} {now = now} {n = n} {m = m} first = record {
+  any_moment = first.any_moment;
+  numbers = λ quiet. skips_answered {A = A} {B = B} a b (sizes_of old) old.log new.log before now n m (first.numbers quiet);
+  quiet = λ quiet. tt;
+  worn_log = λ is. absurd (no_error {T = B} {x = b} {e = Worn Log} is);
+  worn = λ is. absurd (no_error {T = B} {x = b} {e = Worn Flash} is);
+  readable = no_error {T = B} {x = b} {e = Foreign};
+}
+
+-- How a call ends on an honest site.
+
+pub ends_ok : {T : Type 0} {x : T} {g : Geometry} {before now : Site} {P : Snapshot → Type 0} → (IsQuiet before → LeavesOnly before now P) → Ends {T = T} (Ok x) g before now P
+ends_ok {T = T} {x = x} moments = record {
+  any_moment = moments;
+  quiet = λ quiet. tt;
+  worn_log = λ is. absurd (no_error {T = T} {x = x} {e = Worn Log} is);
+  worn = λ is. absurd (no_error {T = T} {x = x} {e = Worn Flash} is);
+  readable = no_error {T = T} {x = x} {e = Foreign};
+}
+
+pub ends_failed : {A B : Type 0} {stop : Stop} {g : Geometry} {before now : Site} {P : Snapshot → Type 0} → Ends {T = A} (Err stop) g before now P → Ends {T = B} (Err stop) g before now P
+ends_failed {stop = stop} first = record {
+  any_moment = first.any_moment;
+  quiet = first.quiet;
+  worn_log = λ is. first.worn_log (err_again stop (Worn Log) is);
+  worn = λ is. first.worn (err_again stop (Worn Flash) is);
+  readable = λ is. first.readable (err_again stop Foreign is);
+}
+
+pub ends_answered : {A B : Type 0} {a : A} {b : B} {g : Geometry} {before now : Site} {P : Snapshot → Type 0} → Ends {T = A} (Ok a) g before now P → Ends {T = B} (Ok b) g before now P
+ends_answered first = ends_ok first.any_moment
+
+-- a call behind one that left the table
+pub ends_then : {A B : Type 0} {a : A} {r : Result B Stop} {g g' : Geometry} {before between now : Site} {table : List Content} {commits : ℕ} → (IsQuiet before → IsQuiet between) → g' ≡ g →
+    Ends {T = A} (Ok a) g before between (LeavesTable g table commits before.told) → Ends r g' between now (LeavesTable g' table commits between.told) → Ends r g before now (LeavesTable g table commits before.told)
+ends_then {g = g} {g' = g'} {before = before} {between = between} {now = now} {table = table} {commits = commits} calm same first second = record {
+  any_moment = λ quiet. and_then g g' before between now table commits same (first.any_moment quiet) (second.any_moment (calm quiet));
+  quiet = λ quiet. second.quiet (calm quiet);
+  worn_log = λ is. subst (λ (x : Geometry). IsLogWorn x now.image) same (second.worn_log is);
+  worn = λ is. subst (λ (x : Geometry). IsWorn x now.image) same (second.worn is);
+  readable = second.readable;
+}
+
+-- what log and pages keep
+pub ends_of : {T : Type 0} {r : Result T Stop} {old new : Store} {before now : Site} {P : Snapshot → Type 0} {n m : ℕ} → Keeps r old new before now P n m → Ends r (sizes_of old) before now P
+ends_of keeps = record { any_moment = keeps.any_moment; quiet = keeps.quiet; worn_log = keeps.worn_log; worn = keeps.worn; readable = keeps.readable }
+
+-- what the table of before stands for, and of a commit
+
+pub early : (g : Geometry) (s after : State) (so_far : List ℕ) (snapshot : Snapshot) → LeavesTable g s.table s.commits so_far snapshot → LeavesEither g s after so_far snapshot
+early g s after so_far snapshot q = record { told = q.told; stands = inl q.stands }
+
+-- The database.
+
+pub serves_of : {T : Type 0} {r : Result T Stop} {old new : Engine} {before now : Site} {n : ℕ} → Works r old.store new.store before now n → OnOk r (MayGoOn new now) → Serves r old new before now
+serves_of works going = record { calls = works.calls; going = going; sizes = works.sizes; stops = works.stops }
+
+pub serves_then : {A B : Type 0} {a : A} {r : Result B Stop} {old mid new : Engine} {before between now : Site} → Serves {T = A} (Ok a) old mid before between → Serves r mid new between now → Serves r old new before now
+serves_then first second = record { calls = calls_then first.calls second.calls; going = second.going; sizes = second.sizes ∙ first.sizes; stops = second.stops }
+
+pub serves_failed : {A B : Type 0} {stop : Stop} {old new : Engine} {before now : Site} → Serves {T = A} (Err stop) old new before now → Serves {T = B} (Err stop) old new before now
+serves_failed first = record { calls = calls_failed first.calls; going = tt; sizes = first.sizes; stops = first.stops }
+
+pub serves_answered : {A B : Type 0} {a : A} {b : B} {old new : Engine} {before now : Site} → Serves {T = A} (Ok a) old new before now → Serves {T = B} (Ok b) old new before now
+serves_answered first = record { calls = calls_answered first.calls; going = first.going; sizes = first.sizes; stops = tt }
+
+pub serves_nothing : {T : Type 0} {x : T} {engine : Engine} {site : Site} → MayGoOn engine site → Serves {T = T} (Ok x) engine engine site site
+serves_nothing going = record { calls = calls_nothing; going = going; sizes = refl; stops = tt }
+
+-- it has ended
+pub serves_ended : {A B : Type 0} {stop : Stop} {old new : Engine} {before now : Site} (b : Bool) → Serves {T = A} (Err stop) old new before now → Serves {T = B} (Err stop) old (record new { ended = b }) before now
+serves_ended b first = record { calls = calls_failed first.calls; going = tt; sizes = first.sizes; stops = first.stops }
+
+-- what log and pages keep, as what the database does
+pub does_of : {T : Type 0} {r : Result T Stop} {old new : Engine} {before now : Site} {s after : State} {P : Snapshot → Type 0} {n m : ℕ} → s.made + n ≤ after.made → OnOk r (Fits new now after) →
+    Keeps r old.store new.store before now P n m → Does r old new before now s after P m
+does_of {r = r} {old = old} {new = new} {before = before} {now = now} {s = s} {after = after} {n = n} {m = m} few fits keeps = record {
+  after_fits = fits;
+  any_moment = keeps.any_moment;
+  numbers = λ quiet. counts r old new before now s after n m (keeps.numbers quiet) few;
+  quiet = keeps.quiet;
+  worn_log = keeps.worn_log;
+  worn = keeps.worn;
+  foreign = keeps.readable;
+}
+
+pub does_ok : {T : Type 0} {x : T} {old new : Engine} {before now : Site} {s after : State} {P : Snapshot → Type 0} {m : ℕ} → Fits new now after → (IsQuiet before → LeavesOnly before now P) →
+    (IsQuiet before → CountsOn {T = T} {E = Stop} (Ok x) old new before now s after m) → Does {T = T} (Ok x) old new before now s after P m
+does_ok {T = T} {x = x} fits moments numbers = record {
+  after_fits = fits;
+  any_moment = moments;
+  numbers = numbers;
+  quiet = λ quiet. tt;
+  worn_log = λ is. absurd (no_error {T = T} {x = x} {e = Worn Log} is);
+  worn = λ is. absurd (no_error {T = T} {x = x} {e = Worn Flash} is);
+  foreign = no_error {T = T} {x = x} {e = Foreign};
+}
+
+pub no_foreign : {T : Type 0} (stop : Stop) → stop ≢ Foreign → IsErrOf {T = T} (Err stop) Foreign → ⊥
+no_foreign stop never is = never (let same : stop ≡ Foreign = cc in same)
+
+pub does_weaker : {T : Type 0} {r : Result T Stop} {old new : Engine} {before now : Site} {s after : State} {P R : Snapshot → Type 0} {m : ℕ} → ((x : Snapshot) → P x → R x) → Does r old new before now s after P m → Does r old new before now s after R m
+does_weaker {before = before} {now = now} {P = P} {R = R} more first = record {
+  after_fits = first.after_fits;
+  any_moment = λ quiet. leaves_weaker before now P R more (first.any_moment quiet);
+  numbers = first.numbers;
+  quiet = first.quiet;
+  worn_log = first.worn_log;
+  worn = first.worn;
+  foreign = first.foreign;
+}
+
+-- another value of its caller
+pub does_answered : {A B : Type 0} {a : A} {b : B} {old new : Engine} {before now : Site} {s after : State} {P : Snapshot → Type 0} {m : ℕ} → Does {T = A} (Ok a) old new before now s after P m → Does {T = B} (Ok b) old new before now s after P m
+does_answered {A = A} {B = B} {a = a} {b = b} {old = old} {new = new} {before = before} {now = now} {s = s} {after = after} {m = m} first =
+    does_ok first.after_fits first.any_moment (λ quiet. count_answered {T = B} {A = A} a b old new before now s after m (first.numbers quiet))
+
+-- the error of a call is the error of its caller, whatever that leaves in memory
+pub does_failed : {A B : Type 0} {stop : Stop} {old new new' : Engine} {before now : Site} {s after after' : State} {P : Snapshot → Type 0} {m : ℕ} → after.made ≤ after'.made → Does {T = A} (Err stop) old new before now s after P m → Does {T = B} (Err stop) old new' before now s after' P m
+does_failed {A = A} {B = B} {stop = stop} {old = old} {new = new} {new' = new'} {before = before} {now = now} {s = s} {after = after} {after' = after'} {m = m} few first = record {
+  after_fits = tt;
+  any_moment = first.any_moment;
+  numbers = λ quiet. count_failed {T = B} {A = A} stop old new new' before now s after after' m few (first.numbers quiet);
+  quiet = first.quiet;
+  worn_log = λ is. first.worn_log (err_again stop (Worn Log) is);
+  worn = λ is. first.worn (err_again stop (Worn Flash) is);
+  foreign = λ is. first.foreign (err_again stop Foreign is);
+}
+
+-- a call behind one that was Ok
+pub does_then : {A B : Type 0} {a : A} {r : Result B Stop} {old mid new : Engine} {before between now : Site} {s u after : State} {P Q R : Snapshot → Type 0} {m m' k : ℕ} → IsTrue before.honest → m + m' ≡ k →
+    ((x : Snapshot) → P x → R x) → (LeavesOnly before between P → (x : Snapshot) → Q x → R x) →
+    Serves {T = A} (Ok a) old mid before between → Does {T = A} (Ok a) old mid before between s u P m → Does r mid new between now u after Q m' → Does r old new before now s after R k
+does_then {a = a} {r = r} {old = old} {mid = mid} {new = new} {before = before} {between = between} {now = now} {s = s} {u = u} {after = after} {P = P} {Q = Q} {R = R} {m = m} {m' = m'} {k = k} honest sum early late serves first second = record {
+  after_fits = second.after_fits;
+  any_moment = λ quiet.
+      let begun = first.any_moment quiet in
+      in_sequence before between now (Leaves R) (leaves_weaker before between P R early begun) (leaves_weaker between now Q R (late begun) (second.any_moment (serves.calls.stays_quiet honest quiet)));
+  numbers = λ quiet. count_then r a old mid new before between now s u after m m' k serves.sizes (first.numbers quiet) (second.numbers (serves.calls.stays_quiet honest quiet)) sum;
+  quiet = λ quiet. second.quiet (serves.calls.stays_quiet honest quiet);
+  worn_log = λ is. subst (λ (g : Geometry). IsLogWorn g now.image) serves.sizes (second.worn_log is);
+  worn = λ is. subst (λ (g : Geometry). IsWorn g now.image) serves.sizes (second.worn is);
+  foreign = second.foreign;
+}
+
+-- Commands.
+
+-- what is carried out is what the model says
+pub answered_as : (P : Outcome → Snapshot → Type 0) → {r : Result Reply Stop} {old new : Engine} {before now : Site} {s : State} {o known : Outcome} {works other : List CacheWork} {m : ℕ} → (o ≡ known) × (works ≡ other) →
+    Does r old new before now s known.after (P known) m → IfOk r (λ reply. reply ≡ known.reply) → Asks r other old.store.pages new.store.pages before now → Answers r old new before now s o works (P o) m
+answered_as P {r = r} {old = old} {new = new} {before = before} {now = now} {s = s} {o = o} {works = works} {other = other} {m = m} is does reply asks = record {
+  reply = subst (λ (x : Outcome). IfOk r (λ (y : Reply). y ≡ x.reply)) (sym is.0) reply;
+  asks = asks_same r works other old.store.pages new.store.pages before now is.1 asks;
+  does = subst (λ (x : Outcome). Does r old new before now s x.after (P x) m) (sym is.0) does;
+}
+
+-- that leaves the table
+pub answered : {r : Result Reply Stop} {old new : Engine} {before now : Site} {s : State} {o known : Outcome} {works other : List CacheWork} {P : Snapshot → Type 0} {m : ℕ} → (o ≡ known) × (works ≡ other) →
+    Does r old new before now s known.after P m → IfOk r (λ reply. reply ≡ known.reply) → Asks r other old.store.pages new.store.pages before now → Answers r old new before now s o works P m
+answered {P = P} is does reply asks = answered_as (λ o. P) is does reply asks
+
+-- nothing is asked
+pub asks_rest : {T : Type 0} {x : T} {pages : PageStore} {site : Site} → Asks {T = T} (Ok x) [] pages pages site site
+asks_rest {T = T} {x = x} {pages = pages} {site = site} = asks_nothing {T = T} (Ok x) pages site site (λ dev. refl) (no_error {T = T} {x = x} {e = Worn Flash})
+
+-- a command that is refused, or only answers: nothing is called
+pub does_nothing : {T : Type 0} {x : T} {engine : Engine} {site : Site} {s : State} {P : Snapshot → Type 0} → Fits engine site s → MayGoOn engine site → (IsQuiet site → LeavesOnly site site P) → Does {T = T} (Ok x) engine engine site site s s P 0
+does_nothing {T = T} {x = x} {engine = engine} {site = site} {s = s} fits going still = does_ok fits still (λ quiet. count_nothing {T = T} {E = Stop} (Ok x) engine site s s fits going (omega arith))
+
+-- what stands already stands
+pub still : HoldsMoment → {engine : Engine} {site : Site} {s : State} → (fits : Fits engine site s) → MayGoOn engine site → IsQuiet site → LeavesOnly site site (LeavesTable (sizes_of engine.store) s.table s.commits site.told)
+still law {engine = engine} {site = site} {s = s} fits going quiet =
+    under_leaves_for fits.newest _ _ _ s.table s.commits _ (law engine.store.log engine.store.pages site fits.newest fits.records s.table s.commits going.store.both.sizes fits.holds.both quiet)
+
+-- A command before which a checkpoint is made where one is wanted.
+module _ {s : State} (command : Command) {wanted : Bool} (known : wanted ≡ makes_checkpoint true s command) (R : Outcome → Snapshot → Type 0) where
+  pub first_then : WorksAddUp → ReadsAddUp → {A : Type 0} {a : A} {r : Result Reply Stop} {old mid new : Engine} {before between now : Site} {P Q : Snapshot → Type 0} → IsTrue before.honest →
+      ((x : Snapshot) → P x → R (run_now (checkpointed_if wanted s) command) x) → (LeavesOnly before between P → (x : Snapshot) → Q x → R (run_now (checkpointed_if wanted s) command) x) →
+      Serves {T = A} (Ok a) old mid before between → Does {T = A} (Ok a) old mid before between s (checkpointed_if wanted s) P (if wanted then 1 else 0) →
+      Asks {T = A} (Ok a) (if wanted then checkpoint_works else []) old.store.pages mid.store.pages before between →
+      Answers r mid new between now (checkpointed_if wanted s) (run_now (checkpointed_if wanted s) command) (command_touches false (checkpointed_if wanted s) command) Q 0 →
+      Answers r old new before now s (run s command) (command_touches true s command) (R (run s command)) (checkpoints_by s command)
+  first_then add reads {a = a} {r = r} {old = old} {mid = mid} {new = new} {before = before} {between = between} {now = now} honest early late serves does asks second =
+      subst (λ (b : Bool). Answers r old new before now s (run s command) (command_touches true s command) (R (run s command)) (if b then 1 else 0)) known
+      (answered_as R (step_where s command wanted known, touches_where s command wanted known) (does_then honest (omega arith) early late serves does second.does) second.reply
+      (asks_then add reads a r (if wanted then checkpoint_works else []) (command_touches false (checkpointed_if wanted s) command) old.store.pages mid.store.pages new.store.pages before between now asks second.asks))
+
+  -- it fails
+  pub first_failed : ReadsForMore → OverflowsWithMore → {A : Type 0} {stop : Stop} {old mid : Engine} {before now : Site} {P : Snapshot → Type 0} → MayGoOn old before → ((x : Snapshot) → P x → R (run_now (checkpointed_if wanted s) command) x) →
+      Does {T = A} (Err stop) old mid before now s (checkpointed_if wanted s) P (if wanted then 1 else 0) → Asks {T = A} (Err stop) (if wanted then checkpoint_works else []) old.store.pages mid.store.pages before now →
+      Answers (Err stop) old mid before now s (run s command) (command_touches true s command) (R (run s command)) (checkpoints_by s command)
+  first_failed more over {A = A} {stop = stop} {old = old} {mid = mid} {before = before} {now = now} going early does asks =
+      subst (λ (b : Bool). Answers (Err stop) old mid before now s (run s command) (command_touches true s command) (R (run s command)) (if b then 1 else 0)) known
+      (answered_as R (step_where s command wanted known, touches_where s command wanted known) (does_failed (run_makes (checkpointed_if wanted s) command) (does_weaker early does)) tt
+      (asks_stopped more over {A = A} {B = Reply} stop (if wanted then checkpoint_works else []) (command_touches false (checkpointed_if wanted s) command) old.store.pages mid.store.pages before now (has_group going) asks))
+
+-- What a crash leaves of a call behind one that left the table.
+
+pub late_table : {g g' : Geometry} {old mid : Site} {table : List Content} {commits : ℕ} → g' ≡ g → LeavesOnly old mid (LeavesTable g table commits old.told) → (x : Snapshot) → LeavesTable g' table commits mid.told x → LeavesTable g table commits old.told x
+late_table {g = g} {old = old} {mid = mid} {table = table} {commits = commits} same begun x q = record {
+  told = q.told ∙ (holds_now old mid (LeavesTable g table commits old.told) begun).told;
+  stands = subst (λ (k : Geometry). Stands k x.image table commits) same q.stands;
+}
+
+pub late_either : {g g' : Geometry} {old mid : Site} {s u after : State} → u.table ≡ s.table → u.commits ≡ s.commits → g' ≡ g → LeavesOnly old mid (LeavesTable g s.table s.commits old.told) → (x : Snapshot) → LeavesEither g' u after mid.told x → LeavesEither g s after old.told x
+late_either {g = g} {g' = g'} {old = old} {mid = mid} {s = s} {u = u} {after = after} table commits same begun x q = record {
+  told = q.told ∙ (holds_now old mid (LeavesTable g s.table s.commits old.told) begun).told;
+  stands = ⊎_elim
+      (λ before. inl (subst (λ (k : Geometry). Stands k x.image s.table s.commits) same (subst (λ (n : ℕ). Stands g' x.image s.table n) commits (subst (λ (t : List Content). Stands g' x.image t u.commits) table before))))
+      (λ done. inr (subst (λ (k : Geometry). Stands k x.image after.table after.commits) same done)) q.stands;
+}
+
+-- what a session writes
+pub written : {T : Type 0} {r : Result T Stop} {old new : Engine} {before now : Site} {s : State} {P : Snapshot → Type 0} {m n k : ℕ} {x y : Content} (number : ℕ) → n ≡ k → x ≡ y →
+    Does r old new before now s (with_write s n (number, x)) P m → Does r old new before now s (with_write s k (number, y)) P m
+written {r = r} {old = old} {new = new} {before = before} {now = now} {s = s} {P = P} {m = m} {k = k} {x = x} number session is does =
+    subst (λ (v : Content). Does r old new before now s (with_write s k (number, v)) P m) is (subst (λ (j : ℕ). Does r old new before now s (with_write s j (number, x)) P m) session does)
+
+-- Memory gives out behind a call that was Ok.
+
+pub works_no_memory : {A B : Type 0} {a : A} {old new : Store} {before now : Site} {n : ℕ} → Works {T = A} (Ok a) old new before now n → Works {T = B} (Err Memory) old new before now n
+works_no_memory {B = B} first = record {
+  calls = calls_refused {stop = Memory} (λ d is. never is) first.calls;
+  going = tt;
+  made = tt;
+  blocks = tt;
+  rises = tt;
+  kept = first.kept;
+  sizes = first.sizes;
+  stops = tt;
+}
+  where
+    never : {d : Dev} → Memory ≡ Device d → ⊥
+    never is = cc
+
+pub keeps_no_memory : {A B : Type 0} {a : A} {old new : Store} {before now : Site} {P : Snapshot → Type 0} {i n m : ℕ} → IsTrue before.honest → Works {T = A} (Ok a) old new before now i → Keeps {T = A} (Ok a) old new before now P n m → Keeps {T = B} (Err Memory) old new before now P n m
+keeps_no_memory {A = A} {B = B} {a = a} {old = old} {new = new} {before = before} {now = now} {n = n} {m = m} honest works first = record {
+  any_moment = first.any_moment;
+  numbers = λ quiet. skips_refused {A = A} {B = B} a Memory (sizes_of old) old.log new.log before now n m (first.numbers quiet);
+  quiet = λ quiet other. works.calls.stays_quiet honest quiet;
+  worn_log = λ is. absurd (no_log (stop_is {U = B} Memory (Worn Log) is));
+  worn = λ is. absurd (no_flash (stop_is {U = B} Memory (Worn Flash) is));
+  readable = λ is. no_foreigner (stop_is {U = B} Memory Foreign is);
+}
+  where
+    no_log : Memory ≡ Worn Log → ⊥
+    no_log is = cc
+
+    no_flash : Memory ≡ Worn Flash → ⊥
+    no_flash is = cc
+
+    no_foreigner : Memory ≡ Foreign → ⊥
+    no_foreigner is = cc
+
+pub calls_no_memory : {A B : Type 0} {a : A} {stop : Stop} {before now : Site} → stop ≡ Memory → Calls {T = A} (Ok a) before now → Calls {T = B} (Err stop) before now
+calls_no_memory {stop = stop} memory first = calls_refused {stop = stop} (λ d is. never (sym memory ∙ is)) first
+  where
+    never : {d : Dev} → Memory ≡ Device d → ⊥
+    never is = cc
+
+pub ends_no_memory : {A B : Type 0} {a : A} {stop : Stop} {g : Geometry} {before now : Site} {P : Snapshot → Type 0} → stop ≡ Memory → IsTrue before.honest → Calls {T = A} (Ok a) before now → Ends {T = A} (Ok a) g before now P → Ends {T = B} (Err stop) g before now P
+ends_no_memory {B = B} {stop = stop} memory honest calls first = record {
+  any_moment = first.any_moment;
+  quiet = λ quiet other. calls.stays_quiet honest quiet;
+  worn_log = λ is. absurd (no_log (sym memory ∙ stop_is {U = B} stop (Worn Log) is));
+  worn = λ is. absurd (no_flash (sym memory ∙ stop_is {U = B} stop (Worn Flash) is));
+  readable = λ is. no_foreigner (sym memory ∙ stop_is {U = B} stop Foreign is);
+}
+  where
+    no_log : Memory ≡ Worn Log → ⊥
+    no_log is = cc
+
+    no_flash : Memory ≡ Worn Flash → ⊥
+    no_flash is = cc
+
+    no_foreigner : Memory ≡ Foreign → ⊥
+    no_foreigner is = cc
+
+pub serves_no_memory : {A B : Type 0} {a : A} {stop : Stop} {old new : Engine} {before now : Site} → stop ≡ Memory → Serves {T = A} (Ok a) old new before now → Serves {T = B} (Err stop) old new before now
+serves_no_memory memory first = record { calls = calls_no_memory memory first.calls; going = tt; sizes = first.sizes; stops = subst MayStop (sym memory) tt }
+
+pub does_no_memory : {A B : Type 0} {a : A} {stop : Stop} {old new : Engine} {before now : Site} {s after after' : State} {P : Snapshot → Type 0} {m : ℕ} → stop ≡ Memory → IsTrue before.honest → after.made ≤ after'.made →
+    Serves {T = A} (Ok a) old new before now → Does {T = A} (Ok a) old new before now s after P m → Does {T = B} (Err stop) old new before now s after' P m
+does_no_memory {A = A} {B = B} {a = a} {stop = stop} {old = old} {new = new} {before = before} {now = now} {s = s} {after = after} {after' = after'} {m = m} memory honest few serves first = record {
+  after_fits = tt;
+  any_moment = first.any_moment;
+  numbers = λ quiet. count_failed {T = B} {A = B} stop old new new before now s after after' m few (count_refused {T = B} {A = A} a stop old new new before now s after m (first.numbers quiet));
+  quiet = λ quiet other. serves.calls.stays_quiet honest quiet;
+  worn_log = λ is. absurd (no_log (sym memory ∙ stop_is {U = B} stop (Worn Log) is));
+  worn = λ is. absurd (no_flash (sym memory ∙ stop_is {U = B} stop (Worn Flash) is));
+  foreign = λ is. no_foreigner (sym memory ∙ stop_is {U = B} stop Foreign is);
+}
+  where
+    no_log : Memory ≡ Worn Log → ⊥
+    no_log is = cc
+
+    no_flash : Memory ≡ Worn Flash → ⊥
+    no_flash is = cc
+
+    no_foreigner : Memory ≡ Foreign → ⊥
+    no_foreigner is = cc
+
+-- Leaves of the tower.
+
+pub keeps_ok : {T : Type 0} {x : T} {old new : Store} {before now : Site} {P : Snapshot → Type 0} {n m : ℕ} → (IsQuiet before → LeavesOnly before now P) → (IsQuiet before → SkipsNone {T = T} {E = Stop} (Ok x) (sizes_of old) old.log new.log before now n m) →
+    Keeps {T = T} (Ok x) old new before now P n m
+keeps_ok {T = T} {x = x} moments numbers = record {
+  any_moment = moments;
+  numbers = numbers;
+  quiet = λ quiet. tt;
+  worn_log = λ is. absurd (no_error {T = T} {x = x} {e = Worn Log} is);
+  worn = λ is. absurd (no_error {T = T} {x = x} {e = Worn Flash} is);
+  readable = no_error {T = T} {x = x} {e = Foreign};
+}
+
+-- the cause is the log's device
+pub log_is_read : {T : Type 0} (stop : Stop) → (stop ≡ Device Log) ⊎ (stop ≡ Worn Log) → IsErrOf {T = T} (Err stop) Foreign → ⊥
+log_is_read stop (inl is) other = let same : stop ≡ Foreign = cc in absurd (cc)
+log_is_read stop (inr is) other = let same : stop ≡ Foreign = cc in absurd (cc)
+
+-- a crash at the commit leaves the table of before, or the one with what was written
+pub late_commit : (g g' : Geometry) (old mid : Site) (s : State) (number : ℕ) (after : Content) (writes : List Write) → g' ≡ g → writes ≡ (number, after) ∷ [] → LeavesOnly old mid (LeavesTable g s.table s.commits old.told) →
+    (snapshot : Snapshot) → moments.LeavesEitherFor g' s.table (table_with s.table writes) s.commits mid.told snapshot → LeavesEither g s (making 3 (committed s ((number, after) ∷ []))) old.told snapshot
+late_commit g g' old mid s number after writes same are begun snapshot q = record {
+  told = q.told ∙ (holds_now old mid (LeavesTable g s.table s.commits old.told) begun).told;
+  stands = ⊎_elim (λ before. inl (subst (λ (x : Geometry). Stands x snapshot.image s.table s.commits) same before))
+      (λ done. inr (subst (λ (x : Geometry). Stands x snapshot.image (table_with s.table ((number, after) ∷ [])) (s.commits + 1)) same (subst (λ (ws : List Write). Stands g' snapshot.image (table_with s.table ws) (s.commits + 1)) are done))) q.stands;
+}

@@ -1,0 +1,200 @@
+// A transaction of one write, outside sessions.
+ghost use Rattle.std.specs.Prelude.{Option, ◌≡◌, ◌⊎◌, ◌+◌, ◌*◌, ◌/◌, ◌^◌, ◌<◌, ◌≤◌, [], ◌∷◌, ◌++◌, length, true, false, Some, None, IfSome, IfNone, IfOk, OnErr, IsErrOf};
+ghost use Rattle.site.specs.declared.outside.Dev.{Dev};
+ghost use Rattle.site.specs.declared.outside.Stop.{Stop};
+ghost use Rattle.site.specs.State.{State as Site};
+ghost use Rattle.record_model.specs.declared.words.Command.{Command};
+ghost use Rattle.record_model.specs.declared.words.Why.{Why};
+ghost use Rattle.record_model.specs.declared.words.Reply.{Reply};
+ghost use Rattle.record_model.specs.State.{State};
+ghost use Rattle.byte_fields.specs.declared.TheConstants.{VALUE_MAX};
+ghost use Rattle.record_model.specs.Step.{making, committed};
+ghost use Rattle.log_records.specs.Spelling.{IsShort};
+ghost use Rattle.lock_table.specs.Locks.{busy_write};
+ghost use Rattle.txn_table.specs.Entries.{IsTable, owed};
+ghost use Rattle.engine.specs.Going.{MayGoOn, sizes_of};
+ghost use Rattle.engine.specs.OneWrite.{HasOneWrite};
+ghost use Rattle.engine.specs.Fits.{Fits, run, run_now, Refuses, Accepts};
+ghost use Rattle.engine.specs.Leaves.{LeavesTable, LeavesEither};
+ghost use Rattle.record_model.specs.Touches.{command_touches};
+ghost use Rattle.redo_undo.specs.Works.{Asks, Overflows, one_change, checkpoint_works};
+ghost use Rattle.page_store.specs.Caching.{cache_of, rules};
+ghost use Rattle.engine.specs.Calls.{Works, Keeps, Serves, Does, Answers};
+ghost use Rattle.engine.specs.Numbers.{checkpoints_by};
+
+use crate::engine::Engine;
+use crate::values::{is_long, value_of};
+use page_store::touch_then_change;
+use record_model::{Octets, Reply, Why};
+use redo_undo::{changes_cost_a_touch, hold_together, works_add_up};
+use site::{Site, Stop};
+
+impl Engine {
+    // Logs the Begin of a transaction that sets one record, and its Update, and changes the record's page. Answers the transaction.
+    fn log_set<S: Site>(
+        &mut self,
+        site: &mut S,
+        number: u32,
+        after: &Option<Octets>,
+    ) -> Result<u64, Stop>
+        requires going { MayGoOn self.old (S.state site.old) }
+        requires number { number < 32 * (sizes_of self.old.store).pages }
+        requires free { busy_write self.old.locks None number ≡ None }
+        requires short { IsShort after.now }
+        requires room { self.old.store.made + owed self.old.active + 4 ≤ self.old.cap }
+
+        // Of an honest site that the database fits.
+        ensures logged { (s : State) (fits : Fits self.old (S.state site.old) s)
+            → IfOk result (λ txn. HasOneWrite self.new.store (S.state site.new) fits.newest
+            fits.records s.table s.commits txn number after.now) }
+        ensures keeps { (s : State) → Fits self.old (S.state site.old) s
+            → Keeps result self.old.store self.new.store (S.state site.old) (S.state site.new)
+            (LeavesTable (sizes_of self.old.store) s.table s.commits (S.state site.old).told) 2 0 }
+
+        // Of every site.
+        ensures works { Works result self.old.store self.new.store (S.state site.old) (S.state site.new) 2 }
+        ensures rest { self.new ≡ record self.old { store = self.new.store } }
+        ensures asks { Asks result (one_change (number / 32)) self.old.store.pages self.new.store.pages
+            (S.state site.old) (S.state site.new) }
+    {
+        touch_then_change();
+        changes_cost_a_touch();
+        works_add_up();
+        let txn = match self.store.begin(site) {
+            Ok(txn) => txn,
+            Err(stop) => return Err(stop),
+        };
+        match self.store.touch(site, number) {
+            Ok(()) => {}
+            Err(stop) => return Err(stop),
+        }
+        match self.store.update(site, txn, txn, number, after) {
+            Ok(_) => Ok(txn),
+            Err(stop) => Err(stop),
+        }
+    }
+
+    // Logs a transaction that sets one record, and commits it.
+    fn carry_out_set<S: Site>(
+        &mut self,
+        site: &mut S,
+        number: u32,
+        after: &Option<Octets>,
+    ) -> Result<Reply, Stop>
+        requires going { MayGoOn self.old (S.state site.old) }
+        requires number { number < 32 * (sizes_of self.old.store).pages }
+        requires free { busy_write self.old.locks None number ≡ None }
+        requires short { IsShort after.now }
+        requires room { self.old.store.made + owed self.old.active + 4 ≤ self.old.cap }
+
+        // Of an honest site that the database fits.
+        ensures reply { (s : State) → Fits self.old (S.state site.old) s
+            → IfOk result (λ reply. reply ≡ Reply.Committed (s.commits + 1)) }
+        ensures does { (s : State) → Fits self.old (S.state site.old) s
+            → Does result self.old self.new (S.state site.old) (S.state site.new) s
+            (making 3 (committed s ((number, after.now) ∷ [])))
+            (LeavesEither (sizes_of self.old.store) s (making 3 (committed s ((number, after.now) ∷ [])))
+            (S.state site.old).told) 0 }
+
+        // Of every site.
+        ensures serves { Serves result self.old self.new (S.state site.old) (S.state site.new) }
+        ensures asks { Asks result (one_change (number / 32)) self.old.store.pages self.new.store.pages
+            (S.state site.old) (S.state site.new) }
+    {
+        works_add_up();
+        let txn = match self.log_set(site, number, after) {
+            Ok(txn) => txn,
+            Err(stop) => return Err(stop),
+        };
+        match self.seal_commit(site, txn) {
+            Ok(reply) => Ok(reply),
+            Err(stop) => Err(stop),
+        }
+    }
+
+    // Why a record can't be set, if it can't.
+    fn set_refusal(&self, number: u32, value: &Octets) -> Option<Reply>
+        requires bounded { self.now.store.made + owed self.now.active ≤ 2 ^ 40 }
+        requires sizes { self.now.store.log.geometry ≡ sizes_of self.now.store }
+        requires table { IsTable self.now.active }
+        ensures refused { IfSome result (λ reply. Refuses self.now (Command.Set number value.now) reply) }
+        ensures accepted { IfNone result (Accepts self.now (Command.Set number value.now)) }
+        ensures number { IfNone result (number < 32 * (sizes_of self.now.store).pages) }
+        ensures short { IfNone result (length value.now ≤ VALUE_MAX) }
+        ensures free { IfNone result (busy_write self.now.locks None number ≡ None) }
+        ensures room { IfNone result (self.now.store.made + owed self.now.active + 4 ≤ self.now.cap) }
+    {
+        if self.lacks(number) {
+            return Some(Reply::Refused(Why::NoRecord));
+        }
+        if is_long(value) {
+            return Some(Reply::Refused(Why::TooLong));
+        }
+        if let Some(busy) = self.write_busy(None, number) {
+            return Some(busy);
+        }
+        if let Some(full) = self.full(4) {
+            return Some(full);
+        }
+        None
+    }
+
+    // Sets a record: a transaction of one write, outside sessions, where no checkpoint comes first.
+    fn set_now<S: Site>(&mut self, site: &mut S, number: u32, value: &Octets) -> Result<Reply, Stop>
+        requires going { MayGoOn self.old (S.state site.old) }
+
+        // Of an honest site that the database fits.
+        ensures answers { (s : State) → Fits self.old (S.state site.old) s
+            → Answers result self.old self.new (S.state site.old) (S.state site.new) s
+            (run_now s (Command.Set number value.now))
+            (command_touches false s (Command.Set number value.now))
+            (LeavesEither (sizes_of self.old.store) s (run_now s (Command.Set number value.now)).after
+            (S.state site.old).told) 0 }
+
+        // Of every site.
+        ensures serves { Serves result self.old self.new (S.state site.old) (S.state site.new) }
+        ensures ended { OnErr result (self.new.ended ≡ true) }
+        ensures worn_flash { IsErrOf result (Stop.Worn Dev.Flash)
+            → Overflows (rules self.old.store.pages) (one_change (number / 32)) (cache_of self.old.store.pages) }
+    {
+        hold_together();
+        if let Some(refused) = self.set_refusal(number, value) {
+            return Ok(refused);
+        }
+        let after = value_of(value);
+        match self.carry_out_set(site, number, &after) {
+            Ok(reply) => Ok(reply),
+            Err(stop) => {
+                self.ended = true;
+                Err(stop)
+            }
+        }
+    }
+
+    /// Sets a record: a transaction of one write, outside sessions. Where a checkpoint is due it comes first.
+    pub fn set<S: Site>(&mut self, site: &mut S, number: u32, value: &Octets) -> Result<Reply, Stop>
+        requires going { MayGoOn self.old (S.state site.old) }
+
+        // Of an honest site that the database fits.
+        ensures answers { (s : State) → Fits self.old (S.state site.old) s
+            → Answers result self.old self.new (S.state site.old) (S.state site.new) s
+            (run s (Command.Set number value.now))
+            (command_touches true s (Command.Set number value.now))
+            (LeavesEither (sizes_of self.old.store) s (run s (Command.Set number value.now)).after
+            (S.state site.old).told) (checkpoints_by s (Command.Set number value.now)) }
+
+        // Of every site.
+        ensures serves { Serves result self.old self.new (S.state site.old) (S.state site.new) }
+        ensures ended { OnErr result (self.new.ended ≡ true) }
+        ensures worn_flash { IsErrOf result (Stop.Worn Dev.Flash)
+            → Overflows (rules self.old.store.pages) (one_change (number / 32)) (cache_of self.old.store.pages)
+            ⊎ Overflows (rules self.old.store.pages) (checkpoint_works ++ one_change (number / 32)) (cache_of self.old.store.pages) }
+    {
+        works_add_up();
+        let wanted = self.wants_checkpoint_to_set(number, value);
+        match self.checkpoint_if(site, wanted) {
+            Ok(()) => self.set_now(site, number, value),
+            Err(stop) => Err(stop),
+        }
+    }
+}

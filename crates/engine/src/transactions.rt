@@ -1,0 +1,306 @@
+// Sessions' transactions begin, are committed and are undone.
+ghost use Rattle.std.specs.Prelude.{Option, map, reverse, ◌≡◌, ◌≢◌, ◌⊎◌, ◌+◌, ◌^◌, ◌<◌, ◌≤◌, ℕ, List, [], ◌∷◌, ◌++◌, true, false, Some, None, IfSome, IfNone, IfOk, IfErr, OnOk, OnErr, IsErrOf};
+ghost use Rattle.site.specs.declared.outside.Dev.{Dev};
+ghost use Rattle.site.specs.declared.outside.Stop.{Stop};
+ghost use Rattle.site.specs.State.{State as Site};
+ghost use Rattle.record_model.specs.declared.words.Command.{Command};
+ghost use Rattle.record_model.specs.declared.words.Why.{Why};
+ghost use Rattle.record_model.specs.declared.words.Reply.{Reply};
+ghost use Rattle.record_model.specs.State.{State, Content, table_with, writes_of, session_at};
+ghost use Rattle.record_model.specs.Step.{effect};
+ghost use Rattle.log_records.specs.declared.log_record.LogRecord.{LogRecord};
+ghost use Rattle.log_records.specs.Log.{Entry};
+ghost use Rattle.log_laws.specs.Follow.{writes_in};
+ghost use Rattle.txn_table.specs.Entries.{entry_of, owed};
+ghost use Rattle.log_store.specs.Held.{end_of};
+ghost use Rattle.image_meaning.specs.Moments as moments;
+ghost use Rattle.redo_undo.specs.Holding.{blocks_to};
+ghost use Rattle.redo_undo.specs.Committing.{MayCommit};
+ghost use Rattle.engine.specs.Going.{MayWork, MayGoOn, sizes_of};
+ghost use Rattle.engine.specs.Holding.{Holds};
+ghost use Rattle.engine.specs.Fits.{Fits, run, run_now, Refuses, Accepts};
+ghost use Rattle.engine.specs.Leaves.{LeavesTable, LeavesEither};
+ghost use Rattle.record_model.specs.Touches.{command_touches, write_touch};
+ghost use Rattle.redo_undo.specs.Works.{Asks, Overflows, checkpoint_works};
+ghost use Rattle.page_store.specs.Caching.{cache_of, rules};
+ghost use Rattle.checkpoint.specs.declared.master.Master.{Master};
+ghost use Rattle.engine.specs.Calls.{Works, Keeps, Serves, Does, Answers};
+ghost use Rattle.engine.specs.Numbers.{checkpoints_by};
+
+use crate::engine::{Engine, SESSIONS};
+use crate::sessions;
+use record_model::{Reply, Why};
+use redo_undo::{hold_together, works_add_up};
+use site::{Site, Stop};
+use txn_table::Active;
+
+impl Engine {
+    // Why a session can't begin, if it can't.
+    fn begin_refusal(&self, session: u32) -> Option<Reply>
+        requires bounded { self.now.store.made + owed self.now.active ≤ 2 ^ 40 }
+        ensures refused { IfSome result (λ reply. Refuses self.now (Command.Begin session) reply) }
+        ensures accepted { IfNone result (Accepts self.now (Command.Begin session)) }
+        ensures session { IfNone result (session < 8) }
+        ensures absent { IfNone result (entry_of self.now.active session ≡ None) }
+        ensures room { IfNone result (self.now.store.made + owed self.now.active + 2 ≤ self.now.cap) }
+    {
+        if session >= SESSIONS {
+            return Some(Reply::Refused(Why::BadSession));
+        }
+        if self.active.find(session).is_some() {
+            return Some(Reply::Refused(Why::BadSession));
+        }
+        if let Some(full) = self.full(2) {
+            return Some(full);
+        }
+        None
+    }
+
+    // A session begins, where no checkpoint comes first.
+    fn begin_now<S: Site>(&mut self, site: &mut S, session: u32) -> Result<Reply, Stop>
+        requires going { MayGoOn self.old (S.state site.old) }
+
+        // Of an honest site that the database fits.
+        ensures answers { (s : State) → Fits self.old (S.state site.old) s
+            → Answers result self.old self.new (S.state site.old) (S.state site.new) s
+            (run_now s (Command.Begin session)) (command_touches false s (Command.Begin session))
+            (LeavesTable (sizes_of self.old.store) s.table s.commits (S.state site.old).told) 0 }
+
+        // Of every site.
+        ensures serves { Serves result self.old self.new (S.state site.old) (S.state site.new) }
+        ensures ended { OnErr result (self.new.ended ≡ true) }
+        ensures stops { IfErr result (λ stop. (stop ≡ Stop.Device Dev.Log) ⊎ (stop ≡ Stop.Worn Dev.Log)) }
+    {
+        hold_together();
+        if let Some(refused) = self.begin_refusal(session) {
+            return Ok(refused);
+        }
+        match self.carry_out_begin(site, session) {
+            Ok(reply) => Ok(reply),
+            Err(stop) => {
+                self.ended = true;
+                Err(stop)
+            }
+        }
+    }
+
+    /// A session begins. Where a checkpoint is due it comes first.
+    pub fn begin<S: Site>(&mut self, site: &mut S, session: u32) -> Result<Reply, Stop>
+        requires going { MayGoOn self.old (S.state site.old) }
+
+        // Of an honest site that the database fits.
+        ensures answers { (s : State) → Fits self.old (S.state site.old) s
+            → Answers result self.old self.new (S.state site.old) (S.state site.new) s (run s (Command.Begin session))
+            (command_touches true s (Command.Begin session))
+            (LeavesTable (sizes_of self.old.store) s.table s.commits (S.state site.old).told)
+            (checkpoints_by s (Command.Begin session)) }
+
+        // Of every site.
+        ensures serves { Serves result self.old self.new (S.state site.old) (S.state site.new) }
+        ensures ended { OnErr result (self.new.ended ≡ true) }
+        ensures worn_flash { IsErrOf result (Stop.Worn Dev.Flash)
+            → Overflows (rules self.old.store.pages) checkpoint_works (cache_of self.old.store.pages) }
+        ensures foreign { IfErr result (λ stop. stop ≢ Stop.Foreign) }
+    {
+        works_add_up();
+        let wanted = self.wants_checkpoint_to_begin(session);
+        match self.checkpoint_if(site, wanted) {
+            Ok(()) => self.begin_now(site, session),
+            Err(stop) => Err(stop),
+        }
+    }
+
+    // A session that may begins.
+    fn carry_out_begin<S: Site>(&mut self, site: &mut S, session: u32) -> Result<Reply, Stop>
+        requires going { MayGoOn self.old (S.state site.old) }
+        requires session { session < 8 }
+        requires absent { entry_of self.old.active session ≡ None }
+        requires room { self.old.store.made + owed self.old.active + 2 ≤ self.old.cap }
+
+        // Of an honest site that the database fits.
+        ensures done { IfOk result (λ reply. reply ≡ Reply.Done) }
+        ensures does { (s : State) → Fits self.old (S.state site.old) s
+            → Does result self.old self.new (S.state site.old) (S.state site.new) s (effect s (Command.Begin session))
+            (LeavesTable (sizes_of self.old.store) s.table s.commits (S.state site.old).told) 0 }
+
+        // Of every site.
+        ensures serves { Serves result self.old self.new (S.state site.old) (S.state site.new) }
+        ensures asks { Asks result ([]) self.old.store.pages self.new.store.pages
+            (S.state site.old) (S.state site.new) }
+        ensures stops { IfErr result (λ stop. (stop ≡ Stop.Device Dev.Log) ⊎ (stop ≡ Stop.Worn Dev.Log)) }
+    {
+        let born = self.store.made;
+        let begin = match self.store.begin(site) {
+            Ok(begin) => begin,
+            Err(stop) => return Err(stop),
+        };
+        sessions::add(
+            &mut self.active,
+            Active {
+                session,
+                begin,
+                last: begin,
+                born,
+                writes: 0,
+            },
+        );
+        Ok(Reply::Done)
+    }
+
+    /// Commits a transaction.
+    pub(crate) fn seal_commit<S: Site>(&mut self, site: &mut S, txn: u64) -> Result<Reply, Stop>
+        requires going { MayWork self.old.store (S.state site.old) }
+        requires room { blocks_to self.old.store.log + 1 < self.old.store.log.kept + (sizes_of self.old.store).blocks }
+        requires few { self.old.store.made < 2 ^ 40 }
+        requires commits { self.old.commits ≤ end_of self.old.store.log }
+
+        // Of an honest site whose log and pages hold these records.
+        ensures holds { (newest : Option Master) (records : List Entry) (table : List Content) (commits : ℕ)
+            → Holds self.old.store (S.state site.old) newest records table commits
+            → MayCommit newest records txn (self.old.commits + 1) commits
+            → OnOk result ((lsn : ℕ) × Holds self.new.store (S.state site.new) newest
+            (records ++ record { lsn = lsn; rec = LogRecord.Commit txn (self.old.commits + 1) } ∷ [])
+            (table_with table (writes_in txn records)) (commits + 1)) }
+        ensures keeps { (newest : Option Master) (records : List Entry) (table : List Content) (commits : ℕ)
+            → Holds self.old.store (S.state site.old) newest records table commits
+            → MayCommit newest records txn (self.old.commits + 1) commits
+            → Keeps result self.old.store self.new.store (S.state site.old) (S.state site.new)
+            (moments.LeavesEitherFor (sizes_of self.old.store) table (table_with table (writes_in txn records)) commits
+            (S.state site.old).told) 1 0 }
+
+        // Of every site.
+        ensures works { Works result self.old.store self.new.store (S.state site.old) (S.state site.new) 1 }
+        ensures reply { IfOk result (λ reply. reply ≡ Reply.Committed (self.old.commits + 1)) }
+        ensures rest { self.new ≡ record self.old { store = self.new.store; commits = self.new.commits } }
+        ensures commits { OnOk result (self.new.commits ≡ self.old.commits + 1) }
+        ensures rises { OnOk result (end_of self.old.store.log < end_of self.new.store.log) }
+        ensures asks { Asks result ([]) self.old.store.pages self.new.store.pages
+            (S.state site.old) (S.state site.new) }
+        ensures stops { IfErr result (λ stop. (stop ≡ Stop.Device Dev.Log) ⊎ (stop ≡ Stop.Worn Dev.Log)) }
+    {
+        let number = self.commits + 1;
+        match self.store.commit(site, txn, number) {
+            Ok(_) => {
+                self.commits = number;
+                Ok(Reply::Committed(number))
+            }
+            Err(stop) => Err(stop),
+        }
+    }
+
+    // Commits a session's transaction, and ends the session.
+    fn carry_out_commit<S: Site>(&mut self, site: &mut S, entry: Active) -> Result<Reply, Stop>
+        requires going { MayGoOn self.old (S.state site.old) }
+        requires active { entry_of self.old.active entry.session ≡ Some entry }
+
+        // Of an honest site that the database fits.
+        ensures done { (s : State) → Fits self.old (S.state site.old) s
+            → IfOk result (λ reply. reply ≡ Reply.Committed (s.commits + 1)) }
+        ensures does { (s : State) → Fits self.old (S.state site.old) s
+            → Does result self.old self.new (S.state site.old) (S.state site.new) s
+            (effect s (Command.Commit entry.session))
+            (LeavesEither (sizes_of self.old.store) s (effect s (Command.Commit entry.session))
+            (S.state site.old).told) 0 }
+
+        // Of every site.
+        ensures serves { Serves result self.old self.new (S.state site.old) (S.state site.new) }
+        ensures asks { Asks result ([]) self.old.store.pages self.new.store.pages
+            (S.state site.old) (S.state site.new) }
+        ensures stops { IfErr result (λ stop. (stop ≡ Stop.Device Dev.Log) ⊎ (stop ≡ Stop.Worn Dev.Log)) }
+    {
+        match self.seal_commit(site, entry.begin) {
+            Ok(reply) => {
+                self.locks.release(entry.session);
+                sessions::remove(&mut self.active, entry);
+                Ok(reply)
+            }
+            Err(stop) => Err(stop),
+        }
+    }
+
+    /// A session's writes enter the table, and it ends.
+    pub fn commit<S: Site>(&mut self, site: &mut S, session: u32) -> Result<Reply, Stop>
+        requires going { MayGoOn self.old (S.state site.old) }
+
+        // Of an honest site that the database fits.
+        ensures answers { (s : State) → Fits self.old (S.state site.old) s
+            → Answers result self.old self.new (S.state site.old) (S.state site.new) s (run s (Command.Commit session))
+            (command_touches true s (Command.Commit session))
+            (LeavesEither (sizes_of self.old.store) s (run s (Command.Commit session)).after (S.state site.old).told)
+            (checkpoints_by s (Command.Commit session)) }
+
+        // Of every site.
+        ensures serves { Serves result self.old self.new (S.state site.old) (S.state site.new) }
+        ensures ended { OnErr result (self.new.ended ≡ true) }
+        ensures stops { IfErr result (λ stop. (stop ≡ Stop.Device Dev.Log) ⊎ (stop ≡ Stop.Worn Dev.Log)) }
+    {
+        hold_together();
+        let Some(entry) = self.active.find(session) else {
+            return Ok(Reply::Refused(Why::BadSession));
+        };
+        match self.carry_out_commit(site, entry) {
+            Ok(reply) => Ok(reply),
+            Err(stop) => {
+                self.ended = true;
+                Err(stop)
+            }
+        }
+    }
+
+    // Undoes a session's transaction, and ends the session.
+    fn carry_out_abort<S: Site>(&mut self, site: &mut S, entry: Active) -> Result<Reply, Stop>
+        requires going { MayGoOn self.old (S.state site.old) }
+        requires active { entry_of self.old.active entry.session ≡ Some entry }
+
+        // Of an honest site that the database fits.
+        ensures done { IfOk result (λ reply. reply ≡ Reply.Aborted) }
+        ensures does { (s : State) → Fits self.old (S.state site.old) s
+            → Does result self.old self.new (S.state site.old) (S.state site.new) s
+            (effect s (Command.Abort entry.session))
+            (LeavesTable (sizes_of self.old.store) s.table s.commits (S.state site.old).told) 0 }
+        ensures asks { (s : State) → Fits self.old (S.state site.old) s
+            → Asks result (map (λ write. write_touch write.0) (reverse (writes_of (session_at s entry.session))))
+            self.old.store.pages self.new.store.pages (S.state site.old) (S.state site.new) }
+
+        // Of every site.
+        ensures serves { Serves result self.old self.new (S.state site.old) (S.state site.new) }
+    {
+        let owed = self.active.owed() - (entry.writes + 1);
+        match self.store.roll_back(site, entry, owed) {
+            Ok(()) => {
+                self.locks.release(entry.session);
+                sessions::remove(&mut self.active, entry);
+                Ok(Reply::Aborted)
+            }
+            Err(stop) => Err(stop),
+        }
+    }
+
+    /// A session's writes are dropped, and it ends.
+    pub fn abort<S: Site>(&mut self, site: &mut S, session: u32) -> Result<Reply, Stop>
+        requires going { MayGoOn self.old (S.state site.old) }
+
+        // Of an honest site that the database fits.
+        ensures answers { (s : State) → Fits self.old (S.state site.old) s
+            → Answers result self.old self.new (S.state site.old) (S.state site.new) s (run s (Command.Abort session))
+            (command_touches true s (Command.Abort session))
+            (LeavesTable (sizes_of self.old.store) s.table s.commits (S.state site.old).told)
+            (checkpoints_by s (Command.Abort session)) }
+
+        // Of every site.
+        ensures serves { Serves result self.old self.new (S.state site.old) (S.state site.new) }
+        ensures ended { OnErr result (self.new.ended ≡ true) }
+    {
+        hold_together();
+        let Some(entry) = self.active.find(session) else {
+            return Ok(Reply::Refused(Why::BadSession));
+        };
+        match self.carry_out_abort(site, entry) {
+            Ok(reply) => Ok(reply),
+            Err(stop) => {
+                self.ended = true;
+                Err(stop)
+            }
+        }
+    }
+}

@@ -1,0 +1,219 @@
+// A session's writes.
+ghost use Rattle.std.specs.Prelude.{Option, ◌≡◌, ◌+◌, ◌*◌, ◌/◌, ◌^◌, ◌<◌, ◌≤◌, length, true, Some, None, IsSome, IfSome, IfNone, IfOk, OnErr, IsErrOf};
+ghost use Rattle.site.specs.declared.outside.Dev.{Dev};
+ghost use Rattle.site.specs.declared.outside.Stop.{Stop};
+ghost use Rattle.site.specs.State.{State as Site};
+ghost use Rattle.record_model.specs.declared.words.Command.{Command};
+ghost use Rattle.record_model.specs.declared.words.Why.{Why};
+ghost use Rattle.record_model.specs.declared.words.Reply.{Reply};
+ghost use Rattle.record_model.specs.State.{State};
+ghost use Rattle.byte_fields.specs.declared.TheConstants.{VALUE_MAX};
+ghost use Rattle.log_records.specs.Spelling.{IsShort};
+ghost use Rattle.lock_table.specs.Locks.{busy_write};
+ghost use Rattle.txn_table.specs.Entries.{entry_of, owed};
+ghost use Rattle.engine.specs.Going.{MayGoOn, sizes_of};
+ghost use Rattle.engine.specs.Fits.{Fits, run, with_write, Refuses, Accepts};
+ghost use Rattle.engine.specs.Leaves.{LeavesTable};
+ghost use Rattle.record_model.specs.Touches.{command_touches};
+ghost use Rattle.redo_undo.specs.Works.{Asks, Overflows, one_change};
+ghost use Rattle.page_store.specs.Caching.{cache_of, rules};
+ghost use Rattle.engine.specs.Calls.{Serves, Does, Answers};
+ghost use Rattle.engine.specs.Numbers.{checkpoints_by};
+
+use crate::engine::Engine;
+use crate::sessions;
+use crate::values::{is_long, value_of};
+use page_store::touch_then_change;
+use record_model::{Octets, Reply, Why};
+use redo_undo::{changes_cost_a_touch, hold_together};
+use site::{Site, Stop};
+use txn_table::Active;
+
+impl Engine {
+    // A session that may writes a record.
+    fn carry_out_write<S: Site>(
+        &mut self,
+        site: &mut S,
+        entry: Active,
+        number: u32,
+        after: &Option<Octets>,
+    ) -> Result<Reply, Stop>
+        requires going { MayGoOn self.old (S.state site.old) }
+        requires active { entry_of self.old.active entry.session ≡ Some entry }
+        requires number { number < 32 * (sizes_of self.old.store).pages }
+        requires free { busy_write self.old.locks (Some entry.session) number ≡ None }
+        requires short { IsShort after.now }
+        requires room { self.old.store.made + owed self.old.active + 2 ≤ self.old.cap }
+
+        // Of an honest site that the database fits.
+        ensures done { IfOk result (λ reply. reply ≡ Reply.Done) }
+        ensures does { (s : State) → Fits self.old (S.state site.old) s
+            → Does result self.old self.new (S.state site.old) (S.state site.new) s
+            (with_write s entry.session (number, after.now))
+            (LeavesTable (sizes_of self.old.store) s.table s.commits (S.state site.old).told) 0 }
+
+        // Of every site.
+        ensures serves { Serves result self.old self.new (S.state site.old) (S.state site.new) }
+        ensures asks { Asks result (one_change (number / 32)) self.old.store.pages self.new.store.pages
+            (S.state site.old) (S.state site.new) }
+    {
+        touch_then_change();
+        changes_cost_a_touch();
+        match self.store.touch(site, number) {
+            Ok(()) => {}
+            Err(stop) => return Err(stop),
+        }
+        match self.locks.add(entry.session, number, true) {
+            Ok(()) => {}
+            Err(_) => return Err(Stop::Memory),
+        }
+        match self
+            .store
+            .update(site, entry.begin, entry.last, number, after)
+        {
+            Ok(lsn) => {
+                sessions::wrote(&mut self.active, entry, lsn);
+                Ok(Reply::Done)
+            }
+            Err(stop) => Err(stop),
+        }
+    }
+
+    // The entry of an active session.
+    fn entry(&self, session: u32) -> Active
+        requires { IsSome (entry_of self.now.active session) }
+        ensures { entry_of self.now.active session ≡ Some result }
+    {
+        match self.active.find(session) {
+            Some(entry) => entry,
+            None => unreachable!(),
+        }
+    }
+
+    // Why a session can't write a value, if it can't.
+    fn write_refusal(&self, session: u32, number: u32, value: &Octets) -> Option<Reply>
+        requires bounded { self.now.store.made + owed self.now.active ≤ 2 ^ 40 }
+        requires sizes { self.now.store.log.geometry ≡ sizes_of self.now.store }
+        ensures refused { IfSome result (λ reply. Refuses self.now (Command.Write session number value.now) reply) }
+        ensures accepted { IfNone result (Accepts self.now (Command.Write session number value.now)) }
+        ensures active { IfNone result (IsSome (entry_of self.now.active session)) }
+        ensures number { IfNone result (number < 32 * (sizes_of self.now.store).pages) }
+        ensures free { IfNone result (busy_write self.now.locks (Some session) number ≡ None) }
+        ensures room { IfNone result (self.now.store.made + owed self.now.active + 2 ≤ self.now.cap) }
+        ensures short { IfNone result (length value.now ≤ VALUE_MAX) }
+    {
+        if self.active.find(session).is_none() {
+            return Some(Reply::Refused(Why::BadSession));
+        }
+        if self.lacks(number) {
+            return Some(Reply::Refused(Why::NoRecord));
+        }
+        if is_long(value) {
+            return Some(Reply::Refused(Why::TooLong));
+        }
+        if let Some(busy) = self.write_busy(Some(session), number) {
+            return Some(busy);
+        }
+        if let Some(full) = self.full(2) {
+            return Some(full);
+        }
+        None
+    }
+
+    /// A session writes a value. Nobody else sees it before the session commits.
+    pub fn write<S: Site>(
+        &mut self,
+        site: &mut S,
+        session: u32,
+        number: u32,
+        value: &Octets,
+    ) -> Result<Reply, Stop>
+        requires going { MayGoOn self.old (S.state site.old) }
+
+        // Of an honest site that the database fits.
+        ensures answers { (s : State) → Fits self.old (S.state site.old) s
+            → Answers result self.old self.new (S.state site.old) (S.state site.new) s
+            (run s (Command.Write session number value.now))
+            (command_touches true s (Command.Write session number value.now))
+            (LeavesTable (sizes_of self.old.store) s.table s.commits (S.state site.old).told)
+            (checkpoints_by s (Command.Write session number value.now)) }
+
+        // Of every site.
+        ensures serves { Serves result self.old self.new (S.state site.old) (S.state site.new) }
+        ensures ended { OnErr result (self.new.ended ≡ true) }
+        ensures worn_flash { IsErrOf result (Stop.Worn Dev.Flash)
+            → Overflows (rules self.old.store.pages) (one_change (number / 32)) (cache_of self.old.store.pages) }
+    {
+        hold_together();
+        if let Some(refused) = self.write_refusal(session, number, value) {
+            return Ok(refused);
+        }
+        let entry = self.entry(session);
+        let after = value_of(value);
+        match self.carry_out_write(site, entry, number, &after) {
+            Ok(reply) => Ok(reply),
+            Err(stop) => {
+                self.ended = true;
+                Err(stop)
+            }
+        }
+    }
+
+    // Why a session can't take a value away, if it can't.
+    fn erase_refusal(&self, session: u32, number: u32) -> Option<Reply>
+        requires bounded { self.now.store.made + owed self.now.active ≤ 2 ^ 40 }
+        requires sizes { self.now.store.log.geometry ≡ sizes_of self.now.store }
+        ensures refused { IfSome result (λ reply. Refuses self.now (Command.Erase session number) reply) }
+        ensures accepted { IfNone result (Accepts self.now (Command.Erase session number)) }
+        ensures active { IfNone result (IsSome (entry_of self.now.active session)) }
+        ensures number { IfNone result (number < 32 * (sizes_of self.now.store).pages) }
+        ensures free { IfNone result (busy_write self.now.locks (Some session) number ≡ None) }
+        ensures room { IfNone result (self.now.store.made + owed self.now.active + 2 ≤ self.now.cap) }
+    {
+        if self.active.find(session).is_none() {
+            return Some(Reply::Refused(Why::BadSession));
+        }
+        if self.lacks(number) {
+            return Some(Reply::Refused(Why::NoRecord));
+        }
+        if let Some(busy) = self.write_busy(Some(session), number) {
+            return Some(busy);
+        }
+        if let Some(full) = self.full(2) {
+            return Some(full);
+        }
+        None
+    }
+
+    /// A session takes the value of a record away. Nobody else sees it before the session commits.
+    pub fn erase<S: Site>(&mut self, site: &mut S, session: u32, number: u32) -> Result<Reply, Stop>
+        requires going { MayGoOn self.old (S.state site.old) }
+
+        // Of an honest site that the database fits.
+        ensures answers { (s : State) → Fits self.old (S.state site.old) s
+            → Answers result self.old self.new (S.state site.old) (S.state site.new) s
+            (run s (Command.Erase session number)) (command_touches true s (Command.Erase session number))
+            (LeavesTable (sizes_of self.old.store) s.table s.commits (S.state site.old).told)
+            (checkpoints_by s (Command.Erase session number)) }
+
+        // Of every site.
+        ensures serves { Serves result self.old self.new (S.state site.old) (S.state site.new) }
+        ensures ended { OnErr result (self.new.ended ≡ true) }
+        ensures worn_flash { IsErrOf result (Stop.Worn Dev.Flash)
+            → Overflows (rules self.old.store.pages) (one_change (number / 32)) (cache_of self.old.store.pages) }
+    {
+        hold_together();
+        if let Some(refused) = self.erase_refusal(session, number) {
+            return Ok(refused);
+        }
+        let entry = self.entry(session);
+        let after: Option<Octets> = None;
+        match self.carry_out_write(site, entry, number, &after) {
+            Ok(reply) => Ok(reply),
+            Err(stop) => {
+                self.ended = true;
+                Err(stop)
+            }
+        }
+    }
+}
