@@ -17,7 +17,9 @@ use Rattle.redo_undo.specs.Holding.{IsLogWorn}
 use Rattle.engine.specs.Image.{Stands}
 use Rattle.engine.specs.Fits.{Fits}
 use Rattle.face.specs.declared.halt.Halt.TheVariants as halt
-use Rattle.face.specs.Causes.{FailsBy, HasCause, IsForeign, IsWornAt}
+use Rattle.engine.specs.Calls.{Ends}
+use Rattle.engine.specs.Leaves.{LeavesTable}
+use Rattle.face.specs.Causes.{FailsBy, HasCause}
 
 -- why a command fails
 pub fails_by : {T : Type 0} (result : Result T Stop) (engine : Engine) (old new : Site) → IfErr result MayStop → ((d : Dev) → IsErrOf result (Device d) → FaultRose d old new)
@@ -46,16 +48,12 @@ log_fails (Ok done) engine old new stops rose log = tt
 log_fails (Err stop) engine old new stops rose log =
     ⊎_elim (λ device. subst (λ (x : Stop). FailsBy x engine old new) (sym device) (rose Log (ap Err device))) (λ worn. subst (λ (x : Stop). FailsBy x engine old new) (sym worn) (λ s fits. log s fits (ap Err worn))) stops
 
--- a restart's rings stand at their ends
-abbrev pub WornBy : {T : Type 0} → Result T Stop → Dev → Site → Site → Type 0
-WornBy result dev old new = IsTrue old.honest → (g : Geometry) (table : List Content) (commits : ℕ) → Stands g old.image table commits → IsErrOf result (Worn dev) → IsWornAt dev g new.image
-
 -- why restart stops
 pub start_cause : {T : Type 0} (result : Result T Stop) (stop : Stop) (old new : Site) → result ≡ Err stop → MayStop stop → ((d : Dev) → IsErrOf result (Device d) → FaultRose d old new)
-    → (IsErrOf result Foreign → IsForeign old) → WornBy result Log old new → WornBy result Flash old new → HasCause (halt.Stop stop) old new
-start_cause result (Device dev) old new failed stops rose foreign log flash = rose dev failed
-start_cause result Memory old new failed stops rose foreign log flash = tt
-start_cause result (Worn Log) old new failed stops rose foreign log flash = λ honest g table commits stands. log honest g table commits stands failed
-start_cause result (Worn Flash) old new failed stops rose foreign log flash = λ honest g table commits stands. flash honest g table commits stands failed
-start_cause result (Worn Disk) old new failed stops rose foreign log flash = absurd stops
-start_cause result Foreign old new failed stops rose foreign log flash = foreign failed
+    → (IsTrue old.honest → (g : Geometry) (table : List Content) (commits : ℕ) → Stands g old.image table commits → Ends result g old new (LeavesTable g table commits old.told)) → HasCause (halt.Stop stop) old new
+start_cause result (Device dev) old new failed stops rose ends = rose dev failed
+start_cause result Memory old new failed stops rose ends = tt
+start_cause result (Worn Log) old new failed stops rose ends = λ honest g table commits stands. (ends honest g table commits stands).worn_log failed
+start_cause result (Worn Flash) old new failed stops rose ends = λ honest g table commits stands. (ends honest g table commits stands).worn failed
+start_cause result (Worn Disk) old new failed stops rose ends = absurd stops
+start_cause result Foreign old new failed stops rose ends = λ honest g table commits stands. (ends honest g table commits stands).readable failed

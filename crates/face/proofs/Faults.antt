@@ -12,6 +12,7 @@ use Rattle.site.specs.declared.outside.Stop.TheVariants.{Device, Memory, Worn, F
 use Rattle.record_model.specs.declared.words.CacheLine.{CacheLine}
 use Rattle.record_model.specs.State.{State}
 use Rattle.record_model.specs.Run.{Line, is_quit}
+use Rattle.record_model.specs.Serial.{Serial}
 use Rattle.std.specs.List.{AllByRecursion, list_any}
 use Rattle.face.specs.declared.halt.Halt.{Halt}
 use Rattle.face.specs.declared.halt.Halt.TheVariants as halt
@@ -30,6 +31,7 @@ use Rattle.face.proofs.Pagings.{leaves_its_queue, reads_no_more, reads_still, we
 use Rattle.face.specs.Headline.{IsGood, IsToldWhole, Headline}
 use Rattle.face.proofs.Fronts.{accounted, told_same, state_same, take_within, up_append, no_quits, first_commands}
 use Rattle.face.proofs.Meanings.{stands_by}
+use Rattle.face.proofs.SerialRuns.{run_is_serial, told_is_serial}
 use Rattle.face.proofs.Ranges.{IsFault, is_left, stands_after, all_among, all_text}
 
 output_or_not : (h : Halt) → (h ≡ halt.Output) ⊎ (h ≢ halt.Output)
@@ -170,8 +172,8 @@ module _ (pool : ℕ) (g : Geometry) (opening : State) (listings : List (List Ca
   over_by halt.Input heard octets mid s e = absurd (omega (arith, e))
   over_by halt.Limit heard octets mid s e = (s.1, s.0.no_quit)
 
-  pub halted : {T : Type 0} (mid new : Site) (h : Halt) → IsGood g opening old → Works {T = T} pool run old mid (Err h) → EachMoment mid new (TellsPart (fault_line h) mid) → SameDevices mid new → SameReads mid new → HasCause h old new → (status : ℕ) → status ≡ status_of h → Headline pool g opening old new status
-  halted mid new h good works tells same_devices same_reads cause status is =
+  pub halted : {T : Type 0} → Serial → (mid new : Site) (h : Halt) → IsGood g opening old → Works {T = T} pool run old mid (Err h) → EachMoment mid new (TellsPart (fault_line h) mid) → SameDevices mid new → SameReads mid new → HasCause h old new → (status : ℕ) → status ≡ status_of h → Headline pool g opening old new status
+  halted law mid new h good works tells same_devices same_reads cause status is =
       let heard = works.has_heard in
       let now = tells.now.told 0 in
       let lines = commands_of works.ended works.octets in
@@ -202,10 +204,12 @@ module _ (pool : ℕ) (g : Geometry) (opening : State) (listings : List (List Ca
             (skips_no_number g opening listings (commands_of true old.left) lines works.heard heard.same old.image mid.image works.numbers);
         reads = λ newest blocks sound. reads_still _ _ _ _ mid new same_reads (reads_no_more pool g opening listings old.image works.ended works.octets run refl refl works.heard heard.same old mid refl works.reads newest blocks sound);
         listed = lists_the_machine pool g opening listings (commands_of true old.left) lines works.heard heard.same old.image works.listed;
+        serial = run_is_serial law g opening old good works.ended works.octets listings;
+        serial_told = told_is_serial g opening old good works.ended works.octets listings;
       }
 
-  pub finished : {T : Type 0} (new : Site) (x : T) → Works pool run old new (Ok x) → Headline pool g opening old new 0
-  finished new x works =
+  pub finished : {T : Type 0} → Serial → (new : Site) (x : T) → IsGood g opening old → Works pool run old new (Ok x) → Headline pool g opening old new 0
+  finished law new x good works =
       let heard = works.has_heard in
       let lines = commands_of works.ended works.octets in
       let count = works.done.1 in
@@ -238,6 +242,8 @@ module _ (pool : ℕ) (g : Geometry) (opening : State) (listings : List (List Ca
         numbers = skips_no_number g opening listings (commands_of true old.left) lines works.heard same old.image new.image works.numbers;
         reads = reads_no_more pool g opening listings old.image works.ended works.octets run refl refl works.heard same old new refl works.reads;
         listed = lists_the_machine pool g opening listings (commands_of true old.left) lines works.heard same old.image works.listed;
+        serial = run_is_serial law g opening old good works.ended works.octets listings;
+        serial_told = told_is_serial g opening old good works.ended works.octets listings;
       }
 
 true_not_false : true ≡ false → ⊥

@@ -8,6 +8,7 @@ mod Courses
 mod Cuts
 mod Ends
 mod Faults
+mod SerialRuns
 mod Fronts
 mod Heard
 mod Listed

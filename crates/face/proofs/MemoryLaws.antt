@@ -7,6 +7,7 @@ use Rattle.site.specs.State.{State as Site}
 use Rattle.site.specs.Moments.{EachMoment, Leaves, LeavesOnly}
 use Rattle.site.specs.Telling.{TellsPart, SameDevices}
 use Rattle.record_model.specs.State.{State}
+use Rattle.record_model.specs.Serial.{Serial}
 use Rattle.face.specs.declared.halt.Halt.{Halt}
 use Rattle.face.specs.declared.halt.Halt.TheVariants as halt
 use Rattle.face.specs.Headline.{IsGood, Headline}
@@ -49,12 +50,12 @@ still g opening old good =
 reads_nothing : NumbersRise → (pool : ℕ) (run : Run) (site : Site) → ReadsUpTo pool run 0 site site
 reads_nothing rise pool run site newest blocks sound = none_read _ _ _ _ site rise (let least = sound.octets.limits.groups in omega (arith, least))
 
-pub lacked_headline : NumbersRise → (pool : ℕ) (g : Geometry) (opening : State) (old new : Site) → IsGood g opening old → EachMoment old new (TellsPart memory_fault old) → SameDevices old new → SameReads old new → Headline pool g opening old new 4
-lacked_headline rise pool g opening old new good tells same reads =
+pub lacked_headline : Serial → NumbersRise → (pool : ℕ) (g : Geometry) (opening : State) (old new : Site) → IsGood g opening old → EachMoment old new (TellsPart memory_fault old) → SameDevices old new → SameReads old new → Headline pool g opening old new 4
+lacked_headline law rise pool g opening old new good tells same reads =
     let run = run_of g opening true old.left [] in
     let stops = not_opened run old old (still g opening old good) lacks (λ ne. good.quiet) in
     let works : Works {T = ℕ} pool run old old (Err lacks) = never_opened pool run old old lacks stops (λ e. cc, λ e. cc) refl (λ e. cc) (counts_nothing run old.image) (reads_nothing rise pool run old) in
-    halted pool g opening [] old old new lacks good works tells same reads tt 4 refl
+    halted pool g opening [] old law old new lacks good works tells same reads tt 4 refl
 
 -- the same of a load
 pub lacked_load : NumbersRise → (load : Load) (g : Geometry) (opening : State) (old new : Site) → IsGood g opening old → EachMoment old new (TellsPart memory_fault old) → SameDevices old new → SameReads old new → LoadHeadline load g opening old new 4

@@ -7,6 +7,7 @@ use Rattle.site.specs.declared.outside.Stop.TheVariants.{Device, Memory, Worn, F
 use Rattle.site.specs.declared.geometry.Geometry.{Geometry}
 use Rattle.site.specs.State.{State, Image, faults_of}
 use Rattle.site.specs.Calls.{Rose}
+use Rattle.site.specs.Faults.{faults_in}
 use Rattle.record_model.specs.State.{Content}
 use Rattle.record_model.specs.State as model
 use Rattle.face.specs.declared.halt.Halt.{Halt}
@@ -75,6 +76,10 @@ pub record HasCauses (status : ℕ) (old new : State) : Type 0 where
   pub worn : status ≡ 8 → IsWornOut Flash old new ⊎ IsWornOut Log old new
   pub foreign : status ≡ 9 → IsForeign old
   pub others : status ≡ 0 ⊎ (status ≡ 3 ⊎ (status ≡ 4 ⊎ (status ≡ 5 ⊎ (status ≡ 6 ⊎ (status ≡ 7 ⊎ (status ≡ 8 ⊎ status ≡ 9))))))
+
+-- no call of the site failed: all counts of faults are as they were
+abbrev pub SameFaults : State → State → Type 0
+SameFaults old new = faults_in new ≡ faults_in old
 
 -- no count of faults rose
 pub record NoFaultRose (old new : State) : Type 0 where

@@ -1,5 +1,5 @@
 -- The headline.
-use Rattle.std.specs.Prelude.{◌≡◌, ◌≢◌, ◌⊎◌, ℕ, ◌+◌, Bool, true, false, List, [], ◌++◌, length, take, IsTrue}
+use Rattle.std.specs.Prelude.{◌≡◌, ◌≢◌, ◌⊎◌, ℕ, ◌+◌, Bool, true, false, List, [], ◌∷◌, ◌++◌, length, take, IsTrue}
 use Rattle.site.specs.State.{State as Site, no_loose}
 use Rattle.site.specs.Moments.{LeavesOnly}
 use Rattle.site.specs.declared.geometry.Geometry.{Geometry}
@@ -11,10 +11,12 @@ use Rattle.redo_undo.specs.Holding.{IsLogWorn}
 use Rattle.engine.specs.Image.{Opens}
 use Rattle.face.specs.Causes.{HasCause}
 use Rattle.std.specs.List.{list_any}
-use Rattle.record_model.specs.Run.{is_quit}
+use Rattle.record_model.specs.Run.{Turn, is_quit}
+use Rattle.record_model.specs.Serial.{IsSerial}
+use Rattle.shell_text.specs.Serial.{IsToldSerial}
 use Rattle.face.specs.Lines.{HeardAll, limit, commands_of}
 use Rattle.face.specs.Run.{Run, IsFront}
-use Rattle.face.specs.Range.{run_of, run_text, all_commits, StandsAfter, IsLeft, WearsOut, NeverWears, LeavesItsQueue, SkipsNoNumber, ReadsNoMore, ListsTheMachine, HasBegun}
+use Rattle.face.specs.Range.{run_of, turns_of, texts, run_text, all_commits, StandsAfter, IsLeft, WearsOut, NeverWears, LeavesItsQueue, SkipsNoNumber, ReadsNoMore, ListsTheMachine, HasBegun}
 
 -- an honest and quiet site, whose image is sound, and over which a run opens with this state
 pub record IsGood (g : Geometry) (opening : State) (site : Site) : Type 0 where
@@ -36,6 +38,17 @@ pub record IsToldWhole (run : Run) (fault : List ℕ) (old new : Site) : Type 0 
   pub rest : List ℕ
   pub told : new.told ≡ old.told ++ (run_text run ++ rest)
   pub front : IsFront rest fault
+
+-- each transaction of the run answers as if it had run alone, on the table of the commits before its own, and leaves that of its
+-- commit, and each get answers what the table has
+abbrev pub IsSerialRun : Run → Type 0
+IsSerialRun run = (earlier later : List Turn) (t : Turn) → turns_of run ≡ earlier ++ t ∷ later → IsSerial true run.opening.table run.opening.commits earlier later t
+
+-- and the lines of each are told what a run of them alone would tell
+abbrev pub IsSerialTold : Run → Type 0
+IsSerialTold run =
+    (earlier later : List Turn) (t : Turn) → turns_of run ≡ earlier ++ t ∷ later →
+    IsToldSerial true run.opening (texts run) earlier later t
 
 -- What a run with a pool of so many pages leaves that opens with this state, and what a crash at any moment of it leaves.
 pub record Headline (pool : ℕ) (g : Geometry) (opening : State) (old new : Site) (status : ℕ) : Type 0 where
@@ -75,3 +88,6 @@ pub record Headline (pool : ℕ) (g : Geometry) (opening : State) (old new : Sit
   pub reads : ReadsNoMore pool (run_of g opening ended octets listings) begun old new
   -- and what they are told of the cache is what the machine lists
   pub listed : ListsTheMachine pool (run_of g opening ended octets listings) begun old.image
+  -- its transactions are in serial order, and so is what it tells of them
+  pub serial : IsSerialRun (run_of g opening ended octets listings)
+  pub serial_told : IsSerialTold (run_of g opening ended octets listings)

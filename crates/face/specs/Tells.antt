@@ -2,6 +2,7 @@
 use Rattle.std.specs.Prelude.{◌≡◌, List, ℕ, ◌++◌, IsTrue, Result, OnOk, OnErr}
 use Rattle.site.specs.State.{State}
 use Rattle.site.specs.Calls.{Goes, SameReads, Rose}
+use Rattle.site.specs.Faults.{TellFaults}
 use Rattle.site.specs.Moments.{EachMoment}
 use Rattle.site.specs.Telling.{TellsPart, SameDevices}
 use Rattle.site.specs.declared.outside.Failed.{Failed}
@@ -14,3 +15,4 @@ pub record Tells {T : Type 0} (line : List ℕ) (old new : State) (result : Resu
   pub cause : OnErr result (Rose old.output_faults new.output_faults)
   pub reads : SameReads old new
   pub goes : Goes old new
+  pub faults : TellFaults result old new

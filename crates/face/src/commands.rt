@@ -1,5 +1,6 @@
 // The commands are carried out.
 ghost use Rattle.std.specs.Prelude.{◌≡◌, ◌≢◌, false, true, [], List, IsTrue, IfOk, IfErr, OnOk};
+ghost use Rattle.site.specs.Faults.{WorkFaults};
 ghost use Rattle.site.specs.declared.outside.Dev.{Dev};
 ghost use Rattle.site.specs.declared.outside.Stop.{Stop};
 ghost use Rattle.site.specs.State.{IsQuiet};
@@ -60,6 +61,7 @@ fn carry_out_plain<S: Site>(
     ensures cause { IfErr result (λ stop. FailsBy stop engine.old (S.state site.old) (S.state site.new)) }
     ensures sizes { sizes_of engine.new.store ≡ sizes_of engine.old.store }
     ensures goes { Goes (S.state site.old) (S.state site.new) }
+    ensures faults { WorkFaults result (S.state site.old) (S.state site.new) }
 {
     rest_counts_nothing();
     let Some(command) = line else {
@@ -137,6 +139,7 @@ pub fn carry_out<S: Site>(
     ensures cause { IfErr result (λ stop. FailsBy stop engine.old (S.state site.old) (S.state site.new)) }
     ensures sizes { sizes_of engine.new.store ≡ sizes_of engine.old.store }
     ensures goes { Goes (S.state site.old) (S.state site.new) }
+    ensures faults { WorkFaults result (S.state site.old) (S.state site.new) }
 {
     rest_counts_nothing();
     if asks_for_listing(&line) {

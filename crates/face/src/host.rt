@@ -1,64 +1,84 @@
 // The program around the top call: its words, and the files of the current folder.
+ghost use Rattle.std.specs.Prelude.{◌≡◌};
+ghost use Rattle.site.specs.declared.outside.Stop.{Stop};
+ghost use Rattle.face.specs.declared.halt.Halt.{Halt};
+ghost use Rattle.face.specs.Texts.{status_of};
+
 use crate::halt::Halt;
+use crate::request::{Unread, read_words};
 use crate::top::face;
 use crate::words::sizes;
-use file_site::FileSite;
+use file_site::{FileSite, LockFile, tell_line};
 use site::Stop;
 use std::alloc::AllocError;
-use std::io::Write;
+use std::env;
+use std::io::ErrorKind;
 use std::os::unix::fs::FileExt;
-use std::rt::{Env, Files};
-use std::{env, io};
+use std::rt::{Clock, Env, Files};
 
-// The words without the program's own name; none where they can't be had.
+// The words without the program's own name; none where one of them is no text.
 fn words<R: Env + AllocGlobal>(rt: &R) -> Result<Vec<String>, AllocError> {
     let mut words = Vec::new(rt.alloc());
-    if let Ok(args) = env::args(rt) {
-        for word in args.skip(1) {
-            words.push(word)?;
+    match env::args(rt) {
+        Ok(args) => {
+            for word in args.skip(1) {
+                words.push(word)?;
+            }
+        }
+        Err(error) => {
+            if error.kind() == ErrorKind::OutOfMemory {
+                return Err(AllocError);
+            }
         }
     }
     Ok(words)
 }
 
-// The site that these words work on: a new one's files are made where they are missing.
+// The site that these words work on: for a new database its files are made where they are missing, and wrong words open none.
 fn site<'a, R>(rt: &'a R, words: &[String]) -> Result<FileSite<&'a R>, Stop>
 where
-    R: Files + Input + Print + AllocGlobal,
-    R::File: FileExt,
+    R: Files + Input + Print + Clock + AllocGlobal,
+    R::File: FileExt + LockFile,
 {
-    match sizes(words) {
-        Some(geometry) => {
-            let (log, flash, disk) = geometry.lengths();
-            FileSite::fresh(rt, rt.alloc(), log, flash, disk)
-        }
-        None => FileSite::existing(rt, rt.alloc()),
+    if let Some(geometry) = sizes(words) {
+        let (log, flash, disk) = geometry.lengths();
+        return FileSite::fresh(rt, rt.alloc(), log, flash, disk);
+    }
+    match read_words(rt.alloc(), words) {
+        Ok(_) => FileSite::existing(rt, rt.alloc()),
+        Err(Unread::Words) => FileSite::bare(rt, rt.alloc()),
+        Err(Unread::Memory) => Err(Stop::Memory),
     }
 }
 
 // Runs the program over the files, and answers its status.
 fn run_over_files<R>(rt: &R) -> Result<u8, Stop>
 where
-    R: Env + Files + Input + Print + AllocGlobal,
-    R::File: FileExt,
+    R: Env + Files + Input + Print + Clock + AllocGlobal,
+    R::File: FileExt + LockFile,
 {
     let words = words(rt)?;
     let mut site = site(rt, words.as_slice())?;
     Ok(face(rt.alloc(), words.as_slice(), &mut site))
 }
 
+/// Tells why the program stops before it has a site, and answers its status.
+pub fn stopped<R: Print + Clock>(rt: &R, stop: Stop) -> u8
+    ensures status { result ≡ status_of (Halt.Stop stop) }
+{
+    let halt = Halt::Stop(stop);
+    let _ = tell_line(rt, halt.line());
+    halt.status()
+}
+
 /// Runs the program over the files of the current folder, and answers its status.
 pub fn run<R>(rt: &R) -> u8
 where
-    R: Env + Files + Input + Print + AllocGlobal,
-    R::File: FileExt,
+    R: Env + Files + Input + Print + Clock + AllocGlobal,
+    R::File: FileExt + LockFile,
 {
     match run_over_files(rt) {
         Ok(status) => status,
-        Err(stop) => {
-            let halt = Halt::Stop(stop);
-            let _ = io::writer(rt).write_all(halt.line());
-            halt.status()
-        }
+        Err(stop) => stopped(rt, stop),
     }
 }

@@ -7,6 +7,8 @@ mod commands;
 mod fault_lines;
 mod halt;
 mod host;
+#[cfg(test)]
+mod host_tests;
 mod laws;
 mod load;
 mod new_database;

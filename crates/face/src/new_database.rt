@@ -1,5 +1,7 @@
 // The work of `new`: the devices have the lengths of the words and are blank.
 ghost use Rattle.std.specs.Prelude.{◌≡◌, ◌≤◌, ◌<◌, ◌+◌, ◌^◌, ◌↔◌, length, IsTrue, IfSome, IfNone, IfOk, IfErr, OnOk};
+ghost use Rattle.site.specs.Faults.{CallFaults};
+ghost use Rattle.face.specs.Causes.{SameFaults};
 ghost use Rattle.site.specs.Geometry.{HasLengths};
 ghost use Rattle.site.specs.State.{content_of, faults_of};
 ghost use Rattle.site.specs.Calls.{Goes, Rose, IsUnchanged};
@@ -62,6 +64,7 @@ fn read_first<S: Site>(
     ensures same { IsTrue (S.state site.old).honest → IsUnchanged (S.state site.old) (S.state site.new) }
     ensures goes { Goes (S.state site.old) (S.state site.new) }
     ensures cause { IfErr result (λ failed. Rose (faults_of dev (S.state site.old)) (faults_of dev (S.state site.new))) }
+    ensures faults { CallFaults dev result (S.state site.old) (S.state site.new) }
 {
     site.read_at(dev, at, into)?;
     match first_nonzero(into) {
@@ -77,6 +80,7 @@ fn find_nonzero<S: Site>(site: &mut S, dev: Dev) -> Result<Option<u64>, Failed>
     ensures same { IsTrue (S.state site.old).honest → IsUnchanged (S.state site.old) (S.state site.new) }
     ensures goes { Goes (S.state site.old) (S.state site.new) }
     ensures cause { IfErr result (λ failed. Rose (faults_of dev (S.state site.old)) (faults_of dev (S.state site.new))) }
+    ensures faults { CallFaults dev result (S.state site.old) (S.state site.new) }
 {
     let mut buffer = [0u8; PIECE];
     let len = site.len(dev);
@@ -98,6 +102,7 @@ fn test_device<S: Site>(site: &mut S, dev: Dev) -> Result<(), Unfit>
     ensures unfit { IfErr result (λ unfit. IsUnfitAt dev unfit (S.state site.old) (S.state site.new)) }
     ensures same { IsTrue (S.state site.old).honest → IsUnchanged (S.state site.old) (S.state site.new) }
     ensures goes { Goes (S.state site.old) (S.state site.new) }
+    ensures faults { OnOk result (SameFaults (S.state site.old) (S.state site.new)) }
 {
     match find_nonzero(site, dev) {
         Ok(None) => Ok(()),
@@ -112,6 +117,7 @@ fn test_all<S: Site>(site: &mut S) -> Result<(), Unfit>
     ensures unfit { IfErr result (λ unfit. IsNotBlank unfit (S.state site.old) (S.state site.new)) }
     ensures same { IsTrue (S.state site.old).honest → IsUnchanged (S.state site.old) (S.state site.new) }
     ensures goes { Goes (S.state site.old) (S.state site.new) }
+    ensures faults { OnOk result (SameFaults (S.state site.old) (S.state site.new)) }
 {
     if let Err(unfit) = test_device(site, Dev::Log) {
         return Err(unfit);
@@ -136,6 +142,7 @@ fn test_fit<S: Site>(site: &mut S, geometry: &Geometry) -> Result<(), Unfit>
     ensures unfit { IfErr result (λ unfit. IsUnfit unfit geometry.now (S.state site.old) (S.state site.new)) }
     ensures same { IsTrue (S.state site.old).honest → IsUnchanged (S.state site.old) (S.state site.new) }
     ensures goes { Goes (S.state site.old) (S.state site.new) }
+    ensures faults { OnOk result (SameFaults (S.state site.old) (S.state site.new)) }
 {
     if !has_lengths(site, geometry) {
         return Err(Unfit::Foreign);
@@ -150,6 +157,7 @@ pub fn make_new<S: Site>(geometry: &Geometry, site: &mut S) -> u8
     ensures new { New geometry.now (S.state site.old) (S.state site.new) result }
     ensures causes { NewCauses geometry.now (S.state site.old) (S.state site.new) result }
     ensures goes { Goes (S.state site.old) (S.state site.new) }
+    ensures faults { result ≡ 0 → SameFaults (S.state site.old) (S.state site.new) }
 {
     match test_fit(site, geometry) {
         Ok(()) => match tell_ready(site, geometry) {

@@ -1,5 +1,6 @@
 // Replies are told.
 ghost use Rattle.std.specs.Prelude.{◌≡◌, ◌++◌, IsTrue, OnOk, OnErr};
+ghost use Rattle.site.specs.Faults.{TellFaults};
 ghost use Rattle.site.specs.Calls.{Goes, Rose, SameReads};
 ghost use Rattle.site.specs.Moments.{EachMoment};
 ghost use Rattle.site.specs.Telling.{TellsPart, SameDevices};
@@ -18,9 +19,13 @@ pub fn tell_reply<S: Site>(site: &mut S, reply: &Reply) -> Result<(), Failed>
     ensures reads { SameReads (S.state site.old) (S.state site.new) }
     ensures goes { Goes (S.state site.old) (S.state site.new) }
     ensures cause { OnErr result (Rose (S.state site.old).output_faults (S.state site.new).output_faults) }
+    ensures faults { TellFaults result (S.state site.old) (S.state site.new) }
 {
     for place in 0..line_count(reply) {
-        tell_all(site, reply_line(reply, place).as_slice())?;
+        match tell_all(site, reply_line(reply, place).as_slice()) {
+            Ok(()) => {}
+            Err(failed) => return Err(failed),
+        }
     }
     Ok(())
 }

@@ -1,5 +1,6 @@
 // The top call, and the work of `run`.
-ghost use Rattle.std.specs.Prelude.{◌≡◌, ◌≢◌, ◌⊎◌, ◌≤◌, ℕ, List, Option, IfErr, [], true};
+ghost use Rattle.std.specs.Prelude.{◌≡◌, ◌≢◌, ◌⊎◌, ◌≤◌, ℕ, List, Option, IfErr, [], true, OnOk};
+ghost use Rattle.face.specs.Causes.{SameFaults};
 ghost use Rattle.site.specs.Calls.{Goes};
 ghost use Rattle.face.specs.declared.halt.Halt.{Halt};
 ghost use Rattle.site.specs.declared.geometry.Geometry.{Geometry};
@@ -26,7 +27,7 @@ use crate::opening::open;
 use crate::request::{Request, Unread, read_words};
 use crate::source::{Heard, Source};
 use engine::queue_is_on_flash;
-use record_model::Command;
+use record_model::{Command, serial_order};
 use redo_undo::works_add_up;
 use site::Site;
 use std::alloc::Global;
@@ -48,6 +49,7 @@ fn work<S: Site>(alloc: Global, pool: u32, site: &mut S) -> Result<(), Halt>
     ensures cause { IfErr result (λ halt. HasCause halt (S.state site.old) (S.state site.new)) }
     ensures refuses { HasNoSizes (S.state site.old) → Halts result (S.state site.old) (S.state site.new) }
     ensures goes { Goes (S.state site.old) (S.state site.new) }
+    ensures faults { OnOk result (SameFaults (S.state site.old) (S.state site.new)) }
 {
     works_add_up();
     queue_is_on_flash();
@@ -95,8 +97,10 @@ pub fn serve<S: Site>(alloc: Global, pool: u32, site: &mut S) -> u8
     // When each status comes.
     ensures causes { HasCauses result (S.state site.old) (S.state site.new) }
     ensures goes { Goes (S.state site.old) (S.state site.new) }
+    ensures faults { result ≡ 0 → SameFaults (S.state site.old) (S.state site.new) }
 {
     works_add_up();
+    serial_order();
     match work(alloc, pool, site) {
         Ok(()) => 0,
         Err(halt) => {
@@ -114,6 +118,7 @@ fn lack_memory<S: Site>(site: &mut S) -> u8
     ensures goes { Goes (S.state site.old) (S.state site.new) }
 {
     works_add_up();
+    serial_order();
     let _ = tell_memory(site);
     4
 }
@@ -144,6 +149,7 @@ pub fn face<S: Site>(alloc: Global, words: &[String], site: &mut S) -> u8
     // Words of which one begins with a dash want no memory.
     ensures dashed { HasDash (words_of words.now) → result ≡ 2 }
     ensures goes { Goes (S.state site.old) (S.state site.new) }
+    ensures faults { result ≡ 0 → SameFaults (S.state site.old) (S.state site.new) }
 {
     match read_words(alloc, words) {
         Ok(Request::Run(pool)) => serve(alloc, pool, site),

@@ -18,119 +18,119 @@ use Rattle.face.proofs.Listed.{never_cache}
 use Rattle.face.proofs.commands.carry_out_plain.Goals as goal
 
 pub returns-in-Begin-clause-reply : goal.returns-in-Begin-clause-reply
-returns-in-Begin-clause-reply g c s fits = subst (λ (l : Line). IfOk c.begin.result (λ reply. reply ≡ (step s l []).reply)) (sym (c.in-Some.is ∙ ap Some c.in-Begin.is)) (c.begin.ensures.reply s fits)
+returns-in-Begin-clause-reply g c s fits = subst (λ (l : Line). IfOk c.begin.result (λ reply. reply ≡ (step s l []).reply)) (sym (c.in-Some.is ∙ ap Some c.in-Begin.is)) ((c.begin.ensures.answers s fits).reply)
 
 pub returns-in-Read-clause-reply : goal.returns-in-Read-clause-reply
-returns-in-Read-clause-reply g c s fits = subst (λ (l : Line). IfOk c.read.result (λ reply. reply ≡ (step s l []).reply)) (sym (c.in-Some.is ∙ ap Some c.in-Read.is)) (c.read.ensures.reply s fits)
+returns-in-Read-clause-reply g c s fits = subst (λ (l : Line). IfOk c.read.result (λ reply. reply ≡ (step s l []).reply)) (sym (c.in-Some.is ∙ ap Some c.in-Read.is)) ((c.read.ensures.answers s fits).reply)
 
 pub returns-in-Write-clause-reply : goal.returns-in-Write-clause-reply
-returns-in-Write-clause-reply g c s fits = subst (λ (l : Line). IfOk c.write.result (λ reply. reply ≡ (step s l []).reply)) (sym (c.in-Some.is ∙ ap Some c.in-Write.is)) (c.write.ensures.reply s fits)
+returns-in-Write-clause-reply g c s fits = subst (λ (l : Line). IfOk c.write.result (λ reply. reply ≡ (step s l []).reply)) (sym (c.in-Some.is ∙ ap Some c.in-Write.is)) ((c.write.ensures.answers s fits).reply)
 
 pub returns-in-Erase-clause-reply : goal.returns-in-Erase-clause-reply
-returns-in-Erase-clause-reply g c s fits = subst (λ (l : Line). IfOk c.erase.result (λ reply. reply ≡ (step s l []).reply)) (sym (c.in-Some.is ∙ ap Some c.in-Erase.is)) (c.erase.ensures.reply s fits)
+returns-in-Erase-clause-reply g c s fits = subst (λ (l : Line). IfOk c.erase.result (λ reply. reply ≡ (step s l []).reply)) (sym (c.in-Some.is ∙ ap Some c.in-Erase.is)) ((c.erase.ensures.answers s fits).reply)
 
 pub returns-in-Scan-clause-reply : goal.returns-in-Scan-clause-reply
-returns-in-Scan-clause-reply g c s fits = subst (λ (l : Line). IfOk c.scan.result (λ reply. reply ≡ (step s l []).reply)) (sym (c.in-Some.is ∙ ap Some c.in-Scan.is)) (c.scan.ensures.reply s fits)
+returns-in-Scan-clause-reply g c s fits = subst (λ (l : Line). IfOk c.scan.result (λ reply. reply ≡ (step s l []).reply)) (sym (c.in-Some.is ∙ ap Some c.in-Scan.is)) ((c.scan.ensures.answers s fits).reply)
 
 pub returns-in-Set-clause-reply : goal.returns-in-Set-clause-reply
-returns-in-Set-clause-reply g c s fits = subst (λ (l : Line). IfOk c.set.result (λ reply. reply ≡ (step s l []).reply)) (sym (c.in-Some.is ∙ ap Some c.in-Set.is)) (c.set.ensures.reply s fits)
+returns-in-Set-clause-reply g c s fits = subst (λ (l : Line). IfOk c.set.result (λ reply. reply ≡ (step s l []).reply)) (sym (c.in-Some.is ∙ ap Some c.in-Set.is)) ((c.set.ensures.answers s fits).reply)
 
 pub returns-in-Get-clause-reply : goal.returns-in-Get-clause-reply
-returns-in-Get-clause-reply g c s fits = subst (λ (l : Line). IfOk c.get.result (λ reply. reply ≡ (step s l []).reply)) (sym (c.in-Some.is ∙ ap Some c.in-Get.is)) (c.get.ensures.reply s fits)
+returns-in-Get-clause-reply g c s fits = subst (λ (l : Line). IfOk c.get.result (λ reply. reply ≡ (step s l []).reply)) (sym (c.in-Some.is ∙ ap Some c.in-Get.is)) ((c.get.ensures.answers s fits).reply)
 
 pub returns-in-Begin-clause-after : goal.returns-in-Begin-clause-after
-returns-in-Begin-clause-after g c s fits = subst (λ (l : Line). OnOk c.begin.result (Fits c.begin.new.self (g.S.Site.state c.begin.new.site) (step s l []).after)) (sym (c.in-Some.is ∙ ap Some c.in-Begin.is)) (c.begin.ensures.after s fits)
+returns-in-Begin-clause-after g c s fits = subst (λ (l : Line). OnOk c.begin.result (Fits c.begin.new.self (g.S.Site.state c.begin.new.site) (step s l []).after)) (sym (c.in-Some.is ∙ ap Some c.in-Begin.is)) ((c.begin.ensures.answers s fits).does.after_fits)
 
 pub returns-in-Read-clause-after : goal.returns-in-Read-clause-after
-returns-in-Read-clause-after g c s fits = subst (λ (l : Line). OnOk c.read.result (Fits c.read.new.self (g.S.Site.state c.read.new.site) (step s l []).after)) (sym (c.in-Some.is ∙ ap Some c.in-Read.is)) (c.read.ensures.after s fits)
+returns-in-Read-clause-after g c s fits = subst (λ (l : Line). OnOk c.read.result (Fits c.read.new.self (g.S.Site.state c.read.new.site) (step s l []).after)) (sym (c.in-Some.is ∙ ap Some c.in-Read.is)) ((c.read.ensures.answers s fits).does.after_fits)
 
 pub returns-in-Write-clause-after : goal.returns-in-Write-clause-after
-returns-in-Write-clause-after g c s fits = subst (λ (l : Line). OnOk c.write.result (Fits c.write.new.self (g.S.Site.state c.write.new.site) (step s l []).after)) (sym (c.in-Some.is ∙ ap Some c.in-Write.is)) (c.write.ensures.after s fits)
+returns-in-Write-clause-after g c s fits = subst (λ (l : Line). OnOk c.write.result (Fits c.write.new.self (g.S.Site.state c.write.new.site) (step s l []).after)) (sym (c.in-Some.is ∙ ap Some c.in-Write.is)) ((c.write.ensures.answers s fits).does.after_fits)
 
 pub returns-in-Erase-clause-after : goal.returns-in-Erase-clause-after
-returns-in-Erase-clause-after g c s fits = subst (λ (l : Line). OnOk c.erase.result (Fits c.erase.new.self (g.S.Site.state c.erase.new.site) (step s l []).after)) (sym (c.in-Some.is ∙ ap Some c.in-Erase.is)) (c.erase.ensures.after s fits)
+returns-in-Erase-clause-after g c s fits = subst (λ (l : Line). OnOk c.erase.result (Fits c.erase.new.self (g.S.Site.state c.erase.new.site) (step s l []).after)) (sym (c.in-Some.is ∙ ap Some c.in-Erase.is)) ((c.erase.ensures.answers s fits).does.after_fits)
 
 pub returns-in-Scan-clause-after : goal.returns-in-Scan-clause-after
-returns-in-Scan-clause-after g c s fits = subst (λ (l : Line). OnOk c.scan.result (Fits c.scan.new.self (g.S.Site.state c.scan.new.site) (step s l []).after)) (sym (c.in-Some.is ∙ ap Some c.in-Scan.is)) (c.scan.ensures.after s fits)
+returns-in-Scan-clause-after g c s fits = subst (λ (l : Line). OnOk c.scan.result (Fits c.scan.new.self (g.S.Site.state c.scan.new.site) (step s l []).after)) (sym (c.in-Some.is ∙ ap Some c.in-Scan.is)) ((c.scan.ensures.answers s fits).does.after_fits)
 
 pub returns-in-Commit-clause-reply : goal.returns-in-Commit-clause-reply
-returns-in-Commit-clause-reply g c s fits = subst (λ (l : Line). IfOk c.commit.result (λ reply. reply ≡ (step s l []).reply)) (sym (c.in-Some.is ∙ ap Some c.in-Commit.is)) (c.commit.ensures.reply s fits)
+returns-in-Commit-clause-reply g c s fits = subst (λ (l : Line). IfOk c.commit.result (λ reply. reply ≡ (step s l []).reply)) (sym (c.in-Some.is ∙ ap Some c.in-Commit.is)) ((c.commit.ensures.answers s fits).reply)
 
 pub returns-in-Commit-clause-after : goal.returns-in-Commit-clause-after
-returns-in-Commit-clause-after g c s fits = subst (λ (l : Line). OnOk c.commit.result (Fits c.commit.new.self (g.S.Site.state c.commit.new.site) (step s l []).after)) (sym (c.in-Some.is ∙ ap Some c.in-Commit.is)) (c.commit.ensures.after s fits)
+returns-in-Commit-clause-after g c s fits = subst (λ (l : Line). OnOk c.commit.result (Fits c.commit.new.self (g.S.Site.state c.commit.new.site) (step s l []).after)) (sym (c.in-Some.is ∙ ap Some c.in-Commit.is)) ((c.commit.ensures.answers s fits).does.after_fits)
 
 pub returns-in-Abort-clause-reply : goal.returns-in-Abort-clause-reply
-returns-in-Abort-clause-reply g c s fits = subst (λ (l : Line). IfOk c.abort.result (λ reply. reply ≡ (step s l []).reply)) (sym (c.in-Some.is ∙ ap Some c.in-Abort.is)) (c.abort.ensures.reply s fits)
+returns-in-Abort-clause-reply g c s fits = subst (λ (l : Line). IfOk c.abort.result (λ reply. reply ≡ (step s l []).reply)) (sym (c.in-Some.is ∙ ap Some c.in-Abort.is)) ((c.abort.ensures.answers s fits).reply)
 
 pub returns-in-Abort-clause-after : goal.returns-in-Abort-clause-after
-returns-in-Abort-clause-after g c s fits = subst (λ (l : Line). OnOk c.abort.result (Fits c.abort.new.self (g.S.Site.state c.abort.new.site) (step s l []).after)) (sym (c.in-Some.is ∙ ap Some c.in-Abort.is)) (c.abort.ensures.after s fits)
+returns-in-Abort-clause-after g c s fits = subst (λ (l : Line). OnOk c.abort.result (Fits c.abort.new.self (g.S.Site.state c.abort.new.site) (step s l []).after)) (sym (c.in-Some.is ∙ ap Some c.in-Abort.is)) ((c.abort.ensures.answers s fits).does.after_fits)
 
 pub returns-in-Get-clause-after : goal.returns-in-Get-clause-after
-returns-in-Get-clause-after g c s fits = subst (λ (l : Line). OnOk c.get.result (Fits c.get.new.self (g.S.Site.state c.get.new.site) (step s l []).after)) (sym (c.in-Some.is ∙ ap Some c.in-Get.is)) (c.get.ensures.after s fits)
+returns-in-Get-clause-after g c s fits = subst (λ (l : Line). OnOk c.get.result (Fits c.get.new.self (g.S.Site.state c.get.new.site) (step s l []).after)) (sym (c.in-Some.is ∙ ap Some c.in-Get.is)) ((c.get.ensures.answers s fits).does.after_fits)
 
 pub returns-in-Set-clause-after : goal.returns-in-Set-clause-after
-returns-in-Set-clause-after g c s fits = subst (λ (l : Line). OnOk c.set.result (Fits c.set.new.self (g.S.Site.state c.set.new.site) (step s l []).after)) (sym (c.in-Some.is ∙ ap Some c.in-Set.is)) (c.set.ensures.after s fits)
+returns-in-Set-clause-after g c s fits = subst (λ (l : Line). OnOk c.set.result (Fits c.set.new.self (g.S.Site.state c.set.new.site) (step s l []).after)) (sym (c.in-Some.is ∙ ap Some c.in-Set.is)) ((c.set.ensures.answers s fits).does.after_fits)
 
 pub returns-in-Begin-clause-any_moment : goal.returns-in-Begin-clause-any_moment
-returns-in-Begin-clause-any_moment g c s fits quiet = table_stays (sizes_of c.args.engine.now.store) (g.S.Site.state c.args.site.now) (g.S.Site.state c.begin.new.site) s _ (c.begin.ensures.any_moment s fits quiet)
+returns-in-Begin-clause-any_moment g c s fits quiet = table_stays (sizes_of c.args.engine.now.store) (g.S.Site.state c.args.site.now) (g.S.Site.state c.begin.new.site) s _ ((c.begin.ensures.answers s fits).does.any_moment quiet)
 
 pub returns-in-Read-clause-any_moment : goal.returns-in-Read-clause-any_moment
-returns-in-Read-clause-any_moment g c s fits quiet = table_stays (sizes_of c.args.engine.now.store) (g.S.Site.state c.args.site.now) (g.S.Site.state c.read.new.site) s _ (c.read.ensures.any_moment s fits quiet)
+returns-in-Read-clause-any_moment g c s fits quiet = table_stays (sizes_of c.args.engine.now.store) (g.S.Site.state c.args.site.now) (g.S.Site.state c.read.new.site) s _ ((c.read.ensures.answers s fits).does.any_moment quiet)
 
 pub returns-in-Write-clause-any_moment : goal.returns-in-Write-clause-any_moment
-returns-in-Write-clause-any_moment g c s fits quiet = table_stays (sizes_of c.args.engine.now.store) (g.S.Site.state c.args.site.now) (g.S.Site.state c.write.new.site) s _ (c.write.ensures.any_moment s fits quiet)
+returns-in-Write-clause-any_moment g c s fits quiet = table_stays (sizes_of c.args.engine.now.store) (g.S.Site.state c.args.site.now) (g.S.Site.state c.write.new.site) s _ ((c.write.ensures.answers s fits).does.any_moment quiet)
 
 pub returns-in-Erase-clause-any_moment : goal.returns-in-Erase-clause-any_moment
-returns-in-Erase-clause-any_moment g c s fits quiet = table_stays (sizes_of c.args.engine.now.store) (g.S.Site.state c.args.site.now) (g.S.Site.state c.erase.new.site) s _ (c.erase.ensures.any_moment s fits quiet)
+returns-in-Erase-clause-any_moment g c s fits quiet = table_stays (sizes_of c.args.engine.now.store) (g.S.Site.state c.args.site.now) (g.S.Site.state c.erase.new.site) s _ ((c.erase.ensures.answers s fits).does.any_moment quiet)
 
 pub returns-in-Scan-clause-any_moment : goal.returns-in-Scan-clause-any_moment
-returns-in-Scan-clause-any_moment g c s fits quiet = table_stays (sizes_of c.args.engine.now.store) (g.S.Site.state c.args.site.now) (g.S.Site.state c.scan.new.site) s _ (c.scan.ensures.any_moment s fits quiet)
+returns-in-Scan-clause-any_moment g c s fits quiet = table_stays (sizes_of c.args.engine.now.store) (g.S.Site.state c.args.site.now) (g.S.Site.state c.scan.new.site) s _ ((c.scan.ensures.answers s fits).does.any_moment quiet)
 
 pub returns-in-Abort-clause-any_moment : goal.returns-in-Abort-clause-any_moment
-returns-in-Abort-clause-any_moment g c s fits quiet = table_stays (sizes_of c.args.engine.now.store) (g.S.Site.state c.args.site.now) (g.S.Site.state c.abort.new.site) s _ (c.abort.ensures.any_moment s fits quiet)
+returns-in-Abort-clause-any_moment g c s fits quiet = table_stays (sizes_of c.args.engine.now.store) (g.S.Site.state c.args.site.now) (g.S.Site.state c.abort.new.site) s _ ((c.abort.ensures.answers s fits).does.any_moment quiet)
 
 pub returns-in-Commit-clause-any_moment : goal.returns-in-Commit-clause-any_moment
 returns-in-Commit-clause-any_moment g c s fits quiet =
     let old = g.S.Site.state c.args.site.now in
-    subst (λ (l : Line). LeavesOnly old (g.S.Site.state c.commit.new.site) (LeavesEither (sizes_of c.args.engine.now.store) s (step s l []).after old.told)) (sym (c.in-Some.is ∙ ap Some c.in-Commit.is)) (c.commit.ensures.any_moment s fits quiet)
+    subst (λ (l : Line). LeavesOnly old (g.S.Site.state c.commit.new.site) (LeavesEither (sizes_of c.args.engine.now.store) s (step s l []).after old.told)) (sym (c.in-Some.is ∙ ap Some c.in-Commit.is)) ((c.commit.ensures.answers s fits).does.any_moment quiet)
 
 pub returns-in-Set-clause-any_moment : goal.returns-in-Set-clause-any_moment
 returns-in-Set-clause-any_moment g c s fits quiet =
     let old = g.S.Site.state c.args.site.now in
-    subst (λ (l : Line). LeavesOnly old (g.S.Site.state c.set.new.site) (LeavesEither (sizes_of c.args.engine.now.store) s (step s l []).after old.told)) (sym (c.in-Some.is ∙ ap Some c.in-Set.is)) (c.set.ensures.any_moment s fits quiet)
+    subst (λ (l : Line). LeavesOnly old (g.S.Site.state c.set.new.site) (LeavesEither (sizes_of c.args.engine.now.store) s (step s l []).after old.told)) (sym (c.in-Some.is ∙ ap Some c.in-Set.is)) ((c.set.ensures.answers s fits).does.any_moment quiet)
 
 pub returns-in-Get-clause-any_moment : goal.returns-in-Get-clause-any_moment
-returns-in-Get-clause-any_moment g c s fits quiet = table_stays (sizes_of c.args.engine.now.store) (g.S.Site.state c.args.site.now) (g.S.Site.state c.get.new.site) s _ (c.get.ensures.any_moment s fits quiet)
+returns-in-Get-clause-any_moment g c s fits quiet = table_stays (sizes_of c.args.engine.now.store) (g.S.Site.state c.args.site.now) (g.S.Site.state c.get.new.site) s _ ((c.get.ensures.answers s fits).does.any_moment quiet)
 
 pub returns-in-Begin-clause-cause : goal.returns-in-Begin-clause-cause
-returns-in-Begin-clause-cause g c = fails_by c.begin.result c.args.engine.now (g.S.Site.state c.args.site.now) (g.S.Site.state c.begin.new.site) c.begin.ensures.stops c.begin.ensures.device c.begin.ensures.worn_log c.begin.ensures.worn (λ is. absurd (never_foreign c.begin.result c.begin.ensures.foreign is))
+returns-in-Begin-clause-cause g c = fails_by c.begin.result c.args.engine.now (g.S.Site.state c.args.site.now) (g.S.Site.state c.begin.new.site) c.begin.ensures.serves.stops c.begin.ensures.serves.calls.device (λ s fits is. (c.begin.ensures.answers s fits).does.worn_log is) (λ s fits is. (c.begin.ensures.answers s fits).does.worn is) (λ is. absurd (never_foreign c.begin.result c.begin.ensures.foreign is))
 
 pub returns-in-Checkpoint-clause-cause : goal.returns-in-Checkpoint-clause-cause
-returns-in-Checkpoint-clause-cause g c = fails_by c.checkpoint.result c.args.engine.now (g.S.Site.state c.args.site.now) (g.S.Site.state c.checkpoint.new.site) c.checkpoint.ensures.stops c.checkpoint.ensures.device c.checkpoint.ensures.worn_log c.checkpoint.ensures.worn (λ is. absurd (never_foreign c.checkpoint.result c.checkpoint.ensures.foreign is))
+returns-in-Checkpoint-clause-cause g c = fails_by c.checkpoint.result c.args.engine.now (g.S.Site.state c.args.site.now) (g.S.Site.state c.checkpoint.new.site) c.checkpoint.ensures.serves.stops c.checkpoint.ensures.serves.calls.device (λ s fits is. (c.checkpoint.ensures.answers s fits).does.worn_log is) (λ s fits is. (c.checkpoint.ensures.answers s fits).does.worn is) (λ is. absurd (never_foreign c.checkpoint.result c.checkpoint.ensures.foreign is))
 
 pub returns-in-Commit-clause-cause : goal.returns-in-Commit-clause-cause
-returns-in-Commit-clause-cause g c = log_fails c.commit.result c.args.engine.now (g.S.Site.state c.args.site.now) (g.S.Site.state c.commit.new.site) c.commit.ensures.stops c.commit.ensures.device c.commit.ensures.worn_log
+returns-in-Commit-clause-cause g c = log_fails c.commit.result c.args.engine.now (g.S.Site.state c.args.site.now) (g.S.Site.state c.commit.new.site) c.commit.ensures.stops c.commit.ensures.serves.calls.device (λ s fits is. (c.commit.ensures.answers s fits).does.worn_log is)
 
 pub returns-in-Read-clause-cause : goal.returns-in-Read-clause-cause
-returns-in-Read-clause-cause g c = fails_by c.read.result c.args.engine.now (g.S.Site.state c.args.site.now) (g.S.Site.state c.read.new.site) c.read.ensures.stops c.read.ensures.device c.read.ensures.worn_log c.read.ensures.worn c.read.ensures.foreign
+returns-in-Read-clause-cause g c = fails_by c.read.result c.args.engine.now (g.S.Site.state c.args.site.now) (g.S.Site.state c.read.new.site) c.read.ensures.serves.stops c.read.ensures.serves.calls.device (λ s fits is. (c.read.ensures.answers s fits).does.worn_log is) (λ s fits is. (c.read.ensures.answers s fits).does.worn is) (λ is s fits. (c.read.ensures.answers s fits).does.foreign is)
 
 pub returns-in-Write-clause-cause : goal.returns-in-Write-clause-cause
-returns-in-Write-clause-cause g c = fails_by c.write.result c.args.engine.now (g.S.Site.state c.args.site.now) (g.S.Site.state c.write.new.site) c.write.ensures.stops c.write.ensures.device c.write.ensures.worn_log c.write.ensures.worn c.write.ensures.foreign
+returns-in-Write-clause-cause g c = fails_by c.write.result c.args.engine.now (g.S.Site.state c.args.site.now) (g.S.Site.state c.write.new.site) c.write.ensures.serves.stops c.write.ensures.serves.calls.device (λ s fits is. (c.write.ensures.answers s fits).does.worn_log is) (λ s fits is. (c.write.ensures.answers s fits).does.worn is) (λ is s fits. (c.write.ensures.answers s fits).does.foreign is)
 
 pub returns-in-Erase-clause-cause : goal.returns-in-Erase-clause-cause
-returns-in-Erase-clause-cause g c = fails_by c.erase.result c.args.engine.now (g.S.Site.state c.args.site.now) (g.S.Site.state c.erase.new.site) c.erase.ensures.stops c.erase.ensures.device c.erase.ensures.worn_log c.erase.ensures.worn c.erase.ensures.foreign
+returns-in-Erase-clause-cause g c = fails_by c.erase.result c.args.engine.now (g.S.Site.state c.args.site.now) (g.S.Site.state c.erase.new.site) c.erase.ensures.serves.stops c.erase.ensures.serves.calls.device (λ s fits is. (c.erase.ensures.answers s fits).does.worn_log is) (λ s fits is. (c.erase.ensures.answers s fits).does.worn is) (λ is s fits. (c.erase.ensures.answers s fits).does.foreign is)
 
 pub returns-in-Scan-clause-cause : goal.returns-in-Scan-clause-cause
-returns-in-Scan-clause-cause g c = fails_by c.scan.result c.args.engine.now (g.S.Site.state c.args.site.now) (g.S.Site.state c.scan.new.site) c.scan.ensures.stops c.scan.ensures.device c.scan.ensures.worn_log c.scan.ensures.worn c.scan.ensures.foreign
+returns-in-Scan-clause-cause g c = fails_by c.scan.result c.args.engine.now (g.S.Site.state c.args.site.now) (g.S.Site.state c.scan.new.site) c.scan.ensures.serves.stops c.scan.ensures.serves.calls.device (λ s fits is. (c.scan.ensures.answers s fits).does.worn_log is) (λ s fits is. (c.scan.ensures.answers s fits).does.worn is) (λ is s fits. (c.scan.ensures.answers s fits).does.foreign is)
 
 pub returns-in-Abort-clause-cause : goal.returns-in-Abort-clause-cause
-returns-in-Abort-clause-cause g c = fails_by c.abort.result c.args.engine.now (g.S.Site.state c.args.site.now) (g.S.Site.state c.abort.new.site) c.abort.ensures.stops c.abort.ensures.device c.abort.ensures.worn_log c.abort.ensures.worn c.abort.ensures.foreign
+returns-in-Abort-clause-cause g c = fails_by c.abort.result c.args.engine.now (g.S.Site.state c.args.site.now) (g.S.Site.state c.abort.new.site) c.abort.ensures.serves.stops c.abort.ensures.serves.calls.device (λ s fits is. (c.abort.ensures.answers s fits).does.worn_log is) (λ s fits is. (c.abort.ensures.answers s fits).does.worn is) (λ is s fits. (c.abort.ensures.answers s fits).does.foreign is)
 
 pub returns-in-Get-clause-cause : goal.returns-in-Get-clause-cause
-returns-in-Get-clause-cause g c = fails_by c.get.result c.args.engine.now (g.S.Site.state c.args.site.now) (g.S.Site.state c.get.new.site) c.get.ensures.stops c.get.ensures.device c.get.ensures.worn_log c.get.ensures.worn c.get.ensures.foreign
+returns-in-Get-clause-cause g c = fails_by c.get.result c.args.engine.now (g.S.Site.state c.args.site.now) (g.S.Site.state c.get.new.site) c.get.ensures.serves.stops c.get.ensures.serves.calls.device (λ s fits is. (c.get.ensures.answers s fits).does.worn_log is) (λ s fits is. (c.get.ensures.answers s fits).does.worn is) (λ is s fits. (c.get.ensures.answers s fits).does.foreign is)
 
 pub returns-in-Set-clause-cause : goal.returns-in-Set-clause-cause
-returns-in-Set-clause-cause g c = fails_by c.set.result c.args.engine.now (g.S.Site.state c.args.site.now) (g.S.Site.state c.set.new.site) c.set.ensures.stops c.set.ensures.device c.set.ensures.worn_log c.set.ensures.worn c.set.ensures.foreign
+returns-in-Set-clause-cause g c = fails_by c.set.result c.args.engine.now (g.S.Site.state c.args.site.now) (g.S.Site.state c.set.new.site) c.set.ensures.serves.stops c.set.ensures.serves.calls.device (λ s fits is. (c.set.ensures.answers s fits).does.worn_log is) (λ s fits is. (c.set.ensures.answers s fits).does.worn is) (λ is s fits. (c.set.ensures.answers s fits).does.foreign is)
 
 pub returns-in-Stat-clause-reply : goal.returns-in-Stat-clause-reply
 returns-in-Stat-clause-reply g c s fits = c.stat.ensures s (g.S.Site.state c.args.site.now) fits ∙ (λ i. (step s (sym (c.in-Some.is ∙ ap Some c.in-Stat.is) i) []).reply)
@@ -143,39 +143,39 @@ returns-in-Quit-clause-any_moment g c s fits quiet = no_change (sizes_of c.args.
 
 pub returns-in-Begin-clause-asks : goal.returns-in-Begin-clause-asks
 returns-in-Begin-clause-asks g c s fits =
-    subst (λ (l : Line). Asks c.begin.result (line_touches true s l) c.args.engine.now.store.pages c.begin.new.self.store.pages (g.S.Site.state c.args.site.now) (g.S.Site.state c.begin.new.site)) (sym (c.in-Some.is ∙ ap Some c.in-Begin.is)) (c.begin.ensures.asks s fits)
+    subst (λ (l : Line). Asks c.begin.result (line_touches true s l) c.args.engine.now.store.pages c.begin.new.self.store.pages (g.S.Site.state c.args.site.now) (g.S.Site.state c.begin.new.site)) (sym (c.in-Some.is ∙ ap Some c.in-Begin.is)) ((c.begin.ensures.answers s fits).asks)
 
 pub returns-in-Read-clause-asks : goal.returns-in-Read-clause-asks
 returns-in-Read-clause-asks g c s fits =
-    subst (λ (l : Line). Asks c.read.result (line_touches true s l) c.args.engine.now.store.pages c.read.new.self.store.pages (g.S.Site.state c.args.site.now) (g.S.Site.state c.read.new.site)) (sym (c.in-Some.is ∙ ap Some c.in-Read.is)) (c.read.ensures.asks s fits)
+    subst (λ (l : Line). Asks c.read.result (line_touches true s l) c.args.engine.now.store.pages c.read.new.self.store.pages (g.S.Site.state c.args.site.now) (g.S.Site.state c.read.new.site)) (sym (c.in-Some.is ∙ ap Some c.in-Read.is)) ((c.read.ensures.answers s fits).asks)
 
 pub returns-in-Write-clause-asks : goal.returns-in-Write-clause-asks
 returns-in-Write-clause-asks g c s fits =
-    subst (λ (l : Line). Asks c.write.result (line_touches true s l) c.args.engine.now.store.pages c.write.new.self.store.pages (g.S.Site.state c.args.site.now) (g.S.Site.state c.write.new.site)) (sym (c.in-Some.is ∙ ap Some c.in-Write.is)) (c.write.ensures.asks s fits)
+    subst (λ (l : Line). Asks c.write.result (line_touches true s l) c.args.engine.now.store.pages c.write.new.self.store.pages (g.S.Site.state c.args.site.now) (g.S.Site.state c.write.new.site)) (sym (c.in-Some.is ∙ ap Some c.in-Write.is)) ((c.write.ensures.answers s fits).asks)
 
 pub returns-in-Erase-clause-asks : goal.returns-in-Erase-clause-asks
 returns-in-Erase-clause-asks g c s fits =
-    subst (λ (l : Line). Asks c.erase.result (line_touches true s l) c.args.engine.now.store.pages c.erase.new.self.store.pages (g.S.Site.state c.args.site.now) (g.S.Site.state c.erase.new.site)) (sym (c.in-Some.is ∙ ap Some c.in-Erase.is)) (c.erase.ensures.asks s fits)
+    subst (λ (l : Line). Asks c.erase.result (line_touches true s l) c.args.engine.now.store.pages c.erase.new.self.store.pages (g.S.Site.state c.args.site.now) (g.S.Site.state c.erase.new.site)) (sym (c.in-Some.is ∙ ap Some c.in-Erase.is)) ((c.erase.ensures.answers s fits).asks)
 
 pub returns-in-Scan-clause-asks : goal.returns-in-Scan-clause-asks
 returns-in-Scan-clause-asks g c s fits =
-    subst (λ (l : Line). Asks c.scan.result (line_touches true s l) c.args.engine.now.store.pages c.scan.new.self.store.pages (g.S.Site.state c.args.site.now) (g.S.Site.state c.scan.new.site)) (sym (c.in-Some.is ∙ ap Some c.in-Scan.is)) (c.scan.ensures.asks s fits)
+    subst (λ (l : Line). Asks c.scan.result (line_touches true s l) c.args.engine.now.store.pages c.scan.new.self.store.pages (g.S.Site.state c.args.site.now) (g.S.Site.state c.scan.new.site)) (sym (c.in-Some.is ∙ ap Some c.in-Scan.is)) ((c.scan.ensures.answers s fits).asks)
 
 pub returns-in-Commit-clause-asks : goal.returns-in-Commit-clause-asks
 returns-in-Commit-clause-asks g c s fits =
-    subst (λ (l : Line). Asks c.commit.result (line_touches true s l) c.args.engine.now.store.pages c.commit.new.self.store.pages (g.S.Site.state c.args.site.now) (g.S.Site.state c.commit.new.site)) (sym (c.in-Some.is ∙ ap Some c.in-Commit.is)) (c.commit.ensures.asks s fits)
+    subst (λ (l : Line). Asks c.commit.result (line_touches true s l) c.args.engine.now.store.pages c.commit.new.self.store.pages (g.S.Site.state c.args.site.now) (g.S.Site.state c.commit.new.site)) (sym (c.in-Some.is ∙ ap Some c.in-Commit.is)) ((c.commit.ensures.answers s fits).asks)
 
 pub returns-in-Abort-clause-asks : goal.returns-in-Abort-clause-asks
 returns-in-Abort-clause-asks g c s fits =
-    subst (λ (l : Line). Asks c.abort.result (line_touches true s l) c.args.engine.now.store.pages c.abort.new.self.store.pages (g.S.Site.state c.args.site.now) (g.S.Site.state c.abort.new.site)) (sym (c.in-Some.is ∙ ap Some c.in-Abort.is)) (c.abort.ensures.asks s fits)
+    subst (λ (l : Line). Asks c.abort.result (line_touches true s l) c.args.engine.now.store.pages c.abort.new.self.store.pages (g.S.Site.state c.args.site.now) (g.S.Site.state c.abort.new.site)) (sym (c.in-Some.is ∙ ap Some c.in-Abort.is)) ((c.abort.ensures.answers s fits).asks)
 
 pub returns-in-Get-clause-asks : goal.returns-in-Get-clause-asks
 returns-in-Get-clause-asks g c s fits =
-    subst (λ (l : Line). Asks c.get.result (line_touches true s l) c.args.engine.now.store.pages c.get.new.self.store.pages (g.S.Site.state c.args.site.now) (g.S.Site.state c.get.new.site)) (sym (c.in-Some.is ∙ ap Some c.in-Get.is)) (c.get.ensures.asks s fits)
+    subst (λ (l : Line). Asks c.get.result (line_touches true s l) c.args.engine.now.store.pages c.get.new.self.store.pages (g.S.Site.state c.args.site.now) (g.S.Site.state c.get.new.site)) (sym (c.in-Some.is ∙ ap Some c.in-Get.is)) ((c.get.ensures.answers s fits).asks)
 
 pub returns-in-Set-clause-asks : goal.returns-in-Set-clause-asks
 returns-in-Set-clause-asks g c s fits =
-    subst (λ (l : Line). Asks c.set.result (line_touches true s l) c.args.engine.now.store.pages c.set.new.self.store.pages (g.S.Site.state c.args.site.now) (g.S.Site.state c.set.new.site)) (sym (c.in-Some.is ∙ ap Some c.in-Set.is)) (c.set.ensures.asks s fits)
+    subst (λ (l : Line). Asks c.set.result (line_touches true s l) c.args.engine.now.store.pages c.set.new.self.store.pages (g.S.Site.state c.args.site.now) (g.S.Site.state c.set.new.site)) (sym (c.in-Some.is ∙ ap Some c.in-Set.is)) ((c.set.ensures.answers s fits).asks)
 
 pub returns-in-Stat-clause-asks : goal.returns-in-Stat-clause-asks
 returns-in-Stat-clause-asks g c s fits = idle_line _ _ c.args.engine.now.store.pages _ (ap (line_touches true s) (c.in-Some.is ∙ ap Some c.in-Stat.is))
@@ -184,17 +184,17 @@ pub returns-in-Quit-clause-asks : goal.returns-in-Quit-clause-asks
 returns-in-Quit-clause-asks g c s fits = idle_line _ _ c.args.engine.now.store.pages _ (ap (line_touches true s) (c.in-Some.is ∙ ap Some c.in-Quit.is))
 
 pub returns-in-Checkpoint-clause-reply : goal.returns-in-Checkpoint-clause-reply
-returns-in-Checkpoint-clause-reply g c s fits = subst (λ (l : Line). IfOk c.checkpoint.result (λ reply. reply ≡ (step s l []).reply)) (sym (c.in-Some.is ∙ ap Some c.in-Checkpoint.is)) (c.checkpoint.ensures.reply s fits)
+returns-in-Checkpoint-clause-reply g c s fits = subst (λ (l : Line). IfOk c.checkpoint.result (λ reply. reply ≡ (step s l []).reply)) (sym (c.in-Some.is ∙ ap Some c.in-Checkpoint.is)) ((c.checkpoint.ensures.answers s fits).reply)
 
 pub returns-in-Checkpoint-clause-after : goal.returns-in-Checkpoint-clause-after
-returns-in-Checkpoint-clause-after g c s fits = subst (λ (l : Line). OnOk c.checkpoint.result (Fits c.checkpoint.new.self (g.S.Site.state c.checkpoint.new.site) (step s l []).after)) (sym (c.in-Some.is ∙ ap Some c.in-Checkpoint.is)) (c.checkpoint.ensures.after s fits)
+returns-in-Checkpoint-clause-after g c s fits = subst (λ (l : Line). OnOk c.checkpoint.result (Fits c.checkpoint.new.self (g.S.Site.state c.checkpoint.new.site) (step s l []).after)) (sym (c.in-Some.is ∙ ap Some c.in-Checkpoint.is)) ((c.checkpoint.ensures.answers s fits).does.after_fits)
 
 pub returns-in-Checkpoint-clause-asks : goal.returns-in-Checkpoint-clause-asks
 returns-in-Checkpoint-clause-asks g c s fits =
-    subst (λ (l : Line). Asks c.checkpoint.result (line_touches true s l) c.args.engine.now.store.pages c.checkpoint.new.self.store.pages (g.S.Site.state c.args.site.now) (g.S.Site.state c.checkpoint.new.site)) (sym (c.in-Some.is ∙ ap Some c.in-Checkpoint.is)) (c.checkpoint.ensures.asks s fits)
+    subst (λ (l : Line). Asks c.checkpoint.result (line_touches true s l) c.args.engine.now.store.pages c.checkpoint.new.self.store.pages (g.S.Site.state c.args.site.now) (g.S.Site.state c.checkpoint.new.site)) (sym (c.in-Some.is ∙ ap Some c.in-Checkpoint.is)) ((c.checkpoint.ensures.answers s fits).asks)
 
 pub returns-in-Checkpoint-clause-any_moment : goal.returns-in-Checkpoint-clause-any_moment
-returns-in-Checkpoint-clause-any_moment g c s fits quiet = table_stays (sizes_of c.args.engine.now.store) (g.S.Site.state c.args.site.now) (g.S.Site.state c.checkpoint.new.site) s _ (c.checkpoint.ensures.any_moment s fits quiet)
+returns-in-Checkpoint-clause-any_moment g c s fits quiet = table_stays (sizes_of c.args.engine.now.store) (g.S.Site.state c.args.site.now) (g.S.Site.state c.checkpoint.new.site) s _ ((c.checkpoint.ensures.answers s fits).does.any_moment quiet)
 
 pub unreachable-requires : goal.unreachable-requires
 unreachable-requires g c = absurd (never_cache c.args.line c.in-Some.command c.requires.plain c.in-Some.is c.in-Cache.is)
@@ -207,43 +207,43 @@ returns-in_default-clause-asks g c s fits = idle_line _ _ c.args.engine.now.stor
 
 pub returns-in-Begin-clause-numbers : goal.returns-in-Begin-clause-numbers
 returns-in-Begin-clause-numbers g c s fits quiet =
-    subst (λ (l : Line). CountsOn c.begin.result c.args.engine.now c.begin.new.self (g.S.Site.state c.args.site.now) (g.S.Site.state c.begin.new.site) s (step s l []).after (line_checkpoints s l)) (sym (c.in-Some.is ∙ ap Some c.in-Begin.is)) (c.begin.ensures.numbers s fits quiet)
+    subst (λ (l : Line). CountsOn c.begin.result c.args.engine.now c.begin.new.self (g.S.Site.state c.args.site.now) (g.S.Site.state c.begin.new.site) s (step s l []).after (line_checkpoints s l)) (sym (c.in-Some.is ∙ ap Some c.in-Begin.is)) ((c.begin.ensures.answers s fits).does.numbers quiet)
 
 pub returns-in-Read-clause-numbers : goal.returns-in-Read-clause-numbers
 returns-in-Read-clause-numbers g c s fits quiet =
-    subst (λ (l : Line). CountsOn c.read.result c.args.engine.now c.read.new.self (g.S.Site.state c.args.site.now) (g.S.Site.state c.read.new.site) s (step s l []).after (line_checkpoints s l)) (sym (c.in-Some.is ∙ ap Some c.in-Read.is)) (c.read.ensures.numbers s fits quiet)
+    subst (λ (l : Line). CountsOn c.read.result c.args.engine.now c.read.new.self (g.S.Site.state c.args.site.now) (g.S.Site.state c.read.new.site) s (step s l []).after (line_checkpoints s l)) (sym (c.in-Some.is ∙ ap Some c.in-Read.is)) ((c.read.ensures.answers s fits).does.numbers quiet)
 
 pub returns-in-Write-clause-numbers : goal.returns-in-Write-clause-numbers
 returns-in-Write-clause-numbers g c s fits quiet =
-    subst (λ (l : Line). CountsOn c.write.result c.args.engine.now c.write.new.self (g.S.Site.state c.args.site.now) (g.S.Site.state c.write.new.site) s (step s l []).after (line_checkpoints s l)) (sym (c.in-Some.is ∙ ap Some c.in-Write.is)) (c.write.ensures.numbers s fits quiet)
+    subst (λ (l : Line). CountsOn c.write.result c.args.engine.now c.write.new.self (g.S.Site.state c.args.site.now) (g.S.Site.state c.write.new.site) s (step s l []).after (line_checkpoints s l)) (sym (c.in-Some.is ∙ ap Some c.in-Write.is)) ((c.write.ensures.answers s fits).does.numbers quiet)
 
 pub returns-in-Erase-clause-numbers : goal.returns-in-Erase-clause-numbers
 returns-in-Erase-clause-numbers g c s fits quiet =
-    subst (λ (l : Line). CountsOn c.erase.result c.args.engine.now c.erase.new.self (g.S.Site.state c.args.site.now) (g.S.Site.state c.erase.new.site) s (step s l []).after (line_checkpoints s l)) (sym (c.in-Some.is ∙ ap Some c.in-Erase.is)) (c.erase.ensures.numbers s fits quiet)
+    subst (λ (l : Line). CountsOn c.erase.result c.args.engine.now c.erase.new.self (g.S.Site.state c.args.site.now) (g.S.Site.state c.erase.new.site) s (step s l []).after (line_checkpoints s l)) (sym (c.in-Some.is ∙ ap Some c.in-Erase.is)) ((c.erase.ensures.answers s fits).does.numbers quiet)
 
 pub returns-in-Scan-clause-numbers : goal.returns-in-Scan-clause-numbers
 returns-in-Scan-clause-numbers g c s fits quiet =
-    subst (λ (l : Line). CountsOn c.scan.result c.args.engine.now c.scan.new.self (g.S.Site.state c.args.site.now) (g.S.Site.state c.scan.new.site) s (step s l []).after (line_checkpoints s l)) (sym (c.in-Some.is ∙ ap Some c.in-Scan.is)) (c.scan.ensures.numbers s fits quiet)
+    subst (λ (l : Line). CountsOn c.scan.result c.args.engine.now c.scan.new.self (g.S.Site.state c.args.site.now) (g.S.Site.state c.scan.new.site) s (step s l []).after (line_checkpoints s l)) (sym (c.in-Some.is ∙ ap Some c.in-Scan.is)) ((c.scan.ensures.answers s fits).does.numbers quiet)
 
 pub returns-in-Commit-clause-numbers : goal.returns-in-Commit-clause-numbers
 returns-in-Commit-clause-numbers g c s fits quiet =
-    subst (λ (l : Line). CountsOn c.commit.result c.args.engine.now c.commit.new.self (g.S.Site.state c.args.site.now) (g.S.Site.state c.commit.new.site) s (step s l []).after (line_checkpoints s l)) (sym (c.in-Some.is ∙ ap Some c.in-Commit.is)) (c.commit.ensures.numbers s fits quiet)
+    subst (λ (l : Line). CountsOn c.commit.result c.args.engine.now c.commit.new.self (g.S.Site.state c.args.site.now) (g.S.Site.state c.commit.new.site) s (step s l []).after (line_checkpoints s l)) (sym (c.in-Some.is ∙ ap Some c.in-Commit.is)) ((c.commit.ensures.answers s fits).does.numbers quiet)
 
 pub returns-in-Abort-clause-numbers : goal.returns-in-Abort-clause-numbers
 returns-in-Abort-clause-numbers g c s fits quiet =
-    subst (λ (l : Line). CountsOn c.abort.result c.args.engine.now c.abort.new.self (g.S.Site.state c.args.site.now) (g.S.Site.state c.abort.new.site) s (step s l []).after (line_checkpoints s l)) (sym (c.in-Some.is ∙ ap Some c.in-Abort.is)) (c.abort.ensures.numbers s fits quiet)
+    subst (λ (l : Line). CountsOn c.abort.result c.args.engine.now c.abort.new.self (g.S.Site.state c.args.site.now) (g.S.Site.state c.abort.new.site) s (step s l []).after (line_checkpoints s l)) (sym (c.in-Some.is ∙ ap Some c.in-Abort.is)) ((c.abort.ensures.answers s fits).does.numbers quiet)
 
 pub returns-in-Get-clause-numbers : goal.returns-in-Get-clause-numbers
 returns-in-Get-clause-numbers g c s fits quiet =
-    subst (λ (l : Line). CountsOn c.get.result c.args.engine.now c.get.new.self (g.S.Site.state c.args.site.now) (g.S.Site.state c.get.new.site) s (step s l []).after (line_checkpoints s l)) (sym (c.in-Some.is ∙ ap Some c.in-Get.is)) (c.get.ensures.numbers s fits quiet)
+    subst (λ (l : Line). CountsOn c.get.result c.args.engine.now c.get.new.self (g.S.Site.state c.args.site.now) (g.S.Site.state c.get.new.site) s (step s l []).after (line_checkpoints s l)) (sym (c.in-Some.is ∙ ap Some c.in-Get.is)) ((c.get.ensures.answers s fits).does.numbers quiet)
 
 pub returns-in-Set-clause-numbers : goal.returns-in-Set-clause-numbers
 returns-in-Set-clause-numbers g c s fits quiet =
-    subst (λ (l : Line). CountsOn c.set.result c.args.engine.now c.set.new.self (g.S.Site.state c.args.site.now) (g.S.Site.state c.set.new.site) s (step s l []).after (line_checkpoints s l)) (sym (c.in-Some.is ∙ ap Some c.in-Set.is)) (c.set.ensures.numbers s fits quiet)
+    subst (λ (l : Line). CountsOn c.set.result c.args.engine.now c.set.new.self (g.S.Site.state c.args.site.now) (g.S.Site.state c.set.new.site) s (step s l []).after (line_checkpoints s l)) (sym (c.in-Some.is ∙ ap Some c.in-Set.is)) ((c.set.ensures.answers s fits).does.numbers quiet)
 
 pub returns-in-Checkpoint-clause-numbers : goal.returns-in-Checkpoint-clause-numbers
 returns-in-Checkpoint-clause-numbers g c s fits quiet =
-    subst (λ (l : Line). CountsOn c.checkpoint.result c.args.engine.now c.checkpoint.new.self (g.S.Site.state c.args.site.now) (g.S.Site.state c.checkpoint.new.site) s (step s l []).after (line_checkpoints s l)) (sym (c.in-Some.is ∙ ap Some c.in-Checkpoint.is)) (c.checkpoint.ensures.numbers s fits quiet)
+    subst (λ (l : Line). CountsOn c.checkpoint.result c.args.engine.now c.checkpoint.new.self (g.S.Site.state c.args.site.now) (g.S.Site.state c.checkpoint.new.site) s (step s l []).after (line_checkpoints s l)) (sym (c.in-Some.is ∙ ap Some c.in-Checkpoint.is)) ((c.checkpoint.ensures.answers s fits).does.numbers quiet)
 
 pub returns-in-Stat-clause-numbers : goal.returns-in-Stat-clause-numbers
 returns-in-Stat-clause-numbers g c s fits quiet =
@@ -258,3 +258,33 @@ returns-in-Quit-clause-numbers g c s fits quiet =
 pub returns-in_default-clause-numbers : goal.returns-in_default-clause-numbers
 returns-in_default-clause-numbers g c s fits quiet =
     counts_idle _ c.args.line c.args.engine.now (g.S.Site.state c.args.site.now) s c.rest_counts_nothing.ensures fits c.requires.going (ap (λ (l : Line). (step s l []).after) c.in_default.is) (ap (line_checkpoints s) c.in_default.is)
+
+pub returns-in-Begin-clause-quiet : goal.returns-in-Begin-clause-quiet
+returns-in-Begin-clause-quiet g c s fits = (c.begin.ensures.answers s fits).does.quiet
+
+pub returns-in-Read-clause-quiet : goal.returns-in-Read-clause-quiet
+returns-in-Read-clause-quiet g c s fits = (c.read.ensures.answers s fits).does.quiet
+
+pub returns-in-Write-clause-quiet : goal.returns-in-Write-clause-quiet
+returns-in-Write-clause-quiet g c s fits = (c.write.ensures.answers s fits).does.quiet
+
+pub returns-in-Erase-clause-quiet : goal.returns-in-Erase-clause-quiet
+returns-in-Erase-clause-quiet g c s fits = (c.erase.ensures.answers s fits).does.quiet
+
+pub returns-in-Scan-clause-quiet : goal.returns-in-Scan-clause-quiet
+returns-in-Scan-clause-quiet g c s fits = (c.scan.ensures.answers s fits).does.quiet
+
+pub returns-in-Commit-clause-quiet : goal.returns-in-Commit-clause-quiet
+returns-in-Commit-clause-quiet g c s fits = (c.commit.ensures.answers s fits).does.quiet
+
+pub returns-in-Abort-clause-quiet : goal.returns-in-Abort-clause-quiet
+returns-in-Abort-clause-quiet g c s fits = (c.abort.ensures.answers s fits).does.quiet
+
+pub returns-in-Get-clause-quiet : goal.returns-in-Get-clause-quiet
+returns-in-Get-clause-quiet g c s fits = (c.get.ensures.answers s fits).does.quiet
+
+pub returns-in-Set-clause-quiet : goal.returns-in-Set-clause-quiet
+returns-in-Set-clause-quiet g c s fits = (c.set.ensures.answers s fits).does.quiet
+
+pub returns-in-Checkpoint-clause-quiet : goal.returns-in-Checkpoint-clause-quiet
+returns-in-Checkpoint-clause-quiet g c s fits = (c.checkpoint.ensures.answers s fits).does.quiet

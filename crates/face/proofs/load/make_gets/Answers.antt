@@ -13,6 +13,7 @@ use Rattle.face.proofs.load.make_gets.Goals as goal
 
 pub loop-get-init : goal.loop-get-init
 loop-get-init g c = record {
+  faults = refl;
   number = refl;
   course = carries_none 0 c.args.engine.now (g.S.Site.state c.args.site.now) c.rest_counts_nothing.ensures c.requires.going;
   found = λ s fits. refl;
@@ -33,6 +34,7 @@ loop-get-preserved g c =
     let line_is : line ≡ get_line records (generated seed (suc i)) = is_get records seed i c.next-x.result c.load_set-number.result.0 x_is c.load_set-number.ensures.number in
     let lines_are : get_lines records seed (suc i) ≡ get_lines records seed i ++ line ∷ [] = one_line_more (get_line records) seed i line line_is in
     record {
+      faults = c.in-Ok.ensures.faults ∙ inv.faults;
       number = x_is ∙ ap (generated seed) (sym (add-one i));
       course = subst (λ (n : ℕ). CarriesOut {T = ℕ} (Ok 0) (get_lines records seed n) c.args.engine.now c.carry_on.new.engine entry new) (sym (add-one i))
           (subst (λ (l : List Line). CarriesOut {T = ℕ} (Ok 0) l c.args.engine.now c.carry_on.new.engine entry new) (sym lines_are)

@@ -14,6 +14,7 @@ use Rattle.face.proofs.load.make_sets.Goals as goal
 
 pub loop-set-init : goal.loop-set-init
 loop-set-init g c = record {
+  faults = refl;
   number = refl;
   course = carries_none 0 c.args.engine.now (g.S.Site.state c.args.site.now) c.rest_counts_nothing.ensures c.requires.going;
   made = λ s fits. record { committed_is = refl; checkpoints_are = refl };
@@ -35,6 +36,7 @@ loop-set-preserved g c =
     let line_is : line ≡ set_line records (generated seed (suc i)) = is_set records seed i c.next-x.result c.load_set-number.result.0 c.load_set-number.result.1 x_is c.load_set-number.ensures.number c.load_set-number.ensures.value in
     let lines_are : set_lines records seed (suc i) ≡ set_lines records seed i ++ line ∷ [] = one_line_more (set_line records) seed i line line_is in
     record {
+      faults = c.in-Ok.ensures.faults ∙ inv.faults;
       number = x_is ∙ ap (generated seed) (sym (add-one i));
       course = subst (λ (n : ℕ). CarriesOut {T = ℕ} (Ok 0) (set_lines records seed n) c.args.engine.now c.carry_on.new.engine entry new) (sym (add-one i))
           (subst (λ (l : List Line). CarriesOut {T = ℕ} (Ok 0) l c.args.engine.now c.carry_on.new.engine entry new) (sym lines_are)

@@ -6,6 +6,7 @@ use Rattle.engine.specs.Fits.{Fits}
 use Rattle.workload.specs.Generator.{generated}
 use Rattle.face.specs.Loads.{CarriesOut, HasMade}
 use Rattle.face.specs.Workload.{set_lines}
+use Rattle.face.specs.Causes.{SameFaults}
 use Rattle.face.proofs.load.make_sets.Given as goal
 
 abbrev pub invariant-loop-set : goal.invariant-loop-set
@@ -13,6 +14,7 @@ invariant-loop-set g l =
     let old = g.S.Site.state l.fn.site in
     let now = g.S.Site.state l.site in
     record {
+      faults : SameFaults old now;
       number : l.x ≡ generated l.load.seed l._set;
       course : CarriesOut {T = ℕ} (Ok 0) (set_lines (32 * l.pages) l.load.seed l._set) l.fn.engine l.engine old now;
       made : (s : State) → Fits l.fn.engine old s → HasMade (turns true s (set_lines (32 * l.pages) l.load.seed l._set) []) l.committed l.checkpoints;

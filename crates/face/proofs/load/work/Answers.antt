@@ -100,3 +100,6 @@ returns-in-Err-make_sets-clause-goes g c = goes_in_sequence _ _ _ c.open.ensures
 
 pub returns-in-Ok-make_gets-clause-goes : goal.returns-in-Ok-make_gets-clause-goes
 returns-in-Ok-make_gets-clause-goes g c = goes_in_sequence _ _ _ c.open.ensures.goes (goes_in_sequence _ _ _ c.in-Ok-make_sets.ensures.course.course.goes c.in-Ok-make_gets.ensures.course.course.goes)
+
+pub returns-clause-goes : goal.returns-clause-goes
+returns-clause-goes g c = goes_in_sequence _ _ _ c.open.ensures.goes (goes_in_sequence _ _ _ c.in-Ok-make_sets.ensures.course.course.goes c.in-Err-make_gets.ensures.course.course.goes)

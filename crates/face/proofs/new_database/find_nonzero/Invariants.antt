@@ -2,6 +2,7 @@ use Rattle.std.proofs.Common.{◌-◌, ◌≤◌, IsTrue}
 use Rattle.site.specs.State.{content_of}
 use Rattle.site.specs.Calls.{Goes, IsUnchanged}
 use Rattle.face.specs.New.{AreZero}
+use Rattle.face.specs.Causes.{SameFaults}
 use Rattle.face.proofs.new_database.find_nonzero.Given as goal
 
 abbrev pub invariant-loop-at : goal.invariant-loop-at
@@ -11,6 +12,7 @@ invariant-loop-at g l =
     record {
       at : l.at ≤ l.len;
       goes : Goes old now;
+      faults : SameFaults old now;
       same : IsTrue old.honest → IsUnchanged old now;
       zeros : IsTrue old.honest → AreZero (content_of l.dev old.image) 0 l.at;
     }

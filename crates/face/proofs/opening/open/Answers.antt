@@ -5,7 +5,7 @@ use Rattle.face.proofs.Counted.{first_counted, restart_fails}
 use Rattle.face.proofs.Pagings.{first_paged, first_reads, never_paged}
 use Rattle.std.specs.Prelude.{Err}
 use Rattle.std.proofs.Common.{◌∙◌, ap, ◌≡◌, refl}
-use Rattle.site.specs.Laws.{stays_honest}
+use Rattle.site.specs.Laws.{stays_honest, goes_in_sequence}
 use Rattle.shell_text.specs.Texts.{open_text}
 use Rattle.face.specs.Texts.{status_of}
 use Rattle.face.specs.declared.halt.Halt.TheVariants as halt
@@ -18,34 +18,34 @@ use Rattle.face.proofs.opening.open.Goals as goal
 pub returns-in-Err-clause-stops : goal.returns-in-Err-clause-stops
 returns-in-Err-clause-stops g c run begins =
     let stands = stands_by run.geometry (g.S.Site.state c.args.site.now).image run.opening begins.opens in
-    let leaves = c.start.ensures.any_moment begins.honest begins.quiet run.geometry run.opening.table run.opening.commits stands in
-    not_opened run (g.S.Site.state c.args.site.now) (g.S.Site.state c.start.new.site) leaves (halt.Stop c.in-Err.stop)
-    (λ ne. c.in-Err.ensures.quiet begins.honest begins.quiet run.geometry run.opening.table run.opening.commits stands (λ d is. ne (ap (λ x. status_of (halt.Stop x)) is)))
+    let ends = c.in-Err.ensures.ends begins.honest run.geometry run.opening.table run.opening.commits stands in
+    not_opened run (g.S.Site.state c.args.site.now) (g.S.Site.state c.start.new.site) (ends.any_moment begins.quiet) (halt.Stop c.in-Err.stop)
+    (λ ne. ends.quiet begins.quiet (λ d is. ne (ap (λ x. status_of (halt.Stop x)) is)))
 
 pub returns-in-Err-clause-cause : goal.returns-in-Err-clause-cause
-returns-in-Err-clause-cause g c = start_cause c.start.result c.in-Err.stop (g.S.Site.state c.args.site.now) (g.S.Site.state c.start.new.site) c.in-Err.is c.in-Err.ensures.stops c.start.ensures.device c.start.ensures.foreign c.start.ensures.worn_log c.start.ensures.worn
+returns-in-Err-clause-cause g c = start_cause c.start.result c.in-Err.stop (g.S.Site.state c.args.site.now) (g.S.Site.state c.start.new.site) c.in-Err.is c.in-Err.ensures.stops c.start.ensures.calls.device c.start.ensures.ends
 
 pub returns-in-Err-tell_all-clause-stops : goal.returns-in-Err-tell_all-clause-stops
 returns-in-Err-tell_all-clause-stops g c run begins =
     let entry = g.S.Site.state c.args.site.now in
     let mid = g.S.Site.state c.start.new.site in
     let new = g.S.Site.state c.tell_all.new.site in
-    let leaves = c.start.ensures.any_moment begins.honest begins.quiet run.geometry run.opening.table run.opening.commits (stands_by run.geometry entry.image run.opening begins.opens) in
+    let leaves = (c.start.ensures.ends begins.honest run.geometry run.opening.table run.opening.commits (stands_by run.geometry entry.image run.opening begins.opens)).any_moment begins.quiet in
     let opens = c.in-Ok.ensures.opens begins.honest run.geometry run.opening begins.opens in
     let is = c.as_slice.ensures.value ∙ c.open_line.ensures ∙ ap open_text (c.commits.ensures.model run.opening mid opens.0) in
-    let honest = stays_honest entry mid c.start.ensures.goes begins.honest in
-    opening_lost run entry mid leaves new c.as_slice.result.now is (c.tell_all.ensures.any_moment honest) ((c.tell_all.ensures.same honest).loose ∙ c.in-Ok.ensures.stays_quiet begins.honest begins.quiet)
+    let honest = stays_honest entry mid c.start.ensures.calls.goes begins.honest in
+    opening_lost run entry mid leaves new c.as_slice.result.now is (c.tell_all.ensures.any_moment honest) ((c.tell_all.ensures.same honest).loose ∙ c.in-Ok.ensures.calls.stays_quiet begins.honest begins.quiet)
 
 pub returns-in-Ok-tell_all-clause-going : goal.returns-in-Ok-tell_all-clause-going
 returns-in-Ok-tell_all-clause-going g c run begins =
     let entry = g.S.Site.state c.args.site.now in
     let mid = g.S.Site.state c.start.new.site in
     let new = g.S.Site.state c.tell_all.new.site in
-    let leaves = c.start.ensures.any_moment begins.honest begins.quiet run.geometry run.opening.table run.opening.commits (stands_by run.geometry entry.image run.opening begins.opens) in
+    let leaves = (c.start.ensures.ends begins.honest run.geometry run.opening.table run.opening.commits (stands_by run.geometry entry.image run.opening begins.opens)).any_moment begins.quiet in
     let opens = c.in-Ok.ensures.opens begins.honest run.geometry run.opening begins.opens in
     let is = c.as_slice.ensures.value ∙ c.open_line.ensures ∙ ap open_text (c.commits.ensures.model run.opening mid opens.0) in
-    let honest = stays_honest entry mid c.start.ensures.goes begins.honest in
-    opened run entry mid leaves new c.as_slice.result.now is (c.tell_all.ensures.any_moment honest) c.in-Ok.engine c.tell_all.ensures.goes (c.tell_all.ensures.same honest) ((c.tell_all.ensures.same honest).loose ∙ c.in-Ok.ensures.stays_quiet begins.honest begins.quiet) (c.in-Ok-tell_all.ensures.told honest)
+    let honest = stays_honest entry mid c.start.ensures.calls.goes begins.honest in
+    opened run entry mid leaves new c.as_slice.result.now is (c.tell_all.ensures.any_moment honest) c.in-Ok.engine c.tell_all.ensures.goes (c.tell_all.ensures.same honest) ((c.tell_all.ensures.same honest).loose ∙ c.in-Ok.ensures.calls.stays_quiet begins.honest begins.quiet) (c.in-Ok-tell_all.ensures.told honest)
     opens.0 opens.1 c.in-Ok.ensures.going.store.both.sizes
 
 pub returns-in-Ok-tell_all-clause-goes_on : goal.returns-in-Ok-tell_all-clause-goes_on
@@ -56,7 +56,7 @@ returns-in-Ok-tell_all-clause-fits g c honest geometry table commits stands =
     let entry = g.S.Site.state c.args.site.now in
     let mid = g.S.Site.state c.start.new.site in
     let opens = opens_where_it_stands geometry entry.image table commits stands in
-    let same = c.tell_all.ensures.same (stays_honest entry mid c.start.ensures.goes honest) in
+    let same = c.tell_all.ensures.same (stays_honest entry mid c.start.ensures.calls.goes honest) in
     let fits = c.in-Ok.ensures.opens honest geometry opens.0 opens.1 in
     ((opens.0, still_fits c.in-Ok.engine mid (g.S.Site.state c.tell_all.new.site) opens.0 fits.0 c.tell_all.ensures.goes same.image), fits.1)
 
@@ -76,7 +76,7 @@ pub returns-in-Ok-tell_all-clause-counted : goal.returns-in-Ok-tell_all-clause-c
 returns-in-Ok-tell_all-clause-counted g c run begins newest blocks sound =
     let entry = g.S.Site.state c.args.site.now in
     let mid = g.S.Site.state c.start.new.site in
-    let same = c.tell_all.ensures.same (stays_honest entry mid c.start.ensures.goes begins.honest) in
+    let same = c.tell_all.ensures.same (stays_honest entry mid c.start.ensures.calls.goes begins.honest) in
     first_counted run (log_under newest blocks) entry c.in-Ok.engine mid (g.S.Site.state c.tell_all.new.site) same.image (c.in-Ok.ensures.numbers begins.honest begins.quiet run.geometry newest blocks sound)
 
 pub returns-in-Ok-tell_all-clause-numbers : goal.returns-in-Ok-tell_all-clause-numbers
@@ -86,7 +86,7 @@ pub returns-in-Err-tell_all-clause-numbers : goal.returns-in-Err-tell_all-clause
 returns-in-Err-tell_all-clause-numbers g c run begins newest blocks sound =
     let entry = g.S.Site.state c.args.site.now in
     let mid = g.S.Site.state c.start.new.site in
-    let same = c.tell_all.ensures.same (stays_honest entry mid c.start.ensures.goes begins.honest) in
+    let same = c.tell_all.ensures.same (stays_honest entry mid c.start.ensures.calls.goes begins.honest) in
     restart_fails run (log_under newest blocks) entry c.start.result _ mid (g.S.Site.state c.tell_all.new.site) same.image (c.start.ensures.numbers begins.honest begins.quiet run.geometry newest blocks sound)
 
 pub returns-in-Err-clause-numbers : goal.returns-in-Err-clause-numbers
@@ -109,3 +109,6 @@ pub returns-in-Err-tell_all-clause-reads : goal.returns-in-Err-tell_all-clause-r
 returns-in-Err-tell_all-clause-reads g c run begins newest blocks sound =
     let old = g.S.Site.state c.args.site.now in
     first_reads c.args.pool run newest old.image blocks c.start.result (λ e. e.store.pages) old (g.S.Site.state c.start.new.site) (g.S.Site.state c.tell_all.new.site) c.tell_all.ensures.reads (c.start.ensures.asks begins.honest run.geometry newest blocks sound)
+
+pub returns-in-Err-tell_all-clause-goes : goal.returns-in-Err-tell_all-clause-goes
+returns-in-Err-tell_all-clause-goes g c = goes_in_sequence _ _ _ c.start.ensures.calls.goes c.tell_all.ensures.goes

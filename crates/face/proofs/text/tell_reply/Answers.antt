@@ -12,6 +12,7 @@ loop-place-init g c =
     let old = g.S.Site.state c.args.site.now in
     record {
       goes = goes_nowhere old;
+      faults = refl;
       reads = λ dev. refl;
       same = λ honest. record { image = refl; loose = refl; left = refl };
       told = λ honest. sym (append-nil old.told);
@@ -30,10 +31,11 @@ loop-place-preserved g c =
     let piece : c.as_slice.result.now ≡ get_or lines place [] = c.as_slice.ensures.value ∙ c.reply_line.ensures in
     record {
       goes = goes_in_sequence old mid new c.loop-place.invariant.goes c.tell_all.ensures.goes;
+      faults = c.in-Ok.ensures.faults ∙ c.loop-place.invariant.faults;
       reads = λ dev. c.tell_all.ensures.reads dev ∙ c.loop-place.invariant.reads dev;
       same = λ honest. devices_in_sequence old mid new (c.loop-place.invariant.same honest) (c.tell_all.ensures.same (stays_honest old mid c.loop-place.invariant.goes honest));
       told = λ honest.
-          let told = c.in_ok-tell_all.ensures.told (stays_honest old mid c.loop-place.invariant.goes honest) in
+          let told = c.in-Ok.ensures.told (stays_honest old mid c.loop-place.invariant.goes honest) in
           told ∙ (λ i. c.loop-place.invariant.told honest i ++ piece i) ∙ append_assoc old.told (first_of place lines) (get_or lines place [])
           ∙ ap (λ (l : List ℕ). old.told ++ l) (sym more.2 ∙ ap (λ (n : ℕ). first_of n lines) (sym (add-one place)));
       moments = λ honest.
@@ -41,8 +43,8 @@ loop-place-preserved g c =
           (subst (λ (t : List ℕ). EachMoment mid new (TellsPart t mid)) piece (c.tell_all.ensures.any_moment (stays_honest old mid c.loop-place.invariant.goes honest)));
     }
 
-pub returns-in_err-tell_all-clause-any_moment : goal.returns-in_err-tell_all-clause-any_moment
-returns-in_err-tell_all-clause-any_moment g c honest =
+pub returns-in-Err-clause-any_moment : goal.returns-in-Err-clause-any_moment
+returns-in-Err-clause-any_moment g c honest =
     let old = g.S.Site.state c.args.site.now in
     let mid = g.S.Site.state c.loop-place.site in
     let new = g.S.Site.state c.tell_all.new.site in
@@ -54,5 +56,5 @@ returns-in_err-tell_all-clause-any_moment g c honest =
     piece_told (first_of place lines) (get_or lines place []) more.0 (reply_text c.args.reply.now) old mid new more.1 (c.loop-place.invariant.same honest) (c.loop-place.invariant.told honest) (c.loop-place.invariant.moments honest)
     (subst (λ (t : List ℕ). EachMoment mid new (TellsPart t mid)) piece (c.tell_all.ensures.any_moment (stays_honest old mid c.loop-place.invariant.goes honest)))
 
-pub returns-in_err-tell_all-clause-reads : goal.returns-in_err-tell_all-clause-reads
-returns-in_err-tell_all-clause-reads g c dev = c.tell_all.ensures.reads dev ∙ c.loop-place.invariant.reads dev
+pub returns-in-Err-clause-reads : goal.returns-in-Err-clause-reads
+returns-in-Err-clause-reads g c dev = c.tell_all.ensures.reads dev ∙ c.loop-place.invariant.reads dev

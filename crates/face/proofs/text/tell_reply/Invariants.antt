@@ -4,6 +4,7 @@ use Rattle.site.specs.Moments.{EachMoment}
 use Rattle.site.specs.Telling.{TellsPart, SameDevices}
 use Rattle.shell_text.specs.Texts.{reply_text, reply_lines}
 use Rattle.face.proofs.Replies.{first_of}
+use Rattle.face.specs.Causes.{SameFaults}
 use Rattle.face.proofs.text.tell_reply.Given as goal
 
 abbrev pub invariant-loop-place : goal.invariant-loop-place
@@ -12,6 +13,7 @@ invariant-loop-place g l =
     let now = g.S.Site.state l.site in
     record {
       goes : Goes old now;
+      faults : SameFaults old now;
       reads : SameReads old now;
       same : IsTrue old.honest → SameDevices old now;
       told : IsTrue old.honest → now.told ≡ old.told ++ first_of l.place (reply_lines l.reply);

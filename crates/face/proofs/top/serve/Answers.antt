@@ -8,7 +8,7 @@ pub returns-in-Ok-clause-headline : goal.returns-in-Ok-clause-headline
 returns-in-Ok-clause-headline g c geometry opening good =
     let old = g.S.Site.state c.args.site.now in
     let works = c.in-Ok.ensures.works in
-    finished c.args.pool geometry opening works.0 old (g.S.Site.state c.work.new.site) _ (works.1 _ (begins geometry opening works.0 old good) refl)
+    finished c.args.pool geometry opening works.0 old c.serial_order.ensures (g.S.Site.state c.work.new.site) _ good (works.1 _ (begins geometry opening works.0 old good) refl)
 
 pub returns-in-Ok-clause-causes : goal.returns-in-Ok-clause-causes
 returns-in-Ok-clause-causes g c = no_causes _ _
@@ -21,7 +21,7 @@ returns-in-Err-clause-headline g c geometry opening good =
     let honest = stays_honest old mid c.work.ensures.goes good.honest in
     let same = c.tell_halt.ensures.devices honest in
     let works = c.in-Err.ensures.works in
-    halted c.args.pool geometry opening works.0 old mid new c.in-Err.halt good (works.1 _ (begins geometry opening works.0 old good) refl)
+    halted c.args.pool geometry opening works.0 old c.serial_order.ensures mid new c.in-Err.halt good (works.1 _ (begins geometry opening works.0 old good) refl)
     (c.tell_halt.ensures.any_moment honest) same c.tell_halt.ensures.reads
     (cause_then c.in-Err.halt old mid new c.in-Err.ensures.cause c.tell_halt.ensures.goes (λ h. same)) c.status.result c.status.ensures
 

@@ -27,6 +27,7 @@ answer-requires g c = record { going = engine_goes_on c.loop-line.engine (g.S.Si
 pub loop-line-init : goal.loop-line-init
 loop-line-init g c = record {
   goes = c.open.ensures.goes;
+  faults = c.in-Ok.ensures.faults;
   source = c.new-source.ensures.source;
   engine = c.in-Ok.ensures.goes_on;
   cut = λ honest. no_cut _ c.new-source.result _ c.new-source.ensures.empty c.new-source.ensures.taken c.new-source.ensures.going (c.open.ensures.left honest);
@@ -120,6 +121,7 @@ loop-line-preserved g c =
     let i = c.loop-line._line in
     record {
       goes = goes_in_sequence _ _ _ c.loop-line.invariant.goes (goes_in_sequence _ _ _ c.next.ensures.goes c.answer.ensures.goes);
+      faults = c.in_default.ensures.faults ∙ (c.in-Ok-next.ensures.faults ∙ c.loop-line.invariant.faults);
       source = c.next.ensures.source;
       engine = c.in_default.ensures.going;
       cut = λ honest-entry.

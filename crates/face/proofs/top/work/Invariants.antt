@@ -11,6 +11,7 @@ use Rattle.log_records.specs.declared.log_record.LogRecord.{LogRecord}
 use Rattle.engine.specs.Going.{MayGoOn, sizes_of}
 use Rattle.face.specs.Lines.{IsSource}
 use Rattle.face.proofs.Cuts.{Cut}
+use Rattle.face.specs.Causes.{SameFaults}
 use Rattle.face.proofs.top.work.Given as goal
 
 abbrev pub invariant-loop-line : goal.invariant-loop-line
@@ -19,6 +20,7 @@ invariant-loop-line g l =
     let now = g.S.Site.state l.site in
     record {
       goes : Goes old now;
+      faults : SameFaults old now;
       source : IsSource l.source;
       engine : MayGoOn l.engine now;
       cut : IsTrue old.honest → Cut old.left l.source now l._line;

@@ -40,6 +40,7 @@ loop-octet-preserved g c =
     let new = g.S.Site.state c.next_octet.new.site in
     record {
       goes = goes_in_sequence _ _ _ c.loop-octet.invariant.goes c.next_octet.ensures.goes;
+      faults = c.in-Ok.ensures.faults ∙ c.loop-octet.invariant.faults;
       source = c.next_octet.ensures.source;
       len = omega (arith, c.keep-len.ensures.count);
       long = c.keep-len.array_long;

@@ -3,6 +3,7 @@ use Rattle.std.specs.Prelude.{false}
 use Rattle.site.specs.Calls.{Goes}
 use Rattle.face.specs.Lines.{to_hear, total, IsSource, HasEnded, HearsOnly}
 use Rattle.face.proofs.Heard.{HeardSoFar}
+use Rattle.face.specs.Causes.{SameFaults}
 use Rattle.face.proofs.source.Source.next.Given as goal
 
 abbrev pub invariant-loop-octet : goal.invariant-loop-octet
@@ -11,6 +12,7 @@ invariant-loop-octet g l =
     let now = g.S.Site.state l.site in
     record {
       goes : Goes old now;
+      faults : SameFaults old now;
       source : IsSource l.self;
       len : l.len ≤ 501;
       long : length l.line ≡ 500;

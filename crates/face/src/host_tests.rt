@@ -1,0 +1,256 @@
+// The program around the top call, over files of the current folder and standard streams that are kept.
+use crate::host::{run, stopped};
+use site::Stop;
+use std::alloc::{Alloc, Allocator, Global};
+use std::cell::{Cell, RefCell};
+use std::env::FillError;
+use std::fmt::Display;
+use std::fs;
+use std::fs::{File, Files, Metadata, OpenOptions};
+use std::io::{self, BufRead, ErrorKind, Input, Lines, Print};
+use std::rt::{Clock, Env};
+use std::test::Fail;
+use std::time::Duration;
+
+// A runtime with these words and this input. It counts the files of a database that are opened and keeps what is told, of
+// which it takes a few octets at once; before each it isn't ready once.
+#[derive(Drop)]
+struct Caller<'a> {
+    rt: &'a HostRuntime,
+    words: &'a [&'a [u8]],
+    input: &'static [u8],
+    opened: Cell<u64>,
+    told: RefCell<Vec<u8>>,
+    ready: Cell<bool>,
+}
+
+fn make_caller<'a>(rt: &'a HostRuntime, words: &'a [&'a [u8]], input: &'static [u8]) -> Caller<'a> {
+    Caller {
+        rt,
+        words,
+        input,
+        opened: Cell::new(0),
+        told: RefCell::new(Vec::new(rt.alloc())),
+        ready: Cell::new(false),
+    }
+}
+
+impl<'a> Caller<'a> {
+    fn told(&self) -> Vec<u8> {
+        match self.told.try_replace(Vec::new(self.rt.alloc())) {
+            Ok(told) => told,
+            Err(_) => Vec::new(self.rt.alloc()),
+        }
+    }
+}
+
+impl<'a> Alloc for Caller<'a> {
+    type A = Global;
+
+    fn alloc(&self) -> Global {
+        self.rt.alloc()
+    }
+}
+
+impl<'a> Env for Caller<'a> {
+    fn arg(&self, i: usize, buf: &mut [u8]) -> Result<usize, FillError> {
+        match self.words.get(i) {
+            Some(word) if word.len() > buf.len() => Err(FillError::TooLong),
+            Some(word) => {
+                buf[..word.len()].copy_from_slice(word);
+                Ok(word.len())
+            }
+            None => Err(FillError::NotPresent),
+        }
+    }
+
+    fn var(&self, _name: &str, _buf: &mut [u8]) -> Result<usize, FillError> {
+        Err(FillError::NotPresent)
+    }
+
+    fn var_at(&self, _i: usize, _buf: &mut [u8]) -> Result<usize, FillError> {
+        Err(FillError::NotPresent)
+    }
+}
+
+impl<'a> Files for Caller<'a> {
+    type File = File;
+
+    type Dir = File;
+
+    fn open_file(&self, how: &OpenOptions, path: &str) -> io::Result<File> {
+        if path.starts_with("face.") {
+            self.opened.set(self.opened.get().saturating_add(1));
+        }
+        self.rt.open_file(how, path)
+    }
+
+    fn open_dir(&self, _path: &str) -> io::Result<File> {
+        Err(io::Error::from(ErrorKind::Unsupported))
+    }
+
+    fn metadata(&self, path: &str) -> io::Result<Metadata> {
+        self.rt.metadata(path)
+    }
+
+    fn symlink_metadata(&self, path: &str) -> io::Result<Metadata> {
+        self.rt.symlink_metadata(path)
+    }
+
+    fn copy(&self, from: &str, to: &str) -> io::Result<u64> {
+        self.rt.copy(from, to)
+    }
+
+    fn rename(&self, from: &str, to: &str) -> io::Result<()> {
+        self.rt.rename(from, to)
+    }
+
+    fn remove_file(&self, path: &str) -> io::Result<()> {
+        self.rt.remove_file(path)
+    }
+
+    fn create_dir(&self, path: &str) -> io::Result<()> {
+        self.rt.create_dir(path)
+    }
+
+    fn remove_dir(&self, path: &str) -> io::Result<()> {
+        self.rt.remove_dir(path)
+    }
+
+    fn remove_dir_all<B: Allocator>(&self, alloc: B, path: &str) -> io::Result<()> {
+        self.rt.remove_dir_all(alloc, path)
+    }
+}
+
+impl<'a> Input for Caller<'a> {
+    type Reader = &'static [u8];
+
+    fn read_line<A: Allocator + Clone>(&self, _buf: &mut String<A>) -> io::Result<usize> {
+        Err(io::Error::from(ErrorKind::Unsupported))
+    }
+
+    fn lines<A: Allocator>(&self, alloc: A) -> Lines<&'static [u8], A> {
+        self.input.lines(alloc)
+    }
+
+    fn reader(&self) -> &'static [u8] {
+        self.input
+    }
+}
+
+impl<'a> Clock for Caller<'a> {
+    fn monotonic(&self) -> io::Result<Duration> {
+        Ok(Duration::from_millis(0))
+    }
+
+    fn since_1970(&self) -> io::Result<Duration> {
+        Ok(Duration::from_millis(0))
+    }
+
+    fn sleep(&self, _duration: Duration) {
+        self.ready.set(true);
+    }
+}
+
+impl<'a> Print for Caller<'a> {
+    fn print<D: Display + Drop>(&self, _value: D) -> io::Result<()> {
+        Err(io::Error::from(ErrorKind::Unsupported))
+    }
+
+    fn println<D: Display + Drop>(&self, _value: D) -> io::Result<()> {
+        Err(io::Error::from(ErrorKind::Unsupported))
+    }
+
+    fn write_all(&self, _bytes: &[u8]) -> io::Result<()> {
+        Err(io::Error::from(ErrorKind::Unsupported))
+    }
+
+    fn write_some(&self, bytes: &[u8]) -> io::Result<usize> {
+        if !self.ready.replace(false) {
+            return Err(io::Error::from(ErrorKind::WouldBlock));
+        }
+        let count = bytes.len().min(3);
+        if let Ok(mut told) = self.told.try_borrow_mut() {
+            told.extend_from_slice(&bytes[..count])?;
+        }
+        Ok(count)
+    }
+}
+
+// Each list of words has its status, its text, and so many files that it opens: the three of a database and, for a new one,
+// the drafts of those that are missing.
+#[test]
+fn words_open_their_files(rt: HostRuntime) -> Result<(), Fail> {
+    let rows: [(&[&[u8]], &'static [u8], u8, &[u8], u64); 12] = [
+        (&[b"face", b"run", b"1"], b"", 9, b"fault foreign\n", 3),
+        (
+            &[b"face", b"new", b"16", b"8", b"64"],
+            b"",
+            0,
+            b"ready 16 8 64\n",
+            6,
+        ),
+        (
+            &[b"face", b"new", b"16", b"8", b"64"],
+            b"",
+            0,
+            b"ready 16 8 64\n",
+            3,
+        ),
+        (&[b"face"], b"", 2, b"fault words\n", 0),
+        (&[], b"", 2, b"fault words\n", 0),
+        (&[b"face", b"run", b"0"], b"get 5\n", 2, b"fault words\n", 0),
+        (&[b"face", b"run", b"\xff"], b"", 2, b"fault words\n", 0),
+        (
+            &[b"face", b"new", b"16", b"8", b"15"],
+            b"",
+            2,
+            b"fault words\n",
+            0,
+        ),
+        (&[b"face", b"--help"], b"", 2, b"fault words\n", 0),
+        (
+            &[b"face", b"run", b"1"],
+            b"set 5 0a\nget 5\n",
+            0,
+            b"open 0\ncommitted 1\nvalue 0a\n",
+            3,
+        ),
+        (
+            &[b"face", b"load", b"2", b"7", b"1"],
+            b"",
+            0,
+            b"open 1\nload 2 committed 2 checkpoints 0 found 2\n",
+            3,
+        ),
+        (
+            &[b"face", b"new", b"16", b"8", b"65"],
+            b"",
+            9,
+            b"fault foreign\n",
+            3,
+        ),
+    ];
+    for path in ["face.log", "face.flash", "face.disk"] {
+        let _ = fs::remove_file(&rt, path);
+    }
+    for (words, input, status, told, opened) in rows {
+        let caller = make_caller(&rt, words, input);
+        assert_eq!(rt; run(&caller), status);
+        assert!(rt; caller.told().as_slice() == told);
+        assert_eq!(rt; caller.opened.get(), opened);
+    }
+    for path in ["face.log", "face.flash", "face.disk"] {
+        let _ = fs::remove_file(&rt, path);
+    }
+    Ok(())
+}
+
+// Where memory is wanted before there is a site, the line is told whole and the status is 4.
+#[test]
+fn a_stop_has_its_line_and_its_status(rt: HostRuntime) -> Result<(), Fail> {
+    let caller = make_caller(&rt, &[], b"");
+    assert_eq!(rt; stopped(&caller, Stop::Memory), 4);
+    assert!(rt; caller.told().as_slice() == b"fault memory\n".as_slice());
+    Ok(())
+}
