@@ -8,7 +8,9 @@ is the number of sets, and of gets, of each size (2,000 where it isn't given). F
 built here. It prints one table of all figures: commits, gets and pairs of a load's set and get per second at several sizes, of
 which one is changed at a time; the rate of the commits to that of the bare calls; the time of a restart; and the instructions of
 a set with its get, where valgrind is installed. Two more tables have the time of a restart by the blocks of the live log and by the
-groups of the queue on flash, each the median of five."""
+groups of the queue on flash, each the median of five. The last two, where valgrind is installed, have the instructions of one
+command by the pool, all pages of which are in memory, and by the groups of a queue from which each page is read; beside the first
+stand the sets per second that each touch another page, and the time of the first checkpoint then."""
 import os
 import random
 import re
@@ -32,7 +34,15 @@ SIZES = [
     (1024, 1024, 64, 64),
     (1024, 1024, 4096, 1),
     (1024, 1024, 4096, 4096),
+    (64, 1024, 4096, 64),
+    (512, 1024, 4096, 512),
+    (4096, 1024, 4096, 4096),
+    (65536, 1024, 4096, 4096),
 ]
+
+# as many pages as the pool holds; and the groups of a queue that one page in memory is read from, each with one page
+POOLS = [64, 512, 4096]
+QUEUES = [8, 1024, 16384]
 
 # how many sets stand in the log behind the last checkpoint, each a block of its own, and how many groups stand in the queue
 LIVE_SETS = [0, 1000, 4000, 16000]
@@ -114,6 +124,45 @@ def instructions(face, size):
     return (totals[1] - totals[0]) // 200
 
 
+def steps_of_one(face, pool, fill, line, pages):
+    """Instructions of one command: what a run takes more with COUNT of them, on these many pages, behind the lines that fill the
+    pool."""
+    numbers = random.Random(SEED)
+    totals = []
+    for count in (0, COUNT):
+        lines = fill + "".join(line.format(32 * numbers.randrange(pages)) + "\n" for _ in range(count))
+        words = ["valgrind", "--tool=callgrind", "--callgrind-out-file=/dev/null", face, "run", str(pool)]
+        done = subprocess.run(words, input=lines, capture_output=True, text=True)
+        totals.append(int(re.search(r"Collected : (\d+)", done.stderr)[1]))
+    return (totals[1] - totals[0]) // COUNT
+
+
+def by_pool(face, pool):
+    """Of a pool that holds all pages: instructions of a get and of a set, sets per second that each touch another page, and the
+    seconds of the checkpoint that finds all of them changed."""
+    size = (pool, 1024, 16384, pool)
+    fill = "".join(f"get {32 * page}\n" for page in range(pool))
+    each = "".join(f"set {32 * page} 0102030405060708\n" for page in range(pool))
+    steps = []
+    for line in ("get {}", "set {} 0102030405060708"):
+        made(face, size)
+        steps.append(steps_of_one(face, pool, fill, line, pool))
+    made(face, size)
+    filled, _ = timed([face, "run", str(pool)], fill)
+    made(face, size)
+    changed, _ = timed([face, "run", str(pool)], fill + each)
+    made(face, size)
+    saved, _ = timed([face, "run", str(pool)], fill + each + "checkpoint\n")
+    return steps[0], steps[1], pool / (changed - filled), saved - changed
+
+
+def get_by_groups(face, groups):
+    """Instructions of a get that reads its page from a queue of so many groups but one, each with one page, with one in memory."""
+    made(face, (16384, groups, 64, 1))
+    timed([face, "run", "1"], "".join(f"get {32 * page}\n" for page in range(groups)))
+    return steps_of_one(face, 1, "", "get {}", groups - 1)
+
+
 def restart_by_log(face, sets):
     """A restart over so many sets on one page that no checkpoint has let go. A restart lets them go, so each has its own copy."""
     made(face, (16, 8, 131072, 16))
@@ -159,6 +208,15 @@ def main():
         print("\n| groups in the queue | restart |\n|---|---|")
         for groups in LIVE_GROUPS:
             print(f"| {groups} | {restart_by_groups(face, groups):.3f} s |", flush=True)
+        if not shutil.which("valgrind"):
+            return
+        print("\n| pages and pool | instructions of a get | of a set | sets/s, each of another page | first checkpoint |\n|---|---|---|---|---|")
+        for pool in POOLS:
+            get, put, rate, saved = by_pool(face, pool)
+            print(f"| {pool} | {get} | {put} | {rate:.0f} | {saved:.3f} s |", flush=True)
+        print("\n| groups in the queue | instructions of a get from it |\n|---|---|")
+        for groups in QUEUES:
+            print(f"| {groups - 1} | {get_by_groups(face, groups)} |", flush=True)
     finally:
         os.chdir("/")
         shutil.rmtree(folder)

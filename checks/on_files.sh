@@ -77,6 +77,66 @@ for words in '' help --help --version 'run 0' 'run 01' 'new 16 8' 'run -- 1'; do
 done
 told 'nothing was lost by these' 0 'open 2/value ff' 'get 5/' run 1
 
+# --- two programs on one folder
+mkdir "$folder/two"
+cd "$folder/two" || exit 1
+"$face" new 16 8 64 >/dev/null </dev/null
+mkfifo first_input
+"$face" run 1 <first_input >first_replies &
+first=$!
+exec 3>first_input
+printf 'set 5 0a\n' >&3
+for _ in $(seq 100); do
+    grep -q committed first_replies && break
+    sleep 0.05
+done
+told 'a second run' 9 'fault foreign' 'set 5 0b/' run 1
+told 'a second load' 9 'fault foreign' '' load 10 7 1
+told 'new beside a run' 9 'fault foreign' '' new 16 8 64
+printf 'get 5\nset 6 0c\n' >&3
+exec 3>&-
+wait "$first"
+[ $? -eq 0 ] && [ "$(tr '\n' / <first_replies)" = 'open 0/committed 1/value 0a/committed 2/' ]
+verdict 'the first goes on' $?
+told 'a run after the first' 0 'open 2/value 0a/value 0c' 'get 5/get 6/' run 1
+"$face" run 1 <first_input >first_replies &
+first=$!
+exec 3>first_input
+for _ in $(seq 100); do
+    grep -q open first_replies && break
+    sleep 0.05
+done
+kill -9 "$first"
+wait "$first" 2>/dev/null
+exec 3>&-
+told 'one that is killed leaves no lock' 0 'open 2/value 0a' 'get 5/' run 1
+mkdir "$folder/copy"
+cp face.* "$folder/copy"
+cd "$folder/copy" || exit 1
+told 'a copy, made with no run at work' 0 'open 2/value 0a' 'get 5/' run 1
+
+# --- a new database that is refused makes nothing; where the files that are there are blank the missing ones are made
+mkdir "$folder/refused"
+cd "$folder/refused" || exit 1
+"$face" new 4 8 16 >/dev/null </dev/null
+awk 'BEGIN { for (i = 0; i < 128; i++) printf "set %d aa\n", i }' | "$face" run 1 >/dev/null
+mv face.disk kept
+told 'a run without the disk' 9 'fault foreign' '' run 1
+place=$(($(cmp face.log /dev/zero | sed -E 's/.* (byte|char) ([0-9]+),.*/\2/') - 1))
+told 'new without the disk' 10 "fault notblank log $place" '' new 4 8 16
+told 'new of other sizes without the disk' 9 'fault foreign' '' new 4 8 17
+[ "$(ls -A | tr '\n' ' ')" = 'face.flash face.log kept ' ]
+verdict 'it has made nothing' $?
+told 'a run without the disk once more' 9 'fault foreign' '' run 1
+mv kept face.disk
+told 'and with it' 0 'open 128/value aa/value aa' 'get 0/get 127/' run 1
+for file in face.log face.flash face.disk; do
+    fresh
+    rm "$file"
+    told "new without $file" 0 'ready 16 8 64' '' new 16 8 64
+    told "a run after it" 0 'open 0/none' 'get 5/' run 1
+done
+
 # --- the sizes of a larger database
 mkdir "$folder/large"
 cd "$folder/large" || exit 1
@@ -195,8 +255,8 @@ mkdir "$folder/full"
 if [ "$(id -u)" -eq 0 ] && mount -t tmpfs -o size=256k none "$folder/full" 2>/dev/null; then
     cd "$folder/full" || exit 1
     told 'new on a full disk' 9 'fault foreign' '' new 16 8 64
-    [ ! -e face.flash ]
-    verdict 'a file that could not be filled is gone' $?
+    [ -z "$(ls -A)" ]
+    verdict 'where a file could not be filled nothing is left' $?
     cd "$folder" || exit 1
     umount "$folder/full"
 else
@@ -244,9 +304,50 @@ if has strace && strace -o /dev/null true 2>/dev/null; then
     prefix=(strace -f -o /dev/null -e inject=write:error=ENOSPC:when=1)
     told 'no room for a new log' 9 'fault foreign' '' new 16 8 64
     prefix=()
-    [ ! -e face.log ]
+    [ -z "$(ls -A)" ]
     verdict 'the log that had no room is gone' $?
     told 'new with room again' 0 'ready 16 8 64' '' new 16 8 64
+
+    # the folder is synced behind each file, and before new tells that it is ready
+    for time in first second; do
+        strace -f -y -o trace -e trace=openat,rename,fsync,write "$face" new 16 8 64 >/dev/null </dev/null
+        synced=$(grep -n "fsync(.*<$PWD>)" trace | tail -n 1 | cut -d: -f 1)
+        named=$(grep -n 'rename(' trace | tail -n 1 | cut -d: -f 1)
+        ready=$(grep -n 'ready 16 8 64' trace | cut -d: -f 1)
+        [ -n "$synced" ] && [ "${named:-0}" -lt "$synced" ] && [ "$synced" -lt "$ready" ]
+        verdict "the $time new syncs the folder" $?
+        rm -f face.flash
+    done
+    for error in EINVAL EOPNOTSUPP; do
+        rm -f face.* trace
+        prefix=(strace -f -o /dev/null -P "$PWD" -e "inject=fsync:error=$error")
+        told "a folder whose sync is refused by $error" 0 'ready 16 8 64' '' new 16 8 64
+    done
+    rm -f face.* trace
+    prefix=(strace -f -o /dev/null -P "$PWD" -e inject=fsync:error=EIO)
+    told 'a folder whose sync fails' 9 'fault foreign' '' new 16 8 64
+    prefix=()
+    [ -z "$(ls -A)" ]
+    verdict 'what was made in it is gone' $?
+
+    # locks that aren't there, or are held
+    prefix=(strace -f -o /dev/null -e inject=flock:error=ENOLCK)
+    told 'new without locks' 0 'ready 16 8 64' '' new 16 8 64
+    told 'a run without locks' 0 'open 0/committed 1' 'set 5 0a0b/' run 1
+    prefix=(strace -f -o /dev/null -e inject=flock:error=EINTR:when=1)
+    told 'a lock that is interrupted' 0 'open 1/value 0a0b' 'get 5/' run 1
+    prefix=()
+
+    # wrong words open no file
+    opened=''
+    for words in '' help --help 'run 0' 'run 01' 'load 1 1' 'new 16 8' 'new 16 8 15' 'run -- 1'; do
+        # shellcheck disable=SC2086
+        strace -f -o trace -e trace=openat "$face" $words >/dev/null </dev/null
+        opened+=$(grep -c '"face\.' trace | grep -v '^0$')
+    done
+    [ -z "$opened" ]
+    verdict 'wrong words open no file' $?
+    rm -f trace
 
     # the calls of one commit
     fresh
@@ -287,6 +388,75 @@ verdict 'an output that is closed ends the run' $?
 open=$(printf 'get 5\n' | "$face" run 1 | tr '\n' /)
 [ "$open" = 'open 2/value 0c/' ]
 verdict "what was set before the lost reply holds: $open" $?
+
+# --- standard streams that don't block
+if has python3; then
+    # unblocked DESCRIPTOR WORDS..: the program with this standard stream not blocking
+    unblocked() {
+        python3 -c 'import os, sys; os.set_blocking(int(sys.argv[1]), False); os.execv(sys.argv[2], sys.argv[2:])' "$1" "$face" "${@:2}"
+    }
+    fresh
+    out=$({
+        sleep 0.2
+        printf 'set 5 0c\nge'
+        sleep 0.2
+        printf 't 5\n'
+        sleep 0.2
+    } | unblocked 0 run 1)
+    [ $? -eq 0 ] && [ "$out" = "$(printf 'open 0\ncommitted 1\nvalue 0c')" ]
+    verdict 'an input that is not ready is waited for' $?
+    awk 'BEGIN { for (i = 1; i <= 20000; i++) print "get 5"; print "set 5 0d" }' >gets
+    { unblocked 1 run 1 <gets; echo $? >status; } | { sleep 1; cat; } >replies
+    [ "$(cat status)" -eq 0 ] && [ "$(wc -l <replies)" -eq 20002 ] && [ "$(tail -n 1 replies)" = 'committed 2' ]
+    verdict 'an output that is full is waited for' $?
+else
+    skip 'streams that do not block: need python3'
+fi
+
+# --- want of memory: the first allocations are those of the words, and each has its line and its status
+if has cc && cc -shared -fPIC -o "$folder/lack.so" "$root/checks/lack_memory.c" -ldl 2>/dev/null; then
+    fresh
+    for number in 1 2 3 4 5 6 7 8 9 10 15 20 30; do
+        prefix=(env "LD_PRELOAD=$folder/lack.so" "LACK_MEMORY=$number")
+        told "want of memory at allocation $number of a run" 4 'fault memory' 'get 5/' run 1
+    done
+    rm face.*
+    for number in 1 2 3 4 5 6; do
+        prefix=(env "LD_PRELOAD=$folder/lack.so" "LACK_MEMORY=$number")
+        told "want of memory at allocation $number of a new" 4 'fault memory' '' new 16 8 64
+    done
+    prefix=()
+    [ -z "$(ls -A)" ]
+    verdict 'no file was made without memory for the words' $?
+else
+    skip 'want of memory: needs cc'
+fi
+
+# --- a limit on the size of files: the signal ends the program, and what was committed stays
+fresh
+printf 'set 5 0a0b\n' | "$face" run 1 >/dev/null
+(
+    ulimit -f 1
+    ulimit -c 0
+    printf 'set 5 ff\n' | "$face" run 1
+) >replies 2>/dev/null
+[ $? -eq 153 ] && [ ! -s replies ]
+verdict 'a limit on the size of files ends the program by its signal' $?
+(
+    trap '' XFSZ
+    ulimit -f 1
+    printf 'set 5 ff\n' | "$face" run 1
+) >replies 2>/dev/null
+[ $? -eq 3 ] && [ "$(cat replies)" = 'fault flash' ]
+verdict 'where the signal is ignored it is status 3' $?
+told 'nothing is lost by that' 0 'open 1/value 0a0b' 'get 5/' run 1
+
+# --- kills of new
+if FACE=$face "$root/checks/kills_of_new.sh"; then
+    verdict 'new again after each kill' 0
+else
+    verdict 'new again after each kill' 1
+fi
 
 echo "$passed passed, $failed failed, $skipped skipped"
 [ "$failed" -eq 0 ]
