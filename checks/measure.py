@@ -1,9 +1,12 @@
 #!/usr/bin/env python3
 """How long one durable set takes, and how long the bare calls that it makes take, in turns on the same disk, so that both
-meet the same load: measure.py [COUNT]. Each is handed one line and is timed until its reply. The log has 400 blocks, so that
-it is written over again and again; the means have the sets that make a checkpoint first, the medians hardly see them. The
-current folder's disk is measured. FACE names another program than the one that is built here."""
+meet the same load: measure.py [COUNT [POOL]]. Each is handed one line and is timed until its reply. The log has 400 blocks, so
+that it is written over again and again; the means have the sets that make a checkpoint first, the medians hardly see them. With
+POOL the database has as many pages, all of them are in the pool before, and the sets choose among them at random; without it
+there are 1,024 pages, a pool of 64, and the sets go by one record after the other. The current folder's disk is measured. FACE
+names another program than the one that is built here."""
 import os
+import random
 import shutil
 import statistics
 import subprocess
@@ -13,7 +16,9 @@ import time
 
 ROOT = os.path.dirname(os.path.dirname(os.path.realpath(__file__)))
 COUNT = int(sys.argv[1]) if len(sys.argv) > 1 else 3000
+POOL = int(sys.argv[2]) if len(sys.argv) > 2 else None
 BLOCKS = 400
+SEED = 7
 
 
 def start(words):
@@ -30,6 +35,13 @@ def once(child, line):
     return time.perf_counter() - begun
 
 
+def fill(child, pages):
+    """Brings each page into the pool."""
+    for page in range(pages):
+        child.stdin.write(b"get %d\n" % (32 * page))
+        child.stdout.readline()
+
+
 def main():
     face = os.environ.get("FACE")
     if not face:
@@ -40,12 +52,17 @@ def main():
     try:
         os.chdir(folder)
         subprocess.run(["cc", "-O2", "-o", "raw_calls", f"{ROOT}/checks/raw_calls.c"], check=True)
-        subprocess.run([face, "new", "1024", "64", str(BLOCKS)], check=True, stdout=subprocess.DEVNULL)
-        program = start([face, "run", "64"])
+        pages, pool = (POOL, POOL) if POOL else (1024, 64)
+        numbers = random.Random(SEED)
+        subprocess.run([face, "new", str(pages), "64", str(BLOCKS)], check=True, stdout=subprocess.DEVNULL)
+        program = start([face, "run", str(pool)])
+        if POOL:
+            fill(program, pages)
         bare = start(["./raw_calls", str(COUNT + 2)])
         times = {"a durable set": [], "the bare calls": []}
         for i in range(COUNT):
-            line = b"set %d 0102030405060708\n" % (i % 32768)
+            record = numbers.randrange(32 * pages) if POOL else i % 32768
+            line = b"set %d 0102030405060708\n" % record
             times["a durable set"].append(once(program, line))
             times["the bare calls"].append(once(bare, line))
         medians = []
