@@ -2,4 +2,5 @@ mod Past
 mod Scatter
 mod Syncs
 mod Tells
+pub mod Working
 mod Writes

@@ -13,3 +13,4 @@ pub mod Named
 pub mod Output
 pub mod State
 pub mod Telling
+pub mod Work

@@ -1,0 +1,18 @@
+-- What work of several calls says, however it ends.
+use Rattle.std.specs.Prelude.{◌≡◌, Result, IsTrue, OnOk, IsErrOf}
+use Rattle.site.specs.declared.outside.Dev.{Dev}
+use Rattle.site.specs.declared.outside.Stop.{Stop}
+use Rattle.site.specs.declared.outside.Stop.TheVariants.{Device}
+use Rattle.site.specs.State.{State, IsQuiet}
+use Rattle.site.specs.Calls.{Goes, FaultRose}
+use Rattle.site.specs.Faults.{WorkFaults}
+
+-- Of every site: lengths and honesty stay, an honest site hears nothing, a quiet one is quiet after Ok, and a device is said to fail only
+-- where its faults rose. A call of the site that fails is the last one: Ok leaves all counts of faults as they were, and an error raises
+-- the one count that it names, by one.
+pub record Calls {T : Type 0} (result : Result T Stop) (before now : State) : Type 0 where
+  pub goes : Goes before now
+  pub left : IsTrue before.honest → now.left ≡ before.left
+  pub stays_quiet : IsTrue before.honest → IsQuiet before → OnOk result (IsQuiet now)
+  pub device : (d : Dev) → IsErrOf result (Device d) → FaultRose d before now
+  pub faults : WorkFaults result before now
