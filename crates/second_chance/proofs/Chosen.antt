@@ -1,80 +1,108 @@
 -- What the loops of a plan have chosen so far.
-use Rattle.std.proofs.Common.{◌≡◌, ℕ, ◌+◌, ◌<◌, ◌≤◌, Bool, true, false, not, ◌&&◌, cond, List, [], ◌∷◌, ◌++◌, length, get_or, take, drop, map, filter, take-append-drop, append-nil, arith, refl, sym, ap, ◌∙◌}
-use Rattle.std.specs.List.{enumerate_from}
+use Rattle.std.proofs.Common.{◌≡◌, ℕ, ◌+◌, ◌<◌, ◌≤◌, ◌==◌, Bool, true, false, not, ◌&&◌, ◌||◌, cond, List, [], ◌∷◌, ◌++◌, length, get_or, take, drop, map, filter, take-append-drop, append-nil, arith, refl, sym, ap, ◌∙◌}
+use Rattle.std.specs.List.{enumerate_from, list_any}
 use Rattle.std.proofs.lemmas.List.{map-append, take_all, take-append-le, length-map}
-use Rattle.std.proofs.lemmas.List.Elements.{filter_more, filter-append}
+use Rattle.std.proofs.lemmas.List.Elements.{filter_more, filter-append, filter_agree}
 use Rattle.std.proofs.lemmas.List.FromFn.{length-enumerate_from, get_or-enumerate_from}
 use Rattle.byte_fields.specs.declared.frame_head.Mark.{Mark}
-use Rattle.second_chance.specs.declared.plan.PoolMark.{PoolMark}
-use Rattle.second_chance.specs.Plans.{Placed, is_among, staged_of, pulled_at_flush}
+use Rattle.second_chance.specs.Plans.{Placed, is_among, chances_of, staged_of}
+use Rattle.second_chance.specs.Laws.{names}
 
--- the places of the first frames that are valid and dirty
-abbrev pub staged_before : List Mark → ℕ → List ℕ
-staged_before front i = map (λ f. f.0) (filter (λ f. (f.1.valid && f.1.dirty) && not (is_among [] f.0)) (take i (enumerate_from 0 front)))
+-- the numbers of those among the first i that pass the test
+abbrev pub chosen : {X : Type 0} → (X → Bool) → (X → ℕ) → List X → ℕ → List ℕ
+chosen test number xs i = map number (filter test (take i xs))
 
--- the numbers of the first pages that are changed
-abbrev pub changed_before : List PoolMark → ℕ → List ℕ
-changed_before pool i = map (λ p. p.page) (filter (λ p. p.changed) (take i pool))
+one : {X : Type 0} (number : X → ℕ) (b : Bool) (x : X) → map number (cond b (x ∷ []) []) ≡ cond b (number x ∷ []) []
+one number true x = refl
+one number false x = refl
 
-chosen : (b : Bool) (place : ℕ) (f : Placed) → f.0 ≡ place
-    → map {A = Placed} (λ g. g.0) (cond (b && not (is_among [] f.0)) (f ∷ []) []) ≡ cond b (place ∷ []) []
-chosen true place f same = ap (λ n. n ∷ []) same
-chosen false place f same = refl
+-- one look more
+pub chosen_more : {X : Type 0} (test : X → Bool) (number : X → ℕ) (xs : List X) (i : ℕ) (d : X) → i < length xs
+    → chosen test number xs (i + 1) ≡ chosen test number xs i ++ cond (test (get_or xs i d)) (number (get_or xs i d) ∷ []) []
+chosen_more test number xs i d less =
+    ap (map number) (filter_more test xs i d less)
+    ∙ map-append number (filter test (take i xs)) (cond (test (get_or xs i d)) (get_or xs i d ∷ []) [])
+    ∙ ap (λ l. chosen test number xs i ++ l) (one number (test (get_or xs i d)) (get_or xs i d))
 
--- one place more
-pub staged_more : (front : List Mark) (i : ℕ) (d : Mark) → i < length front
-    → staged_before front (i + 1) ≡ staged_before front i ++ cond ((get_or front i d).valid && (get_or front i d).dirty) (i ∷ []) []
-staged_more front i d less =
-    ap (map (λ f. f.0)) (filter_more test (enumerate_from 0 front) i (0, d) (omega (arith, less, length-enumerate_from 0 front)))
-    ∙ map-append (λ (f : Placed). f.0) (filter test (take i (enumerate_from 0 front))) _
-    ∙ ap (λ (f : Placed). staged_before front i ++ map {A = Placed} (λ g. g.0) (cond (test f) (f ∷ []) [])) (get_or-enumerate_from 0 front i (0, d) less)
-    ∙ ap (λ l. staged_before front i ++ l) (chosen ((get_or front i d).valid && (get_or front i d).dirty) i (0 + i, get_or front i d) (omega arith))
-  where
-    test : Placed → Bool
-    test f = (f.1.valid && f.1.dirty) && not (is_among [] f.0)
-
-pub staged_then : (front : List Mark) (i : ℕ) (d : Mark) → i < length front → ((get_or front i d).valid && (get_or front i d).dirty) ≡ true
-    → staged_before front (i + 1) ≡ staged_before front i ++ i ∷ []
-staged_then front i d less is = staged_more front i d less ∙ ap (λ b. staged_before front i ++ cond b (i ∷ []) []) is
-
-pub staged_else : (front : List Mark) (i : ℕ) (d : Mark) → i < length front → ((get_or front i d).valid && (get_or front i d).dirty) ≡ false
-    → staged_before front (i + 1) ≡ staged_before front i
-staged_else front i d less is = staged_more front i d less ∙ ap (λ b. staged_before front i ++ cond b (i ∷ []) []) is ∙ append-nil (staged_before front i)
-
--- all places
-pub staged_all : (front : List Mark) (i : ℕ) → length front ≤ i → staged_before front i ≡ map (λ f. f.0) (staged_of false front)
-staged_all front i all =
-    ap (λ fs. map {A = Placed} (λ f. f.0) (filter (λ f. (f.1.valid && f.1.dirty) && not (is_among [] f.0)) fs))
-    (take_all i (enumerate_from 0 front) (omega (arith, all, length-enumerate_from 0 front)))
-
-chosen_page : (b : Bool) (p : PoolMark) → map {A = PoolMark} (λ q. q.page) (cond b (p ∷ []) []) ≡ cond b (p.page ∷ []) []
-chosen_page true p = refl
-chosen_page false p = refl
-
--- one page more
-pub changed_more : (pool : List PoolMark) (i : ℕ) (d : PoolMark) → i < length pool
-    → changed_before pool (i + 1) ≡ changed_before pool i ++ cond (get_or pool i d).changed ((get_or pool i d).page ∷ []) []
-changed_more pool i d less =
-    ap (map (λ p. p.page)) (filter_more (λ p. p.changed) pool i d less)
-    ∙ map-append (λ (p : PoolMark). p.page) (filter (λ p. p.changed) (take i pool)) _
-    ∙ ap (λ l. changed_before pool i ++ l) (chosen_page (get_or pool i d).changed (get_or pool i d))
-
--- where eight are found, they are the first eight of all
-pub changed_enough : (pool : List PoolMark) (i : ℕ) → length (changed_before pool i) ≡ 8
-    → changed_before pool i ≡ map (λ p. p.page) (pulled_at_flush false [] pool)
-changed_enough pool i eight =
-    let found : List PoolMark = filter (λ p. p.changed) (take i pool) in
-    let rest : List PoolMark = filter (λ p. p.changed) (drop i pool) in
-    let long : length found ≡ 8 = sym (length-map found (λ (p : PoolMark). p.page)) ∙ eight in
-    ap (map (λ p. p.page)) (
-    sym (take_all 8 found (omega (arith, long)))
-    ∙ sym (take-append-le 8 found rest (omega (arith, long)))
-    ∙ ap (take 8) (sym (filter-append (λ (p : PoolMark). p.changed) (take i pool) (drop i pool)) ∙ ap (filter (λ p. p.changed)) (take-append-drop i pool))
+-- where so many are found, they are the first of all
+pub chosen_enough : {X : Type 0} (n : ℕ) (test : X → Bool) (number : X → ℕ) (xs : List X) (i : ℕ) → length (chosen test number xs i) ≡ n
+    → chosen test number xs i ≡ map number (take n (filter test xs))
+chosen_enough {X = X} n test number xs i enough =
+    let found : List X = filter test (take i xs) in
+    let rest : List X = filter test (drop i xs) in
+    let long : length found ≡ n = sym (length-map found number) ∙ enough in
+    ap (map number) (
+    sym (take_all n found (omega (arith, long)))
+    ∙ sym (take-append-le n found rest (omega (arith, long)))
+    ∙ ap (take n) (sym (filter-append test (take i xs) (drop i xs)) ∙ ap (filter test) (take-append-drop i xs))
     )
 
--- where all are looked at, and no more than eight found
-pub changed_all : (pool : List PoolMark) (i : ℕ) → length pool ≤ i → length (changed_before pool i) ≤ 8
-    → changed_before pool i ≡ map (λ p. p.page) (pulled_at_flush false [] pool)
-changed_all pool i all few =
-    let whole : changed_before pool i ≡ map (λ p. p.page) (filter (λ p. p.changed) pool) = ap (λ l. map {A = PoolMark} (λ p. p.page) (filter (λ p. p.changed) l)) (take_all i pool all) in
-    whole ∙ ap (map (λ p. p.page)) (sym (take_all 8 (filter (λ p. p.changed) pool) (omega (arith, few, ap length whole, length-map (filter (λ (p : PoolMark). p.changed) pool) (λ (p : PoolMark). p.page)))))
+-- where all were looked at
+pub chosen_whole : {X : Type 0} (test : X → Bool) (number : X → ℕ) (xs : List X) (i : ℕ) → length xs ≤ i → chosen test number xs i ≡ map number (filter test xs)
+chosen_whole test number xs i all = ap (λ l. map number (filter test l)) (take_all i xs all)
+
+-- and no more than so many were found
+pub chosen_all : {X : Type 0} (n : ℕ) (test : X → Bool) (number : X → ℕ) (xs : List X) (i : ℕ) → length xs ≤ i → length (chosen test number xs i) ≤ n
+    → chosen test number xs i ≡ map number (take n (filter test xs))
+chosen_all {X = X} n test number xs i all few =
+    let whole : chosen test number xs i ≡ map number (filter test xs) = chosen_whole test number xs i all in
+    whole ∙ ap (map number) (sym (take_all n (filter test xs) (omega (arith, few, ap length whole, length-map (filter test xs) number))))
+
+-- Frames by their places.
+
+abbrev pub place : Placed → ℕ
+place f = f.0
+
+-- of the first frames of a group, the places of those that pass
+abbrev pub placed : (ℕ → Mark → Bool) → List Mark → ℕ → List ℕ
+placed test front i = chosen (λ f. test f.0 f.1) place (enumerate_from 0 front) i
+
+at_place : (test : ℕ → Mark → Bool) (i j : ℕ) (mark : Mark) → i ≡ j → cond (test i mark) (i ∷ []) [] ≡ cond (test j mark) (j ∷ []) []
+at_place test i j mark same = ap (λ n. cond (test n mark) (n ∷ []) []) same
+
+pub placed_more : (test : ℕ → Mark → Bool) (front : List Mark) (i : ℕ) (d : Mark) → i < length front
+    → placed test front (i + 1) ≡ placed test front i ++ cond (test i (get_or front i d)) (i ∷ []) []
+placed_more test front i d less =
+    chosen_more (λ f. test f.0 f.1) place (enumerate_from 0 front) i (0, d) (omega (arith, less, length-enumerate_from 0 front))
+    ∙ ap (λ (f : Placed). placed test front i ++ cond (test f.0 f.1) (f.0 ∷ []) []) (get_or-enumerate_from 0 front i (0, d) less)
+    ∙ ap (λ l. placed test front i ++ l) (at_place test (0 + i) i (get_or front i d) (omega arith))
+
+pub placed_then : (test : ℕ → Mark → Bool) (front : List Mark) (i : ℕ) (d : Mark) → i < length front → test i (get_or front i d) ≡ true
+    → placed test front (i + 1) ≡ placed test front i ++ i ∷ []
+placed_then test front i d less is = placed_more test front i d less ∙ ap (λ b. placed test front i ++ cond b (i ∷ []) []) is
+
+pub placed_else : (test : ℕ → Mark → Bool) (front : List Mark) (i : ℕ) (d : Mark) → i < length front → test i (get_or front i d) ≡ false
+    → placed test front (i + 1) ≡ placed test front i
+placed_else test front i d less is =
+    placed_more test front i d less ∙ ap (λ b. placed test front i ++ cond b (i ∷ []) []) is ∙ append-nil (placed test front i)
+
+-- frames that were read, of a group that gives second chances
+abbrev pub is_chance : ℕ → Mark → Bool
+is_chance i mark = mark.valid && mark.referenced
+
+pub chances_enough : (front : List Mark) (i : ℕ) → length (placed is_chance front i) ≡ 7 → placed is_chance front i ≡ map place (chances_of true front)
+chances_enough front i enough = chosen_enough 7 (λ f. is_chance f.0 f.1) place (enumerate_from 0 front) i enough
+
+pub chances_all : (front : List Mark) (i : ℕ) → length front ≤ i → length (placed is_chance front i) ≤ 7 → placed is_chance front i ≡ map place (chances_of true front)
+chances_all front i all few = chosen_all 7 (λ f. is_chance f.0 f.1) place (enumerate_from 0 front) i (omega (arith, all, length-enumerate_from 0 front)) few
+
+-- frames for the disk, beside those of these places
+abbrev pub is_staged : List ℕ → ℕ → Mark → Bool
+is_staged chances i mark = (mark.valid && mark.dirty) && not (names chances i)
+
+pub staged_all : (chances : List ℕ) (front : List Mark) (i : ℕ) → length front ≤ i
+    → placed (is_staged chances) front i ≡ map place (filter (λ f. is_staged chances f.0 f.1) (enumerate_from 0 front))
+staged_all chances front i all = chosen_whole (λ f. is_staged chances f.0 f.1) place (enumerate_from 0 front) i (omega (arith, all, length-enumerate_from 0 front))
+
+-- the places of frames name them
+named : (frames : List Placed) (i : ℕ) → names (map place frames) i ≡ is_among frames i
+named [] i = refl
+named (f ∷ frames) i = ap (λ b. f.0 == i || b) (named frames i)
+
+pub staged_are : (given : Bool) (front : List Mark)
+    → map place (filter (λ f. is_staged (map place (chances_of given front)) f.0 f.1) (enumerate_from 0 front)) ≡ map place (staged_of given front)
+staged_are given front = ap (map place) (filter_agree
+    (λ f. is_staged (map place (chances_of given front)) f.0 f.1)
+    (λ f. (f.1.valid && f.1.dirty) && not (is_among (chances_of given front) f.0))
+    (λ f. ap (λ b. (f.1.valid && f.1.dirty) && not b) (named (chances_of given front) f.0))
+    (enumerate_from 0 front))

@@ -1,4 +1,5 @@
 pub mod Chosen
-pub mod Pushes
+pub mod Planned
+mod Pushes
 pub mod Flushes
 pub mod Apart

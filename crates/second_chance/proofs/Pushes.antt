@@ -122,9 +122,10 @@ marked_here : (cache : Cache) → AreApart cache.pool → AllByRecursion (λ m. 
 marked_here cache apart = all_map (λ m. is_changed cache.pool m.page ≡ m.changed) (pool_mark cache.queue) (reverse cache.pool)
     (all_reverse (λ p. is_changed cache.pool p.page ≡ p.changed) cache.pool (changed_here cache.pool (apart_from cache.pool apart)))
 
-pulled_here : (given : Bool) (front : List Mark) (P : PoolMark → Type 0) (pool : List PoolMark) → AllByRecursion P pool → AllByRecursion P (pulled_at_eviction given front pool)
-pulled_here true front P pool all = all_take P _ _ (all_filter P _ pool all)
-pulled_here false front P pool all = tt
+pulled_here : (pulls given : Bool) (front : List Mark) (P : PoolMark → Type 0) (pool : List PoolMark) → AllByRecursion P pool
+    → AllByRecursion P (pulled_at_eviction pulls given front pool)
+pulled_here true given front P pool all = all_take P _ _ (all_filter P _ pool all)
+pulled_here false given front P pool all = tt
 
 pub all_pass : {X : Type 0} (test : X → Bool) (xs : List X) → AllByRecursion (λ x. test x ≡ true) (filter test xs)
 all_pass test [] = tt
@@ -150,10 +151,10 @@ staged_again given front group =
 pub eviction_is_planned : EvictionIsPlanned
 eviction_is_planned r own cache apart =
     let front : List Mark = leaving r cache.queue in
-    let pulled : List PoolMark = pulled_at_eviction r.chances front (pool_marks cache) in
+    let pulled : List PoolMark = pulled_at_eviction r.pulls r.chances front (pool_marks cache) in
     let pages : is_pulled pulled ≡ names (map (λ m. m.page) pulled) = λ i page. names_pulled pulled page i in
     let frames : map pool_frame pulled ≡ map (λ page. frame_of page (is_changed cache.pool page)) (map (λ m. m.page) pulled) =
-    frames_here (is_changed cache.pool) pulled (pulled_here r.chances front (λ m. is_changed cache.pool m.page ≡ m.changed) (pool_marks cache) (marked_here cache apart)) in
+    frames_here (is_changed cache.pool) pulled (pulled_here r.pulls r.chances front (λ m. is_changed cache.pool m.page ≡ m.changed) (pool_marks cache) (marked_here cache apart)) in
     done _ _ pages _ _ (ap (λ l. l ++ frame_of own.page own.changed ∷ map pool_frame pulled) (chances_again r.chances front)
     ∙ ap (λ l. given_again front (map (λ f. f.0) (chances_of r.chances front)) ++ frame_of own.page own.changed ∷ l) frames)
   where

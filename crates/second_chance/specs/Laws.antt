@@ -40,7 +40,7 @@ flush_done rules plan cache = record {
 }
 
 abbrev pub plan_for_eviction : Rules → Cache → Plan
-plan_for_eviction rules cache = eviction_plan rules.chances (leaving rules cache.queue) (pool_marks cache)
+plan_for_eviction rules cache = eviction_plan rules.pulls rules.chances (leaving rules cache.queue) (pool_marks cache)
 
 abbrev pub plan_for_flush : Rules → Cache → Plan
 plan_for_flush rules cache = flush_plan rules.chances (leaving rules cache.queue) (pool_marks cache)

@@ -8,18 +8,19 @@ use Rattle.record_model.specs.Touches.{CacheWork, touch, flush}
 use Rattle.second_chance.specs.declared.frame.Frame.{Frame}
 use Rattle.second_chance.specs.declared.plan.PoolMark.{PoolMark}
 use Rattle.second_chance.specs.Queue.{Queue, has_frame, marks, front_marks, with_read, pushed, frame_of}
-use Rattle.second_chance.specs.Plans.{chances_given, Placed, chances_of, staged_of, pulled_at_eviction, pulled_at_flush}
+use Rattle.second_chance.specs.Plans.{chances_given, pages_pulled, Placed, chances_of, staged_of, pulled_at_eviction, pulled_at_flush}
 
--- How many pages the pool holds and how many groups the queue, and whether second chances are given. Where they are, a push at an
--- eviction also pulls pages from the cold end of the pool.
+-- How many pages the pool holds and how many groups the queue, whether second chances are given, and whether a push at an eviction
+-- pulls pages from the cold end of the pool.
 pub record Rules : Type 0 where
   pub pages : ℕ
   pub groups : ℕ
   pub chances : Bool
+  pub pulls : Bool
 
 -- the rules for a pool of so many pages and a flash of so many groups, of which the queue leaves one free
 abbrev pub rules_of : ℕ → ℕ → Rules
-rules_of pages groups = record { pages = pages; groups = groups - 1; chances = chances_given }
+rules_of pages groups = record { pages = pages; groups = groups - 1; chances = chances_given; pulls = pages_pulled }
 
 pub record PoolPage : Type 0 where
   pub page : ℕ
@@ -81,7 +82,7 @@ is_pulled pulled page = list_any (λ p. p.page == page) pulled
 -- a push with a page that has left the pool: the pulled pages leave the pool too
 abbrev pub push_evicted : Rules → PoolPage → Cache → Cache
 push_evicted rules own cache =
-    let pulled = pulled_at_eviction rules.chances (leaving rules cache.queue) (pool_marks cache) in
+    let pulled = pulled_at_eviction rules.pulls rules.chances (leaving rules cache.queue) (pool_marks cache) in
     record { pool = without (is_pulled pulled) cache.pool; queue = queue_after rules cache.queue (pool_mark cache.queue own ∷ []) pulled }
 
 -- a push of a flush: the pulled pages stay in the pool, and count as unchanged

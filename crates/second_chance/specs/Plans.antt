@@ -5,9 +5,12 @@ use Rattle.byte_fields.specs.declared.frame_head.Mark.{Mark}
 use Rattle.second_chance.specs.declared.plan.PoolMark.{PoolMark}
 use Rattle.second_chance.specs.declared.plan.Plan.{Plan}
 
--- whether second chances are given: not yet
+-- whether second chances are given, and whether an eviction pulls pages: not yet
 abbrev pub chances_given : Bool
 chances_given = false
+
+abbrev pub pages_pulled : Bool
+pages_pulled = false
 
 -- a group has at most so many frames, and at most so many of a front group's are given a second chance
 abbrev pub group_size : ℕ
@@ -33,10 +36,10 @@ abbrev pub staged_of : Bool → List Mark → List Placed
 staged_of given front = filter (λ f. (f.1.valid && f.1.dirty) && not (is_among (chances_of given front) f.0)) (enumerate_from 0 front)
 
 -- What a push at an eviction pulls from the pool, the coldest in front: as many pages as the group has room for beside its second
--- chances and the evicted page, of those that are changed or have no frame. Nothing is pulled where no second chances are given.
-abbrev pub pulled_at_eviction : Bool → List Mark → List PoolMark → List PoolMark
-pulled_at_eviction given front pool =
-    if given then take (group_size - 1 - length (chances_of given front)) (filter (λ p. p.changed || not p.framed) pool) else []
+-- chances and the evicted page, of those that are changed or have no frame. Nothing is pulled where evictions don't pull at all.
+abbrev pub pulled_at_eviction : Bool → Bool → List Mark → List PoolMark → List PoolMark
+pulled_at_eviction pulls given front pool =
+    if pulls then take (group_size - 1 - length (chances_of given front)) (filter (λ p. p.changed || not p.framed) pool) else []
 
 -- What a push of a flush pulls: as many pages as the group has room for beside its second chances, of those that are changed.
 abbrev pub pulled_at_flush : Bool → List Mark → List PoolMark → List PoolMark
@@ -50,8 +53,8 @@ planned given front pulled = record {
   pulled = map (λ p. p.page) pulled;
 }
 
-abbrev pub eviction_plan : Bool → List Mark → List PoolMark → Plan
-eviction_plan given front pool = planned given front (pulled_at_eviction given front pool)
+abbrev pub eviction_plan : Bool → Bool → List Mark → List PoolMark → Plan
+eviction_plan pulls given front pool = planned given front (pulled_at_eviction pulls given front pool)
 
 abbrev pub flush_plan : Bool → List Mark → List PoolMark → Plan
 flush_plan given front pool = planned given front (pulled_at_flush given front pool)

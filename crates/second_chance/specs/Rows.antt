@@ -9,9 +9,9 @@ use Rattle.record_model.specs.Touches.{CacheWork, touch, flush, run_touches}
 use Rattle.record_model.specs.Rows.{fresh}
 use Rattle.second_chance.specs.Machine.{Rules, Cache, opened, after_works, listing, Staged, staged_by_works}
 
--- Eight groups on flash, of which the queue uses seven, a pool of so many pages, with second chances or without.
+-- Eight groups on flash, of which the queue uses seven, a pool of so many pages, with second chances and pulled pages or without.
 abbrev pub rules : ℕ → Bool → Rules
-rules pages chances = record { pages = pages; groups = 7; chances = chances }
+rules pages chances = record { pages = pages; groups = 7; chances = chances; pulls = chances }
 
 abbrev pub blank : Cache
 blank = opened (record { first = 0; groups = [] })
@@ -86,7 +86,7 @@ mixed =
     ∷ touch 4 false ∷ []
 
 abbrev pub small : Bool → Rules
-small chances = record { pages = 3; groups = 2; chances = chances }
+small chances = record { pages = 3; groups = 2; chances = chances; pulls = chances }
 
 abbrev pub MixedWithChances : Type 0
 MixedWithChances =

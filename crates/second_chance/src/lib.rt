@@ -12,5 +12,7 @@ mod tests;
 pub use frame::Frame;
 pub use laws::{flushes_save_all, plans_are_pushes, staged_frames_are_apart};
 pub use places::Places;
-pub use plan::{Plan, PoolMark, plan_evict, plan_flush};
+pub use plan::{
+    Plan, PoolMark, Taking, plan_evict, plan_evict_taking, plan_flush, plan_flush_taking,
+};
 pub use rows::{rows_of_second_chances, rows_of_the_plain_machine};

@@ -1,3 +1,4 @@
+ghost use Rattle.std.specs.List.{list_any};
 ghost use Rattle.std.specs.Prelude.{◌≡◌, ◌==◌, ◌<◌, ◌≤◌, [], ◌∷◌, ◌++◌, length, slice_get, Some};
 
 use arrayvec::ArrayVec;
@@ -48,6 +49,13 @@ impl Places {
         ensures { result ≡ (length self.now == 0) }
     {
         self.numbers.is_empty()
+    }
+
+    /// Whether a number is one of them.
+    pub fn contains(&self, number: u32) -> bool
+        ensures { result ≡ list_any (λ other. other == number) self.now }
+    {
+        self.numbers.contains(&number)
     }
 
     /// The one at a place, counted from 0.

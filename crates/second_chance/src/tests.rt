@@ -1,4 +1,6 @@
-use crate::{PoolMark, plan_evict, plan_flush};
+use crate::{
+    Places, PoolMark, Taking, plan_evict, plan_evict_taking, plan_flush, plan_flush_taking,
+};
 use byte_fields::Mark;
 
 const fn frame(page: u32, valid: bool, dirty: bool, referenced: bool) -> Mark {
@@ -70,4 +72,58 @@ fn a_flush_pulls_eight_changed_pages(rt: HostRuntime) {
     assert_eq!(rt; plan.pulled.len(), 2);
     assert_eq!(rt; plan.pulled.at(1), 20);
     assert!(rt; plan.staged.is_empty());
+}
+
+fn are(places: &Places, wanted: &[u32]) -> bool {
+    if places.len() != wanted.len() {
+        return false;
+    }
+    for (place, number) in wanted.iter().enumerate() {
+        if place >= places.len() || places.at(place) != *number {
+            return false;
+        }
+    }
+    true
+}
+
+// Two of five frames were read and are the last of their pages. Of eight pages two are changed, two have no frame, and two more are
+// changed and have none.
+#[test]
+fn pushes_take_what_they_are_to(rt: HostRuntime) {
+    let front = [
+        frame(30, false, true, true),
+        frame(31, true, true, true),
+        frame(32, true, false, true),
+        frame(33, true, true, false),
+        frame(34, true, false, false),
+    ];
+    let pool = [
+        pooled(7, true, true),
+        pooled(8, false, true),
+        pooled(9, false, false),
+        pooled(10, true, false),
+        pooled(11, false, true),
+        pooled(12, true, false),
+        pooled(13, true, true),
+        pooled(14, false, false),
+    ];
+    let both = Taking {
+        chances: true,
+        pulls: true,
+    };
+    let plan = plan_evict_taking(both, Some(&front), &pool);
+    assert!(rt; are(&plan.chances, &[1, 2]));
+    assert!(rt; are(&plan.staged, &[3]));
+    assert!(rt; are(&plan.pulled, &[7, 9, 10, 12, 13]));
+    let plan = plan_flush_taking(both, Some(&front), &pool);
+    assert!(rt; are(&plan.chances, &[1, 2]));
+    assert!(rt; are(&plan.pulled, &[7, 10, 12, 13]));
+    let grouped = Taking {
+        chances: false,
+        pulls: true,
+    };
+    let plan = plan_evict_taking(grouped, Some(&front), &pool);
+    assert!(rt; plan.chances.is_empty());
+    assert!(rt; are(&plan.staged, &[1, 3]));
+    assert!(rt; are(&plan.pulled, &[7, 9, 10, 12, 13, 14]));
 }

@@ -1,9 +1,9 @@
 use Rattle.std.proofs.Common.{◌≡◌, ◌≤◌, length}
-use Rattle.second_chance.proofs.Chosen.{changed_before}
+use Rattle.second_chance.proofs.Chosen.{chosen}
 use Rattle.second_chance.proofs.plan.changed_pages.Given as goal
 
 abbrev pub invariant-loop-mark : goal.invariant-loop-mark
 invariant-loop-mark l = record {
-  changed : l.changed ≡ changed_before l.pool l.mark-index;
-  few : length l.changed ≤ 8;
+  changed : l.changed ≡ chosen (λ p. p.changed) (λ p. p.page) l.pool l.mark-index;
+  few : length l.changed ≤ l.room;
 }

@@ -1,0 +1,51 @@
+-- A plan by its three parts.
+use Rattle.std.proofs.Common.{◌≡◌, ℕ, ◌-◌, Bool, not, ◌||◌, List, [], length, map, filter, take, if◌then◌else◌, refl, ap, ◌∙◌}
+use Rattle.std.specs.List.{enumerate_from}
+use Rattle.std.specs.Borrow.{Bor}
+use Rattle.std.specs.Prelude.{Option, Some, None, unwrap_or}
+use Rattle.std.specs.Option.{option_copied}
+use Rattle.std.proofs.lemmas.List.{length-map}
+use Rattle.byte_fields.specs.declared.frame_head.Mark.{Mark}
+use Rattle.second_chance.specs.declared.plan.PoolMark.{PoolMark}
+use Rattle.second_chance.specs.declared.plan.Plan.{Plan}
+use Rattle.second_chance.specs.Plans.{Placed, chances_of, staged_of, pulled_at_eviction, pulled_at_flush, planned, eviction_plan, flush_plan}
+use Rattle.second_chance.proofs.Chosen.{place, is_staged, staged_are}
+
+-- the marks of a front group that may be missing
+pub unwrapped : (front : Option (Bor (List Mark))) (none : Bor (List Mark)) → none.now ≡ [] → (unwrap_or front none).now ≡ unwrap_or (option_copied front) []
+unwrapped None none is = is
+unwrapped (Some front) none is = refl
+
+abbrev page : PoolMark → ℕ
+page p = p.page
+
+parts : (a a' b b' d d' : List ℕ) → a ≡ a' → b ≡ b' → d ≡ d'
+    → ◌≡◌ {A = Plan} (record { chances = a; staged = b; pulled = d }) (record { chances = a'; staged = b'; pulled = d' })
+parts a a' b b' d d' chances staged pulled = λ i. record { chances = chances i; staged = staged i; pulled = pulled i }
+
+-- the staged frames of these second chances
+staged_by : (given : Bool) (front : List Mark) (chances staged : List ℕ) → chances ≡ map place (chances_of given front)
+    → staged ≡ map place (filter (λ f. is_staged chances f.0 f.1) (enumerate_from 0 front)) → staged ≡ map place (staged_of given front)
+staged_by given front chances staged are is =
+    is ∙ ap (λ l. map place (filter (λ f. is_staged l f.0 f.1) (enumerate_from 0 front))) are ∙ staged_are given front
+
+many : (given : Bool) (front : List Mark) (chances : List ℕ) (n : ℕ) → chances ≡ map place (chances_of given front) → n ≡ length chances → n ≡ length (chances_of given front)
+many given front chances n are is = is ∙ ap length are ∙ length-map (chances_of given front) place
+
+pub eviction_is : (pulls given : Bool) (front known : List Mark) (pool : List PoolMark) (chances staged pulled : List ℕ) (n : ℕ) → front ≡ known
+    → chances ≡ map place (chances_of given front) → staged ≡ map place (filter (λ f. is_staged chances f.0 f.1) (enumerate_from 0 front)) → n ≡ length chances
+    → pulled ≡ map page (if pulls then take (8 - 1 - n) (filter (λ p. p.changed || not p.framed) pool) else [])
+    → ◌≡◌ {A = Plan} (record { chances = chances; staged = staged; pulled = pulled }) (eviction_plan pulls given known pool)
+eviction_is pulls given front known pool chances staged pulled n same are staged_is n_is pulled_is =
+    parts chances _ staged _ pulled _ are (staged_by given front chances staged are staged_is)
+    (pulled_is ∙ ap (λ k. map page (if pulls then take (8 - 1 - k) (filter (λ p. p.changed || not p.framed) pool) else [])) (many given front chances n are n_is))
+    ∙ ap (λ f. eviction_plan pulls given f pool) same
+
+pub flush_is : (given : Bool) (front known : List Mark) (pool : List PoolMark) (chances staged pulled : List ℕ) (n : ℕ) → front ≡ known
+    → chances ≡ map place (chances_of given front) → staged ≡ map place (filter (λ f. is_staged chances f.0 f.1) (enumerate_from 0 front)) → n ≡ length chances
+    → pulled ≡ map page (take (8 - n) (filter (λ p. p.changed) pool))
+    → ◌≡◌ {A = Plan} (record { chances = chances; staged = staged; pulled = pulled }) (flush_plan given known pool)
+flush_is given front known pool chances staged pulled n same are staged_is n_is pulled_is =
+    parts chances _ staged _ pulled _ are (staged_by given front chances staged are staged_is)
+    (pulled_is ∙ ap (λ k. map page (take (8 - k) (filter (λ p. p.changed) pool))) (many given front chances n are n_is))
+    ∙ ap (λ f. flush_plan given f pool) same
