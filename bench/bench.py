@@ -8,9 +8,10 @@ is the number of sets, and of gets, of each size (2,000 where it isn't given). F
 built here. It prints one table of all figures: commits, gets and pairs of a load's set and get per second at several sizes, of
 which one is changed at a time; the rate of the commits to that of the bare calls; the time of a restart; and the instructions of
 a set with its get, where valgrind is installed. Two more tables have the time of a restart by the blocks of the live log and by the
-groups of the queue on flash, each the median of five. The last two, where valgrind is installed, have the instructions of one
-command by the pool, all pages of which are in memory, and by the groups of a queue from which each page is read; beside the first
-stand the sets per second that each touch another page, and the time of the first checkpoint then."""
+groups of the queue on flash, each the median of five. The next one has the first checkpoint of a pool all of whose pages are changed,
+beside the calls that append its groups, and what a page takes in memory. The last two, where valgrind is installed, have the
+instructions of one command by the pool, all pages of which are in memory, and by the groups of a queue from which each page is read;
+beside the first stand the sets per second that each touch another page, and the bare calls."""
 import os
 import random
 import re
@@ -137,10 +138,52 @@ def steps_of_one(face, pool, fill, line, pages):
     return (totals[1] - totals[0]) // COUNT
 
 
+def answered(child, line):
+    """Seconds until the line is answered."""
+    begun = time.perf_counter()
+    child.stdin.write(line)
+    child.stdout.readline()
+    return time.perf_counter() - begun
+
+
+def started(words):
+    child = subprocess.Popen(words, stdin=subprocess.PIPE, stdout=subprocess.PIPE, bufsize=0)
+    child.stdout.readline()
+    return child
+
+
+def memory_of(child):
+    """Octets that it has in memory."""
+    with open(f"/proc/{child.pid}/status", encoding="utf-8") as status:
+        return 1024 * int(re.search(r"VmRSS:\s+(\d+)", status.read())[1])
+
+
+def first_checkpoint(face, pool):
+    """Seconds of the checkpoint that finds all pages of a pool changed, of the calls that append its groups (the least of three, in turns
+    with three checkpoints), and the octets in memory for each page of the pool, and those before any page came in."""
+    checkpoints, calls = [], []
+    bare = started(["./raw_groups", "1024", str((pool + 7) // 8)])
+    for _ in range(3):
+        made(face, (pool, 1024, 65536, pool))
+        child = started([face, "run", str(pool)])
+        before = memory_of(child)
+        for page in range(pool):
+            answered(child, b"get %d\n" % (32 * page))
+        each = (memory_of(child) - before) / pool
+        for page in range(pool):
+            answered(child, b"set %d 0102030405060708\n" % (32 * page))
+        checkpoints.append(answered(child, b"checkpoint\n"))
+        calls.append(answered(bare, b"\n"))
+        child.stdin.close()
+        child.wait()
+    bare.stdin.close()
+    bare.wait()
+    return min(checkpoints), min(calls), each, before
+
+
 def by_pool(face, pool):
-    """Of a pool that holds all pages: instructions of a get and of a set, sets per second that each touch another page, and the
-    seconds of the checkpoint that finds all of them changed."""
-    size = (pool, 1024, 16384, pool)
+    """Of a pool that holds all pages: instructions of a get and of a set, and sets per second that each touch another page."""
+    size = (pool, 1024, 65536, pool)
     fill = "".join(f"get {32 * page}\n" for page in range(pool))
     each = "".join(f"set {32 * page} 0102030405060708\n" for page in range(pool))
     steps = []
@@ -151,9 +194,7 @@ def by_pool(face, pool):
     filled, _ = timed([face, "run", str(pool)], fill)
     made(face, size)
     changed, _ = timed([face, "run", str(pool)], fill + each)
-    made(face, size)
-    saved, _ = timed([face, "run", str(pool)], fill + each + "checkpoint\n")
-    return steps[0], steps[1], pool / (changed - filled), saved - changed
+    return steps[0], steps[1], pool / (changed - filled)
 
 
 def get_by_groups(face, groups):
@@ -191,7 +232,8 @@ def main():
     folder = os.path.realpath(tempfile.mkdtemp(dir=sys.argv[1]))
     try:
         os.chdir(folder)
-        subprocess.run(["cc", "-O2", "-o", "raw_calls", f"{ROOT}/checks/raw_calls.c"], check=True)
+        for name in ("raw_calls", "raw_groups"):
+            subprocess.run(["cc", "-O2", "-o", name, f"{ROOT}/checks/{name}.c"], check=True)
         print(f"{COUNT} sets, {COUNT} gets and a load of {COUNT} each")
         print("| PAGES | GROUPS | BLOCKS | POOL | commits/s | bare calls/s | rate | sqlite/s | gets/s | load, pairs/s | its checkpoints | restart after the sets | restart again | instructions of a set and a get |")
         print("|---|---|---|---|---|---|---|---|---|---|---|---|---|---|")
@@ -208,12 +250,16 @@ def main():
         print("\n| groups in the queue | restart |\n|---|---|")
         for groups in LIVE_GROUPS:
             print(f"| {groups} | {restart_by_groups(face, groups):.3f} s |", flush=True)
+        print("\n| pages and pool | first checkpoint | its calls alone | rate | memory for each page | before the first |\n|---|---|---|---|---|---|")
+        for pool in POOLS:
+            saved, calls, each, before = first_checkpoint(face, pool)
+            print(f"| {pool} | {saved:.4f} s | {calls:.4f} s | {calls / saved:.2f} | {each:.0f} | {before} |", flush=True)
         if not shutil.which("valgrind"):
             return
-        print("\n| pages and pool | instructions of a get | of a set | sets/s, each of another page | first checkpoint |\n|---|---|---|---|---|")
+        print("\n| pages and pool | instructions of a get | of a set | sets/s, each of another page | bare calls/s |\n|---|---|---|---|---|")
         for pool in POOLS:
-            get, put, rate, saved = by_pool(face, pool)
-            print(f"| {pool} | {get} | {put} | {rate:.0f} | {saved:.3f} s |", flush=True)
+            get, put, rate = by_pool(face, pool)
+            print(f"| {pool} | {get} | {put} | {rate:.0f} | {bare_rate():.0f} |", flush=True)
         print("\n| groups in the queue | instructions of a get from it |\n|---|---|")
         for groups in QUEUES:
             print(f"| {groups - 1} | {get_by_groups(face, groups)} |", flush=True)
