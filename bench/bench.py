@@ -8,14 +8,15 @@ is the number of sets, and of gets, of each size (2,000 where it isn't given). F
 built here. It prints one table of all figures: commits, gets and pairs of a load's set and get per second at several sizes, of
 which one is changed at a time; the rate of the commits to that of the bare calls; the time of a restart; and the instructions of
 a set with its get, where valgrind is installed. Two more tables have the time of a restart by the blocks of the live log and by the
-groups of the queue on flash, each the median of five. The next one has the first checkpoint of a pool all of whose pages are changed,
-beside the calls that append its groups, and what a page takes in memory. The last two, where valgrind is installed, have the
-instructions of one command by the pool, all pages of which are in memory, and by the groups of a queue from which each page is read;
-beside the first stand the sets per second that each touch another page, and the bare calls."""
+groups of the queue on flash, each the median of five. The next one is of pools all of whose pages are in memory: a set of each page and
+the checkpoint that then finds all of them changed, beside the very calls that these make, and what a page takes in memory. The last two,
+where valgrind is installed, have the instructions of one command by the pool, all pages of which are in memory, and by the groups of a
+queue from which each page is read."""
 import os
 import random
 import re
 import shutil
+import statistics
 import subprocess
 import sys
 import tempfile
@@ -158,43 +159,41 @@ def memory_of(child):
         return 1024 * int(re.search(r"VmRSS:\s+(\d+)", status.read())[1])
 
 
-def first_checkpoint(face, pool):
-    """Seconds of the checkpoint that finds all pages of a pool changed, of the calls that append its groups (the least of three, in turns
-    with three checkpoints), and the octets in memory for each page of the pool, and those before any page came in."""
-    checkpoints, calls = [], []
-    bare = started(["./raw_groups", "1024", str((pool + 7) // 8)])
-    for _ in range(3):
+def of_a_pool(face, pool):
+    """Of a pool whose pages are all in memory, each of them set once, and then flushed: the seconds of a set and of the calls that it makes,
+    in turns (medians); of the checkpoint and of the calls that append its groups, in turns (the least of five); and the octets in memory
+    for each page."""
+    sets, set_calls, checkpoints, group_calls = [], [], [], []
+    groups = started(["./raw_groups", "1024", str((pool + 7) // 8)])
+    for _ in range(5):
         made(face, (pool, 1024, 65536, pool))
         child = started([face, "run", str(pool)])
+        bare = started(["./raw_calls", str(pool + 2)])
         before = memory_of(child)
         for page in range(pool):
             answered(child, b"get %d\n" % (32 * page))
         each = (memory_of(child) - before) / pool
         for page in range(pool):
-            answered(child, b"set %d 0102030405060708\n" % (32 * page))
+            sets.append(answered(child, b"set %d 0102030405060708\n" % (32 * page)))
+            set_calls.append(answered(bare, b"\n"))
         checkpoints.append(answered(child, b"checkpoint\n"))
-        calls.append(answered(bare, b"\n"))
-        child.stdin.close()
-        child.wait()
-    bare.stdin.close()
-    bare.wait()
-    return min(checkpoints), min(calls), each, before
+        group_calls.append(answered(groups, b"\n"))
+        for one in (child, bare):
+            one.stdin.close()
+            one.wait()
+    groups.stdin.close()
+    groups.wait()
+    return statistics.median(sets), statistics.median(set_calls), min(checkpoints), min(group_calls), each
 
 
-def by_pool(face, pool):
-    """Of a pool that holds all pages: instructions of a get and of a set, and sets per second that each touch another page."""
-    size = (pool, 1024, 65536, pool)
+def steps_by_pool(face, pool):
+    """Of a pool that holds all pages: instructions of a get and of a set."""
     fill = "".join(f"get {32 * page}\n" for page in range(pool))
-    each = "".join(f"set {32 * page} 0102030405060708\n" for page in range(pool))
     steps = []
     for line in ("get {}", "set {} 0102030405060708"):
-        made(face, size)
+        made(face, (pool, 1024, 16384, pool))
         steps.append(steps_of_one(face, pool, fill, line, pool))
-    made(face, size)
-    filled, _ = timed([face, "run", str(pool)], fill)
-    made(face, size)
-    changed, _ = timed([face, "run", str(pool)], fill + each)
-    return steps[0], steps[1], pool / (changed - filled)
+    return steps
 
 
 def get_by_groups(face, groups):
@@ -250,16 +249,17 @@ def main():
         print("\n| groups in the queue | restart |\n|---|---|")
         for groups in LIVE_GROUPS:
             print(f"| {groups} | {restart_by_groups(face, groups):.3f} s |", flush=True)
-        print("\n| pages and pool | first checkpoint | its calls alone | rate | memory for each page | before the first |\n|---|---|---|---|---|---|")
+        print("\n| pages and pool | a set of each page | its calls alone | rate | the first checkpoint | its calls alone | rate | memory for each page |")
+        print("|---|---|---|---|---|---|---|---|")
         for pool in POOLS:
-            saved, calls, each, before = first_checkpoint(face, pool)
-            print(f"| {pool} | {saved:.4f} s | {calls:.4f} s | {calls / saved:.2f} | {each:.0f} | {before} |", flush=True)
+            put, put_calls, saved, saved_calls, each = of_a_pool(face, pool)
+            print(f"| {pool} | {put * 1e6:.0f} µs | {put_calls * 1e6:.0f} µs | {put_calls / put:.2f} | {saved:.4f} s | {saved_calls:.4f} s | {saved_calls / saved:.2f} | {each:.0f} |", flush=True)
         if not shutil.which("valgrind"):
             return
-        print("\n| pages and pool | instructions of a get | of a set | sets/s, each of another page | bare calls/s |\n|---|---|---|---|---|")
+        print("\n| pages and pool | instructions of a get | of a set |\n|---|---|---|")
         for pool in POOLS:
-            get, put, rate = by_pool(face, pool)
-            print(f"| {pool} | {get} | {put} | {rate:.0f} | {bare_rate():.0f} |", flush=True)
+            get, put = steps_by_pool(face, pool)
+            print(f"| {pool} | {get} | {put} |", flush=True)
         print("\n| groups in the queue | instructions of a get from it |\n|---|---|")
         for groups in QUEUES:
             print(f"| {groups - 1} | {get_by_groups(face, groups)} |", flush=True)
