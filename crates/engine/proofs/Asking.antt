@@ -1,5 +1,5 @@
 -- Calls that ask the cache for work, one after the other.
-use Rattle.std.proofs.Common.{◌⊎◌, inl, inr, map, append_assoc, ◌-◌, ◌/◌, ◌≡◌, ℕ, ◌+◌, ◌^◌, ◌≤◌, ◌<◌, List, [], ◌∷◌, ◌++◌, arith, refl, sym, ap, subst, ◌∙◌}
+use Rattle.std.proofs.Common.{◌⊎◌, inl, inr, map, append_assoc, ◌-◌, ◌/◌, ◌≡◌, ◌+◌, ◌^◌, ◌≤◌, ◌<◌, List, [], ◌∷◌, ◌++◌, arith, refl, sym, ap, subst, ◌∙◌}
 use Rattle.std.specs.Prelude.{Result, Ok, Err, OnOk, IsErrOf}
 use Rattle.site.specs.declared.outside.Dev.TheVariants.{Log, Flash, Disk}
 use Rattle.site.specs.declared.outside.Stop.{Stop}
@@ -19,7 +19,7 @@ use Rattle.engine.specs.declared.store.Store.{Store}
 use Rattle.engine.specs.declared.engine.Engine.{Engine}
 use Rattle.engine.specs.Going.{MayWork, MayGoOn}
 use Rattle.engine.specs.Paging.{AsksFrom}
-use Rattle.engine.proofs.Moments.{err_again}
+use Rattle.site.proofs.Working.{err_again}
 
 always : {T : Type 0} {P : Type 0} (r : Result T Stop) → P → OnOk r P
 always (Ok x) p = p
@@ -148,10 +148,6 @@ not_worn stop (inl is) worn = cc
 not_worn stop (inr (inl is)) worn = cc
 not_worn stop (inr (inr is)) worn = cc
 
-pub not_worn_by : (stop : Stop) → (stop ≡ Device Log) ⊎ (stop ≡ Worn Log) → stop ≡ Worn Flash → ⊥
-not_worn_by stop (inl is) worn = cc
-not_worn_by stop (inr is) worn = cc
-
 pub not_worn_flash : {T : Type 0} (stop : Stop) → (stop ≡ Device Log) ⊎ (stop ≡ Worn Log) → IsErrOf {T = T} (Err stop) (Worn Flash) → ⊥
 not_worn_flash {T} stop (inl is) worn = let same : stop ≡ Worn Flash = cc in absurd (cc)
 not_worn_flash {T} stop (inr is) worn = let same : stop ≡ Worn Flash = cc in absurd (cc)
@@ -216,34 +212,6 @@ pub from_stopped : ReadsForMore → OverflowsWithMore → {A B : Type 0} (stop :
 from_stopped more over {A} {B} stop pages first later old new before now some asks =
     let all : Asks {T = B} (Err stop) (first ++ later) old new before now = asks_stopped more over stop first later old new before now some asks in
     from_err stop pages (first ++ later) old new before now all
-
--- it failed for another reason, once some of the work was done
-pub from_fails : ReadsForMore → OverflowsWithMore → {A B : Type 0} (a : A) (stop : Stop) (pages : B → PageStore) (first later : List CacheWork) (old new : PageStore) (before between now : Site) → 1 ≤ (rules old).groups →
-    (stop ≡ Worn Flash → ⊥) → SameReads between now → Asks {T = A} (Ok a) first old new before between → AsksFrom {T = B} (Err stop) pages (rules old) (first ++ later) (cache_of old) 0 before now
-from_fails more over {A} {B} a stop pages first later old new before between now some never still asks =
-    let reads : ReadsFor (rules old) (first ++ later) (cache_of old) before between = more (rules old) first later (cache_of old) before between some asks.reads in
-    record {
-      machine = tt;
-      worn = λ is. absurd (never (same is));
-      flash = (let r = reads.flash in let f = still Flash in omega (arith, r, f));
-      disk = (let r = reads.disk in let d = still Disk in omega (arith, r, d));
-    }
-  where
-    same : IsErrOf {T = B} (Err stop) (Worn Flash) → stop ≡ Worn Flash
-    same is = cc
-
--- it failed once all of the work was done
-pub from_done : {A B : Type 0} (a : A) (stop : Stop) (pages : B → PageStore) (works : List CacheWork) (old new : PageStore) (before between now : Site) → (stop ≡ Worn Flash → ⊥) → SameReads between now →
-    Asks {T = A} (Ok a) works old new before between → AsksFrom {T = B} (Err stop) pages (rules old) works (cache_of old) 0 before now
-from_done {A} {B} a stop pages works old new before between now never still asks = record {
-  machine = tt;
-  worn = λ is. absurd (never (same is));
-  flash = (let r = asks.reads.flash in let f = still Flash in omega (arith, r, f));
-  disk = (let r = asks.reads.disk in let d = still Disk in omega (arith, r, d));
-}
-  where
-    same : IsErrOf {T = B} (Err stop) (Worn Flash) → stop ≡ Worn Flash
-    same is = cc
 
 -- the queue was found before
 pub from_found : {T : Type 0} (result : Result T Stop) (pages : T → PageStore) (r r' : Rules) (works works' : List CacheWork) (start start' : Cache) (scanned : ℕ) (old mid new : Site) → r ≡ r' → works ≡ works' → start ≡ start' →

@@ -1,5 +1,5 @@
 -- Calls one after the other, each known by its record.
-use Rattle.std.proofs.Common.{◌≡◌, ◌≢◌, ◌⊎◌, inl, inr, ⊎_elim, ℕ, ◌+◌, ◌≤◌, List, [], ◌∷◌, Bool, true, false, refl, sym, subst, ap, ◌∙◌, arith}
+use Rattle.std.proofs.Common.{◌≡◌, ◌≢◌, ◌⊎◌, inl, inr, ◌+◌, ◌≤◌, List, [], ◌∷◌, Bool, true, false, refl, sym, subst, ap, ◌∙◌, arith}
 use Rattle.std.specs.Prelude.{Result, Ok, Err, OnOk, IfOk, IsErrOf, IsTrue, if◌then◌else◌}
 use Rattle.site.specs.declared.outside.Dev.{Dev}
 use Rattle.site.specs.declared.outside.Dev.TheVariants.{Log, Flash}
@@ -25,8 +25,7 @@ use Rattle.redo_undo.specs.Numbers.{SkipsNone}
 use Rattle.redo_undo.specs.HoldingLaws.{HoldsMoment}
 use Rattle.image_meaning.proofs.Leaving.{under_leaves_for}
 use Rattle.redo_undo.specs.Works.{Asks, WorksAddUp, ReadsAddUp, ReadsForMore, OverflowsWithMore, checkpoint_works}
-pub use Rattle.redo_undo.proofs.Calling.{calls_nothing, calls_then, calls_failed, calls_answered, calls_refused}
-use Rattle.redo_undo.proofs.RingNumbers.{ok_as, skips_on, then_skips, skips_again, skips_answered, skips_refused, skips_weaker}
+use Rattle.redo_undo.proofs.RingNumbers.{skips_on, then_skips, skips_again, skips_answered, skips_refused, skips_weaker}
 use Rattle.engine.specs.declared.store.Store.{Store}
 use Rattle.engine.specs.declared.engine.Engine.{Engine}
 use Rattle.engine.specs.Going.{MayGoOn, sizes_of}
@@ -34,14 +33,13 @@ use Rattle.engine.specs.Fits.{Fits, run, run_now, checkpointed_if, with_write}
 use Rattle.engine.specs.Image.{Stands}
 use Rattle.engine.specs.Leaves.{LeavesTable, LeavesEither}
 use Rattle.engine.specs.Numbers.{checkpoints_by, CountsOn}
-use Rattle.engine.specs.Calls.{Calls, Ends, Works, Keeps, Serves, Does, Answers}
-use Rattle.engine.proofs.Moments.{err_again, stop_is, and_then}
+use Rattle.engine.specs.Calls.{Ends, Works, Keeps, Serves, Does, Answers}
+use Rattle.engine.proofs.Moments.{stop_is, and_then}
 use Rattle.engine.proofs.Asking.{asks_nothing, asks_same, asks_then, asks_stopped, has_group}
 use Rattle.engine.proofs.RingCounts.{counts, count_failed, count_answered, count_refused, count_then, run_makes, count_nothing}
 use Rattle.engine.proofs.Firsts.{step_where, touches_where}
-
-no_error : {T : Type 0} {x : T} {e : Stop} → IsErrOf {T = T} {E = Stop} (Ok x) e → ⊥
-no_error is = cc
+use Rattle.site.proofs.Working.{ok_as, err_again, no_error, calls_nothing, calls_then, calls_failed, calls_answered, calls_refused}
+use Rattle.site.specs.Work.{Calls}
 
 -- On every site.
 

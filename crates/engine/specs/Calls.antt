@@ -1,5 +1,5 @@
 -- What the calls of a run say, each as one record with the call's result as its index.
-use Rattle.std.specs.Prelude.{◌≡◌, ◌≢◌, ℕ, ◌+◌, ◌≤◌, List, Result, IfOk, OnOk, IfErr, IsErrOf}
+use Rattle.std.specs.Prelude.{◌≡◌, ◌≢◌, ◌+◌, ◌≤◌, List, Result, IfOk, OnOk, IfErr, IsErrOf}
 use Rattle.site.specs.declared.outside.Dev.{Dev}
 use Rattle.site.specs.declared.outside.Dev.TheVariants.{Log, Flash}
 use Rattle.site.specs.declared.outside.Stop.{Stop}
@@ -17,7 +17,7 @@ use Rattle.page_store.specs.Stopping.{MayStop}
 use Rattle.redo_undo.specs.Holding.{blocks_to, IsLogWorn}
 use Rattle.redo_undo.specs.Numbers.{SkipsNone}
 use Rattle.redo_undo.specs.Works.{Asks}
-pub use Rattle.redo_undo.specs.Calls.{Calls}
+pub use Rattle.site.specs.Work.{Calls}
 use Rattle.engine.specs.declared.store.Store.{Store}
 use Rattle.engine.specs.declared.engine.Engine.{Engine}
 use Rattle.engine.specs.Going.{MayWork, MayGoOn, sizes_of}

@@ -1,5 +1,5 @@
 -- What a restart leaves.
-use Rattle.std.specs.Prelude.{◌≡◌, ℕ, ◌+◌, ◌<◌, ◌≤◌, false, List, length, Option, Result, IfOk, IfErr}
+use Rattle.std.specs.Prelude.{◌≡◌, ◌+◌, ◌<◌, ◌≤◌, false, List, length, Option, Result, IfOk, IfErr}
 use Rattle.site.specs.declared.outside.Stop.{Stop}
 use Rattle.site.specs.State.{State, IsQuiet}
 use Rattle.sealed_ring.specs.Ready.{IsUsable, Finds}
@@ -22,9 +22,10 @@ use Rattle.engine.specs.Going.{MayWork, sizes_of}
 use Rattle.engine.specs.Holding.{Holds}
 use Rattle.engine.specs.Image.{log_under}
 use Rattle.engine.specs.Leaves.{LeavesTable}
-use Rattle.engine.specs.Calls.{Calls, Ends}
+use Rattle.engine.specs.Calls.{Ends}
 use Rattle.engine.specs.Numbers.{RestartsWithin}
 use Rattle.engine.specs.Paging.{AsksFrom, restart_works}
+use Rattle.site.specs.Work.{Calls}
 
 -- of every site: what was opened may be recovered
 pub record MayRecover (opened : Opened) (site : State) : Type 0 where

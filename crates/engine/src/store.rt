@@ -1,5 +1,5 @@
 // Log and pages of a run: the records that it logs, and the pages that they change.
-ghost use Rattle.std.specs.Prelude.{Option, map, reverse, ◌≡◌, ◌≢◌, ◌⊎◌, ◌+◌, ◌*◌, ◌/◌, ◌^◌, ◌<◌, ◌≤◌, ◌++◌, ◌∷◌, [], ℕ, List, length, IfOk, OnOk, IfErr};
+ghost use Rattle.std.specs.Prelude.{Option, map, reverse, ◌≡◌, ◌≢◌, ◌⊎◌, ◌+◌, ◌*◌, ◌/◌, ◌^◌, ◌<◌, ◌≤◌, ◌++◌, ◌∷◌, [], List, length, IfOk, OnOk, IfErr};
 ghost use Rattle.site.specs.declared.outside.Dev.{Dev};
 ghost use Rattle.site.specs.declared.outside.Stop.{Stop};
 ghost use Rattle.site.specs.State.{State};
@@ -25,11 +25,12 @@ ghost use Rattle.engine.specs.Going.{MayWork, sizes_of};
 ghost use Rattle.engine.specs.Holding.{Holds, HasCheckpoint, MayGrow, IsInFront, shown_in, update_by};
 ghost use Rattle.engine.specs.Rollback.{RollsBack};
 ghost use Rattle.engine.specs.Leaves.{LeavesTable};
-ghost use Rattle.engine.specs.Calls.{Calls, Works, Keeps};
+ghost use Rattle.engine.specs.Calls.{Works, Keeps};
 ghost use Rattle.record_model.specs.Touches.{write_touch};
 ghost use Rattle.redo_undo.specs.Works.{Asks, one_touch, checkpoint_works};
 ghost use Rattle.page_store.specs.Caching.{cache_of, rules, with_change};
 ghost use Rattle.site.specs.Calls.{SameReads};
+ghost use Rattle.site.specs.Work.{Calls};
 
 use checkpoint::Pairs;
 use log_records::LogRecord;

@@ -1,5 +1,5 @@
 -- Calls that ask the cache for work, one after the other.
-use Rattle.std.proofs.Common.{◌≡◌, ℕ, ◌+◌, ◌*◌, ◌^◌, ◌<◌, ◌≤◌, Bool, true, false, List, [], ◌++◌, arith, refl, sym, ap, subst, ◌∙◌}
+use Rattle.std.proofs.Common.{◌≡◌, ◌+◌, ◌*◌, ◌^◌, ◌<◌, ◌≤◌, Bool, true, false, List, [], ◌++◌, arith, refl, sym, ap, subst, ◌∙◌}
 use Rattle.std.specs.Prelude.{Result, Ok, Err, OnOk, IsErrOf, if◌then◌else◌}
 use Rattle.site.specs.declared.outside.Dev.TheVariants.{Flash, Disk}
 use Rattle.site.specs.declared.outside.Stop.{Stop}
@@ -12,10 +12,7 @@ use Rattle.page_store.specs.declared.store.PageStore.{PageStore}
 use Rattle.page_store.specs.Caching.{cache_of, rules, pushes}
 use Rattle.redo_undo.specs.Works.{next_group, one_touch, one_change, Overflows, ReadsFor, Asks}
 use Rattle.redo_undo.proofs.Costs.{works_add_up, reads_add_up, reads_for_more, overflows_with_more, touched_next}
-
--- an error that is Ok's or another's
-pub err_again : {A B : Type 0} (stop is : Stop) → IsErrOf {T = A} (Err stop) is → IsErrOf {T = B} (Err stop) is
-err_again stop is same = let equal : stop ≡ is = cc in ap Err equal
+use Rattle.site.proofs.Working.{err_again}
 
 -- One touch.
 

@@ -1,6 +1,6 @@
 -- What undo asks of the cache: calls on the log alone, and one Update after the other.
-use Rattle.std.proofs.Common.{◌≡◌, ◌≢◌, ◌⊎◌, inl, inr, ℕ, ◌+◌, ◌*◌, ◌<◌, ◌≤◌, true, List, [], ◌∷◌, ◌++◌, append_assoc, Option, Some, arith, refl, sym, ap, subst, ◌∙◌}
-use Rattle.std.specs.Prelude.{Result, Ok, Err, OnOk, IfErr, IsErrOf, option_map, ⊤}
+use Rattle.std.proofs.Common.{◌≡◌, ◌≢◌, ◌⊎◌, inl, inr, ◌+◌, ◌*◌, ◌<◌, ◌≤◌, true, List, [], ◌∷◌, ◌++◌, append_assoc, Option, Some, arith, refl, sym, ap, subst, ◌∙◌}
+use Rattle.std.specs.Prelude.{Result, Ok, Err, OnOk, IfErr, IsErrOf, option_map}
 use Rattle.std.specs.List.{cons_option}
 use Rattle.std.proofs.lemmas.List.Elements.{filter_map-append}
 use Rattle.site.specs.declared.outside.Dev.{Dev}
@@ -19,7 +19,8 @@ use Rattle.page_store.specs.Laws.{TouchThenChange}
 use Rattle.redo_undo.specs.Works.{one_touch, one_change, ReadsFor, Asks}
 use Rattle.redo_undo.specs.UndoWorks.{works_of}
 use Rattle.redo_undo.proofs.Costs.{reads_add_up}
-use Rattle.redo_undo.proofs.Asking.{err_again, change_reads, change_overflows, asks_then, asks_stopped}
+use Rattle.redo_undo.proofs.Asking.{change_reads, change_overflows, asks_then, asks_stopped}
+use Rattle.site.proofs.Working.{err_again}
 
 -- Calls on the log alone.
 

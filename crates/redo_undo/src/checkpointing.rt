@@ -1,5 +1,5 @@
 // A checkpoint: what is unsealed is sealed, the changed pages are flushed, and a new master is saved.
-ghost use Rattle.std.specs.Prelude.{◌≡◌, ◌≢◌, ◌⊎◌, ◌+◌, ◌*◌, ◌^◌, ◌<◌, ◌≤◌, ℕ, List, false, Option, Some, min, IsTrue, IfOk, OnOk, IfErr, IsErrOf};
+ghost use Rattle.std.specs.Prelude.{◌≡◌, ◌≢◌, ◌⊎◌, ◌+◌, ◌*◌, ◌^◌, ◌<◌, ◌≤◌, List, false, Option, Some, min, IsTrue, IfOk, OnOk, IfErr, IsErrOf};
 ghost use Rattle.site.specs.declared.outside.Dev.{Dev};
 ghost use Rattle.site.specs.declared.outside.Stop.{Stop};
 ghost use Rattle.site.specs.State.{IsQuiet, reads_of};
@@ -27,7 +27,8 @@ ghost use Rattle.redo_undo.specs.Holding.{MayGoOn, Holds, blocks_to};
 ghost use Rattle.redo_undo.specs.Checkpointing.{MayBeMade, KeepUnfinished, begins_of, SaveLaws};
 ghost use Rattle.redo_undo.specs.Works.{Asks, checkpoint_works};
 ghost use Rattle.redo_undo.specs.Numbers.{SkipsNone};
-ghost use Rattle.redo_undo.specs.Calls.{Calls, Works, Keeps};
+ghost use Rattle.redo_undo.specs.Calls.{Works, Keeps};
+ghost use Rattle.site.specs.Work.{Calls};
 
 use crate::forcing::force;
 use crate::laws::{beside_laws, log_laws, page_laws};

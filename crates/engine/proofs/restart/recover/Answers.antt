@@ -1,4 +1,4 @@
-use Rattle.std.proofs.Common.{◌≡◌, ◌∙◌, ◌++◌, Err, ℕ, List, false, ap, sym, subst, arith, ◌≤◌, refl}
+use Rattle.std.proofs.Common.{◌≡◌, ◌∙◌, ◌++◌, Err, List, false, ap, sym, subst, arith, ◌≤◌, refl}
 use Rattle.site.specs.declared.geometry.Geometry.{Geometry}
 use Rattle.site.specs.declared.outside.Stop.TheVariants.{Foreign}
 use Rattle.site.specs.State.{IsQuiet}
@@ -12,19 +12,20 @@ use Rattle.redo_undo.specs.Works.{Asks, redo_works, undo_works, checkpoint_works
 use Rattle.redo_undo.proofs.Saved.{finds_kept}
 use Rattle.redo_undo.specs.declared.redo_pass.Redone.{Redone}
 use Rattle.second_chance.specs.Machine.{Rules}
-use Rattle.engine.specs.Calls.{Calls, Ends}
-use Rattle.engine.proofs.Calling.{calls_then, calls_failed, calls_answered, calls_refused, ends_ok, ends_failed, ends_answered, ends_then, ends_of}
+use Rattle.engine.specs.Calls.{Ends}
+use Rattle.engine.proofs.Calling.{ends_ok, ends_failed, ends_answered, ends_then, ends_of}
 use Rattle.engine.specs.Holding.{HasCheckpoint}
 use Rattle.engine.specs.Image.{log_under}
 use Rattle.engine.specs.Leaves.{LeavesTable}
 use Rattle.engine.proofs.Asking.{asks_then, asks_stopped, from_ok, from_err, from_stopped}
-use Rattle.engine.proofs.Moments.{err_again}
+use Rattle.site.specs.Work.{Calls}
 use Rattle.engine.proofs.Recovers.{no_tail_still, owed_found, commits_fit, commits_found, may_be_made, restarted_as}
 use Rattle.engine.proofs.RingCounts.{opened_next, restart_failed, restart_done}
 use Rattle.redo_undo.proofs.RingNumbers.{skips_on, then_skips}
 use Rattle.std.specs.Prelude.{Ok}
 use Rattle.analysis.specs.Open.{owed_for}
 use Rattle.analysis.specs.Table.{listed}
+use Rattle.site.proofs.Working.{calls_then, calls_failed, calls_answered, calls_refused, err_again}
 use Rattle.engine.proofs.restart.recover.Goals as goal
 
 pub returns-in-Err-clause-recovers : goal.returns-in-Err-clause-recovers

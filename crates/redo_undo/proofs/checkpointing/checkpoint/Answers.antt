@@ -1,4 +1,4 @@
-use Rattle.std.proofs.Common.{◌≡◌, Err, refl, ap, arith, ◌≤◌, inr, subst, sym, ℕ, ◌∙◌}
+use Rattle.std.proofs.Common.{◌≡◌, Err, refl, ap, arith, ◌≤◌, inr, subst, sym, ◌∙◌}
 use Rattle.site.specs.declared.outside.Dev.TheVariants.{Flash}
 use Rattle.site.specs.declared.outside.Stop.TheVariants.{Worn}
 use Rattle.site.specs.Laws.{stays_honest}
@@ -6,7 +6,7 @@ use Rattle.page_store.specs.Caching.{rules}
 use Rattle.redo_undo.specs.Works.{checkpoint_works}
 use Rattle.redo_undo.proofs.AskingUndo.{asks_refused, log_alone}
 use Rattle.redo_undo.proofs.AskingFlush.{not_worn_flash, never_worn_flash, asks_around}
-use Rattle.redo_undo.proofs.Redoings.{ok_always, ok_one_of}
+use Rattle.site.proofs.Working.{ok_always, ok_as, calls_failed, calls_then}
 use Rattle.redo_undo.proofs.Saved.{may_still, then_for}
 use Rattle.std.specs.Prelude.{min}
 use Rattle.redo_undo.specs.Holding.{blocks_to}
@@ -18,7 +18,7 @@ use Rattle.log_store.specs.Held.{end_of}
 use Rattle.image_meaning.specs.Flushed.{first_block}
 use Rattle.redo_undo.specs.Checkpointing.{begins_of}
 use Rattle.redo_undo.proofs.RingNumbers.{then_skips, skips_on}
-use Rattle.redo_undo.proofs.Calling.{appends_foreign, calls_failed, calls_then, keeps_appended, keeps_then, keeps_unsaved}
+use Rattle.redo_undo.proofs.Calling.{appends_foreign, keeps_appended, keeps_then, keeps_unsaved}
 use Rattle.redo_undo.proofs.checkpointing.checkpoint.Goals as goal
 
 pub returns-in-Err-clause-quiet : goal.returns-in-Err-clause-quiet
@@ -85,7 +85,7 @@ returns-clause-found g c newest records table h may =
     let held' = c.in-Ok-flush.ensures.holds newest records table c.args.commits held in
     let may' = may_still c.args.masters.now mid flushed records c.args.active c.requires.shape ((c.in-Ok-flush.ensures.keeps newest records table c.args.commits held).masters refl)
     (may_still c.args.masters.now old mid records c.args.active c.requires.shape ((c.in-Ok.ensures.keeps pages newest records table c.args.commits h).masters) may) in
-    ok_one_of c.save_master.result (IsReady c.save_master.new.masters (g.S.Site.state c.save_master.new.site)) (Finds c.save_master.new.masters (g.S.Site.state c.save_master.new.site))
+    ok_as c.save_master.result (IsReady c.save_master.new.masters (g.S.Site.state c.save_master.new.site)) (Finds c.save_master.new.masters (g.S.Site.state c.save_master.new.site))
     (λ is. record { form = is.form; hi = is.hi }) (c.save_master.ensures.ready (stays_honest mid flushed c.flush.ensures.works.calls.goes (stays_honest old mid c.force.ensures.works.calls.goes honest)) may'.ring)
 
 pub returns-in-Err-clause-asks : goal.returns-in-Err-clause-asks

@@ -9,7 +9,7 @@ use Rattle.second_chance.specs.Machine.{rules_of}
 use Rattle.page_store.specs.Caching.{cache_of, rules}
 use Rattle.redo_undo.proofs.Asking.{touch_overflows, touch_reads}
 use Rattle.image_changes.specs.Rings.{Masters, KeepsUnits, master_shape}
-use Rattle.redo_undo.proofs.Redoings.{ok_one_of}
+use Rattle.site.proofs.Working.{ok_as}
 use Rattle.page_store.specs.Held.{current}
 use Rattle.redo_undo.proofs.LeftNumbers.{pages_skip, ready_next}
 use Rattle.redo_undo.proofs.logging.touch.Goals as goal
@@ -60,6 +60,6 @@ returns-clause-keeps g c newest records table commits h =
       quiet = c.touch.ensures.quiet list ready;
       worn_log = λ worn. inl (c.touch.ensures.worn_log_end list ready worn);
       worn = c.touch.ensures.worn_end list ready;
-      masters = λ none. ok_one_of c.touch.result _ (KeepsUnits master_shape site.image new.image) (λ leaves. leaves.rings Masters (λ same. cc) (λ same. cc)) (c.touch.ensures.leaves list ready);
+      masters = λ none. ok_as c.touch.result _ (KeepsUnits master_shape site.image new.image) (λ leaves. leaves.rings Masters (λ same. cc) (λ same. cc)) (c.touch.ensures.leaves list ready);
       readable = λ is. c.touch.ensures.foreign is list ready;
     }

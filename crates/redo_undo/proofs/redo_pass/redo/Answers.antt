@@ -1,5 +1,5 @@
-use Rattle.std.proofs.Common.{◌≡◌, ◌≤◌, ◌+◌, ◌<◌, List, [], length, take, drop, suc, Err, refl, sym, subst, ◌∙◌, arith, ◌-◌, inl, ℕ, ◌⊎◌}
-use Rattle.std.specs.Prelude.{⊤, Ok}
+use Rattle.std.proofs.Common.{◌≡◌, ◌≤◌, ◌+◌, ◌<◌, List, [], length, take, drop, suc, Err, refl, sym, subst, ◌∙◌, arith, ◌-◌, inl, ◌⊎◌}
+use Rattle.std.specs.Prelude.{Ok}
 use Rattle.log_records.specs.Log.{Entry, log_from}
 use Rattle.checkpoint.specs.declared.master.Master.{Master}
 use Rattle.checkpoint.specs.Newest.{seen}
@@ -15,7 +15,8 @@ use Rattle.site.specs.declared.outside.Stop.TheVariants.{Worn, Device, Foreign}
 use Rattle.site.specs.declared.outside.Dev.TheVariants.{Log}
 use Rattle.redo_undo.proofs.RedoWorks.{stops_first, not_worn_log, stops_reading, asks_with_read, asks_more, asks_all, stops_within}
 use Rattle.redo_undo.specs.Calls.{ReadsOne}
-use Rattle.redo_undo.proofs.Calling.{calls_read, calls_then, keeps_answered, keeps_failed, keeps_opened, keeps_redoing, keeps_refused_by, keeps_then, logs_refused_by, no_error, of_error, works_answered, works_nothing, works_read, works_stopped, works_then, reads_worn}
+use Rattle.redo_undo.proofs.Calling.{calls_read, keeps_answered, keeps_failed, keeps_opened, keeps_redoing, keeps_refused_by, keeps_then, logs_refused_by, works_answered, works_nothing, works_read, works_stopped, works_then, reads_worn}
+use Rattle.site.proofs.Working.{calls_then, no_error, of_error}
 use Rattle.redo_undo.proofs.redo_pass.redo.Goals as goal
 
 pub returns-in-Err-clause-keeps : goal.returns-in-Err-clause-keeps

@@ -4,7 +4,7 @@ use Rattle.log_records.specs.Log.{Entry}
 use Rattle.checkpoint.specs.declared.master.Master.{Master}
 use Rattle.page_store.specs.Caching.{rules}
 use Rattle.redo_undo.specs.Redoing.{asked_of}
-use Rattle.redo_undo.proofs.Redoings.{ok_one_of}
+use Rattle.site.proofs.Working.{ok_as}
 use Rattle.redo_undo.proofs.NextRecords.{may_step, known_before, no_change}
 use Rattle.redo_undo.proofs.RedoWorks.{stops_first, not_worn, asks_early, asks_late}
 use Rattle.redo_undo.proofs.TakenRecords.{analysis_to, analysis_back, step_to}
@@ -33,7 +33,7 @@ returns-clause-taken g c o front rest own h is =
     let heard = c.in_default.ensures.heard front (analysis_to o c.args.master.now own front c.args.so_far.now.found h.analysis)
     (step_to o c.args.master.now own front e (may_step c.page_laws.ensures c.redo_laws.ensures o c.args.log.now c.args.pages.now (g.S.Site.state c.args.site.now) front h.pages_are e rest is)) in
     let count = h.count in
-    ok_one_of c.redo_record.result _ _ (λ pages_are. record { pages_are = pages_are; analysis = analysis_back o c.args.master.now own (front ++ e ∷ []) _ heard; count = omega (arith, count, length-append front (e ∷ [])) })
+    ok_as c.redo_record.result _ _ (λ pages_are. record { pages_are = pages_are; analysis = analysis_back o c.args.master.now own (front ++ e ∷ []) _ heard; count = omega (arith, count, length-append front (e ∷ [])) })
     (c.redo_record.ensures.redoing o front rest h.pages_are is)
 
 pub returns-in-Err-clause-asks : goal.returns-in-Err-clause-asks

@@ -3,13 +3,14 @@ use Rattle.std.specs.Prelude.{◌≡◌}
 use Rattle.page_store.specs.Ahead.{forces, pushed_by_touch}
 use Rattle.log_store.specs.LogList.{LogList}
 use Rattle.redo_undo.specs.Redoing.{IsRedoing}
-use Rattle.redo_undo.proofs.Redoings.{never_forced, rings_given, rings_of, touch_leaves, touched, ok_five_of, ok_one_of}
+use Rattle.redo_undo.proofs.Redoings.{never_forced, rings_given, rings_of, touch_leaves, touched, ok_five_of}
 use Rattle.second_chance.specs.Machine.{rules_of}
 use Rattle.page_store.specs.Caching.{cache_of, rules}
 use Rattle.redo_undo.proofs.Asking.{touch_overflows, touch_reads}
 use Rattle.image_meaning.specs.Meaning.{kept_by}
 use Rattle.redo_undo.proofs.UndoneNumbers.{skips_touch}
 use Rattle.image_changes.specs.Rings.{KeepsUnits, Masters, master_shape}
+use Rattle.site.proofs.Working.{ok_as}
 use Rattle.redo_undo.proofs.redo_pass.touch_page.Goals as goal
 
 pub returns-clause-redoing : goal.returns-clause-redoing
@@ -55,5 +56,5 @@ returns-clause-keeps g c o front h =
       worn_log = λ worn. inl (c.touch.ensures.worn_log_end list h.ready worn);
       worn = c.touch.ensures.worn_end list h.ready;
       readable = λ is. c.touch.ensures.foreign is list h.ready;
-      masters = λ none. ok_one_of c.touch.result _ (KeepsUnits master_shape site.image new.image) (λ leaves. leaves.rings Masters (λ same. cc) (λ same. cc)) (c.touch.ensures.leaves list h.ready);
+      masters = λ none. ok_as c.touch.result _ (KeepsUnits master_shape site.image new.image) (λ leaves. leaves.rings Masters (λ same. cc) (λ same. cc)) (c.touch.ensures.leaves list h.ready);
     }

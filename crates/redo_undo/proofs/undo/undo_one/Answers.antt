@@ -1,5 +1,5 @@
-use Rattle.std.specs.Prelude.{⊤, IsErrOf}
-use Rattle.std.proofs.Common.{Ok, Err, inr, ◌≤◌, ◌≡◌, ◌+◌, ◌++◌, ◌∷◌, [], ℕ, length, true≢false, refl, sym, ap, subst, ◌∙◌, arith}
+use Rattle.std.specs.Prelude.{IsErrOf}
+use Rattle.std.proofs.Common.{Ok, Err, inr, ◌≤◌, ◌≡◌, ◌+◌, ◌++◌, ◌∷◌, [], length, refl, sym, ap, subst, ◌∙◌, arith}
 use Rattle.site.specs.declared.geometry.Geometry.{Geometry}
 use Rattle.site.specs.declared.outside.Dev.TheVariants.{Log, Flash}
 use Rattle.site.specs.declared.outside.Stop.TheVariants.{Worn, Foreign}
@@ -12,7 +12,8 @@ use Rattle.redo_undo.proofs.Rollbacks.{none_remains, room_for_end, may_end, owes
 use Rattle.page_store.specs.Caching.{rules}
 use Rattle.redo_undo.specs.Works.{Asks, undo_one_works}
 use Rattle.redo_undo.proofs.AskingUndo.{log_alone, none_read, not_worn, not_worn_flash, is_error, asks_refused, asks_later, asks_before, stops_again}
-use Rattle.redo_undo.proofs.Calling.{calls_read, calls_then, held_read, keeps_answered, keeps_appended, keeps_failed, keeps_few, keeps_read, keeps_then, works_answered, works_appended, works_failed, works_foreign, works_read, works_stopped, works_then}
+use Rattle.redo_undo.proofs.Calling.{calls_read, held_read, keeps_answered, keeps_appended, keeps_failed, keeps_few, keeps_read, keeps_then, works_answered, works_appended, works_failed, works_foreign, works_read, works_stopped, works_then}
+use Rattle.site.proofs.Working.{calls_then}
 use Rattle.redo_undo.proofs.undo.undo_one.Goals as goal
 
 pub undo_updates-requires-clause-going : goal.undo_updates-requires-clause-going

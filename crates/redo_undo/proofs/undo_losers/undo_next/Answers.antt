@@ -1,4 +1,4 @@
-use Rattle.std.proofs.Common.{◌∙◌, ◌++◌, [], ◌∷◌, ◌≤◌, inr, refl, ℕ, drop, sym, subst, arith}
+use Rattle.std.proofs.Common.{◌∙◌, ◌++◌, [], ◌∷◌, ◌≤◌, inr, refl, drop, sym, subst, arith}
 use Rattle.analysis.specs.Open.{Open, Replaces, TakesOut}
 use Rattle.analysis.specs.Table.{listed}
 use Rattle.redo_undo.specs.UndoingAll.{Remain, HasNone}
@@ -11,9 +11,10 @@ use Rattle.redo_undo.specs.UndoWorks.{works_of, IsLastAt, UndoesUpdates}
 use Rattle.redo_undo.proofs.AskingUndo.{none_read, not_worn, never_worn, asks_refused, asks_before}
 use Rattle.redo_undo.proofs.UndoneUpdates.{more_updates}
 use Rattle.redo_undo.proofs.Opens.{some_owed}
-use Rattle.redo_undo.proofs.Calling.{ends_stop, err_as, keeps_few, keeps_then, works_at_once, works_beside, works_then}
+use Rattle.redo_undo.proofs.Calling.{ends_stop, keeps_few, keeps_then, works_at_once, works_beside, works_then}
 use Rattle.std.proofs.lemmas.Option.{none-some}
 use Rattle.site.specs.declared.outside.Dev.TheVariants.{Log}
+use Rattle.site.proofs.Working.{err_as}
 use Rattle.redo_undo.proofs.undo_losers.undo_next.Goals as goal
 
 pub returns-then-loser-gt1-clause-remain : goal.returns-then-loser-gt1-clause-remain

@@ -1,5 +1,5 @@
 use Rattle.std.specs.Prelude.{Ok}
-use Rattle.std.proofs.Common.{ℕ, Err, ◌≤◌, ◌+◌, List, refl, sym, subst, arith}
+use Rattle.std.proofs.Common.{Err, ◌≤◌, ◌+◌, List, refl, sym, subst, arith}
 use Rattle.site.specs.Laws.{stays_honest}
 use Rattle.checkpoint.specs.declared.pairs.Pair.{Pair}
 use Rattle.image_meaning.specs.Flushed.{first_block}
@@ -12,7 +12,8 @@ use Rattle.engine.specs.Leaves.{LeavesTable}
 use Rattle.engine.proofs.Keeping.{LetsGo, lets_go}
 use Rattle.engine.proofs.Checkpoints.{may_be_made, goes_on, fits_after}
 use Rattle.engine.specs.Calls.{Keeps}
-use Rattle.engine.proofs.Calling.{calls_answered, does_of, keeps_answered, keeps_failed}
+use Rattle.engine.proofs.Calling.{does_of, keeps_answered, keeps_failed}
+use Rattle.site.proofs.Working.{calls_answered}
 use Rattle.engine.proofs.engine.Engine.carry_out_checkpoint.Goals as goal
 
 pub checkpoint-requires-clause-first : goal.checkpoint-requires-clause-first

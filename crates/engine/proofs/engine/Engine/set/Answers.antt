@@ -5,7 +5,7 @@ use Rattle.page_store.specs.Caching.{cache_of, rules}
 use Rattle.engine.specs.Going.{sizes_of}
 use Rattle.engine.specs.Fits.{checkpointed_if}
 use Rattle.engine.specs.Leaves.{LeavesEither}
-use Rattle.engine.proofs.Moments.{err_again}
+use Rattle.site.proofs.Working.{err_again}
 use Rattle.engine.proofs.Asking.{has_group}
 use Rattle.engine.proofs.Firsts.{overflows_before}
 use Rattle.engine.proofs.Calling.{first_then, first_failed, early, late_either, serves_then}

@@ -1,7 +1,7 @@
-use Rattle.std.proofs.Common.{ℕ, Some, ap, ◌∙◌, refl, arith}
+use Rattle.std.proofs.Common.{Some, ap, ◌∙◌, refl, arith}
 use Rattle.lock_table.specs.Locks.{busy_write}
 use Rattle.txn_table.specs.Entries.{entry_of}
-use Rattle.engine.proofs.Moments.{err_again}
+use Rattle.site.proofs.Working.{err_again}
 use Rattle.engine.proofs.Owing.{entry_is}
 use Rattle.engine.proofs.Calling.{answered, written, does_nothing, does_failed, asks_rest, still}
 use Rattle.engine.proofs.engine.Engine.write.Goals as goal

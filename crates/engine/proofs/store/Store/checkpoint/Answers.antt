@@ -1,7 +1,7 @@
 use Rattle.site.specs.declared.outside.Dev.TheVariants.{Log, Flash}
 use Rattle.site.specs.declared.outside.Stop.TheVariants.{Worn}
 use Rattle.redo_undo.proofs.RingNumbers.{skips_again, skips_answered}
-use Rattle.engine.proofs.Moments.{err_again}
+use Rattle.site.proofs.Working.{err_again}
 use Rattle.engine.proofs.Calling.{keeps_ok, no_foreign}
 use Rattle.engine.proofs.store.Store.checkpoint.Goals as goal
 

@@ -8,7 +8,7 @@ use Rattle.redo_undo.proofs.Saved.{finds_kept}
 use Rattle.engine.specs.declared.store.Store.{Store}
 use Rattle.engine.specs.Rollback.{RollsBack}
 use Rattle.engine.proofs.Rollbacks.{active_left, rolls_back, has_room}
-use Rattle.engine.proofs.Moments.{err_again}
+use Rattle.site.proofs.Working.{err_again}
 use Rattle.engine.proofs.Calling.{keeps_ok}
 use Rattle.redo_undo.proofs.RingNumbers.{skips_weaker, skips_again, skips_answered}
 use Rattle.engine.proofs.store.Store.roll_back.Goals as goal
