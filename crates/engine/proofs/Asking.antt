@@ -1,6 +1,6 @@
 -- Calls that ask the cache for work, one after the other.
-use Rattle.std.proofs.Common.{◌⊎◌, inl, inr, map, append_assoc, ◌-◌, ◌/◌, ◌≡◌, ◌+◌, ◌^◌, ◌≤◌, ◌<◌, List, [], ◌∷◌, ◌++◌, arith, refl, sym, ap, subst, ◌∙◌}
-use Rattle.std.specs.Prelude.{Result, Ok, Err, OnOk, IsErrOf}
+use Rattle.std.proofs.Common.{◌⊎◌, inl, inr, map, append_assoc, ◌-◌, ◌/◌, ◌≡◌, ◌+◌, ◌≤◌, ◌<◌, List, [], ◌∷◌, ◌++◌, arith, sym, ap, subst, ◌∙◌, ℕ}
+use Rattle.std.specs.Prelude.{Result, Ok, Err, IsErrOf}
 use Rattle.site.specs.declared.outside.Dev.TheVariants.{Log, Flash, Disk}
 use Rattle.site.specs.declared.outside.Stop.{Stop}
 use Rattle.site.specs.declared.outside.Stop.TheVariants.{Device, Worn, Memory, Foreign}
@@ -10,92 +10,18 @@ use Rattle.std.specs.List.{range_with_len}
 use Rattle.std.proofs.lemmas.List.{map-append}
 use Rattle.record_model.specs.Touches.{CacheWork, read_touch}
 use Rattle.engine.proofs.Scans.{range_more, range_at}
-use Rattle.second_chance.specs.Machine.{Rules, Cache, after_works}
+use Rattle.second_chance.specs.Machine.{Rules, Cache}
 use Rattle.page_store.specs.declared.store.PageStore.{PageStore}
 use Rattle.page_store.specs.Caching.{cache_of, rules, with_change}
 use Rattle.page_store.specs.Laws.{TouchThenChange}
-use Rattle.redo_undo.specs.Works.{next_group, one_touch, one_change, ReadsFor, Asks, WorksAddUp, ReadsAddUp, ReadsForMore, NumbersRise, OverflowsWithMore, ChangeReads, ChangeOverflows}
-use Rattle.engine.specs.declared.store.Store.{Store}
+use Rattle.redo_undo.specs.Works.{one_touch, one_change, ReadsFor, Asks, WorksAddUp, ReadsAddUp, ReadsForMore, NumbersRise, OverflowsWithMore, ChangeReads, ChangeOverflows}
+use Rattle.redo_undo.specs.declared.store.Store.{Store}
 use Rattle.engine.specs.declared.engine.Engine.{Engine}
-use Rattle.engine.specs.Going.{MayWork, MayGoOn}
+use Rattle.engine.specs.Going.{MayGoOn}
 use Rattle.engine.specs.Paging.{AsksFrom}
 use Rattle.site.proofs.Working.{err_again}
-
-always : {T : Type 0} {P : Type 0} (r : Result T Stop) → P → OnOk r P
-always (Ok x) p = p
-always (Err stop) p = tt
-
--- the same for other work, where the two are equal
-pub asks_same : {T : Type 0} (result : Result T Stop) (works other : List CacheWork) (old new : PageStore) (before now : Site) → works ≡ other → Asks result other old new before now → Asks result works old new before now
-asks_same result works other old new before now same asks = subst (λ (w : List CacheWork). Asks result w old new before now) (sym same) asks
-
--- a call that does no work, and doesn't find flash worn
-pub asks_nothing : {T : Type 0} (result : Result T Stop) (pages : PageStore) (before now : Site) → SameReads before now → (IsErrOf result (Worn Flash) → ⊥) → Asks result [] pages pages before now
-asks_nothing result pages before now same never = record {
-  machine = always result refl;
-  worn = λ is. absurd (never is);
-  reads = record { flash = (let flash = same Flash in omega (arith, flash)); disk = (let disk = same Disk in omega (arith, disk)) };
-  rules_are = refl;
-}
-
--- before any call
-pub no_asks : (pages : PageStore) (now : Site) → Asks {T = Unit {0}} (Ok tt) [] pages pages now now
-no_asks pages now = record { machine = refl; worn = λ is. absurd (no_error is); reads = record { flash = omega arith; disk = omega arith }; rules_are = refl }
-  where
-    no_error : IsErrOf {T = Unit {0}} {E = Stop} (Ok tt) (Worn Flash) → ⊥
-    no_error is = cc
-
--- another answer of the same call
-pub asks_ok : {A B : Type 0} (a : A) (b : B) (works : List CacheWork) (old new : PageStore) (before now : Site) → Asks {T = A} (Ok a) works old new before now → Asks {T = B} (Ok b) works old new before now
-asks_ok {A} {B} a b works old new before now asks = record { machine = asks.machine; worn = λ is. absurd (no_error is); reads = asks.reads; rules_are = asks.rules_are }
-  where
-    no_error : IsErrOf {T = B} (Ok b) (Worn Flash) → ⊥
-    no_error is = cc
-
-pub asks_err : {A B : Type 0} (stop : Stop) (works : List CacheWork) (old new : PageStore) (before now : Site) → Asks {T = A} (Err stop) works old new before now → Asks {T = B} (Err stop) works old new before now
-asks_err stop works old new before now asks = record { machine = tt; worn = λ is. asks.worn (err_again stop (Worn Flash) is); reads = asks.reads; rules_are = asks.rules_are }
-
--- a call that fails behind it for another reason
-pub asks_fails : {A B : Type 0} (a : A) (stop : Stop) (works : List CacheWork) (old new : PageStore) (before now : Site) → (stop ≡ Worn Flash → ⊥) → Asks {T = A} (Ok a) works old new before now → Asks {T = B} (Err stop) works old new before now
-asks_fails {A} {B} a stop works old new before now never asks = record {
-  machine = tt;
-  worn = λ is. absurd (never (same is));
-  reads = asks.reads;
-  rules_are = asks.rules_are;
-}
-  where
-    same : IsErrOf {T = B} (Err stop) (Worn Flash) → stop ≡ Worn Flash
-    same is = cc
-
--- a call after one that was Ok
-pub asks_then : WorksAddUp → ReadsAddUp → {A B : Type 0} (a : A) (result : Result B Stop) (first later : List CacheWork) (old mid new : PageStore) (before between now : Site) →
-    Asks {T = A} (Ok a) first old mid before between → Asks result later mid new between now → Asks result (first ++ later) old new before now
-asks_then add reads a result first later old mid new before between now one two =
-    let start : cache_of mid ≡ after_works (rules old) first (cache_of old) = one.machine in
-    let all : after_works (rules old) (first ++ later) (cache_of old) ≡ after_works (rules old) later (after_works (rules old) first (cache_of old)) = add (rules old) first later (cache_of old) in
-    let there : after_works (rules mid) later (cache_of mid) ≡ after_works (rules old) (first ++ later) (cache_of old) =
-    ap (λ (r : Rules). after_works r later (cache_of mid)) one.rules_are ∙ ap (after_works (rules old) later) start ∙ sym all in
-    record {
-      machine = on_ok _ _ _ result two.machine there;
-      worn = λ is. subst (λ (c : Cache). 2 ^ 40 < next_group c) there (two.worn is);
-      reads = reads (rules old) first later (cache_of old) before between now one.reads
-          (subst (λ (c : Cache). ReadsFor (rules old) later c between now) start (subst (λ (r : Rules). ReadsFor r later (cache_of mid) between now) one.rules_are two.reads));
-      rules_are = two.rules_are ∙ one.rules_are;
-    }
-  where
-    on_ok : {B : Type 0} (c d e : Cache) (r : Result B Stop) → OnOk r (c ≡ d) → d ≡ e → OnOk r (c ≡ e)
-    on_ok c d e (Ok x) is there = is ∙ there
-    on_ok c d e (Err stop) is there = tt
-
--- a call that stops before all of some work is done
-pub asks_stopped : ReadsForMore → OverflowsWithMore → {A B : Type 0} (stop : Stop) (first later : List CacheWork) (old new : PageStore) (before now : Site) → 1 ≤ (rules old).groups →
-    Asks {T = A} (Err stop) first old new before now → Asks {T = B} (Err stop) (first ++ later) old new before now
-asks_stopped more over stop first later old new before now some asks = record {
-  machine = tt;
-  worn = λ is. over (rules old) first later (cache_of old) some (asks.worn (err_again stop (Worn Flash) is));
-  reads = more (rules old) first later (cache_of old) before now some asks.reads;
-  rules_are = asks.rules_are;
-}
+use Rattle.redo_undo.specs.Stores.{MayWork}
+use Rattle.redo_undo.proofs.Asking.{asks_then, asks_stopped, asks_same}
 
 -- A page that is touched, and then changed.
 
@@ -169,7 +95,7 @@ pub scan_more : WorksAddUp → ReadsAddUp → {A B : Type 0} (a : A) (result : R
     Asks result (map read_touch (range_with_len number (offset + 1))) old new before now
 scan_more add reads a result number offset old mid new before between now one two =
     asks_same result _ _ old new before now (ap (map read_touch) (range_more number offset) ∙ map-append read_touch (range_with_len number offset) ((number + offset) ∷ []))
-    (asks_then add reads a result (map read_touch (range_with_len number offset)) (one_touch ((number + offset) / 32)) old mid new before between now one two)
+    (asks_then a result (map read_touch (range_with_len number offset)) (one_touch ((number + offset) / 32)) old mid new before between now one two)
 
 -- it stops before all of them are read
 pub scan_stops : ReadsForMore → OverflowsWithMore → {A B : Type 0} (stop : Stop) (number offset count : ℕ) (old new : PageStore) (before now : Site) → 1 ≤ (rules old).groups → offset < count →
@@ -179,7 +105,7 @@ scan_stops more over {A} {B} stop number offset count old new before now some le
     let all : range_with_len number count ≡ range_with_len number (offset + 1) ++ rest =
     range_at number offset count less ∙ sym (append_assoc (range_with_len number offset) ((number + offset) ∷ []) rest) ∙ ap (λ (l : List ℕ). l ++ rest) (sym (range_more number offset)) in
     asks_same {T = B} (Err stop) _ _ old new before now (ap (map read_touch) all ∙ map-append read_touch (range_with_len number (offset + 1)) rest)
-    (asks_stopped more over stop (map read_touch (range_with_len number (offset + 1))) (map read_touch rest) old new before now some asks)
+    (asks_stopped stop (map read_touch (range_with_len number (offset + 1))) (map read_touch rest) old new before now some asks)
 
 -- A restart.
 
@@ -210,7 +136,7 @@ from_err stop pages works old new before now asks = record {
 pub from_stopped : ReadsForMore → OverflowsWithMore → {A B : Type 0} (stop : Stop) (pages : B → PageStore) (first later : List CacheWork) (old new : PageStore) (before now : Site) → 1 ≤ (rules old).groups →
     Asks {T = A} (Err stop) first old new before now → AsksFrom {T = B} (Err stop) pages (rules old) (first ++ later) (cache_of old) 0 before now
 from_stopped more over {A} {B} stop pages first later old new before now some asks =
-    let all : Asks {T = B} (Err stop) (first ++ later) old new before now = asks_stopped more over stop first later old new before now some asks in
+    let all : Asks {T = B} (Err stop) (first ++ later) old new before now = asks_stopped stop first later old new before now some asks in
     from_err stop pages (first ++ later) old new before now all
 
 -- the queue was found before

@@ -1,5 +1,5 @@
 -- A command before which a checkpoint is made.
-use Rattle.std.proofs.Common.{◌≤◌, ◌≡◌, ◌/◌, ◌&&◌, not, Bool, true, false, List, [], ◌∷◌, ◌++◌, Option, None, Some, refl, sym, ap, ◌∙◌, arith}
+use Rattle.std.proofs.Common.{◌≤◌, ◌≡◌, ◌/◌, ◌&&◌, not, Bool, true, false, List, [], ◌∷◌, ◌++◌, Option, None, Some, refl, sym, ap, ◌∙◌, arith, ℕ}
 use Rattle.std.specs.Prelude.{IsSome, is_none, nat_le, if◌then◌else◌}
 use Rattle.record_model.specs.declared.words.Command.{Command}
 use Rattle.record_model.specs.declared.words.Command.TheVariants.{Begin, Read, Abort}

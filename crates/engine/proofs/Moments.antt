@@ -1,6 +1,5 @@
 -- Calls one after the other.
-use Rattle.std.proofs.Common.{◌≡◌, ◌⊎◌, inl, inr, List, sym, subst}
-use Rattle.std.specs.Prelude.{Result, Ok, Err, OnOk, IsErrOf}
+use Rattle.std.proofs.Common.{◌≡◌, ◌⊎◌, inl, inr, List, sym, subst, ℕ}
 use Rattle.site.specs.declared.outside.Dev.TheVariants.{Log}
 use Rattle.site.specs.declared.outside.Stop.{Stop}
 use Rattle.site.specs.declared.outside.Stop.TheVariants.{Device, Worn}
@@ -24,10 +23,3 @@ and_then g g' old mid new table commits same first second =
 pub log_stops : (stop : Stop) → (stop ≡ Device Log) ⊎ (stop ≡ Worn Log) → MayStop stop
 log_stops stop (inl is) = subst MayStop (sym is) tt
 log_stops stop (inr is) = subst MayStop (sym is) tt
-
-pub where_two : {T E : Type 0} (A B C : Type 0) (result : Result T E) → OnOk result A → OnOk result B → (A → B → C) → OnOk result C
-where_two A B C (Ok x) first second then = then first second
-where_two A B C (Err e) first second then = tt
-
-pub stop_is : {U : Type 0} (stop is : Stop) → IsErrOf {T = U} (Err stop) is → stop ≡ is
-stop_is stop is same = cc

@@ -1,5 +1,5 @@
 -- What a restart finds on devices.
-use Rattle.std.proofs.Common.{Option, ◌≡◌, zero, suc, ◌+◌, ◌-◌, ◌<◌, min, false, nat_lt, List, [], ◌∷◌, ◌++◌, length, map, take, None, Some, Result, Ok, Err, IsErrOf, refl, sym, ap, subst, ◌∙◌, arith}
+use Rattle.std.proofs.Common.{Option, ◌≡◌, zero, suc, ◌+◌, ◌-◌, ◌<◌, min, false, nat_lt, List, [], ◌∷◌, ◌++◌, length, map, take, None, Some, Result, Ok, Err, IsErrOf, refl, sym, ap, subst, ◌∙◌, arith, ℕ}
 use Rattle.std.specs.Prelude.{if◌then◌else◌, IfOk}
 use Rattle.std.specs.List.{AllByRecursion, slice_get}
 use Rattle.std.proofs.lemmas.Option.{none-some, same_Some}

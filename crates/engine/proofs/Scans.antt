@@ -1,5 +1,5 @@
 -- Reading several records at once.
-use Rattle.std.proofs.Common.{◌≡◌, zero, suc, ◌+◌, ◌-◌, ◌*◌, ◌^◌, ◌<◌, ◌≤◌, ◌==◌, ◌&&◌, ◌||◌, Bool, true, false, not, List, [], ◌∷◌, ◌++◌, map, find, filter_map, length, Option, None, Some, refl, sym, ap, ◌∙◌, arith, add-one, get_or-set_same}
+use Rattle.std.proofs.Common.{◌≡◌, zero, suc, ◌+◌, ◌-◌, ◌*◌, ◌^◌, ◌<◌, ◌≤◌, ◌==◌, ◌&&◌, ◌||◌, Bool, true, false, not, List, [], ◌∷◌, ◌++◌, map, find, filter_map, length, Option, None, Some, refl, sym, ap, ◌∙◌, arith, add-one, get_or-set_same, ℕ, true≢false}
 use Rattle.std.specs.Prelude.{slice_set, option_map, is_some, unwrap_or}
 use Rattle.std.specs.List.{range_with_len}
 use Rattle.std.proofs.lemmas.List.{map-append, append-nil, append_assoc, set-get_or}

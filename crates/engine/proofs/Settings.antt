@@ -1,6 +1,6 @@
 -- A set: a transaction of one write, outside sessions.
 use Rattle.checkpoint.specs.declared.master.Master.{Master}
-use Rattle.std.proofs.Common.{Option, ◌≡◌, ◌+◌, ◌*◌, ◌/◌, ◌%◌, ◌<◌, ◌≤◌, ◌==◌, Bool, true, false, ◌||◌, cond, List, [], ◌∷◌, ◌++◌, length, find, None, Some, refl, sym, ap, subst, ◌∙◌, arith, IsTrue}
+use Rattle.std.proofs.Common.{Option, ◌≡◌, ◌+◌, ◌*◌, ◌/◌, ◌%◌, ◌<◌, ◌≤◌, ◌==◌, Bool, true, false, ◌||◌, cond, List, [], ◌∷◌, ◌++◌, length, find, None, Some, refl, sym, ap, subst, ◌∙◌, arith, IsTrue, ℕ, ⊎_elim, true≢false}
 use Rattle.std.specs.Prelude.{filter_map}
 use Rattle.std.specs.List.{AllByRecursion, list_any, range_with_len}
 use Rattle.std.proofs.Math.Nat.{div-add-mod}
@@ -29,17 +29,17 @@ use Rattle.image_meaning.specs.Meaning.{master_of, versions_on}
 use Rattle.image_meaning.specs.Moments as moments
 use Rattle.redo_undo.specs.Holding.{blocks_to}
 use Rattle.redo_undo.specs.Committing.{MayCommit}
-use Rattle.engine.specs.declared.store.Store.{Store}
+use Rattle.redo_undo.specs.declared.store.Store.{Store}
 use Rattle.engine.specs.declared.engine.Engine.{Engine}
 use Rattle.engine.specs.Going.{sizes_of}
-use Rattle.engine.specs.Holding.{Holds, MayGrow, shown_in, update_by}
-use Rattle.engine.specs.Rollback.{ConcernsOnly}
+use Rattle.redo_undo.specs.Stores.{Holds, MayGrow, shown_in, update_by}
+use Rattle.redo_undo.specs.StoreRollback.{ConcernsOnly}
 use Rattle.engine.specs.OneWrite.{HasOneWrite}
 use Rattle.engine.specs.Fits.{Fits, SessionsAre, LocksAre}
 use Rattle.engine.proofs.Meanings.{busy_write_is, begins_late, count_of_versions, free, fresh_behind, none_of}
 use Rattle.engine.proofs.Actives.{some_active, not_fresh}
 use Rattle.engine.proofs.Aborts.{others_go_on}
-use Rattle.engine.proofs.Rollbacks.{concerns_more}
+use Rattle.redo_undo.proofs.StoreRollbacks.{concerns_more}
 
 -- Where nobody has written or read a record, nobody has written it.
 

@@ -1,7 +1,6 @@
 pub mod Calls
 pub mod Fits
 pub mod Going
-pub mod Holding
 pub mod Image
 pub mod Leaves
 pub mod Listings
@@ -9,5 +8,4 @@ pub mod Numbers
 pub mod OneWrite
 pub mod Paging
 pub mod Restarting
-pub mod Rollback
 pub mod Scans

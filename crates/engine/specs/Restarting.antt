@@ -1,5 +1,5 @@
 -- What a restart leaves.
-use Rattle.std.specs.Prelude.{◌≡◌, ◌+◌, ◌<◌, ◌≤◌, false, List, length, Option, Result, IfOk, IfErr}
+use Rattle.std.specs.Prelude.{◌≡◌, ◌+◌, ◌<◌, ◌≤◌, false, List, length, Option, Result, IfOk, IfErr, ℕ}
 use Rattle.site.specs.declared.outside.Stop.{Stop}
 use Rattle.site.specs.State.{State, IsQuiet}
 use Rattle.sealed_ring.specs.Ready.{IsUsable, Finds}
@@ -18,8 +18,8 @@ use Rattle.redo_undo.specs.Holding.{blocks_to}
 use Rattle.redo_undo.specs.Redoing.{IsOpened}
 use Rattle.engine.specs.declared.restart.Opened.{Opened}
 use Rattle.engine.specs.declared.restart.Restarted.{Restarted}
-use Rattle.engine.specs.Going.{MayWork, sizes_of}
-use Rattle.engine.specs.Holding.{Holds}
+use Rattle.engine.specs.Going.{sizes_of}
+use Rattle.redo_undo.specs.Stores.{MayWork, Holds}
 use Rattle.engine.specs.Image.{log_under}
 use Rattle.engine.specs.Leaves.{LeavesTable}
 use Rattle.engine.specs.Calls.{Ends}

@@ -44,7 +44,7 @@ impl Engine {
         if self.active.find(session).is_none() {
             return Some(Reply::Refused(Why::BadSession));
         }
-        if self.lacks(number) {
+        if self.store.lacks(number) {
             return Some(Reply::Refused(Why::NoRecord));
         }
         if let Some(busy) = self.read_busy(Some(session), number) {
@@ -139,7 +139,7 @@ impl Engine {
         let Some(end) = number.checked_add(count) else {
             return Some(Reply::Refused(Why::NoRecord));
         };
-        if self.lacks(end.saturating_sub(1)) {
+        if self.store.lacks(end.saturating_sub(1)) {
             return Some(Reply::Refused(Why::NoRecord));
         }
         if let Some(busy) = first_busy(&self.locks, session, number, count) {
@@ -237,7 +237,7 @@ impl Engine {
         ensures number { IfNone result (number < 32 * (sizes_of self.now.store).pages) }
         ensures free { IfNone result (busy_read self.now.locks None number ≡ None) }
     {
-        if self.lacks(number) {
+        if self.store.lacks(number) {
             return Some(Reply::Refused(Why::NoRecord));
         }
         if let Some(busy) = self.read_busy(None, number) {

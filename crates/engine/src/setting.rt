@@ -19,8 +19,9 @@ ghost use Rattle.engine.specs.Leaves.{LeavesTable, LeavesEither};
 ghost use Rattle.record_model.specs.Touches.{command_touches};
 ghost use Rattle.redo_undo.specs.Works.{Asks, Overflows, one_change, checkpoint_works};
 ghost use Rattle.page_store.specs.Caching.{cache_of, rules};
-ghost use Rattle.engine.specs.Calls.{Works, Keeps, Serves, Does, Answers};
+ghost use Rattle.engine.specs.Calls.{Serves, Does, Answers};
 ghost use Rattle.engine.specs.Numbers.{checkpoints_by};
+ghost use Rattle.redo_undo.specs.StoreCalls.{Works, Keeps};
 
 use crate::engine::Engine;
 use crate::values::{is_long, value_of};
@@ -124,7 +125,7 @@ impl Engine {
         ensures free { IfNone result (busy_write self.now.locks None number ≡ None) }
         ensures room { IfNone result (self.now.store.made + owed self.now.active + 4 ≤ self.now.cap) }
     {
-        if self.lacks(number) {
+        if self.store.lacks(number) {
             return Some(Reply::Refused(Why::NoRecord));
         }
         if is_long(value) {

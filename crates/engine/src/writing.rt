@@ -105,7 +105,7 @@ impl Engine {
         if self.active.find(session).is_none() {
             return Some(Reply::Refused(Why::BadSession));
         }
-        if self.lacks(number) {
+        if self.store.lacks(number) {
             return Some(Reply::Refused(Why::NoRecord));
         }
         if is_long(value) {
@@ -173,7 +173,7 @@ impl Engine {
         if self.active.find(session).is_none() {
             return Some(Reply::Refused(Why::BadSession));
         }
-        if self.lacks(number) {
+        if self.store.lacks(number) {
             return Some(Reply::Refused(Why::NoRecord));
         }
         if let Some(busy) = self.write_busy(Some(session), number) {

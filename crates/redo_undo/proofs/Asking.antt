@@ -1,5 +1,5 @@
 -- Calls that ask the cache for work, one after the other.
-use Rattle.std.proofs.Common.{◌≡◌, ◌+◌, ◌*◌, ◌^◌, ◌<◌, ◌≤◌, Bool, true, false, List, [], ◌++◌, arith, refl, sym, ap, subst, ◌∙◌}
+use Rattle.std.proofs.Common.{◌≡◌, ◌+◌, ◌*◌, ◌^◌, ◌<◌, ◌≤◌, Bool, true, false, List, [], ◌++◌, arith, refl, sym, ap, subst, ◌∙◌, ℕ}
 use Rattle.std.specs.Prelude.{Result, Ok, Err, OnOk, IsErrOf, if◌then◌else◌}
 use Rattle.site.specs.declared.outside.Dev.TheVariants.{Flash, Disk}
 use Rattle.site.specs.declared.outside.Stop.{Stop}
@@ -95,3 +95,38 @@ asks_stopped {A} {B} stop first later old new before now some asks = record {
   reads = reads_for_more (rules old) first later (cache_of old) before now some asks.reads;
   rules_are = asks.rules_are;
 }
+
+-- Another answer of the same call.
+
+-- the same for other work, where the two are equal
+pub asks_same : {T : Type 0} (result : Result T Stop) (works other : List CacheWork) (old new : PageStore) (before now : State) → works ≡ other → Asks result other old new before now → Asks result works old new before now
+asks_same result works other old new before now same asks = subst (λ (w : List CacheWork). Asks result w old new before now) (sym same) asks
+
+-- before any call
+pub no_asks : (pages : PageStore) (now : State) → Asks {T = Unit {0}} (Ok tt) [] pages pages now now
+no_asks pages now = record { machine = refl; worn = λ is. absurd (no_error is); reads = record { flash = omega arith; disk = omega arith }; rules_are = refl }
+  where
+    no_error : IsErrOf {T = Unit {0}} {E = Stop} (Ok tt) (Worn Flash) → ⊥
+    no_error is = cc
+
+-- another answer of the same call
+pub asks_ok : {A B : Type 0} (a : A) (b : B) (works : List CacheWork) (old new : PageStore) (before now : State) → Asks {T = A} (Ok a) works old new before now → Asks {T = B} (Ok b) works old new before now
+asks_ok {A} {B} a b works old new before now asks = record { machine = asks.machine; worn = λ is. absurd (no_error is); reads = asks.reads; rules_are = asks.rules_are }
+  where
+    no_error : IsErrOf {T = B} (Ok b) (Worn Flash) → ⊥
+    no_error is = cc
+
+pub asks_err : {A B : Type 0} (stop : Stop) (works : List CacheWork) (old new : PageStore) (before now : State) → Asks {T = A} (Err stop) works old new before now → Asks {T = B} (Err stop) works old new before now
+asks_err stop works old new before now asks = record { machine = tt; worn = λ is. asks.worn (err_again stop (Worn Flash) is); reads = asks.reads; rules_are = asks.rules_are }
+
+-- a call that fails behind it for another reason
+pub asks_fails : {A B : Type 0} (a : A) (stop : Stop) (works : List CacheWork) (old new : PageStore) (before now : State) → (stop ≡ Worn Flash → ⊥) → Asks {T = A} (Ok a) works old new before now → Asks {T = B} (Err stop) works old new before now
+asks_fails {A} {B} a stop works old new before now never asks = record {
+  machine = tt;
+  worn = λ is. absurd (never (same is));
+  reads = asks.reads;
+  rules_are = asks.rules_are;
+}
+  where
+    same : IsErrOf {T = B} (Err stop) (Worn Flash) → stop ≡ Worn Flash
+    same is = cc

@@ -1,5 +1,5 @@
 -- Calls one after the other, each known by its record.
-use Rattle.std.proofs.Common.{◌≡◌, ◌≢◌, ◌⊎◌, inl, inr, ◌+◌, ◌≤◌, List, refl, sym, subst, ◌∙◌, arith, Option}
+use Rattle.std.proofs.Common.{◌≡◌, ◌≢◌, ◌⊎◌, inl, inr, ◌+◌, ◌≤◌, List, refl, sym, subst, ◌∙◌, arith, Option, ℕ}
 use Rattle.std.specs.Prelude.{Result, Ok, Err, OnOk, IfOk, IfErr, IsErrOf, IsTrue, ◌<◌}
 use Rattle.site.specs.declared.geometry.Geometry.{Geometry}
 use Rattle.site.specs.declared.outside.Dev.{Dev}
@@ -20,7 +20,8 @@ use Rattle.page_store.specs.declared.store.PageStore.{PageStore}
 use Rattle.page_store.specs.Stopping.{MayStop}
 use Rattle.page_store.specs.Laws.{FitsBeside}
 use Rattle.checkpoint.specs.declared.master.Master.{Master}
-use Rattle.image_meaning.specs.Moments.{LeavesTableUnder}
+use Rattle.image_meaning.specs.Moments.{LeavesTableUnder, LeavesFor}
+use Rattle.redo_undo.proofs.Saved.{then_for}
 use Rattle.redo_undo.specs.Holding.{blocks_to, MayGoOn, Holds, IsLogWorn}
 use Rattle.redo_undo.specs.Calls.{Works, LogsNothing, WorksBeside, ReadsOne, Keeps, KeepsBeside}
 use Rattle.redo_undo.specs.Laws.{PageLaws}
@@ -373,3 +374,16 @@ keeps_unsaved {B = B} {stop = stop} {g = g} {old = old} {new = new} {before = be
       readable = again.readable;
       masters = λ none. tt;
     }
+
+-- and one behind which a master is saved
+pub keeps_saved : {A B : Type 0} {a : A} {r : Result B Stop} {g g' : Geometry} {old mid new : LogStore} {before between now : State} {P : Snapshot → Type 0} {table : List Content} {commits n m : ℕ} → IsTrue before.honest → g' ≡ g → Calls {T = A} (Ok a) before between →
+    (LeavesOnly before between P → LeavesOnly before between (LeavesFor g table commits before.told)) → Keeps {T = A} (Ok a) g old mid before between P n 0 → Keeps r g' mid new between now (LeavesFor g' table commits between.told) m 1 → Keeps r g old new before now (LeavesFor g table commits before.told) (n + m) 1
+keeps_saved {a = a} {r = r} {g = g} {g' = g'} {old = old} {mid = mid} {new = new} {before = before} {between = between} {now = now} {table = table} {commits = commits} {n = n} {m = m} honest same calls more first second = record {
+  any_moment = λ quiet. then_for g g' before between now table commits same (more (first.any_moment quiet)) (second.any_moment (calls.stays_quiet honest quiet));
+  numbers = λ quiet. then_skips r a g old mid new before between now n 0 m 1 (n + m) 1 (first.numbers quiet) (skips_on r g' g mid new between now m 1 same (second.numbers (calls.stays_quiet honest quiet))) (omega arith) refl;
+  quiet = λ quiet. second.quiet (calls.stays_quiet honest quiet);
+  worn_log = λ is. subst (λ (x : Geometry). IsLogWorn x now.image) same (second.worn_log is);
+  worn = λ is. subst (λ (x : Geometry). IsWorn x now.image) same (second.worn is);
+  readable = second.readable;
+  masters = λ none. absurd (omega (arith, none));
+}

@@ -1,5 +1,5 @@
 -- How the numbers of the rings add up over calls.
-use Rattle.std.proofs.Common.{◌≡◌, ◌+◌, ◌≤◌, refl, ap, subst, arith}
+use Rattle.std.proofs.Common.{◌≡◌, ◌+◌, ◌≤◌, refl, ap, subst, arith, ℕ}
 use Rattle.std.specs.Prelude.{Result, Ok, Err}
 use Rattle.site.specs.declared.geometry.Geometry.{Geometry}
 use Rattle.site.specs.State.{State, Image}

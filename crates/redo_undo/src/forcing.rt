@@ -18,7 +18,7 @@ use site::{Site, Stop};
 
 /// Seals the log's tail, where it has records. What log and pages hold together stays, and at each moment the devices stand for the same
 /// table.
-pub fn force<S: Site>(site: &mut S, log: &mut LogStore) -> Result<(), Stop>
+pub(crate) fn force<S: Site>(site: &mut S, log: &mut LogStore) -> Result<(), Stop>
     requires going { log_held.MayGoOn log.old (S.state site.old) }
     requires room { blocks_to log.old < log.old.kept + log.old.geometry.blocks }
 

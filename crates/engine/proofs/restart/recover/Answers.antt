@@ -1,4 +1,4 @@
-use Rattle.std.proofs.Common.{◌≡◌, ◌∙◌, ◌++◌, Err, List, false, ap, sym, subst, arith, ◌≤◌, refl}
+use Rattle.std.proofs.Common.{◌≡◌, ◌∙◌, ◌++◌, Err, List, false, ap, sym, subst, arith, ◌≤◌, refl, ℕ}
 use Rattle.site.specs.declared.geometry.Geometry.{Geometry}
 use Rattle.site.specs.declared.outside.Stop.TheVariants.{Foreign}
 use Rattle.site.specs.State.{IsQuiet}
@@ -14,10 +14,10 @@ use Rattle.redo_undo.specs.declared.redo_pass.Redone.{Redone}
 use Rattle.second_chance.specs.Machine.{Rules}
 use Rattle.engine.specs.Calls.{Ends}
 use Rattle.engine.proofs.Calling.{ends_ok, ends_failed, ends_answered, ends_then, ends_of}
-use Rattle.engine.specs.Holding.{HasCheckpoint}
+use Rattle.redo_undo.specs.Stores.{HasCheckpoint}
 use Rattle.engine.specs.Image.{log_under}
 use Rattle.engine.specs.Leaves.{LeavesTable}
-use Rattle.engine.proofs.Asking.{asks_then, asks_stopped, from_ok, from_err, from_stopped}
+use Rattle.engine.proofs.Asking.{from_ok, from_err, from_stopped}
 use Rattle.site.specs.Work.{Calls}
 use Rattle.engine.proofs.Recovers.{no_tail_still, owed_found, commits_fit, commits_found, may_be_made, restarted_as}
 use Rattle.engine.proofs.RingCounts.{opened_next, restart_failed, restart_done}
@@ -26,6 +26,7 @@ use Rattle.std.specs.Prelude.{Ok}
 use Rattle.analysis.specs.Open.{owed_for}
 use Rattle.analysis.specs.Table.{listed}
 use Rattle.site.proofs.Working.{calls_then, calls_failed, calls_answered, calls_refused, err_again}
+use Rattle.redo_undo.proofs.Asking.{asks_then, asks_stopped}
 use Rattle.engine.proofs.restart.recover.Goals as goal
 
 pub returns-in-Err-clause-recovers : goal.returns-in-Err-clause-recovers
@@ -38,7 +39,7 @@ returns-in-Err-clause-recovers g c newest blocks table commits h =
     let some : 1 ≤ (rules c.args.opened.pages).groups = (let least = c.requires.may.going.pages_going.flash.limits.groups in omega (arith, least)) in
     let more = c.recovery_laws.ensures.more in
     let over = c.recovery_laws.ensures.overflow in
-    let two : Asks {T = Unit {0}} (Err c.in-Err.stop) (redo_works p ++ undo_works p.log) c.args.opened.pages c.redo.new.pages old mid = asks_stopped more over c.in-Err.stop (redo_works p) (undo_works p.log) _ _ old mid some (c.in-Err.ensures.asks newest blocks table commits h.master h.opened_is) in
+    let two : Asks {T = Unit {0}} (Err c.in-Err.stop) (redo_works p ++ undo_works p.log) c.args.opened.pages c.redo.new.pages old mid = asks_stopped c.in-Err.stop (redo_works p) (undo_works p.log) _ _ old mid some (c.in-Err.ensures.asks newest blocks table commits h.master h.opened_is) in
     let ends : Ends {T = Redone} (Err c.in-Err.stop) k old mid (LeavesTable k table commits old.told) = record {
       any_moment = λ quiet. under_leaves_for newest _ _ _ table commits _ ((c.redo.ensures.keeps newest blocks table commits h.master h.opened_is).any_moment quiet);
       quiet = (c.in-Err.ensures.keeps newest blocks table commits h.master h.opened_is).quiet;
@@ -107,7 +108,7 @@ returns-in-Err-undo_all-clause-recovers g c newest blocks table commits h =
           let two = then_skips (Err c.in-Err-undo_all.stop) c.in-Ok.redone k c.args.opened.log c.redo.new.log c.undo_all.new.log old mid und 0 0 n 0 n 0 ((c.in-Ok.ensures.keeps newest blocks table commits h.master h.opened_is).numbers quiet) mine (omega arith) (omega arith) in
           restart_failed c.in-Err-undo_all.stop _ k records c.args.opened.log c.undo_all.new.log old und n 0 next (omega (arith, owes)) (omega arith) two;
       asks = from_stopped more over c.in-Err-undo_all.stop _ (redo_works p ++ undo_works p.log) checkpoint_works _ _ _ _ some
-          (asks_then add reads c.in-Ok.redone _ (redo_works p) (undo_works p.log) _ _ _ old mid und (c.in-Ok.ensures.asks newest blocks table commits h.master h.opened_is) (c.in-Err-undo_all.ensures.asks newest records table commits none holds read));
+          (asks_then c.in-Ok.redone _ (redo_works p) (undo_works p.log) _ _ _ old mid und (c.in-Ok.ensures.asks newest blocks table commits h.master h.opened_is) (c.in-Err-undo_all.ensures.asks newest records table commits none holds read));
     }
 
 -- there are no more commits than blocks
@@ -182,8 +183,8 @@ returns-in-Ok-checkpoint-clause-recovers g c newest blocks table commits h =
           let three = then_skips (Ok c.in-Ok-checkpoint.field-0) c.in-Ok-undo_all.field-0 k c.args.opened.log c.undo_all.new.log c.checkpoint.new.self.log old und new n 0 0 1 n 1 two last (omega arith) (omega arith) in
           restart_done c.in-Ok-checkpoint.field-0 _ _ k records c.args.opened.log c.checkpoint.new.self.log old new n next (omega (arith, owes)) refl three;
       asks =
-          let two = asks_then add reads c.in-Ok.redone _ (redo_works p) (undo_works p.log) _ _ _ old mid und (c.in-Ok.ensures.asks newest blocks table commits h.master h.opened_is) (c.in-Ok-undo_all.ensures.asks newest records table commits none holds read) in
-          let all = asks_then add reads c.in-Ok-undo_all.field-0 _ (redo_works p ++ undo_works p.log) checkpoint_works _ _ _ old und new two c.in-Ok-checkpoint.ensures.asks in
+          let two = asks_then c.in-Ok.redone _ (redo_works p) (undo_works p.log) _ _ _ old mid und (c.in-Ok.ensures.asks newest blocks table commits h.master h.opened_is) (c.in-Ok-undo_all.ensures.asks newest records table commits none holds read) in
+          let all = asks_then c.in-Ok-undo_all.field-0 _ (redo_works p ++ undo_works p.log) checkpoint_works _ _ _ old und new two c.in-Ok-checkpoint.ensures.asks in
           from_ok c.in-Ok-checkpoint.field-0 _ _ (redo_works p ++ undo_works p.log ++ checkpoint_works) _ _ _ _ _ refl (λ dev. refl) all;
     }
 
@@ -234,8 +235,8 @@ returns-clause-recovers g c newest blocks table commits h =
           let three = then_skips (Err c.in-Err-checkpoint.stop) c.in-Ok-undo_all.field-0 k c.args.opened.log c.undo_all.new.log c.checkpoint.new.self.log old und new n 0 0 1 n 1 two last (omega arith) (omega arith) in
           restart_failed c.in-Err-checkpoint.stop _ k records c.args.opened.log c.checkpoint.new.self.log old new n 1 next (omega (arith, owes)) (omega arith) three;
       asks =
-          let two = asks_then add reads c.in-Ok.redone _ (redo_works p) (undo_works p.log) _ _ _ old mid und (c.in-Ok.ensures.asks newest blocks table commits h.master h.opened_is) (c.in-Ok-undo_all.ensures.asks newest records table commits none holds read) in
-          let all = asks_then add reads c.in-Ok-undo_all.field-0 _ (redo_works p ++ undo_works p.log) checkpoint_works _ _ _ old und new two c.in-Err-checkpoint.ensures.asks in
+          let two = asks_then c.in-Ok.redone _ (redo_works p) (undo_works p.log) _ _ _ old mid und (c.in-Ok.ensures.asks newest blocks table commits h.master h.opened_is) (c.in-Ok-undo_all.ensures.asks newest records table commits none holds read) in
+          let all = asks_then c.in-Ok-undo_all.field-0 _ (redo_works p ++ undo_works p.log) checkpoint_works _ _ _ old und new two c.in-Err-checkpoint.ensures.asks in
           from_err c.in-Err-checkpoint.stop _ (redo_works p ++ undo_works p.log ++ checkpoint_works) _ _ _ _ all;
     }
 

@@ -1,4 +1,4 @@
-use Rattle.std.proofs.Common.{◌≡◌, ◌∙◌, true, sym, ap, inr, refl}
+use Rattle.std.proofs.Common.{◌≡◌, ◌∙◌, true, sym, ap, inr, refl, true≢false}
 use Rattle.log_store.specs.LogList.{LogList, changes_if}
 use Rattle.log_store.specs.Held.{has_tail}
 use Rattle.image_meaning.specs.Meaning.{kept_by}

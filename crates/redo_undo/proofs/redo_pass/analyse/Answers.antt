@@ -1,4 +1,4 @@
-use Rattle.std.proofs.Common.{◌≡◌, ◌∷◌, [], ◌++◌, List, true, sym, subst, ◌∙◌}
+use Rattle.std.proofs.Common.{◌≡◌, ◌∷◌, [], ◌++◌, List, true, sym, subst, ◌∙◌, true≢false}
 use Rattle.log_records.specs.Log.{Entry}
 use Rattle.checkpoint.specs.Newest.{seen}
 use Rattle.analysis.specs.Read.{IsAnalysis}

@@ -1,5 +1,5 @@
-use Rattle.std.proofs.Common.{◌≡◌, ◌≤◌, ◌+◌, ◌<◌, List, [], length, take, drop, suc, Err, refl, sym, subst, ◌∙◌, arith, ◌-◌, inl, ◌⊎◌}
-use Rattle.std.specs.Prelude.{Ok}
+use Rattle.std.proofs.Common.{◌≡◌, ◌≤◌, ◌+◌, ◌<◌, List, [], length, take, drop, suc, Err, refl, sym, subst, ◌∙◌, arith, ◌-◌, inl, ◌⊎◌, ℕ}
+use Rattle.std.specs.Prelude.{Ok, ⊤}
 use Rattle.log_records.specs.Log.{Entry, log_from}
 use Rattle.checkpoint.specs.declared.master.Master.{Master}
 use Rattle.checkpoint.specs.Newest.{seen}

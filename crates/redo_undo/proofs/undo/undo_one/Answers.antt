@@ -1,5 +1,5 @@
-use Rattle.std.specs.Prelude.{IsErrOf}
-use Rattle.std.proofs.Common.{Ok, Err, inr, ◌≤◌, ◌≡◌, ◌+◌, ◌++◌, ◌∷◌, [], length, refl, sym, ap, subst, ◌∙◌, arith}
+use Rattle.std.specs.Prelude.{IsErrOf, ⊤}
+use Rattle.std.proofs.Common.{Ok, Err, inr, ◌≤◌, ◌≡◌, ◌+◌, ◌++◌, ◌∷◌, [], length, refl, sym, ap, subst, ◌∙◌, arith, ℕ, true≢false}
 use Rattle.site.specs.declared.geometry.Geometry.{Geometry}
 use Rattle.site.specs.declared.outside.Dev.TheVariants.{Log, Flash}
 use Rattle.site.specs.declared.outside.Stop.TheVariants.{Worn, Foreign}

@@ -1,4 +1,4 @@
-use Rattle.std.proofs.Common.{◌∙◌, ◌++◌, [], ◌∷◌, ◌≤◌, inr, refl, drop, sym, subst, arith}
+use Rattle.std.proofs.Common.{◌∙◌, ◌++◌, [], ◌∷◌, ◌≤◌, inr, refl, drop, sym, subst, arith, ℕ}
 use Rattle.analysis.specs.Open.{Open, Replaces, TakesOut}
 use Rattle.analysis.specs.Table.{listed}
 use Rattle.redo_undo.specs.UndoingAll.{Remain, HasNone}

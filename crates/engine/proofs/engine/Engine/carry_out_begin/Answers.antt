@@ -1,4 +1,4 @@
-use Rattle.engine.proofs.Asking.{asks_ok, asks_err}
+use Rattle.redo_undo.proofs.Asking.{asks_ok, asks_err}
 use Rattle.std.proofs.Common.{◌++◌, ◌∷◌, [], None, refl, arith}
 use Rattle.site.specs.Laws.{stays_honest}
 use Rattle.record_model.specs.State.{writes_of, reads_of}
@@ -6,7 +6,8 @@ use Rattle.engine.proofs.Meanings.{begins_late, fresh_behind}
 use Rattle.engine.proofs.Settings.{begin_at, may_begin}
 use Rattle.engine.proofs.Actives.{begun, none_active}
 use Rattle.engine.proofs.Locks.{locks_stay, at_set}
-use Rattle.engine.proofs.Calling.{does_of, keeps_failed, keeps_answered, serves_of, works_failed}
+use Rattle.engine.proofs.Calling.{does_of, serves_of}
+use Rattle.redo_undo.proofs.StoreCalling.{keeps_failed, keeps_answered, works_failed}
 use Rattle.engine.proofs.engine.Engine.carry_out_begin.Goals as goal
 
 pub returns-in-Err-clause-does : goal.returns-in-Err-clause-does

@@ -1,9 +1,10 @@
-use Rattle.engine.proofs.Asking.{asks_ok, asks_err}
+use Rattle.redo_undo.proofs.Asking.{asks_ok, asks_err}
 use Rattle.std.proofs.Common.{refl, arith, []}
 use Rattle.site.specs.Laws.{stays_honest}
 use Rattle.engine.proofs.Owing.{owes}
 use Rattle.engine.proofs.Commits.{may_commit, commits_either, committed_fits}
-use Rattle.engine.proofs.Calling.{does_of, keeps_failed, keeps_weaker, serves_of, works_failed}
+use Rattle.engine.proofs.Calling.{does_of, serves_of}
+use Rattle.redo_undo.proofs.StoreCalling.{keeps_failed, keeps_weaker, works_failed}
 use Rattle.engine.proofs.engine.Engine.carry_out_commit.Goals as goal
 
 pub seal_commit-requires-clause-room : goal.seal_commit-requires-clause-room

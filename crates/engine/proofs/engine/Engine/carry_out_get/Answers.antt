@@ -1,17 +1,17 @@
 use Rattle.redo_undo.specs.Works.{one_touch}
-use Rattle.engine.proofs.Asking.{asks_ok, asks_err}
+use Rattle.redo_undo.proofs.Asking.{asks_ok, asks_err}
 use Rattle.std.proofs.Common.{◌≡◌, ◌*◌, ◌<◌, None, sym, ap, ◌∙◌, arith, ◌/◌}
 use Rattle.site.specs.declared.geometry.Geometry.{Geometry}
 use Rattle.site.specs.Laws.{stays_honest}
 use Rattle.record_model.specs.State as model
-use Rattle.record_model.specs.State.{Content}
 use Rattle.record_model.specs.Step.{found}
 use Rattle.engine.specs.declared.engine.Engine.{Engine}
 use Rattle.engine.specs.Going.{sizes_of}
 use Rattle.engine.specs.Fits.{Fits}
 use Rattle.engine.proofs.Meanings.{busy_read_is, got_is}
 use Rattle.engine.proofs.Writes.{touched_fits}
-use Rattle.engine.proofs.Calling.{does_of, keeps_failed, keeps_answered, serves_of, works_failed}
+use Rattle.engine.proofs.Calling.{does_of, serves_of}
+use Rattle.redo_undo.proofs.StoreCalling.{keeps_failed, keeps_answered, works_failed}
 use Rattle.engine.proofs.engine.Engine.carry_out_get.Goals as goal
 
 pub returns-in-Ok-clause-reply : goal.returns-in-Ok-clause-reply

@@ -1,18 +1,18 @@
 use Rattle.site.specs.declared.outside.Stop.TheVariants.{Memory}
 use Rattle.redo_undo.specs.Works.{one_touch}
-use Rattle.engine.proofs.Asking.{asks_ok, asks_err, asks_fails}
+use Rattle.redo_undo.proofs.Asking.{asks_ok, asks_err, asks_fails}
 use Rattle.std.proofs.Common.{◌≡◌, ◌*◌, ◌<◌, None, Some, sym, ap, ◌∙◌, arith, ◌/◌}
 use Rattle.site.specs.declared.geometry.Geometry.{Geometry}
 use Rattle.site.specs.Laws.{stays_honest}
 use Rattle.record_model.specs.State as model
-use Rattle.record_model.specs.State.{Content}
 use Rattle.engine.specs.declared.engine.Engine.{Engine}
 use Rattle.engine.specs.Going.{sizes_of}
 use Rattle.engine.specs.Fits.{Fits}
 use Rattle.engine.proofs.Meanings.{busy_read_is, seen_is}
 use Rattle.engine.proofs.Replies.{has}
 use Rattle.engine.proofs.Writes.{read_fits, touched_fits}
-use Rattle.engine.proofs.Calling.{does_of, keeps_failed, keeps_answered, keeps_no_memory, serves_of, works_failed, works_answered, works_no_memory}
+use Rattle.engine.proofs.Calling.{does_of, serves_of}
+use Rattle.redo_undo.proofs.StoreCalling.{keeps_failed, keeps_answered, keeps_no_memory, works_failed, works_answered, works_no_memory}
 use Rattle.engine.proofs.engine.Engine.carry_out_read.Goals as goal
 
 pub returns-in-Ok-add-clause-content : goal.returns-in-Ok-add-clause-content

@@ -10,13 +10,14 @@ use Rattle.site.specs.declared.geometry.Geometry.{Geometry}
 use Rattle.site.specs.Laws.{stays_honest, goes_in_sequence}
 use Rattle.engine.specs.declared.engine.Engine.{Engine}
 use Rattle.engine.specs.Going.{sizes_of}
-use Rattle.engine.specs.Holding.{shown_in}
+use Rattle.redo_undo.specs.Stores.{shown_in}
 use Rattle.engine.specs.Fits.{Fits}
 use Rattle.redo_undo.specs.Holding.{blocks_to}
 use Rattle.engine.proofs.Owing.{entry_is, owes}
 use Rattle.engine.proofs.Writes.{touched_fits, may_write, write_fits}
 use Rattle.engine.proofs.Apart.{below_wrote, apart_wrote}
-use Rattle.engine.proofs.Calling.{does_of, works_then, works_failed, works_answered, works_no_memory, keeps_failed, keeps_answered, keeps_both, keeps_no_memory, serves_of}
+use Rattle.engine.proofs.Calling.{does_of, serves_of}
+use Rattle.redo_undo.proofs.StoreCalling.{works_then, works_failed, works_answered, works_no_memory, keeps_failed, keeps_answered, keeps_both, keeps_no_memory}
 use Rattle.engine.proofs.engine.Engine.carry_out_write.Goals as goal
 
 pub add-requires : goal.add-requires

@@ -1,4 +1,4 @@
-use Rattle.std.proofs.Common.{Some, ap, ◌∙◌, refl, arith}
+use Rattle.std.proofs.Common.{Some, ap, ◌∙◌, refl, arith, ℕ}
 use Rattle.lock_table.specs.Locks.{busy_write}
 use Rattle.txn_table.specs.Entries.{entry_of}
 use Rattle.site.proofs.Working.{err_again}

@@ -1,4 +1,4 @@
-use Rattle.std.proofs.Common.{◌≡◌, ◌∷◌, [], refl, subst, arith}
+use Rattle.std.proofs.Common.{◌≡◌, ◌∷◌, [], refl, subst, arith, ℕ}
 use Rattle.std.specs.Prelude.{Result}
 use Rattle.site.specs.declared.outside.Stop.{Stop}
 use Rattle.site.specs.State.{State as Site}
