@@ -7,5 +7,6 @@ pub mod Listings
 pub mod Numbers
 pub mod OneWrite
 pub mod Paging
+pub mod Permits
 pub mod Restarting
 pub mod Scans

@@ -13,9 +13,6 @@ ghost use Rattle.log_records.specs.Sound.{Means};
 ghost use Rattle.log_store.specs.Held as log_held;
 ghost use Rattle.checkpoint.specs.declared.master.Master.{Master};
 ghost use Rattle.analysis.specs.Open.{owed_for};
-ghost use Rattle.analysis.specs.Laws.{OneTable, TableOfUnfinished, OwedOfUnfinished};
-ghost use Rattle.analysis.specs.Taken.{TakenCommits};
-ghost use Rattle.redo_undo.specs.Works.{WorksAddUp, ReadsAddUp, ReadsForMore, OverflowsWithMore};
 ghost use Rattle.analysis.specs.Table.{listed};
 ghost use Rattle.analysis.specs.Read as analysis;
 ghost use Rattle.page_store.specs.Stopping.{MayStop};
@@ -23,7 +20,7 @@ ghost use Rattle.image_meaning.specs.Meaning.{picture_under};
 ghost use Rattle.engine.specs.Going.{sizes_of};
 ghost use Rattle.engine.specs.Image.{log_under, IsSound, Stands};
 ghost use Rattle.engine.specs.Leaves.{HasNoSizes, IsRefused, LeavesTable};
-ghost use Rattle.engine.specs.Restarting.{MayRecover, IsReady, RestartedAs, Restarts, Recovers};
+ghost use Rattle.engine.specs.Restarting.{RecoveryLaws, MayRecover, IsReady, RestartedAs, Restarts, Recovers};
 ghost use Rattle.engine.specs.Calls.{Ends};
 ghost use Rattle.engine.specs.Paging.{AsksFrom, cache_on, restart_works};
 ghost use Rattle.engine.specs.Numbers.{RestartsWithin};
@@ -174,14 +171,7 @@ fn owed(found: &Analysis) -> u64
 
 // On what a restart takes of a log, and on the work that it asks of the cache.
 fn recovery_laws()
-    ensures one { OneTable }
-    ensures unfinished { TableOfUnfinished }
-    ensures owed { OwedOfUnfinished }
-    ensures commits { TakenCommits }
-    ensures works { WorksAddUp }
-    ensures reads { ReadsAddUp }
-    ensures more { ReadsForMore }
-    ensures overflow { OverflowsWithMore }
+    ensures { RecoveryLaws }
 {
     table_of_records();
     losers_are_taken();

@@ -1,5 +1,5 @@
 // A transaction of one write, outside sessions.
-ghost use Rattle.std.specs.Prelude.{Option, ◌≡◌, ◌⊎◌, ◌+◌, ◌*◌, ◌/◌, ◌^◌, ◌<◌, ◌≤◌, [], ◌∷◌, ◌++◌, length, true, false, Some, None, IfSome, IfNone, IfOk, OnErr, IsErrOf};
+ghost use Rattle.std.specs.Prelude.{Option, ◌≡◌, ◌⊎◌, ◌+◌, ◌/◌, ◌<◌, ◌≤◌, [], ◌∷◌, ◌++◌, length, true, false, Some, None, IfSome, IfNone, IfOk, OnErr, IsErrOf};
 ghost use Rattle.site.specs.declared.outside.Dev.{Dev};
 ghost use Rattle.site.specs.declared.outside.Stop.{Stop};
 ghost use Rattle.site.specs.State.{State as Site};
@@ -10,9 +10,8 @@ ghost use Rattle.record_model.specs.State.{State};
 ghost use Rattle.byte_fields.specs.declared.TheConstants.{VALUE_MAX};
 ghost use Rattle.record_model.specs.Step.{making, committed};
 ghost use Rattle.log_records.specs.Spelling.{IsShort};
-ghost use Rattle.lock_table.specs.Locks.{busy_write};
-ghost use Rattle.txn_table.specs.Entries.{IsTable, owed};
 ghost use Rattle.engine.specs.Going.{MayGoOn, sizes_of};
+ghost use Rattle.engine.specs.Permits.{MayWrite};
 ghost use Rattle.engine.specs.OneWrite.{HasOneWrite};
 ghost use Rattle.engine.specs.Fits.{Fits, run, run_now, Refuses, Accepts};
 ghost use Rattle.engine.specs.Leaves.{LeavesTable, LeavesEither};
@@ -39,10 +38,8 @@ impl Engine {
         after: &Option<Octets>,
     ) -> Result<u64, Stop>
         requires going { MayGoOn self.old (S.state site.old) }
-        requires number { number < 32 * (sizes_of self.old.store).pages }
-        requires free { busy_write self.old.locks None number ≡ None }
         requires short { IsShort after.now }
-        requires room { self.old.store.made + owed self.old.active + 4 ≤ self.old.cap }
+        requires may { MayWrite self.old None number 4 }
 
         // Of an honest site that the database fits.
         ensures logged { (s : State) (fits : Fits self.old (S.state site.old) s)
@@ -83,10 +80,8 @@ impl Engine {
         after: &Option<Octets>,
     ) -> Result<Reply, Stop>
         requires going { MayGoOn self.old (S.state site.old) }
-        requires number { number < 32 * (sizes_of self.old.store).pages }
-        requires free { busy_write self.old.locks None number ≡ None }
         requires short { IsShort after.now }
-        requires room { self.old.store.made + owed self.old.active + 4 ≤ self.old.cap }
+        requires may { MayWrite self.old None number 4 }
 
         // Of an honest site that the database fits.
         ensures reply { (s : State) → Fits self.old (S.state site.old) s
@@ -115,15 +110,11 @@ impl Engine {
 
     // Why a record can't be set, if it can't.
     fn set_refusal(&self, number: u32, value: &Octets) -> Option<Reply>
-        requires bounded { self.now.store.made + owed self.now.active ≤ 2 ^ 40 }
-        requires sizes { self.now.store.log.geometry ≡ sizes_of self.now.store }
-        requires table { IsTable self.now.active }
+        requires going { (site : Site) × MayGoOn self.now site }
         ensures refused { IfSome result (λ reply. Refuses self.now (Command.Set number value.now) reply) }
         ensures accepted { IfNone result (Accepts self.now (Command.Set number value.now)) }
-        ensures number { IfNone result (number < 32 * (sizes_of self.now.store).pages) }
         ensures short { IfNone result (length value.now ≤ VALUE_MAX) }
-        ensures free { IfNone result (busy_write self.now.locks None number ≡ None) }
-        ensures room { IfNone result (self.now.store.made + owed self.now.active + 4 ≤ self.now.cap) }
+        ensures may { IfNone result (MayWrite self.now None number 4) }
     {
         if self.store.lacks(number) {
             return Some(Reply::Refused(Why::NoRecord));

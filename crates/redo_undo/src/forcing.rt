@@ -1,5 +1,5 @@
 // The log's tail is sealed.
-ghost use Rattle.std.specs.Prelude.{◌≡◌, ◌⊎◌, ◌+◌, ◌^◌, ◌<◌, ℕ, List, OnOk, IfErr, IsErrOf, Option};
+ghost use Rattle.std.specs.Prelude.{◌≡◌, ◌⊎◌, ◌+◌, ◌<◌, ℕ, List, OnOk, IfErr, Option};
 ghost use Rattle.site.specs.declared.outside.Dev.{Dev};
 ghost use Rattle.site.specs.declared.outside.Stop.{Stop};
 ghost use Rattle.record_model.specs.State.{Content};
@@ -38,7 +38,6 @@ pub(crate) fn force<S: Site>(site: &mut S, log: &mut LogStore) -> Result<(), Sto
     ensures blocks { OnOk result (blocks_to log.new ≡ blocks_to log.old) }
 
     // When each answer comes.
-    ensures worn { IsErrOf result (Stop.Worn Dev.Log) → log.old.ring.hi ≡ 2 ^ 40 }
     ensures stops { IfErr result (λ stop. (stop ≡ Stop.Device Dev.Log) ⊎ (stop ≡ Stop.Worn Dev.Log)) }
 {
     log_laws();

@@ -24,9 +24,9 @@ returns-in-Ok-clause-reply g c s fits =
     let mid : Engine = record engine { store = c.touch.new.self } in
     let fits_mid : Fits mid new s = touched_fits engine c.touch.new.self old new s fits (stays_honest old new c.touch.ensures.works.calls.goes fits.honest) holds c.touch.ensures.made in
     let same = ap (λ (x : Geometry). x.pages) c.touch.ensures.works.sizes in
-    let some = c.requires.number in
+    let some = c.requires.may.number in
     let less : number < 32 * (sizes_of c.touch.new.self).pages = omega (arith, same, some) in
-    let free : model.busy_read s None number ≡ None = sym (busy_read_is engine.locks s fits.locks_are None number) ∙ c.requires.free in
+    let free : model.busy_read s None number ≡ None = sym (busy_read_is engine.locks s fits.locks_are None number) ∙ c.requires.may.free in
     c.found.ensures ∙ ap found (c.shown.ensures.shown new fits.newest fits.records s.table s.commits holds ∙ sym (got_is mid new s fits_mid number c.requires.going.table less free))
 
 pub returns-in-Err-clause-does : goal.returns-in-Err-clause-does

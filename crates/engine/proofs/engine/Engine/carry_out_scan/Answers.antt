@@ -1,5 +1,8 @@
-use Rattle.std.proofs.Common.{map, ◌≡◌, ℕ, ◌+◌, refl, sym, ap, subst, ◌∙◌, arith, rules}
-use Rattle.std.specs.Prelude.{Ok}
+use Rattle.std.proofs.Common.{map, List, ◌*◌, ◌≡◌, ℕ, ◌+◌, refl, sym, ap, subst, ◌∙◌, arith, rules}
+use Rattle.std.specs.Prelude.{Ok, IsSome, ◌<◌}
+use Rattle.site.specs.declared.geometry.Geometry.{Geometry}
+use Rattle.txn_table.specs.declared.active.Active.{Active}
+use Rattle.txn_table.specs.Entries.{entry_of}
 use Rattle.std.specs.List.{range_with_len}
 use Rattle.record_model.specs.State.{State}
 use Rattle.record_model.specs.Touches.{read_touch}
@@ -27,10 +30,18 @@ loop-offset-init g c =
       asks = no_asks c.args.self.now.store.pages old;
     }
 
-pub carry_out_read-requires-clause-free : goal.carry_out_read-requires-clause-free
-carry_out_read-requires-clause-free g c =
-    c.loop-offset.invariant.busy (c.args.number + c.loop-offset.offset)
-    ∙ free_at c.args.self.now.locks c.args.session c.args.number c.args.count c.loop-offset.offset c.loop-offset-test.true c.requires.free
+pub carry_out_read-requires-clause-may : goal.carry_out_read-requires-clause-may
+carry_out_read-requires-clause-may g c =
+    let inv = c.loop-offset.invariant in
+    let there = c.requires.may.there in
+    record {
+      session = c.requires.may.session;
+      active = subst (λ (l : List Active). IsSome (entry_of l c.args.session)) (sym inv.active) c.requires.may.active;
+      shown = record {
+        number = subst (λ (k : Geometry). c.args.number + c.loop-offset.offset < 32 * k.pages) (sym inv.serves.sizes) (omega (arith, there, c.loop-offset-test.true));
+        free = inv.busy (c.args.number + c.loop-offset.offset) ∙ free_at c.args.self.now.locks c.args.session c.args.number c.args.count c.loop-offset.offset c.loop-offset-test.true c.requires.may.free;
+      };
+    }
 
 pub loop-offset-preserved : goal.loop-offset-preserved
 loop-offset-preserved g c =
@@ -40,7 +51,7 @@ loop-offset-preserved g c =
     let inv = c.loop-offset.invariant in
     let number = c.args.number in
     let offset = c.loop-offset.offset in
-    let eight = c.requires.session in
+    let eight = c.requires.may.session in
     record {
       serves = serves_answered (serves_then inv.serves c.in-Ok.ensures.serves);
       active = c.carry_out_read.ensures.active ∙ inv.active;

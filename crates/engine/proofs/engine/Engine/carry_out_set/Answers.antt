@@ -78,7 +78,7 @@ returns-in-Ok-seal_commit-clause-serves g c =
     let below = going.store.blocks in
     let cap = going.cap in
     let few = going.store.both.pages_going.flash.limits.few_blocks in
-    let room = c.requires.room in
+    let room = c.requires.may.room in
     serves_of (works_then c.in-Ok.ensures.works c.in-Ok-seal_commit.ensures.works) (record {
       store = c.in-Ok-seal_commit.ensures.works.going;
       going = ap (λ (x : Engine). x.ended) engine_is ∙ going.going;

@@ -26,7 +26,7 @@ add-requires g c = (entry_is c.args.self.now.active c.args.entry.session c.args.
 pub wrote-requires-clause-room : goal.wrote-requires-clause-room
 wrote-requires-clause-room g c =
     let part = owes c.args.self.now.active c.args.entry.session c.args.entry c.requires.going.table c.requires.active in
-    let room = c.requires.room in
+    let room = c.requires.may.room in
     let cap = c.requires.going.cap in
     let few = c.requires.going.store.both.pages_going.flash.limits.few_blocks in
     omega (arith, part, room, cap, few)
@@ -51,7 +51,7 @@ returns-in-Ok-update-clause-does g c s fits =
     let mid : Engine = record engine { store = c.touch.new.self } in
     let fits_mid : Fits mid new s = touched_fits engine c.touch.new.self old new s fits (stays_honest old new c.touch.ensures.works.calls.goes fits.honest) holds c.touch.ensures.made in
     let same = ap (λ (x : Geometry). x.pages) c.touch.ensures.works.sizes in
-    let some = c.requires.number in
+    let some = c.requires.may.number in
     let less : number < 32 * (sizes_of c.touch.new.self).pages = omega (arith, same, some) in
     let entry = c.args.entry in
     let going = c.requires.going in
@@ -63,8 +63,8 @@ returns-in-Ok-update-clause-does g c s fits =
     let few = going.store.blocks in
     let count = ap (λ (x : Geometry). x.blocks) c.touch.ensures.works.sizes in
     let cap = going.cap in
-    let room = c.requires.room in
-    let may = may_write mid new s fits_mid entry number lsn after going.table c.requires.active less c.requires.free (omega (arith, made, room)) (let kept = c.touch.ensures.works.kept in omega (arith, blocks, few, made, kept)) (omega (arith, cap, count)) in
+    let room = c.requires.may.room in
+    let may = may_write mid new s fits_mid entry number lsn after going.table c.requires.active less c.requires.may.free (omega (arith, made, room)) (let kept = c.touch.ensures.works.kept in omega (arith, blocks, few, made, kept)) (omega (arith, cap, count)) in
     does_of (omega arith)
     (write_fits mid _ new last s entry number lsn (shown_in c.touch.new.self new fits.records number) after fits_mid going.table c.requires.active
     (stays_honest old last (goes_in_sequence old new last c.touch.ensures.works.calls.goes c.update.ensures.works.calls.goes) fits.honest)
@@ -93,7 +93,7 @@ returns-in-Ok-update-clause-serves g c =
     let made_before = c.touch.ensures.made in
     let made = c.in-Ok-update.ensures.works.made in
     let owed_is = c.wrote.ensures.owed in
-    let room = c.requires.room in
+    let room = c.requires.may.room in
     let below = going.store.blocks in
     let cap = going.cap in
     let few = going.store.both.pages_going.flash.limits.few_blocks in

@@ -28,7 +28,7 @@ returns-in-Err-touch-clause-keeps g c s fits =
     let engine = c.args.self.now in
     let old = g.S.Site.state c.args.site.now in
     let going = c.requires.going in
-    let room = c.requires.room in
+    let room = c.requires.may.room in
     let behind = c.in-Ok.ensures.rises.0 in
     let log = fits.records ++ begin_at c.in-Ok.txn ∷ [] in
     let may = may_begin engine old s fits c.in-Ok.txn behind (omega (arith, room)) going.store.blocks going.cap in
@@ -40,7 +40,7 @@ returns-in-Err-update-clause-keeps g c s fits =
     let engine = c.args.self.now in
     let old = g.S.Site.state c.args.site.now in
     let going = c.requires.going in
-    let room = c.requires.room in
+    let room = c.requires.may.room in
     let behind = c.in-Ok.ensures.rises.0 in
     let log = fits.records ++ begin_at c.in-Ok.txn ∷ [] in
     let may = may_begin engine old s fits c.in-Ok.txn behind (omega (arith, room)) going.store.blocks going.cap in
@@ -54,7 +54,7 @@ returns-in-Ok-update-clause-keeps g c s fits =
     let engine = c.args.self.now in
     let old = g.S.Site.state c.args.site.now in
     let going = c.requires.going in
-    let room = c.requires.room in
+    let room = c.requires.may.room in
     let behind = c.in-Ok.ensures.rises.0 in
     let log = fits.records ++ begin_at c.in-Ok.txn ∷ [] in
     let may = may_begin engine old s fits c.in-Ok.txn behind (omega (arith, room)) going.store.blocks going.cap in
@@ -68,7 +68,7 @@ returns-in-Ok-update-clause-logged g c s fits =
     let engine = c.args.self.now in
     let old = g.S.Site.state c.args.site.now in
     let going = c.requires.going in
-    let room = c.requires.room in
+    let room = c.requires.may.room in
     let behind = c.in-Ok.ensures.rises.0 in
     let log = fits.records ++ begin_at c.in-Ok.txn ∷ [] in
     let may = may_begin engine old s fits c.in-Ok.txn behind (omega (arith, room)) going.store.blocks going.cap in
@@ -82,8 +82,8 @@ returns-in-Ok-update-clause-logged g c s fits =
     let blocks = c.in-Ok.ensures.works.blocks in
     let same = c.in-Ok-touch.ensures.blocks in
     let before : Content = shown_in c.touch.new.self two log number in
-    let may = may_update engine old s number fits going.table c.requires.number c.requires.room going.store.blocks going.cap c.requires.free txn behind c.touch.new.self two lsn after (c.touch.ensures.works.sizes ∙ c.begin.ensures.works.sizes) (c.touch.ensures.works.kept ∙ c.begin.ensures.works.kept) (omega (arith, blocks, same)) in
-    one_write engine old s number fits going.table c.requires.number c.requires.room going.store.blocks going.cap c.requires.free txn behind c.update.new.self (g.S.Site.state c.update.new.site) lsn before after
+    let may = may_update engine old s number fits going.table c.requires.may.number c.requires.may.room going.store.blocks going.cap c.requires.may.free txn behind c.touch.new.self two lsn after (c.touch.ensures.works.sizes ∙ c.begin.ensures.works.sizes) (c.touch.ensures.works.kept ∙ c.begin.ensures.works.kept) (omega (arith, blocks, same)) in
+    one_write engine old s number fits going.table c.requires.may.number c.requires.may.room going.store.blocks going.cap c.requires.may.free txn behind c.update.new.self (g.S.Site.state c.update.new.site) lsn before after
     (c.in-Ok-update.ensures.holds fits.newest log s.table s.commits held may)
 
 pub returns-in-Err-clause-asks : goal.returns-in-Err-clause-asks
