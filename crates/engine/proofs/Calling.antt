@@ -23,7 +23,7 @@ use Rattle.page_store.specs.Stopping.{MayStop}
 use Rattle.redo_undo.specs.Holding.{IsLogWorn}
 use Rattle.redo_undo.specs.HoldingLaws.{HoldsMoment}
 use Rattle.image_meaning.proofs.Leaving.{under_leaves_for}
-use Rattle.redo_undo.specs.Works.{Asks, WorksAddUp, ReadsAddUp, ReadsForMore, OverflowsWithMore, checkpoint_works}
+use Rattle.redo_undo.specs.Works.{Asks, checkpoint_works}
 use Rattle.redo_undo.specs.declared.store.Store.{Store}
 use Rattle.engine.specs.declared.engine.Engine.{Engine}
 use Rattle.engine.specs.Going.{MayGoOn, sizes_of}
@@ -226,22 +226,22 @@ still law {engine = engine} {site = site} {s = s} fits going quiet =
 
 -- A command before which a checkpoint is made where one is wanted.
 module _ {s : State} (command : Command) {wanted : Bool} (known : wanted ≡ makes_checkpoint true s command) (R : Outcome → Snapshot → Type 0) where
-  pub first_then : WorksAddUp → ReadsAddUp → {A : Type 0} {a : A} {r : Result Reply Stop} {old mid new : Engine} {before between now : Site} {P Q : Snapshot → Type 0} → IsTrue before.honest →
+  pub first_then : {A : Type 0} {a : A} {r : Result Reply Stop} {old mid new : Engine} {before between now : Site} {P Q : Snapshot → Type 0} → IsTrue before.honest →
       ((x : Snapshot) → P x → R (run_now (checkpointed_if wanted s) command) x) → (LeavesOnly before between P → (x : Snapshot) → Q x → R (run_now (checkpointed_if wanted s) command) x) →
       Serves {T = A} (Ok a) old mid before between → Does {T = A} (Ok a) old mid before between s (checkpointed_if wanted s) P (if wanted then 1 else 0) →
       Asks {T = A} (Ok a) (if wanted then checkpoint_works else []) old.store.pages mid.store.pages before between →
       Answers r mid new between now (checkpointed_if wanted s) (run_now (checkpointed_if wanted s) command) (command_touches false (checkpointed_if wanted s) command) Q 0 →
       Answers r old new before now s (run s command) (command_touches true s command) (R (run s command)) (checkpoints_by s command)
-  first_then add reads {a = a} {r = r} {old = old} {mid = mid} {new = new} {before = before} {between = between} {now = now} honest early late serves does asks second =
+  first_then {a = a} {r = r} {old = old} {mid = mid} {new = new} {before = before} {between = between} {now = now} honest early late serves does asks second =
       subst (λ (b : Bool). Answers r old new before now s (run s command) (command_touches true s command) (R (run s command)) (if b then 1 else 0)) known
       (answered_as R (step_where s command wanted known, touches_where s command wanted known) (does_then honest (omega arith) early late serves does second.does) second.reply
       (asks_then a r (if wanted then checkpoint_works else []) (command_touches false (checkpointed_if wanted s) command) old.store.pages mid.store.pages new.store.pages before between now asks second.asks))
 
   -- it fails
-  pub first_failed : ReadsForMore → OverflowsWithMore → {A : Type 0} {stop : Stop} {old mid : Engine} {before now : Site} {P : Snapshot → Type 0} → MayGoOn old before → ((x : Snapshot) → P x → R (run_now (checkpointed_if wanted s) command) x) →
+  pub first_failed : {A : Type 0} {stop : Stop} {old mid : Engine} {before now : Site} {P : Snapshot → Type 0} → MayGoOn old before → ((x : Snapshot) → P x → R (run_now (checkpointed_if wanted s) command) x) →
       Does {T = A} (Err stop) old mid before now s (checkpointed_if wanted s) P (if wanted then 1 else 0) → Asks {T = A} (Err stop) (if wanted then checkpoint_works else []) old.store.pages mid.store.pages before now →
       Answers (Err stop) old mid before now s (run s command) (command_touches true s command) (R (run s command)) (checkpoints_by s command)
-  first_failed more over {A = A} {stop = stop} {old = old} {mid = mid} {before = before} {now = now} going early does asks =
+  first_failed {A = A} {stop = stop} {old = old} {mid = mid} {before = before} {now = now} going early does asks =
       subst (λ (b : Bool). Answers (Err stop) old mid before now s (run s command) (command_touches true s command) (R (run s command)) (if b then 1 else 0)) known
       (answered_as R (step_where s command wanted known, touches_where s command wanted known) (does_failed (run_makes (checkpointed_if wanted s) command) (does_weaker early does)) tt
       (asks_stopped {A = A} {B = Reply} stop (if wanted then checkpoint_works else []) (command_touches false (checkpointed_if wanted s) command) old.store.pages mid.store.pages before now (has_group going) asks))

@@ -8,32 +8,32 @@ use Rattle.engine.specs.Going.{sizes_of}
 use Rattle.engine.specs.Scans.{first_busy}
 
 -- the record exists, and no other session has written it
-pub record MayShow (engine : Engine) (own : Option ℕ) (number : ℕ) : Type 0 where
-  pub number : number < 32 * (sizes_of engine.store).pages
-  pub free : busy_read engine.locks own number ≡ None
+pub record MayShow (engine : Engine) (own : Option ℕ) (r : ℕ) : Type 0 where
+  pub number : r < 32 * (sizes_of engine.store).pages
+  pub free : busy_read engine.locks own r ≡ None
 
 -- the session is active, and may be shown the record
-pub record MayRead (engine : Engine) (session number : ℕ) : Type 0 where
-  pub session : session < 8
-  pub active : IsSome (entry_of engine.active session)
-  pub shown : MayShow engine (Some session) number
+pub record MayRead (engine : Engine) (n r : ℕ) : Type 0 where
+  pub session : n < 8
+  pub active : IsSome (entry_of engine.active n)
+  pub shown : MayShow engine (Some n) r
 
 -- the session is active, and may be shown each of so many records from a number on
-pub record MayScan (engine : Engine) (session number count : ℕ) : Type 0 where
-  pub session : session < 8
-  pub active : IsSome (entry_of engine.active session)
-  pub small : number + count < 2 ^ 32
-  pub there : number + count ≤ 32 * (sizes_of engine.store).pages
-  pub free : first_busy engine.locks session (range_with_len number count) ≡ None
+pub record MayScan (engine : Engine) (n r count : ℕ) : Type 0 where
+  pub session : n < 8
+  pub active : IsSome (entry_of engine.active n)
+  pub small : r + count < 2 ^ 32
+  pub there : r + count ≤ 32 * (sizes_of engine.store).pages
+  pub free : first_busy engine.locks n (range_with_len r count) ≡ None
 
 -- the record exists, no other session has written or read it, and so many more log records may be made
-pub record MayWrite (engine : Engine) (own : Option ℕ) (number more : ℕ) : Type 0 where
-  pub number : number < 32 * (sizes_of engine.store).pages
-  pub free : busy_write engine.locks own number ≡ None
+pub record MayWrite (engine : Engine) (own : Option ℕ) (r more : ℕ) : Type 0 where
+  pub number : r < 32 * (sizes_of engine.store).pages
+  pub free : busy_write engine.locks own r ≡ None
   pub room : engine.store.made + owed engine.active + more ≤ engine.cap
 
 -- the session isn't active yet, and there is room for its Begin and its End
-pub record MayBegin (engine : Engine) (session : ℕ) : Type 0 where
-  pub session : session < 8
-  pub absent : entry_of engine.active session ≡ None
+pub record MayBegin (engine : Engine) (n : ℕ) : Type 0 where
+  pub session : n < 8
+  pub absent : entry_of engine.active n ≡ None
   pub room : engine.store.made + owed engine.active + 2 ≤ engine.cap

@@ -28,7 +28,6 @@ use Rattle.engine.specs.Paging.{AsksFrom, restart_works}
 use Rattle.site.specs.Work.{Calls}
 use Rattle.analysis.specs.Laws.{OneTable, TableOfUnfinished, OwedOfUnfinished}
 use Rattle.analysis.specs.Taken.{TakenCommits}
-use Rattle.redo_undo.specs.Works.{WorksAddUp, ReadsAddUp, ReadsForMore, OverflowsWithMore}
 
 -- of every site: what was opened may be recovered
 pub record MayRecover (opened : Opened) (site : State) : Type 0 where
@@ -78,13 +77,9 @@ pub record Recovers (result : Result Restarted Stop) (opened : Opened) (before n
       (restart_works (picture_under newest opened.pages.flash.geometry before.image blocks))
       (cache_of opened.pages) 0 before now
 
--- the laws of the layers below on what a restart takes of a log, and on the work that it asks of the cache
+-- the laws of the layers below on what a restart takes of a log
 pub record RecoveryLaws : Type 0 where
   pub one : OneTable
   pub unfinished : TableOfUnfinished
   pub owed : OwedOfUnfinished
   pub commits : TakenCommits
-  pub works : WorksAddUp
-  pub reads : ReadsAddUp
-  pub more : ReadsForMore
-  pub overflow : OverflowsWithMore

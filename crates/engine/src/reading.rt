@@ -25,7 +25,7 @@ use crate::engine::Engine;
 use crate::scan::{add_item, first_busy};
 use crate::values::found;
 use record_model::{Items, Octets, Reply, Why};
-use redo_undo::{hold_together, works_add_up};
+use redo_undo::hold_together;
 use site::{Site, Stop};
 
 impl Engine {
@@ -196,7 +196,6 @@ impl Engine {
             (S.state site.old) (S.state site.new) }
     {
         hold_together();
-        works_add_up();
         let mut items = Items::new(self.alloc);
         for offset in 0..count {
             let content = match self.carry_out_read(site, session, number + offset) {

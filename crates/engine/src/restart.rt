@@ -27,12 +27,11 @@ ghost use Rattle.engine.specs.Numbers.{RestartsWithin};
 ghost use Rattle.page_store.specs.Caching.{cache_of};
 ghost use Rattle.second_chance.specs.Machine.{rules_of};
 
-use redo_undo::Store;
 use analysis::{Analysis, losers_are_taken, table_of_records};
 use checkpoint::{Master, Pairs, newest, one_master};
 use log_store::LogStore;
 use page_store::{PageStore, stays_beside};
-use redo_undo::{redo, undo_all, works_add_up};
+use redo_undo::{Store, redo, undo_all, works_add_up};
 use sealed_ring::Ring;
 use site::{Dev, Geometry, Site, Stop};
 use std::alloc::Global;
@@ -169,13 +168,12 @@ fn owed(found: &Analysis) -> u64
     sum
 }
 
-// On what a restart takes of a log, and on the work that it asks of the cache.
+// On what a restart takes of a log.
 fn recovery_laws()
     ensures { RecoveryLaws }
 {
     table_of_records();
     losers_are_taken();
-    works_add_up();
 }
 
 // Redoes what the pages lack, undoes all that is unfinished, and makes a checkpoint.

@@ -26,7 +26,7 @@ use crate::engine::Engine;
 use crate::values::{is_long, value_of};
 use page_store::touch_then_change;
 use record_model::{Octets, Reply, Why};
-use redo_undo::{changes_cost_a_touch, hold_together, works_add_up};
+use redo_undo::{hold_together, works_add_up};
 use site::{Site, Stop};
 
 impl Engine {
@@ -56,8 +56,6 @@ impl Engine {
             (S.state site.old) (S.state site.new) }
     {
         touch_then_change();
-        changes_cost_a_touch();
-        works_add_up();
         let txn = match self.store.begin(site) {
             Ok(txn) => txn,
             Err(stop) => return Err(stop),
@@ -97,7 +95,6 @@ impl Engine {
         ensures asks { Asks result (one_change (number / 32)) self.old.store.pages self.new.store.pages
             (S.state site.old) (S.state site.new) }
     {
-        works_add_up();
         let txn = match self.log_set(site, number, after) {
             Ok(txn) => txn,
             Err(stop) => return Err(stop),

@@ -32,7 +32,7 @@ ghost use Rattle.redo_undo.specs.StoreCalls.{Works, Keeps};
 use crate::engine::{Engine, SESSIONS};
 use crate::sessions;
 use record_model::{Reply, Why};
-use redo_undo::{hold_together, works_add_up};
+use redo_undo::hold_together;
 use site::{Site, Stop};
 use txn_table::Active;
 
@@ -102,7 +102,6 @@ impl Engine {
             → Overflows (rules self.old.store.pages) checkpoint_works (cache_of self.old.store.pages) }
         ensures foreign { IfErr result (λ stop. stop ≢ Stop.Foreign) }
     {
-        works_add_up();
         let wanted = self.wants_checkpoint_to_begin(session);
         match self.checkpoint_if(site, wanted) {
             Ok(()) => self.begin_now(site, session),

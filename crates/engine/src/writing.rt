@@ -25,7 +25,7 @@ use crate::sessions;
 use crate::values::{is_long, value_of};
 use page_store::touch_then_change;
 use record_model::{Octets, Reply, Why};
-use redo_undo::{changes_cost_a_touch, hold_together};
+use redo_undo::hold_together;
 use site::{Site, Stop};
 use txn_table::Active;
 
@@ -56,7 +56,6 @@ impl Engine {
             (S.state site.old) (S.state site.new) }
     {
         touch_then_change();
-        changes_cost_a_touch();
         match self.store.touch(site, number) {
             Ok(()) => {}
             Err(stop) => return Err(stop),

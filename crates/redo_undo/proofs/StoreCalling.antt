@@ -21,15 +21,13 @@ use Rattle.redo_undo.specs.declared.store.Store.{Store}
 use Rattle.site.proofs.Working.{ok_as, err_again, no_error, calls_then, calls_failed, calls_answered, calls_refused}
 use Rattle.redo_undo.specs.Calls as calls
 use Rattle.redo_undo.specs.StoreCalls.{Works, Keeps}
+use Rattle.redo_undo.proofs.Asking.{stop_is}
 
 -- Of a result.
 
 pub where_two : {T E : Type 0} (A B C : Type 0) (result : Result T E) → OnOk result A → OnOk result B → (A → B → C) → OnOk result C
 where_two A B C (Ok x) first second then = then first second
 where_two A B C (Err e) first second then = tt
-
-pub stop_is : {U : Type 0} (stop is : Stop) → IsErrOf {T = U} (Err stop) is → stop ≡ is
-stop_is stop is same = cc
 
 pub no_foreign : {T : Type 0} (stop : Stop) → stop ≢ Foreign → IsErrOf {T = T} (Err stop) Foreign → ⊥
 no_foreign stop never is = never (let same : stop ≡ Foreign = cc in same)

@@ -24,4 +24,4 @@ pub use session_laws::{sessions_are_undone, sessions_go_on, sessions_outlive, se
 pub use store::Store;
 pub use undo::undo_one;
 pub use undo_losers::undo_all;
-pub use work_laws::{changes_cost_a_touch, works_add_up};
+pub use work_laws::works_add_up;

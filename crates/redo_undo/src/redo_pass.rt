@@ -15,7 +15,7 @@ ghost use Rattle.analysis.specs.Read as read;
 ghost use Rattle.analysis.specs.Read.{IsAnalysis, IsTable};
 ghost use Rattle.analysis.specs.Taken.{is_named, is_taken, Steps, taken};
 ghost use Rattle.redo_undo.specs.Holding.{MayGoOn, Holds, IsOnPage, blocks_to};
-ghost use Rattle.redo_undo.specs.Redoing.{IsOpened, Opening, LeavesOpened, IsRedoing, HasTaken, touches_of, asked_of, heard_of};
+ghost use Rattle.redo_undo.specs.Redoing.{IsOpened, Opening, Takes, LeavesOpened, IsRedoing, HasTaken, touches_of, heard_of};
 ghost use Rattle.redo_undo.specs.RedoLaws.{RedoLaws};
 ghost use Rattle.checkpoint.specs.declared.master.Master.{Master};
 ghost use Rattle.redo_undo.specs.Works.{Asks, redo_works};
@@ -192,19 +192,11 @@ fn take_record<S: Site>(
     requires few { so_far.old.records < 2 ^ 40 }
 
     // Of an honest site with an opened log and its newest master, of which it is the next record.
-    ensures taken { (o : Opening) (front rest : List Entry) → master.now ≡ saved_by o.newest
+    ensures takes { (o : Opening) (front rest : List Entry) → master.now ≡ saved_by o.newest
         → HasTaken o log.old pages.old (S.state site.old) so_far.old front
         → log_from (kept_by o.newest) o.blocks ≡ front ++ record { lsn = lsn; rec = rec.now } ∷ rest
-        → OnOk result (HasTaken o log.new pages.new (S.state site.new) so_far.new (front ++ record { lsn = lsn; rec = rec.now } ∷ [])) }
-    ensures keeps { (o : Opening) (front rest : List Entry) → master.now ≡ saved_by o.newest
-        → HasTaken o log.old pages.old (S.state site.old) so_far.old front
-        → log_from (kept_by o.newest) o.blocks ≡ front ++ record { lsn = lsn; rec = rec.now } ∷ rest
-        → Keeps result pages.old.flash.geometry log.old log.new (S.state site.old) (S.state site.new)
-        (LeavesOpened o (S.state site.old).told) 0 0 }
-    ensures asks { (o : Opening) (front rest : List Entry) → master.now ≡ saved_by o.newest
-        → HasTaken o log.old pages.old (S.state site.old) so_far.old front
-        → log_from (kept_by o.newest) o.blocks ≡ front ++ record { lsn = lsn; rec = rec.now } ∷ rest
-        → Asks result (asked_of o (record { lsn = lsn; rec = rec.now } ∷ [])) pages.old pages.new (S.state site.old) (S.state site.new) }
+        → Takes result o log.old log.new pages.old pages.new (S.state site.old) (S.state site.new) so_far.new
+        front (record { lsn = lsn; rec = rec.now } ∷ []) }
 
     // Of every site.
     ensures logs_nothing { LogsNothing result log.old log.new pages.old pages.new (S.state site.old) (S.state site.new) }
@@ -244,22 +236,12 @@ fn take_block<S: Site>(
     requires number { block ≤ 2 ^ 40 }
 
     // Of an honest site with an opened log and its newest master, of which they are the next records.
-    ensures taken { (o : Opening) (front rest : List Entry) (records : List LogRecord) → master.now ≡ saved_by o.newest
+    ensures takes { (o : Opening) (front rest : List Entry) (records : List LogRecord) → master.now ≡ saved_by o.newest
         → HasTaken o log.old pages.old (S.state site.old) so_far.old front
         → IsBlock content.now records → used ≡ used_by records
         → log_from (kept_by o.newest) o.blocks ≡ front ++ (entries_from (512 * block + 2) records ++ rest)
-        → OnOk result (HasTaken o log.new pages.new (S.state site.new) so_far.new (front ++ entries_from (512 * block + 2) records)) }
-    ensures keeps { (o : Opening) (front rest : List Entry) (records : List LogRecord) → master.now ≡ saved_by o.newest
-        → HasTaken o log.old pages.old (S.state site.old) so_far.old front
-        → IsBlock content.now records → used ≡ used_by records
-        → log_from (kept_by o.newest) o.blocks ≡ front ++ (entries_from (512 * block + 2) records ++ rest)
-        → Keeps result pages.old.flash.geometry log.old log.new (S.state site.old) (S.state site.new)
-        (LeavesOpened o (S.state site.old).told) 0 0 }
-    ensures asks { (o : Opening) (front rest : List Entry) (records : List LogRecord) → master.now ≡ saved_by o.newest
-        → HasTaken o log.old pages.old (S.state site.old) so_far.old front
-        → IsBlock content.now records → used ≡ used_by records
-        → log_from (kept_by o.newest) o.blocks ≡ front ++ (entries_from (512 * block + 2) records ++ rest)
-        → Asks result (asked_of o (entries_from (512 * block + 2) records)) pages.old pages.new (S.state site.old) (S.state site.new) }
+        → Takes result o log.old log.new pages.old pages.new (S.state site.old) (S.state site.new) so_far.new
+        front (entries_from (512 * block + 2) records) }
 
     // Of every site.
     ensures logs_nothing { LogsNothing result log.old log.new pages.old pages.new (S.state site.old) (S.state site.new) }

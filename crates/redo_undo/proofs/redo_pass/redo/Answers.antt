@@ -99,7 +99,7 @@ loop-block-preserved g c =
           record {
             from = (let low = up.from in omega (arith, low));
             taken = subst (HasTaken o c.take_block.new.log c.take_block.new.pages new c.take_block.new.so_far) (one_more_block o c.loop-block.block up.from inside)
-                (t.taken o (log_from (kept_by newest) (take (c.loop-block.block - kept_by newest) blocks)) (log_from (c.loop-block.block + 1) (drop (suc (c.loop-block.block - kept_by newest)) blocks)) (block_of blocks (c.loop-block.block - kept_by newest)) own next.taken next.content_is next.used_is next.split);
+                (t.takes o (log_from (kept_by newest) (take (c.loop-block.block - kept_by newest) blocks)) (log_from (c.loop-block.block + 1) (drop (suc (c.loop-block.block - kept_by newest)) blocks)) (block_of blocks (c.loop-block.block - kept_by newest)) own next.taken next.content_is next.used_is next.split).taken;
           };
       asked = λ newest blocks table commits own h.
           let o : Opening = record { sizes = c.args.pages.now.flash.geometry; image = old.image; newest = newest; blocks = blocks; table = table; commits = commits } in
@@ -115,7 +115,7 @@ loop-block-preserved g c =
           let front = log_from (kept_by newest) (take (c.loop-block.block - kept_by newest) blocks) in
           asks_more o c.args.pages.now c.loop-block.pages c.take_block.new.pages old read new front
           (asks_with_read o c.args.pages.now c.loop-block.pages old mid read front (i.asked newest blocks table commits own h) c.read_block.ensures.reads.others) _ _ _ (sym (one_more_block o c.loop-block.block up.from inside))
-          (t.asks o front (log_from (c.loop-block.block + 1) (drop (suc (c.loop-block.block - kept_by newest)) blocks)) (block_of blocks (c.loop-block.block - kept_by newest)) own next.taken next.content_is next.used_is next.split);
+          (t.takes o front (log_from (c.loop-block.block + 1) (drop (suc (c.loop-block.block - kept_by newest)) blocks)) (block_of blocks (c.loop-block.block - kept_by newest)) own next.taken next.content_is next.used_is next.split).asks;
       keeps = λ newest blocks table commits own h.
           let o : Opening = record { sizes = c.args.pages.now.flash.geometry; image = old.image; newest = newest; blocks = blocks; table = table; commits = commits } in
           let up = i.up_to newest blocks table commits own h in
@@ -129,7 +129,7 @@ loop-block-preserved g c =
           up.taken.pages_are.ready.records (let from = up.from in omega (arith, from))) in
           let so_far = keeps_then h.ready.blocks.honest i.works.geometry refl i.works.calls (i.keeps newest blocks table commits own h)
           (keeps_opened c.page_laws.ensures c.redo_laws.ensures {r = Ok c.in-Ok-read_block.used} i.works.going.sizes up.taken.pages_are (c.read_block.ensures.same up.taken.pages_are.ready.blocks.honest) (λ d is. no_error {x = c.in-Ok-read_block.used} {e = Worn d} is) (no_error {x = c.in-Ok-read_block.used} {e = Foreign})) in
-          keeps_answered (keeps_then h.ready.blocks.honest i.works.geometry refl (calls_then i.works.calls (calls_read read_one)) so_far (t.keeps o (log_from (kept_by newest) (take (c.loop-block.block - kept_by newest) blocks)) (log_from (c.loop-block.block + 1) (drop (suc (c.loop-block.block - kept_by newest)) blocks)) (block_of blocks (c.loop-block.block - kept_by newest)) own next.taken next.content_is next.used_is next.split));
+          keeps_answered (keeps_then h.ready.blocks.honest i.works.geometry refl (calls_then i.works.calls (calls_read read_one)) so_far (t.takes o (log_from (kept_by newest) (take (c.loop-block.block - kept_by newest) blocks)) (log_from (c.loop-block.block + 1) (drop (suc (c.loop-block.block - kept_by newest)) blocks)) (block_of blocks (c.loop-block.block - kept_by newest)) own next.taken next.content_is next.used_is next.split).keeps);
     }
 
 pub returns-clause-holds : goal.returns-clause-holds
@@ -211,7 +211,7 @@ returns-in-Err-take_block-clause-asks g c newest blocks table commits own h =
     (stops_within o c.args.pages.now c.loop-block.pages c.take_block.new.pages old read (g.S.Site.state c.take_block.new.site) front
     (asks_with_read o c.args.pages.now c.loop-block.pages old mid read front (c.loop-block.invariant.asked newest blocks table commits own h) c.read_block.ensures.reads.others)
     c.in-Err-take_block.stop _ behind (log_from (kept_by newest) blocks) some next.split
-    (c.in-Err-take_block.ensures.asks o front behind (block_of blocks (c.loop-block.block - kept_by newest)) own next.taken next.content_is next.used_is next.split))
+    (c.in-Err-take_block.ensures.takes o front behind (block_of blocks (c.loop-block.block - kept_by newest)) own next.taken next.content_is next.used_is next.split).asks)
 
 pub returns-clause-asks : goal.returns-clause-asks
 returns-clause-asks g c newest blocks table commits own h =
@@ -256,7 +256,7 @@ returns-in-Err-take_block-clause-keeps g c newest blocks table commits own h =
     let read_one : ReadsOne {T = ℕ} (Ok c.in-Ok-read_block.used) mid read = record { same = c.read_block.ensures.same; goes = c.read_block.ensures.goes; log_reads = c.read_block.ensures.reads.here; others = c.read_block.ensures.reads.others; device = c.in-Ok-read_block.ensures.device; stops = tt; faults = c.in-Ok-read_block.ensures.faults } in
     let first = keeps_then h.ready.blocks.honest i.works.geometry refl i.works.calls (i.keeps newest blocks table commits own h)
     (keeps_opened c.page_laws.ensures c.redo_laws.ensures {r = Ok c.in-Ok-read_block.used} i.works.going.sizes up.taken.pages_are (c.read_block.ensures.same up.taken.pages_are.ready.blocks.honest) (λ d is. no_error {x = c.in-Ok-read_block.used} {e = Worn d} is) (no_error {x = c.in-Ok-read_block.used} {e = Foreign})) in
-    keeps_failed (keeps_then h.ready.blocks.honest i.works.geometry refl (calls_then i.works.calls (calls_read read_one)) first (c.in-Err-take_block.ensures.keeps o (log_from (kept_by newest) (take (c.loop-block.block - kept_by newest) blocks)) (log_from (c.loop-block.block + 1) (drop (suc (c.loop-block.block - kept_by newest)) blocks)) (block_of blocks (c.loop-block.block - kept_by newest)) own next.taken next.content_is next.used_is next.split))
+    keeps_failed (keeps_then h.ready.blocks.honest i.works.geometry refl (calls_then i.works.calls (calls_read read_one)) first (c.in-Err-take_block.ensures.takes o (log_from (kept_by newest) (take (c.loop-block.block - kept_by newest) blocks)) (log_from (c.loop-block.block + 1) (drop (suc (c.loop-block.block - kept_by newest)) blocks)) (block_of blocks (c.loop-block.block - kept_by newest)) own next.taken next.content_is next.used_is next.split).keeps)
 
 pub returns-clause-keeps : goal.returns-clause-keeps
 returns-clause-keeps g c newest blocks table commits own h = keeps_answered (c.loop-block.invariant.keeps newest blocks table commits own h)

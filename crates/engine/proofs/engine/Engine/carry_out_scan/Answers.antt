@@ -66,7 +66,7 @@ loop-offset-preserved g c =
           let count = fits.sessions.count in
           items_next s c.args.session number offset c.loop-offset.items c.add_item.new.items _ (omega (arith, eight, count)) (inv.items s fits)
           (c.in-Ok.ensures.content (with_reads s c.args.session (range_with_len number offset)) (inv.does s fits).after_fits) c.in-Ok-add_item.ensures.items;
-      asks = scan_more c.works_add_up.ensures.works c.works_add_up.ensures.reads tt (Ok tt) number offset _ _ _ old mid new inv.asks (asks_ok c.in-Ok.content tt _ _ _ _ _ c.in-Ok.ensures.asks);
+      asks = scan_more tt (Ok tt) number offset _ _ _ old mid new inv.asks (asks_ok c.in-Ok.content tt _ _ _ _ _ c.in-Ok.ensures.asks);
     }
 
 pub returns-in-Err-clause-does : goal.returns-in-Err-clause-does
@@ -103,14 +103,14 @@ returns-clause-items g c s fits =
 pub returns-in-Err-clause-asks : goal.returns-in-Err-clause-asks
 returns-in-Err-clause-asks g c =
     let inv = c.loop-offset.invariant in
-    scan_stops c.works_add_up.ensures.more c.works_add_up.ensures.overflow c.in-Err.stop c.args.number c.loop-offset.offset c.args.count _ _ _ _ (has_group c.requires.going) c.loop-offset-test.true
-    (scan_more c.works_add_up.ensures.works c.works_add_up.ensures.reads tt _ c.args.number c.loop-offset.offset _ _ _ _ _ _ inv.asks c.in-Err.ensures.asks)
+    scan_stops c.in-Err.stop c.args.number c.loop-offset.offset c.args.count _ _ _ _ (has_group c.requires.going) c.loop-offset-test.true
+    (scan_more tt _ c.args.number c.loop-offset.offset _ _ _ _ _ _ inv.asks c.in-Err.ensures.asks)
 
 pub returns-in-Err-add_item-clause-asks : goal.returns-in-Err-add_item-clause-asks
 returns-in-Err-add_item-clause-asks g c =
     let inv = c.loop-offset.invariant in
-    scan_stops c.works_add_up.ensures.more c.works_add_up.ensures.overflow c.in-Err-add_item.stop c.args.number c.loop-offset.offset c.args.count _ _ _ _ (has_group c.requires.going) c.loop-offset-test.true
-    (scan_more c.works_add_up.ensures.works c.works_add_up.ensures.reads tt _ c.args.number c.loop-offset.offset _ _ _ _ _ _ inv.asks
+    scan_stops c.in-Err-add_item.stop c.args.number c.loop-offset.offset c.args.count _ _ _ _ (has_group c.requires.going) c.loop-offset-test.true
+    (scan_more tt _ c.args.number c.loop-offset.offset _ _ _ _ _ _ inv.asks
     (asks_fails {B = Unit {0}} c.in-Ok.content c.in-Err-add_item.stop _ _ _ _ _ (memory_only c.in-Err-add_item.stop c.in-Err-add_item.ensures.stops) c.in-Ok.ensures.asks))
 
 pub returns-clause-asks : goal.returns-clause-asks

@@ -1,5 +1,5 @@
 use Rattle.site.specs.declared.outside.Stop.TheVariants.{Memory}
-use Rattle.engine.proofs.Asking.{touch_stops, change_asks, change_stops, has_group, not_worn}
+use Rattle.engine.proofs.Asking.{has_group}
 use Rattle.std.proofs.Common.{◌≡◌, ◌+◌, ◌*◌, ◌<◌, ◌≤◌, ⊎_elim, refl, sym, ap, subst, ◌∙◌, arith, ◌/◌}
 use Rattle.std.proofs.lemmas.Option.{same_Some}
 use Rattle.std.proofs.lemmas.Bool.{cases_eq}
@@ -18,6 +18,8 @@ use Rattle.engine.proofs.Writes.{touched_fits, may_write, write_fits}
 use Rattle.engine.proofs.Apart.{below_wrote, apart_wrote}
 use Rattle.engine.proofs.Calling.{does_of, serves_of}
 use Rattle.redo_undo.proofs.StoreCalling.{works_then, works_failed, works_answered, works_no_memory, keeps_failed, keeps_answered, keeps_both, keeps_no_memory}
+use Rattle.std.specs.Prelude.{Err}
+use Rattle.redo_undo.proofs.AskingUndo.{change_stopped, change_made, never_worn}
 use Rattle.engine.proofs.engine.Engine.carry_out_write.Goals as goal
 
 pub add-requires : goal.add-requires
@@ -121,17 +123,16 @@ returns-in-Ok-update-clause-serves g c =
     })
 
 pub returns-in-Err-clause-asks : goal.returns-in-Err-clause-asks
-returns-in-Err-clause-asks g c = touch_stops c.changes_cost_a_touch.ensures.reads c.changes_cost_a_touch.ensures.overflow c.in-Err.stop (c.args.number / 32) _ _ _ _ (has_group c.requires.going) c.in-Err.ensures.asks
+returns-in-Err-clause-asks g c = change_stopped c.in-Err.stop (c.args.number / 32) _ _ _ _ (has_group c.requires.going) c.in-Err.ensures.asks
 
 pub returns-in-Err-add-clause-asks : goal.returns-in-Err-add-clause-asks
 returns-in-Err-add-clause-asks g c =
-    change_stops c.changes_cost_a_touch.ensures.reads c.in-Ok.field-0 Memory (c.args.number / 32) _ _ _ _ _ _ (has_group c.requires.going) (λ is. cc) (λ dev. refl) refl c.in-Ok.ensures.asks
+    change_made c.in-Ok.field-0 (Err Memory) (c.args.number / 32) _ _ _ _ _ _ (has_group c.requires.going) c.touch_then_change.ensures c.in-Ok.ensures.asks tt refl (λ dev. refl) (λ is. cc)
 
 pub returns-in-Err-update-clause-asks : goal.returns-in-Err-update-clause-asks
 returns-in-Err-update-clause-asks g c =
-    change_stops c.changes_cost_a_touch.ensures.reads c.in-Ok.field-0 c.in-Err-update.stop (c.args.number / 32) _ _ _ _ _ _ (has_group c.requires.going) (not_worn c.in-Err-update.stop c.in-Err-update.ensures.stops) c.update.ensures.reads c.update.ensures.rules_stay
-    c.in-Ok.ensures.asks
+    change_made c.in-Ok.field-0 (Err c.in-Err-update.stop) (c.args.number / 32) _ _ _ _ _ _ (has_group c.requires.going) c.touch_then_change.ensures c.in-Ok.ensures.asks tt c.update.ensures.rules_stay c.update.ensures.reads (never_worn (Err c.in-Err-update.stop) c.in-Err-update.ensures.stops)
 
 pub returns-in-Ok-update-clause-asks : goal.returns-in-Ok-update-clause-asks
 returns-in-Ok-update-clause-asks g c =
-    change_asks c.touch_then_change.ensures c.changes_cost_a_touch.ensures.reads c.in-Ok.field-0 _ (c.args.number / 32) _ _ _ _ _ _ (has_group c.requires.going) c.update.ensures.reads c.in-Ok-update.ensures.machine c.update.ensures.rules_stay c.in-Ok.ensures.asks
+    change_made c.in-Ok.field-0 _ (c.args.number / 32) _ _ _ _ _ _ (has_group c.requires.going) c.touch_then_change.ensures c.in-Ok.ensures.asks c.in-Ok-update.ensures.machine c.update.ensures.rules_stay c.update.ensures.reads (λ is. cc)

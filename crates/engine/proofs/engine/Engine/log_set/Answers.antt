@@ -1,11 +1,13 @@
 use Rattle.redo_undo.specs.Works.{one_change}
-use Rattle.engine.proofs.Asking.{touch_stops, change_asks, change_stops, has_group, store_has_group, not_worn}
+use Rattle.engine.proofs.Asking.{has_group, store_has_group}
 use Rattle.std.proofs.Common.{◌++◌, ◌∷◌, [], ◌∙◌, arith, ◌/◌}
 use Rattle.record_model.specs.State.{Content}
 use Rattle.redo_undo.specs.Stores.{shown_in}
 use Rattle.redo_undo.proofs.StoreCalling.{works_then, works_before, works_stopped, works_answered, keeps_both, keeps_before, keeps_answered}
 use Rattle.engine.proofs.Settings.{begin_at, may_begin, may_update, one_write}
 use Rattle.redo_undo.proofs.Asking.{asks_then, asks_stopped}
+use Rattle.std.specs.Prelude.{Err}
+use Rattle.redo_undo.proofs.AskingUndo.{change_stopped, change_made, never_worn}
 use Rattle.engine.proofs.engine.Engine.log_set.Goals as goal
 
 pub returns-in-Err-clause-works : goal.returns-in-Err-clause-works
@@ -93,16 +95,14 @@ returns-in-Err-clause-asks g c =
 pub returns-in-Err-touch-clause-asks : goal.returns-in-Err-touch-clause-asks
 returns-in-Err-touch-clause-asks g c =
     asks_then c.in-Ok.txn _ [] (one_change (c.args.number / 32)) _ _ _ _ _ _ c.in-Ok.ensures.asks
-    (touch_stops c.changes_cost_a_touch.ensures.reads c.changes_cost_a_touch.ensures.overflow c.in-Err-touch.stop (c.args.number / 32) _ _ _ _ (store_has_group c.in-Ok.ensures.works.going) c.in-Err-touch.ensures.asks)
+    (change_stopped c.in-Err-touch.stop (c.args.number / 32) _ _ _ _ (store_has_group c.in-Ok.ensures.works.going) c.in-Err-touch.ensures.asks)
 
 pub returns-in-Err-update-clause-asks : goal.returns-in-Err-update-clause-asks
 returns-in-Err-update-clause-asks g c =
     asks_then c.in-Ok.txn _ [] (one_change (c.args.number / 32)) _ _ _ _ _ _ c.in-Ok.ensures.asks
-    (change_stops c.changes_cost_a_touch.ensures.reads c.in-Ok-touch.field-0 c.in-Err-update.stop (c.args.number / 32) _ _ _ _ _ _ (store_has_group c.in-Ok.ensures.works.going) (not_worn c.in-Err-update.stop c.in-Err-update.ensures.stops) c.update.ensures.reads c.update.ensures.rules_stay
-    c.in-Ok-touch.ensures.asks)
+    (change_made c.in-Ok-touch.field-0 (Err c.in-Err-update.stop) (c.args.number / 32) _ _ _ _ _ _ (store_has_group c.in-Ok.ensures.works.going) c.touch_then_change.ensures c.in-Ok-touch.ensures.asks tt c.update.ensures.rules_stay c.update.ensures.reads (never_worn (Err c.in-Err-update.stop) c.in-Err-update.ensures.stops))
 
 pub returns-in-Ok-update-clause-asks : goal.returns-in-Ok-update-clause-asks
 returns-in-Ok-update-clause-asks g c =
     asks_then c.in-Ok.txn _ [] (one_change (c.args.number / 32)) _ _ _ _ _ _ c.in-Ok.ensures.asks
-    (change_asks c.touch_then_change.ensures c.changes_cost_a_touch.ensures.reads c.in-Ok-touch.field-0 _ (c.args.number / 32) _ _ _ _ _ _ (store_has_group c.in-Ok.ensures.works.going) c.update.ensures.reads c.in-Ok-update.ensures.machine c.update.ensures.rules_stay
-    c.in-Ok-touch.ensures.asks)
+    (change_made c.in-Ok-touch.field-0 _ (c.args.number / 32) _ _ _ _ _ _ (store_has_group c.in-Ok.ensures.works.going) c.touch_then_change.ensures c.in-Ok-touch.ensures.asks c.in-Ok-update.ensures.machine c.update.ensures.rules_stay c.update.ensures.reads (λ is. cc))

@@ -2,8 +2,8 @@ use Rattle.std.proofs.Common.{◌≡◌, Err, refl, ap, arith, ◌≤◌}
 use Rattle.site.specs.declared.outside.Dev.TheVariants.{Flash}
 use Rattle.page_store.specs.Caching.{rules}
 use Rattle.redo_undo.specs.Works.{checkpoint_works}
-use Rattle.redo_undo.proofs.AskingUndo.{asks_refused, log_alone}
-use Rattle.redo_undo.proofs.AskingFlush.{not_worn_flash, never_worn_flash, asks_around}
+use Rattle.redo_undo.proofs.AskingUndo.{asks_refused, log_alone, not_worn_flash}
+use Rattle.redo_undo.proofs.AskingFlush.{never_worn_flash, asks_around}
 use Rattle.redo_undo.proofs.Saved.{may_still}
 use Rattle.redo_undo.proofs.Calling.{keeps_answered, keeps_failed, keeps_appended, keeps_saved, keeps_then, keeps_unsaved}
 use Rattle.redo_undo.proofs.StoreCalling.{keeps_of}
