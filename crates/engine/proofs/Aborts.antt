@@ -1,6 +1,6 @@
 -- A session's abort.
 use Rattle.checkpoint.specs.declared.master.Master.{Master}
-use Rattle.std.proofs.Common.{◌≡◌, ◌≢◌, ℕ, ◌+◌, ◌<◌, true≢false, false, List, length, Option, None, Some, ⊎_elim, refl, sym, ap, subst, ◌∙◌, arith, get_or-set_same, get_or-set_other, length-set, IsTrue}
+use Rattle.std.proofs.Common.{◌≡◌, ◌≢◌, ℕ, ◌+◌, ◌<◌, false, List, length, Option, None, Some, ⊎_elim, refl, sym, ap, subst, ◌∙◌, arith, get_or-set_same, get_or-set_other, length-set, IsTrue, true≢false}
 use Rattle.std.specs.Prelude.{slice_set, slice_index_or}
 use Rattle.std.proofs.lemmas.Option.{none-some, same_Some}
 use Rattle.std.proofs.lemmas.Bool.{cases_eq}
@@ -15,10 +15,10 @@ use Rattle.lock_table.specs.Locks.{ReleasesAll}
 use Rattle.txn_table.specs.declared.active.Active.{Active}
 use Rattle.txn_table.specs.Entries.{IsTable, entry_of, ChangesOnly}
 use Rattle.txn_table.specs.Entries as entries
-use Rattle.engine.specs.declared.store.Store.{Store}
+use Rattle.redo_undo.specs.declared.store.Store.{Store}
 use Rattle.engine.specs.declared.engine.Engine.{Engine}
-use Rattle.engine.specs.Holding.{Holds}
-use Rattle.engine.specs.Rollback.{ConcernsOnly, RollsBack}
+use Rattle.redo_undo.specs.Stores.{Holds}
+use Rattle.redo_undo.specs.StoreRollback.{ConcernsOnly, RollsBack}
 use Rattle.engine.specs.Fits.{Fits, SessionIs, SessionsAre}
 use Rattle.engine.proofs.Owing.{entry_is}
 use Rattle.engine.proofs.Locks.{released}

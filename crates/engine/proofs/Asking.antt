@@ -1,160 +1,28 @@
 -- Calls that ask the cache for work, one after the other.
-use Rattle.std.proofs.Common.{◌⊎◌, inl, inr, map, append_assoc, ◌-◌, ◌/◌, ◌≡◌, ℕ, ◌+◌, ◌^◌, ◌≤◌, ◌<◌, List, [], ◌∷◌, ◌++◌, arith, refl, sym, ap, subst, ◌∙◌}
-use Rattle.std.specs.Prelude.{Result, Ok, Err, OnOk, IsErrOf}
-use Rattle.site.specs.declared.outside.Dev.TheVariants.{Log, Flash, Disk}
+use Rattle.std.proofs.Common.{map, append_assoc, ◌-◌, ◌/◌, ◌≡◌, ◌+◌, ◌≤◌, ◌<◌, List, [], ◌∷◌, ◌++◌, arith, sym, ap, subst, ◌∙◌, ℕ}
+use Rattle.std.specs.Prelude.{Result, Ok, Err, IsErrOf}
+use Rattle.site.specs.declared.outside.Dev.TheVariants.{Flash, Disk}
 use Rattle.site.specs.declared.outside.Stop.{Stop}
-use Rattle.site.specs.declared.outside.Stop.TheVariants.{Device, Worn, Memory, Foreign}
+use Rattle.site.specs.declared.outside.Stop.TheVariants.{Worn, Memory}
 use Rattle.site.specs.State.{State as Site}
 use Rattle.site.specs.Calls.{SameReads}
 use Rattle.std.specs.List.{range_with_len}
 use Rattle.std.proofs.lemmas.List.{map-append}
 use Rattle.record_model.specs.Touches.{CacheWork, read_touch}
 use Rattle.engine.proofs.Scans.{range_more, range_at}
-use Rattle.second_chance.specs.Machine.{Rules, Cache, after_works}
+use Rattle.second_chance.specs.Machine.{Rules, Cache}
 use Rattle.page_store.specs.declared.store.PageStore.{PageStore}
-use Rattle.page_store.specs.Caching.{cache_of, rules, with_change}
-use Rattle.page_store.specs.Laws.{TouchThenChange}
-use Rattle.redo_undo.specs.Works.{next_group, one_touch, one_change, ReadsFor, Asks, WorksAddUp, ReadsAddUp, ReadsForMore, NumbersRise, OverflowsWithMore, ChangeReads, ChangeOverflows}
-use Rattle.engine.specs.declared.store.Store.{Store}
+use Rattle.page_store.specs.Caching.{cache_of, rules}
+use Rattle.redo_undo.specs.Works.{one_touch, Asks, NumbersRise}
+use Rattle.redo_undo.specs.declared.store.Store.{Store}
 use Rattle.engine.specs.declared.engine.Engine.{Engine}
-use Rattle.engine.specs.Going.{MayWork, MayGoOn}
+use Rattle.engine.specs.Going.{MayGoOn}
 use Rattle.engine.specs.Paging.{AsksFrom}
-use Rattle.engine.proofs.Moments.{err_again}
-
-always : {T : Type 0} {P : Type 0} (r : Result T Stop) → P → OnOk r P
-always (Ok x) p = p
-always (Err stop) p = tt
-
--- the same for other work, where the two are equal
-pub asks_same : {T : Type 0} (result : Result T Stop) (works other : List CacheWork) (old new : PageStore) (before now : Site) → works ≡ other → Asks result other old new before now → Asks result works old new before now
-asks_same result works other old new before now same asks = subst (λ (w : List CacheWork). Asks result w old new before now) (sym same) asks
-
--- a call that does no work, and doesn't find flash worn
-pub asks_nothing : {T : Type 0} (result : Result T Stop) (pages : PageStore) (before now : Site) → SameReads before now → (IsErrOf result (Worn Flash) → ⊥) → Asks result [] pages pages before now
-asks_nothing result pages before now same never = record {
-  machine = always result refl;
-  worn = λ is. absurd (never is);
-  reads = record { flash = (let flash = same Flash in omega (arith, flash)); disk = (let disk = same Disk in omega (arith, disk)) };
-  rules_are = refl;
-}
-
--- before any call
-pub no_asks : (pages : PageStore) (now : Site) → Asks {T = Unit {0}} (Ok tt) [] pages pages now now
-no_asks pages now = record { machine = refl; worn = λ is. absurd (no_error is); reads = record { flash = omega arith; disk = omega arith }; rules_are = refl }
-  where
-    no_error : IsErrOf {T = Unit {0}} {E = Stop} (Ok tt) (Worn Flash) → ⊥
-    no_error is = cc
-
--- another answer of the same call
-pub asks_ok : {A B : Type 0} (a : A) (b : B) (works : List CacheWork) (old new : PageStore) (before now : Site) → Asks {T = A} (Ok a) works old new before now → Asks {T = B} (Ok b) works old new before now
-asks_ok {A} {B} a b works old new before now asks = record { machine = asks.machine; worn = λ is. absurd (no_error is); reads = asks.reads; rules_are = asks.rules_are }
-  where
-    no_error : IsErrOf {T = B} (Ok b) (Worn Flash) → ⊥
-    no_error is = cc
-
-pub asks_err : {A B : Type 0} (stop : Stop) (works : List CacheWork) (old new : PageStore) (before now : Site) → Asks {T = A} (Err stop) works old new before now → Asks {T = B} (Err stop) works old new before now
-asks_err stop works old new before now asks = record { machine = tt; worn = λ is. asks.worn (err_again stop (Worn Flash) is); reads = asks.reads; rules_are = asks.rules_are }
-
--- a call that fails behind it for another reason
-pub asks_fails : {A B : Type 0} (a : A) (stop : Stop) (works : List CacheWork) (old new : PageStore) (before now : Site) → (stop ≡ Worn Flash → ⊥) → Asks {T = A} (Ok a) works old new before now → Asks {T = B} (Err stop) works old new before now
-asks_fails {A} {B} a stop works old new before now never asks = record {
-  machine = tt;
-  worn = λ is. absurd (never (same is));
-  reads = asks.reads;
-  rules_are = asks.rules_are;
-}
-  where
-    same : IsErrOf {T = B} (Err stop) (Worn Flash) → stop ≡ Worn Flash
-    same is = cc
-
--- a call after one that was Ok
-pub asks_then : WorksAddUp → ReadsAddUp → {A B : Type 0} (a : A) (result : Result B Stop) (first later : List CacheWork) (old mid new : PageStore) (before between now : Site) →
-    Asks {T = A} (Ok a) first old mid before between → Asks result later mid new between now → Asks result (first ++ later) old new before now
-asks_then add reads a result first later old mid new before between now one two =
-    let start : cache_of mid ≡ after_works (rules old) first (cache_of old) = one.machine in
-    let all : after_works (rules old) (first ++ later) (cache_of old) ≡ after_works (rules old) later (after_works (rules old) first (cache_of old)) = add (rules old) first later (cache_of old) in
-    let there : after_works (rules mid) later (cache_of mid) ≡ after_works (rules old) (first ++ later) (cache_of old) =
-    ap (λ (r : Rules). after_works r later (cache_of mid)) one.rules_are ∙ ap (after_works (rules old) later) start ∙ sym all in
-    record {
-      machine = on_ok _ _ _ result two.machine there;
-      worn = λ is. subst (λ (c : Cache). 2 ^ 40 < next_group c) there (two.worn is);
-      reads = reads (rules old) first later (cache_of old) before between now one.reads
-          (subst (λ (c : Cache). ReadsFor (rules old) later c between now) start (subst (λ (r : Rules). ReadsFor r later (cache_of mid) between now) one.rules_are two.reads));
-      rules_are = two.rules_are ∙ one.rules_are;
-    }
-  where
-    on_ok : {B : Type 0} (c d e : Cache) (r : Result B Stop) → OnOk r (c ≡ d) → d ≡ e → OnOk r (c ≡ e)
-    on_ok c d e (Ok x) is there = is ∙ there
-    on_ok c d e (Err stop) is there = tt
-
--- a call that stops before all of some work is done
-pub asks_stopped : ReadsForMore → OverflowsWithMore → {A B : Type 0} (stop : Stop) (first later : List CacheWork) (old new : PageStore) (before now : Site) → 1 ≤ (rules old).groups →
-    Asks {T = A} (Err stop) first old new before now → Asks {T = B} (Err stop) (first ++ later) old new before now
-asks_stopped more over stop first later old new before now some asks = record {
-  machine = tt;
-  worn = λ is. over (rules old) first later (cache_of old) some (asks.worn (err_again stop (Worn Flash) is));
-  reads = more (rules old) first later (cache_of old) before now some asks.reads;
-  rules_are = asks.rules_are;
-}
-
--- A page that is touched, and then changed.
-
-pub change_asks : TouchThenChange → ChangeReads → {A B : Type 0} (a : A) (b : B) (page : ℕ) (old mid new : PageStore) (before between now : Site) → 1 ≤ (rules old).groups → SameReads between now →
-    cache_of new ≡ with_change (cache_of mid) → rules new ≡ rules mid → Asks {T = A} (Ok a) (one_touch page) old mid before between → Asks {T = B} (Ok b) (one_change page) old new before now
-change_asks law reads {A} {B} a b page old mid new before between now some same changed stay asks = record {
-  machine = changed ∙ ap with_change asks.machine ∙ sym (law (rules old) page (cache_of old));
-  worn = λ is. absurd (no_error is);
-  reads = still (same Flash) (same Disk) (reads (rules old) page (cache_of old) before between some asks.reads);
-  rules_are = stay ∙ asks.rules_are;
-}
-  where
-    no_error : IsErrOf {T = B} (Ok b) (Worn Flash) → ⊥
-    no_error is = cc
-
-    still : now.flash_reads ≡ between.flash_reads → now.disk_reads ≡ between.disk_reads → ReadsFor (rules old) (one_change page) (cache_of old) before between → ReadsFor (rules old) (one_change page) (cache_of old) before now
-    still flash disk r = record { flash = (let f = r.flash in omega (arith, f, flash)); disk = (let d = r.disk in omega (arith, d, disk)) }
-
--- the touch stops
-pub touch_stops : ChangeReads → ChangeOverflows → {A B : Type 0} (stop : Stop) (page : ℕ) (old new : PageStore) (before now : Site) → 1 ≤ (rules old).groups →
-    Asks {T = A} (Err stop) (one_touch page) old new before now → Asks {T = B} (Err stop) (one_change page) old new before now
-touch_stops reads over stop page old new before now some asks = record {
-  machine = tt;
-  worn = λ is. over (rules old) page (cache_of old) some (asks.worn (err_again stop (Worn Flash) is));
-  reads = reads (rules old) page (cache_of old) before now some asks.reads;
-  rules_are = asks.rules_are;
-}
-
--- the call that changes the page stops
-pub change_stops : ChangeReads → {A B : Type 0} (a : A) (stop : Stop) (page : ℕ) (old mid new : PageStore) (before between now : Site) → 1 ≤ (rules old).groups → (stop ≡ Worn Flash → ⊥) →
-    SameReads between now → rules new ≡ rules mid → Asks {T = A} (Ok a) (one_touch page) old mid before between → Asks {T = B} (Err stop) (one_change page) old new before now
-change_stops reads {A} {B} a stop page old mid new before between now some never same stay asks = record {
-  machine = tt;
-  worn = λ is. absurd (never (same_stop is));
-  reads = still (same Flash) (same Disk) (reads (rules old) page (cache_of old) before between some asks.reads);
-  rules_are = stay ∙ asks.rules_are;
-}
-  where
-    same_stop : IsErrOf {T = B} (Err stop) (Worn Flash) → stop ≡ Worn Flash
-    same_stop is = cc
-
-    still : now.flash_reads ≡ between.flash_reads → now.disk_reads ≡ between.disk_reads → ReadsFor (rules old) (one_change page) (cache_of old) before between → ReadsFor (rules old) (one_change page) (cache_of old) before now
-    still flash disk r = record { flash = (let f = r.flash in omega (arith, f, flash)); disk = (let d = r.disk in omega (arith, d, disk)) }
+use Rattle.site.proofs.Working.{err_again, no_error}
+use Rattle.redo_undo.specs.Stores.{MayWork}
+use Rattle.redo_undo.proofs.Asking.{asks_then, asks_stopped, asks_same, stop_is}
 
 -- What is asked of each call.
-
--- an error that says another cause isn't worn flash
-pub not_worn : (stop : Stop) → (stop ≡ Device Log) ⊎ ((stop ≡ Worn Log) ⊎ (stop ≡ Foreign)) → stop ≡ Worn Flash → ⊥
-not_worn stop (inl is) worn = cc
-not_worn stop (inr (inl is)) worn = cc
-not_worn stop (inr (inr is)) worn = cc
-
-pub not_worn_by : (stop : Stop) → (stop ≡ Device Log) ⊎ (stop ≡ Worn Log) → stop ≡ Worn Flash → ⊥
-not_worn_by stop (inl is) worn = cc
-not_worn_by stop (inr is) worn = cc
-
-pub not_worn_flash : {T : Type 0} (stop : Stop) → (stop ≡ Device Log) ⊎ (stop ≡ Worn Log) → IsErrOf {T = T} (Err stop) (Worn Flash) → ⊥
-not_worn_flash {T} stop (inl is) worn = let same : stop ≡ Worn Flash = cc in absurd (cc)
-not_worn_flash {T} stop (inr is) worn = let same : stop ≡ Worn Flash = cc in absurd (cc)
 
 pub memory_only : (stop : Stop) → stop ≡ Memory → stop ≡ Worn Flash → ⊥
 memory_only stop is worn = cc
@@ -168,22 +36,22 @@ has_group may = store_has_group may.store
 
 -- Records that are read one after the other.
 
-pub scan_more : WorksAddUp → ReadsAddUp → {A B : Type 0} (a : A) (result : Result B Stop) (number offset : ℕ) (old mid new : PageStore) (before between now : Site) →
+pub scan_more : {A B : Type 0} (a : A) (result : Result B Stop) (number offset : ℕ) (old mid new : PageStore) (before between now : Site) →
     Asks {T = A} (Ok a) (map read_touch (range_with_len number offset)) old mid before between → Asks result (one_touch ((number + offset) / 32)) mid new between now →
     Asks result (map read_touch (range_with_len number (offset + 1))) old new before now
-scan_more add reads a result number offset old mid new before between now one two =
+scan_more a result number offset old mid new before between now one two =
     asks_same result _ _ old new before now (ap (map read_touch) (range_more number offset) ∙ map-append read_touch (range_with_len number offset) ((number + offset) ∷ []))
-    (asks_then add reads a result (map read_touch (range_with_len number offset)) (one_touch ((number + offset) / 32)) old mid new before between now one two)
+    (asks_then a result (map read_touch (range_with_len number offset)) (one_touch ((number + offset) / 32)) old mid new before between now one two)
 
 -- it stops before all of them are read
-pub scan_stops : ReadsForMore → OverflowsWithMore → {A B : Type 0} (stop : Stop) (number offset count : ℕ) (old new : PageStore) (before now : Site) → 1 ≤ (rules old).groups → offset < count →
+pub scan_stops : {A B : Type 0} (stop : Stop) (number offset count : ℕ) (old new : PageStore) (before now : Site) → 1 ≤ (rules old).groups → offset < count →
     Asks {T = A} (Err stop) (map read_touch (range_with_len number (offset + 1))) old new before now → Asks {T = B} (Err stop) (map read_touch (range_with_len number count)) old new before now
-scan_stops more over {A} {B} stop number offset count old new before now some less asks =
+scan_stops {A} {B} stop number offset count old new before now some less asks =
     let rest = range_with_len (number + offset + 1) (count - offset - 1) in
     let all : range_with_len number count ≡ range_with_len number (offset + 1) ++ rest =
     range_at number offset count less ∙ sym (append_assoc (range_with_len number offset) ((number + offset) ∷ []) rest) ∙ ap (λ (l : List ℕ). l ++ rest) (sym (range_more number offset)) in
     asks_same {T = B} (Err stop) _ _ old new before now (ap (map read_touch) all ∙ map-append read_touch (range_with_len number (offset + 1)) rest)
-    (asks_stopped more over stop (map read_touch (range_with_len number (offset + 1))) (map read_touch rest) old new before now some asks)
+    (asks_stopped stop (map read_touch (range_with_len number (offset + 1))) (map read_touch rest) old new before now some asks)
 
 -- A restart.
 
@@ -192,13 +60,10 @@ pub from_ok : {A B : Type 0} (a : A) (x : B) (pages : B → PageStore) (works : 
     Asks {T = A} (Ok a) works old new before between → AsksFrom {T = B} (Ok x) pages (rules old) works (cache_of old) 0 before now
 from_ok {A} {B} a x pages works old new before between now same still asks = record {
   machine = (ap cache_of same ∙ asks.machine, ap rules same ∙ asks.rules_are);
-  worn = λ is. absurd (no_error is);
+  worn = λ is. absurd (no_error {T = B} {x = x} {e = Worn Flash} is);
   flash = (let reads = asks.reads.flash in let f = still Flash in omega (arith, reads, f));
   disk = (let reads = asks.reads.disk in let d = still Disk in omega (arith, reads, d));
 }
-  where
-    no_error : IsErrOf {T = B} (Ok x) (Worn Flash) → ⊥
-    no_error is = cc
 
 -- it stopped
 pub from_err : {A B : Type 0} (stop : Stop) (pages : B → PageStore) (works : List CacheWork) (old new : PageStore) (before now : Site) →
@@ -211,39 +76,11 @@ from_err stop pages works old new before now asks = record {
 }
 
 -- it stopped before all of the work was done
-pub from_stopped : ReadsForMore → OverflowsWithMore → {A B : Type 0} (stop : Stop) (pages : B → PageStore) (first later : List CacheWork) (old new : PageStore) (before now : Site) → 1 ≤ (rules old).groups →
+pub from_stopped : {A B : Type 0} (stop : Stop) (pages : B → PageStore) (first later : List CacheWork) (old new : PageStore) (before now : Site) → 1 ≤ (rules old).groups →
     Asks {T = A} (Err stop) first old new before now → AsksFrom {T = B} (Err stop) pages (rules old) (first ++ later) (cache_of old) 0 before now
-from_stopped more over {A} {B} stop pages first later old new before now some asks =
-    let all : Asks {T = B} (Err stop) (first ++ later) old new before now = asks_stopped more over stop first later old new before now some asks in
+from_stopped {A} {B} stop pages first later old new before now some asks =
+    let all : Asks {T = B} (Err stop) (first ++ later) old new before now = asks_stopped stop first later old new before now some asks in
     from_err stop pages (first ++ later) old new before now all
-
--- it failed for another reason, once some of the work was done
-pub from_fails : ReadsForMore → OverflowsWithMore → {A B : Type 0} (a : A) (stop : Stop) (pages : B → PageStore) (first later : List CacheWork) (old new : PageStore) (before between now : Site) → 1 ≤ (rules old).groups →
-    (stop ≡ Worn Flash → ⊥) → SameReads between now → Asks {T = A} (Ok a) first old new before between → AsksFrom {T = B} (Err stop) pages (rules old) (first ++ later) (cache_of old) 0 before now
-from_fails more over {A} {B} a stop pages first later old new before between now some never still asks =
-    let reads : ReadsFor (rules old) (first ++ later) (cache_of old) before between = more (rules old) first later (cache_of old) before between some asks.reads in
-    record {
-      machine = tt;
-      worn = λ is. absurd (never (same is));
-      flash = (let r = reads.flash in let f = still Flash in omega (arith, r, f));
-      disk = (let r = reads.disk in let d = still Disk in omega (arith, r, d));
-    }
-  where
-    same : IsErrOf {T = B} (Err stop) (Worn Flash) → stop ≡ Worn Flash
-    same is = cc
-
--- it failed once all of the work was done
-pub from_done : {A B : Type 0} (a : A) (stop : Stop) (pages : B → PageStore) (works : List CacheWork) (old new : PageStore) (before between now : Site) → (stop ≡ Worn Flash → ⊥) → SameReads between now →
-    Asks {T = A} (Ok a) works old new before between → AsksFrom {T = B} (Err stop) pages (rules old) works (cache_of old) 0 before now
-from_done {A} {B} a stop pages works old new before between now never still asks = record {
-  machine = tt;
-  worn = λ is. absurd (never (same is));
-  flash = (let r = asks.reads.flash in let f = still Flash in omega (arith, r, f));
-  disk = (let r = asks.reads.disk in let d = still Disk in omega (arith, r, d));
-}
-  where
-    same : IsErrOf {T = B} (Err stop) (Worn Flash) → stop ≡ Worn Flash
-    same is = cc
 
 -- the queue was found before
 pub from_found : {T : Type 0} (result : Result T Stop) (pages : T → PageStore) (r r' : Rules) (works works' : List CacheWork) (start start' : Cache) (scanned : ℕ) (old mid new : Site) → r ≡ r' → works ≡ works' → start ≡ start' →
@@ -273,13 +110,10 @@ pub from_other : {A B : Type 0} (a : A) (b : B) (pages : A → PageStore) (other
     AsksFrom {T = A} (Ok a) pages r works start scanned old new → AsksFrom {T = B} (Ok b) others r works start scanned old new
 from_other {A} {B} a b pages others r works start scanned old new same asks = record {
   machine = (ap cache_of same ∙ asks.machine.0, ap rules same ∙ asks.machine.1);
-  worn = λ is. absurd (no_error is);
+  worn = λ is. absurd (no_error {T = B} {x = b} {e = Worn Flash} is);
   flash = asks.flash;
   disk = asks.disk;
 }
-  where
-    no_error : IsErrOf {T = B} (Ok b) (Worn Flash) → ⊥
-    no_error is = cc
 
 pub from_other_err : {A B : Type 0} (stop : Stop) (pages : A → PageStore) (others : B → PageStore) (r : Rules) (works : List CacheWork) (start : Cache) (scanned : ℕ) (old new : Site) →
     AsksFrom {T = A} (Err stop) pages r works start scanned old new → AsksFrom {T = B} (Err stop) others r works start scanned old new
@@ -287,7 +121,4 @@ from_other_err stop pages others r works start scanned old new asks = record { m
 
 pub from_other_fails : {A B : Type 0} (a : A) (stop : Stop) (pages : A → PageStore) (others : B → PageStore) (r : Rules) (works : List CacheWork) (start : Cache) (scanned : ℕ) (old new : Site) → (stop ≡ Worn Flash → ⊥) →
     AsksFrom {T = A} (Ok a) pages r works start scanned old new → AsksFrom {T = B} (Err stop) others r works start scanned old new
-from_other_fails {A} {B} a stop pages others r works start scanned old new never asks = record { machine = tt; worn = λ is. absurd (never (same is)); flash = asks.flash; disk = asks.disk }
-  where
-    same : IsErrOf {T = B} (Err stop) (Worn Flash) → stop ≡ Worn Flash
-    same is = cc
+from_other_fails {A} {B} a stop pages others r works start scanned old new never asks = record { machine = tt; worn = λ is. absurd (never (stop_is {U = B} stop (Worn Flash) is)); flash = asks.flash; disk = asks.disk }

@@ -1,5 +1,5 @@
 -- Calls one after the other, each known by its record.
-use Rattle.std.proofs.Common.{◌≡◌, ◌≢◌, ◌⊎◌, inl, inr, ⊎_elim, ℕ, ◌+◌, ◌≤◌, List, [], ◌∷◌, Bool, true, false, refl, sym, subst, ap, ◌∙◌, arith}
+use Rattle.std.proofs.Common.{◌≡◌, ◌⊎◌, inl, inr, ◌+◌, ◌≤◌, List, [], ◌∷◌, Bool, true, false, refl, sym, subst, ap, ◌∙◌, arith, ⊎_elim, ℕ}
 use Rattle.std.specs.Prelude.{Result, Ok, Err, OnOk, IfOk, IsErrOf, IsTrue, if◌then◌else◌}
 use Rattle.site.specs.declared.outside.Dev.{Dev}
 use Rattle.site.specs.declared.outside.Dev.TheVariants.{Log, Flash}
@@ -21,27 +21,26 @@ use Rattle.image_meaning.specs.Moments as moments
 use Rattle.page_store.specs.declared.store.PageStore.{PageStore}
 use Rattle.page_store.specs.Stopping.{MayStop}
 use Rattle.redo_undo.specs.Holding.{IsLogWorn}
-use Rattle.redo_undo.specs.Numbers.{SkipsNone}
 use Rattle.redo_undo.specs.HoldingLaws.{HoldsMoment}
 use Rattle.image_meaning.proofs.Leaving.{under_leaves_for}
-use Rattle.redo_undo.specs.Works.{Asks, WorksAddUp, ReadsAddUp, ReadsForMore, OverflowsWithMore, checkpoint_works}
-pub use Rattle.redo_undo.proofs.Calling.{calls_nothing, calls_then, calls_failed, calls_answered, calls_refused}
-use Rattle.redo_undo.proofs.RingNumbers.{ok_as, skips_on, then_skips, skips_again, skips_answered, skips_refused, skips_weaker}
-use Rattle.engine.specs.declared.store.Store.{Store}
+use Rattle.redo_undo.specs.Works.{Asks, checkpoint_works}
+use Rattle.redo_undo.specs.declared.store.Store.{Store}
 use Rattle.engine.specs.declared.engine.Engine.{Engine}
 use Rattle.engine.specs.Going.{MayGoOn, sizes_of}
 use Rattle.engine.specs.Fits.{Fits, run, run_now, checkpointed_if, with_write}
 use Rattle.engine.specs.Image.{Stands}
 use Rattle.engine.specs.Leaves.{LeavesTable, LeavesEither}
 use Rattle.engine.specs.Numbers.{checkpoints_by, CountsOn}
-use Rattle.engine.specs.Calls.{Calls, Ends, Works, Keeps, Serves, Does, Answers}
-use Rattle.engine.proofs.Moments.{err_again, stop_is, and_then}
-use Rattle.engine.proofs.Asking.{asks_nothing, asks_same, asks_then, asks_stopped, has_group}
+use Rattle.engine.specs.Calls.{Ends, Serves, Does, Answers}
+use Rattle.engine.proofs.Moments.{and_then}
+use Rattle.engine.proofs.Asking.{has_group}
 use Rattle.engine.proofs.RingCounts.{counts, count_failed, count_answered, count_refused, count_then, run_makes, count_nothing}
 use Rattle.engine.proofs.Firsts.{step_where, touches_where}
-
-no_error : {T : Type 0} {x : T} {e : Stop} → IsErrOf {T = T} {E = Stop} (Ok x) e → ⊥
-no_error is = cc
+use Rattle.site.proofs.Working.{err_again, no_error, calls_nothing, calls_then, calls_failed, calls_answered, calls_refused}
+use Rattle.site.specs.Work.{Calls}
+use Rattle.redo_undo.specs.StoreCalls.{Works, Keeps}
+use Rattle.redo_undo.proofs.StoreCalling.{stop_is}
+use Rattle.redo_undo.proofs.Asking.{asks_nothing, asks_same, asks_then, asks_stopped}
 
 -- On every site.
 
@@ -61,97 +60,7 @@ calls_behind {r = r} {before = before} {between = between} {now = now} goes same
 
 -- Log and pages, on every site.
 
-pub works_then : {A B : Type 0} {a : A} {r : Result B Stop} {old mid new : Store} {before between now : Site} {n n' : ℕ} →
-    Works {T = A} (Ok a) old mid before between n → Works r mid new between now n' → Works r old new before now (n + n')
-works_then {r = r} {old = old} {new = new} {n = n} {n' = n'} first second =
-    let made = first.made in
-    let blocks = first.blocks in
-    let rises = first.rises in
-    record {
-      calls = calls_then first.calls second.calls;
-      going = second.going;
-      made = ok_as r _ _ (λ more. let all : new.made ≡ old.made + (n + n') = omega (arith, more, made) in all) second.made;
-      blocks = ok_as r _ _ (λ more. omega (arith, more, blocks)) second.blocks;
-      rises = ok_as r _ _ (λ more. omega (arith, more, rises)) second.rises;
-      kept = second.kept ∙ first.kept;
-      sizes = second.sizes ∙ first.sizes;
-      stops = second.stops;
-    }
-
-pub works_failed : {A B : Type 0} {stop : Stop} {old new : Store} {before now : Site} {n : ℕ} → Works {T = A} (Err stop) old new before now n → Works {T = B} (Err stop) old new before now n
-works_failed first = record { calls = calls_failed first.calls; going = tt; made = tt; blocks = tt; rises = tt; kept = first.kept; sizes = first.sizes; stops = first.stops }
-
--- it stops before all that it may log is logged
-pub works_before : {A B : Type 0} {stop : Stop} {old new : Store} {before now : Site} {n k : ℕ} → Works {T = A} (Err stop) old new before now n → Works {T = B} (Err stop) old new before now k
-works_before first = record { calls = calls_failed first.calls; going = tt; made = tt; blocks = tt; rises = tt; kept = first.kept; sizes = first.sizes; stops = first.stops }
-
--- it stops behind a call that was Ok
-pub works_stopped : {A B C : Type 0} {a : A} {stop : Stop} {old mid new : Store} {before between now : Site} {n n' k : ℕ} →
-    Works {T = A} (Ok a) old mid before between n → Works {T = B} (Err stop) mid new between now n' → Works {T = C} (Err stop) old new before now k
-works_stopped first second = works_before (works_then first second)
-
-pub works_answered : {A B : Type 0} {a : A} {b : B} {old new : Store} {before now : Site} {n : ℕ} → Works {T = A} (Ok a) old new before now n → Works {T = B} (Ok b) old new before now n
-works_answered first = record { calls = calls_answered first.calls; going = first.going; made = first.made; blocks = first.blocks; rises = first.rises; kept = first.kept; sizes = first.sizes; stops = tt }
-
 -- Log and pages, on an honest site.
-
-pub keeps_then : {A B : Type 0} {a : A} {r : Result B Stop} {old mid new : Store} {before between now : Site} {P Q R : Snapshot → Type 0} {i n m n' m' : ℕ} → IsTrue before.honest →
-    ((s : Snapshot) → P s → R s) → (LeavesOnly before between P → (s : Snapshot) → Q s → R s) →
-    Works {T = A} (Ok a) old mid before between i → Keeps {T = A} (Ok a) old mid before between P n m → Keeps r mid new between now Q n' m' → Keeps r old new before now R (n + n') (m + m')
-keeps_then {a = a} {r = r} {old = old} {mid = mid} {new = new} {before = before} {between = between} {now = now} {P = P} {Q = Q} {R = R} {n = n} {m = m} {n' = n'} {m' = m'} honest early late works first second = record {
-  any_moment = λ quiet.
-      let begun = first.any_moment quiet in
-      in_sequence before between now (Leaves R) (leaves_weaker before between P R early begun) (leaves_weaker between now Q R (late begun) (second.any_moment (works.calls.stays_quiet honest quiet)));
-  numbers = λ quiet. then_skips r a (sizes_of old) old.log mid.log new.log before between now n m n' m' (n + n') (m + m') (first.numbers quiet)
-      (skips_on r (sizes_of mid) (sizes_of old) mid.log new.log between now n' m' works.sizes (second.numbers (works.calls.stays_quiet honest quiet))) (omega arith) refl;
-  quiet = λ quiet. second.quiet (works.calls.stays_quiet honest quiet);
-  worn_log = λ is. subst (λ (g : Geometry). IsLogWorn g now.image) works.sizes (second.worn_log is);
-  worn = λ is. subst (λ (g : Geometry). IsWorn g now.image) works.sizes (second.worn is);
-  readable = second.readable;
-}
-
--- the table stays as it was
-pub keeps_both : {A B : Type 0} {a : A} {r : Result B Stop} {old mid new : Store} {before between now : Site} {table : List Content} {commits i n m n' m' : ℕ} → IsTrue before.honest →
-    Works {T = A} (Ok a) old mid before between i → Keeps {T = A} (Ok a) old mid before between (LeavesTable (sizes_of old) table commits before.told) n m →
-    Keeps r mid new between now (LeavesTable (sizes_of mid) table commits between.told) n' m' → Keeps r old new before now (LeavesTable (sizes_of old) table commits before.told) (n + n') (m + m')
-keeps_both {old = old} {before = before} {between = between} {table = table} {commits = commits} honest works first second =
-    keeps_then honest (λ s p. p) (λ begun s q. record {
-      told = q.told ∙ (holds_now before between (LeavesTable (sizes_of old) table commits before.told) begun).told;
-      stands = subst (λ (g : Geometry). Stands g s.image table commits) works.sizes q.stands;
-    }) works first second
-
-pub keeps_weaker : {T : Type 0} {r : Result T Stop} {old new : Store} {before now : Site} {P R : Snapshot → Type 0} {n m : ℕ} → ((s : Snapshot) → P s → R s) → Keeps r old new before now P n m → Keeps r old new before now R n m
-keeps_weaker {before = before} {now = now} {P = P} {R = R} more first = record {
-  any_moment = λ quiet. leaves_weaker before now P R more (first.any_moment quiet);
-  numbers = first.numbers;
-  quiet = first.quiet;
-  worn_log = first.worn_log;
-  worn = first.worn;
-  readable = first.readable;
-}
-
-pub keeps_before : {A B : Type 0} {stop : Stop} {old new : Store} {before now : Site} {P : Snapshot → Type 0} {n k m : ℕ} → n ≤ k → Keeps {T = A} (Err stop) old new before now P n m → Keeps {T = B} (Err stop) old new before now P k m
-keeps_before {A = A} {B = B} {stop = stop} {old = old} {new = new} {before = before} {now = now} {n = n} {k = k} {m = m} few first = record {
-  any_moment = first.any_moment;
-  numbers = λ quiet. skips_weaker {T = B} (Err stop) (sizes_of old) old.log new.log before now n k m few (skips_again {A = A} {B = B} stop (sizes_of old) old.log new.log before now n m (first.numbers quiet));
-  quiet = first.quiet;
-  worn_log = λ is. first.worn_log (err_again stop (Worn Log) is);
-  worn = λ is. first.worn (err_again stop (Worn Flash) is);
-  readable = λ is. first.readable (err_again stop Foreign is);
-}
-
-pub keeps_failed : {A B : Type 0} {stop : Stop} {old new : Store} {before now : Site} {P : Snapshot → Type 0} {n m : ℕ} → Keeps {T = A} (Err stop) old new before now P n m → Keeps {T = B} (Err stop) old new before now P n m
-keeps_failed first = keeps_before (omega arith) first
-
-pub keeps_answered : {A B : Type 0} {a : A} {b : B} {old new : Store} {before now : Site} {P : Snapshot → Type 0} {n m : ℕ} → Keeps {T = A} (Ok a) old new before now P n m → Keeps {T = B} (Ok b) old new before now P n m
-keeps_answered {A = A} {B = B} {a = a} {b = b} {old = old} {new = new} {before = before} {now = now} {n = n} {m = m} first = record {
-  any_moment = first.any_moment;
-  numbers = λ quiet. skips_answered {A = A} {B = B} a b (sizes_of old) old.log new.log before now n m (first.numbers quiet);
-  quiet = λ quiet. tt;
-  worn_log = λ is. absurd (no_error {T = B} {x = b} {e = Worn Log} is);
-  worn = λ is. absurd (no_error {T = B} {x = b} {e = Worn Flash} is);
-  readable = no_error {T = B} {x = b} {e = Foreign};
-}
 
 -- How a call ends on an honest site.
 
@@ -242,9 +151,6 @@ does_ok {T = T} {x = x} fits moments numbers = record {
   foreign = no_error {T = T} {x = x} {e = Foreign};
 }
 
-pub no_foreign : {T : Type 0} (stop : Stop) → stop ≢ Foreign → IsErrOf {T = T} (Err stop) Foreign → ⊥
-no_foreign stop never is = never (let same : stop ≡ Foreign = cc in same)
-
 pub does_weaker : {T : Type 0} {r : Result T Stop} {old new : Engine} {before now : Site} {s after : State} {P R : Snapshot → Type 0} {m : ℕ} → ((x : Snapshot) → P x → R x) → Does r old new before now s after P m → Does r old new before now s after R m
 does_weaker {before = before} {now = now} {P = P} {R = R} more first = record {
   after_fits = first.after_fits;
@@ -320,25 +226,25 @@ still law {engine = engine} {site = site} {s = s} fits going quiet =
 
 -- A command before which a checkpoint is made where one is wanted.
 module _ {s : State} (command : Command) {wanted : Bool} (known : wanted ≡ makes_checkpoint true s command) (R : Outcome → Snapshot → Type 0) where
-  pub first_then : WorksAddUp → ReadsAddUp → {A : Type 0} {a : A} {r : Result Reply Stop} {old mid new : Engine} {before between now : Site} {P Q : Snapshot → Type 0} → IsTrue before.honest →
+  pub first_then : {A : Type 0} {a : A} {r : Result Reply Stop} {old mid new : Engine} {before between now : Site} {P Q : Snapshot → Type 0} → IsTrue before.honest →
       ((x : Snapshot) → P x → R (run_now (checkpointed_if wanted s) command) x) → (LeavesOnly before between P → (x : Snapshot) → Q x → R (run_now (checkpointed_if wanted s) command) x) →
       Serves {T = A} (Ok a) old mid before between → Does {T = A} (Ok a) old mid before between s (checkpointed_if wanted s) P (if wanted then 1 else 0) →
       Asks {T = A} (Ok a) (if wanted then checkpoint_works else []) old.store.pages mid.store.pages before between →
       Answers r mid new between now (checkpointed_if wanted s) (run_now (checkpointed_if wanted s) command) (command_touches false (checkpointed_if wanted s) command) Q 0 →
       Answers r old new before now s (run s command) (command_touches true s command) (R (run s command)) (checkpoints_by s command)
-  first_then add reads {a = a} {r = r} {old = old} {mid = mid} {new = new} {before = before} {between = between} {now = now} honest early late serves does asks second =
+  first_then {a = a} {r = r} {old = old} {mid = mid} {new = new} {before = before} {between = between} {now = now} honest early late serves does asks second =
       subst (λ (b : Bool). Answers r old new before now s (run s command) (command_touches true s command) (R (run s command)) (if b then 1 else 0)) known
       (answered_as R (step_where s command wanted known, touches_where s command wanted known) (does_then honest (omega arith) early late serves does second.does) second.reply
-      (asks_then add reads a r (if wanted then checkpoint_works else []) (command_touches false (checkpointed_if wanted s) command) old.store.pages mid.store.pages new.store.pages before between now asks second.asks))
+      (asks_then a r (if wanted then checkpoint_works else []) (command_touches false (checkpointed_if wanted s) command) old.store.pages mid.store.pages new.store.pages before between now asks second.asks))
 
   -- it fails
-  pub first_failed : ReadsForMore → OverflowsWithMore → {A : Type 0} {stop : Stop} {old mid : Engine} {before now : Site} {P : Snapshot → Type 0} → MayGoOn old before → ((x : Snapshot) → P x → R (run_now (checkpointed_if wanted s) command) x) →
+  pub first_failed : {A : Type 0} {stop : Stop} {old mid : Engine} {before now : Site} {P : Snapshot → Type 0} → MayGoOn old before → ((x : Snapshot) → P x → R (run_now (checkpointed_if wanted s) command) x) →
       Does {T = A} (Err stop) old mid before now s (checkpointed_if wanted s) P (if wanted then 1 else 0) → Asks {T = A} (Err stop) (if wanted then checkpoint_works else []) old.store.pages mid.store.pages before now →
       Answers (Err stop) old mid before now s (run s command) (command_touches true s command) (R (run s command)) (checkpoints_by s command)
-  first_failed more over {A = A} {stop = stop} {old = old} {mid = mid} {before = before} {now = now} going early does asks =
+  first_failed {A = A} {stop = stop} {old = old} {mid = mid} {before = before} {now = now} going early does asks =
       subst (λ (b : Bool). Answers (Err stop) old mid before now s (run s command) (command_touches true s command) (R (run s command)) (if b then 1 else 0)) known
       (answered_as R (step_where s command wanted known, touches_where s command wanted known) (does_failed (run_makes (checkpointed_if wanted s) command) (does_weaker early does)) tt
-      (asks_stopped more over {A = A} {B = Reply} stop (if wanted then checkpoint_works else []) (command_touches false (checkpointed_if wanted s) command) old.store.pages mid.store.pages before now (has_group going) asks))
+      (asks_stopped {A = A} {B = Reply} stop (if wanted then checkpoint_works else []) (command_touches false (checkpointed_if wanted s) command) old.store.pages mid.store.pages before now (has_group going) asks))
 
 -- What a crash leaves of a call behind one that left the table.
 
@@ -363,40 +269,6 @@ written {r = r} {old = old} {new = new} {before = before} {now = now} {s = s} {P
     subst (λ (v : Content). Does r old new before now s (with_write s k (number, v)) P m) is (subst (λ (j : ℕ). Does r old new before now s (with_write s j (number, x)) P m) session does)
 
 -- Memory gives out behind a call that was Ok.
-
-pub works_no_memory : {A B : Type 0} {a : A} {old new : Store} {before now : Site} {n : ℕ} → Works {T = A} (Ok a) old new before now n → Works {T = B} (Err Memory) old new before now n
-works_no_memory {B = B} first = record {
-  calls = calls_refused {stop = Memory} (λ d is. never is) first.calls;
-  going = tt;
-  made = tt;
-  blocks = tt;
-  rises = tt;
-  kept = first.kept;
-  sizes = first.sizes;
-  stops = tt;
-}
-  where
-    never : {d : Dev} → Memory ≡ Device d → ⊥
-    never is = cc
-
-pub keeps_no_memory : {A B : Type 0} {a : A} {old new : Store} {before now : Site} {P : Snapshot → Type 0} {i n m : ℕ} → IsTrue before.honest → Works {T = A} (Ok a) old new before now i → Keeps {T = A} (Ok a) old new before now P n m → Keeps {T = B} (Err Memory) old new before now P n m
-keeps_no_memory {A = A} {B = B} {a = a} {old = old} {new = new} {before = before} {now = now} {n = n} {m = m} honest works first = record {
-  any_moment = first.any_moment;
-  numbers = λ quiet. skips_refused {A = A} {B = B} a Memory (sizes_of old) old.log new.log before now n m (first.numbers quiet);
-  quiet = λ quiet other. works.calls.stays_quiet honest quiet;
-  worn_log = λ is. absurd (no_log (stop_is {U = B} Memory (Worn Log) is));
-  worn = λ is. absurd (no_flash (stop_is {U = B} Memory (Worn Flash) is));
-  readable = λ is. no_foreigner (stop_is {U = B} Memory Foreign is);
-}
-  where
-    no_log : Memory ≡ Worn Log → ⊥
-    no_log is = cc
-
-    no_flash : Memory ≡ Worn Flash → ⊥
-    no_flash is = cc
-
-    no_foreigner : Memory ≡ Foreign → ⊥
-    no_foreigner is = cc
 
 pub calls_no_memory : {A B : Type 0} {a : A} {stop : Stop} {before now : Site} → stop ≡ Memory → Calls {T = A} (Ok a) before now → Calls {T = B} (Err stop) before now
 calls_no_memory {stop = stop} memory first = calls_refused {stop = stop} (λ d is. never (sym memory ∙ is)) first
@@ -447,22 +319,6 @@ does_no_memory {A = A} {B = B} {a = a} {stop = stop} {old = old} {new = new} {be
     no_foreigner is = cc
 
 -- Leaves of the tower.
-
-pub keeps_ok : {T : Type 0} {x : T} {old new : Store} {before now : Site} {P : Snapshot → Type 0} {n m : ℕ} → (IsQuiet before → LeavesOnly before now P) → (IsQuiet before → SkipsNone {T = T} {E = Stop} (Ok x) (sizes_of old) old.log new.log before now n m) →
-    Keeps {T = T} (Ok x) old new before now P n m
-keeps_ok {T = T} {x = x} moments numbers = record {
-  any_moment = moments;
-  numbers = numbers;
-  quiet = λ quiet. tt;
-  worn_log = λ is. absurd (no_error {T = T} {x = x} {e = Worn Log} is);
-  worn = λ is. absurd (no_error {T = T} {x = x} {e = Worn Flash} is);
-  readable = no_error {T = T} {x = x} {e = Foreign};
-}
-
--- the cause is the log's device
-pub log_is_read : {T : Type 0} (stop : Stop) → (stop ≡ Device Log) ⊎ (stop ≡ Worn Log) → IsErrOf {T = T} (Err stop) Foreign → ⊥
-log_is_read stop (inl is) other = let same : stop ≡ Foreign = cc in absurd (cc)
-log_is_read stop (inr is) other = let same : stop ≡ Foreign = cc in absurd (cc)
 
 -- a crash at the commit leaves the table of before, or the one with what was written
 pub late_commit : (g g' : Geometry) (old mid : Site) (s : State) (number : ℕ) (after : Content) (writes : List Write) → g' ≡ g → writes ≡ (number, after) ∷ [] → LeavesOnly old mid (LeavesTable g s.table s.commits old.told) →

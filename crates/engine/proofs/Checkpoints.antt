@@ -22,8 +22,8 @@ use Rattle.txn_table.specs.Entries as entries
 use Rattle.txn_table.proofs.BySession.{entry_of-Contains, entry_of-at}
 use Rattle.redo_undo.specs.Holding.{blocks_to}
 use Rattle.engine.specs.declared.engine.Engine.{Engine}
-use Rattle.engine.specs.Going.{MayWork, MayGoOn, sizes_of}
-use Rattle.engine.specs.Holding.{HasCheckpoint}
+use Rattle.engine.specs.Going.{MayGoOn, sizes_of}
+use Rattle.redo_undo.specs.Stores.{MayWork, HasCheckpoint}
 use Rattle.engine.specs.Fits.{Fits, LocksAre, SessionIs, SessionsAre, checkpointed_if}
 use Rattle.engine.proofs.Actives.{some_active}
 use Rattle.engine.proofs.Namings.{no_active, pair_of, pairs_of}

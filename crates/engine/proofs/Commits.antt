@@ -14,11 +14,11 @@ use Rattle.txn_table.specs.Entries.{IsTable, entry_of, ChangesOnly}
 use Rattle.txn_table.specs.Entries as entries
 use Rattle.image_meaning.specs.Moments as moments
 use Rattle.redo_undo.specs.Committing.{MayCommit}
-use Rattle.engine.specs.declared.store.Store.{Store}
+use Rattle.redo_undo.specs.declared.store.Store.{Store}
 use Rattle.engine.specs.Going.{sizes_of}
 use Rattle.engine.specs.declared.engine.Engine.{Engine}
 use Rattle.engine.specs.Image.{Stands}
-use Rattle.engine.specs.Holding.{Holds}
+use Rattle.redo_undo.specs.Stores.{Holds}
 use Rattle.engine.specs.Fits.{Fits, SessionsAre}
 use Rattle.engine.specs.Leaves.{LeavesEither}
 use Rattle.engine.proofs.Owing.{entry_is}

@@ -1,21 +1,15 @@
 -- A command before which a checkpoint is made.
-use Rattle.std.proofs.Common.{inl, inr, ⊎_elim, ◌≤◌, subst, ◌≡◌, ℕ, ◌/◌, ◌&&◌, not, Bool, true, false, List, [], ◌∷◌, ◌++◌, Option, None, Some, refl, sym, ap, ◌∙◌, arith}
+use Rattle.std.proofs.Common.{◌≤◌, ◌≡◌, ◌/◌, ◌&&◌, not, Bool, true, false, List, [], ◌∷◌, ◌++◌, Option, None, Some, refl, sym, ap, ◌∙◌, arith, ℕ}
 use Rattle.std.specs.Prelude.{IsSome, is_none, nat_le, if◌then◌else◌}
 use Rattle.record_model.specs.declared.words.Command.{Command}
 use Rattle.record_model.specs.declared.words.Command.TheVariants.{Begin, Read, Abort}
 use Rattle.record_model.specs.declared.words.Reply.{Reply}
-use Rattle.record_model.specs.State.{Content, State, used, kept_by_checkpoint, is_due}
-use Rattle.record_model.specs.Step.{Outcome, refusal, outcome, step, carried_out, lacks_room, asks_for_checkpoint, makes_checkpoint, is_accepted}
+use Rattle.record_model.specs.State.{State, used, kept_by_checkpoint, is_due}
+use Rattle.record_model.specs.Step.{refusal, outcome, step, carried_out, lacks_room, asks_for_checkpoint, makes_checkpoint, is_accepted}
 use Rattle.record_model.specs.Touches.{CacheWork, flush, command_touches, record_touches}
 use Rattle.second_chance.specs.Machine.{Rules, Cache}
 use Rattle.redo_undo.specs.Works.{checkpoint_works, Overflows, OverflowsWithMore}
-use Rattle.site.specs.declared.geometry.Geometry.{Geometry}
 use Rattle.site.specs.State.{State as Site}
-use Rattle.site.specs.Moments.{Leaves, LeavesOnly}
-use Rattle.site.specs.Laws.{in_sequence, holds_now, leaves_weaker}
-use Rattle.engine.specs.Image.{Stands}
-use Rattle.engine.specs.Leaves.{LeavesTable, LeavesEither}
-use Rattle.engine.proofs.Settings.{set_before}
 use Rattle.engine.specs.declared.engine.Engine.{Engine}
 use Rattle.engine.specs.Fits.{Fits, checkpointed_if}
 
@@ -99,17 +93,3 @@ touches_where s command wanted is = touches_are s command ∙ ap (λ (b : Bool).
 pub overflows_before : OverflowsWithMore → (wanted : Bool) (r : Rules) (later : List CacheWork) (c : Cache) → 1 ≤ r.groups → Overflows r (if wanted then checkpoint_works else []) c → Overflows r (checkpoint_works ++ later) c
 overflows_before over true r later c some is = over r checkpoint_works later c some is
 overflows_before over false r later c some is = over r [] (checkpoint_works ++ later) c some is
-
--- a crash meanwhile leaves the table of before or the one after, where a checkpoint was made before
-pub either_then : (g g' : Geometry) (old mid new : Site) (s s' : State) (o o' : Outcome) → g' ≡ g → s'.table ≡ s.table → s'.commits ≡ s.commits → o' ≡ o →
-    LeavesOnly old mid (LeavesTable g s.table s.commits old.told) → LeavesOnly mid new (LeavesEither g' s' o'.after mid.told) → LeavesOnly old new (LeavesEither g s o.after old.told)
-either_then g g' old mid new s s' o o' same table commits is first second =
-    let told : mid.told ≡ old.told = (holds_now old mid (LeavesTable g s.table s.commits old.told) first).told in
-    in_sequence old mid new (Leaves (LeavesEither g s o.after old.told)) (set_before g old mid s o.after first)
-    (leaves_weaker mid new (LeavesEither g' s' o'.after mid.told) (LeavesEither g s o.after old.told) (λ snapshot q. record {
-      told = q.told ∙ told;
-      stands = ⊎_elim
-          (λ before. inl (subst (λ (x : Geometry). Stands x snapshot.image s.table s.commits) same (subst (λ (n : ℕ). Stands g' snapshot.image s.table n) commits (subst (λ (t : List Content). Stands g' snapshot.image t s'.commits) table before))))
-          (λ done. inr (subst (λ (x : Geometry). Stands x snapshot.image o.after.table o.after.commits) same (subst (λ (x : Outcome). Stands g' snapshot.image x.after.table x.after.commits) is done)))
-          q.stands;
-    }) second)

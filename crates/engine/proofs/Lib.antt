@@ -16,7 +16,6 @@ pub mod Owing
 pub mod Queues
 pub mod Recovers
 pub mod Replies
-pub mod Rollbacks
 pub mod Scans
 pub mod Settings
 pub mod Starts

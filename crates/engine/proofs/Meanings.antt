@@ -1,6 +1,6 @@
 -- What the database has in memory, in the model's words.
 use Rattle.checkpoint.specs.declared.master.Master.{Master}
-use Rattle.std.proofs.Common.{◌≡◌, ℕ, zero, suc, ◌*◌, ◌<◌, ◌≤◌, ◌==◌, Bool, true, false, not, ◌&&◌, ◌||◌, cond, List, [], ◌∷◌, length, find, Option, None, Some, ⊎_elim, true≢false, refl, sym, ap, subst, ◌∙◌, arith}
+use Rattle.std.proofs.Common.{◌≡◌, ℕ, zero, suc, ◌*◌, ◌<◌, ◌≤◌, ◌==◌, Bool, true, false, not, ◌&&◌, ◌||◌, cond, List, [], ◌∷◌, length, find, Option, None, Some, ⊎_elim, refl, sym, ap, subst, ◌∙◌, arith, true≢false}
 use Rattle.std.specs.Prelude.{unwrap_or}
 use Rattle.std.specs.List.{list_any, range_with_len, AllByRecursion}
 use Rattle.std.proofs.lemmas.List.FromFn.{length-map-range_with_len}
@@ -8,10 +8,10 @@ use Rattle.std.proofs.lemmas.Option.{none-some, same_Some}
 use Rattle.std.proofs.lemmas.Bool.{cases_eq, and_from, ne_eqb}
 use Rattle.site.specs.State.{State as Site, Image}
 use Rattle.site.specs.declared.geometry.Geometry.{Geometry}
-use Rattle.record_model.specs.State.{Content, Session, State, Write, session_at, writes_of, content_at, seen, last_write, active_sessions}
+use Rattle.record_model.specs.State.{Content, Session, State, Write, writes_of, content_at, seen, last_write}
 use Rattle.record_model.specs.State as model
 use Rattle.log_records.specs.Log.{Entry, is_closed, table_of, value_of}
-use Rattle.log_laws.specs.Follow.{IsActive, IsFree, IsFreeFor, IsUndoable, IsFresh, shown}
+use Rattle.log_laws.specs.Follow.{IsFree, IsFreeFor, IsUndoable, IsFresh}
 use Rattle.log_laws.specs.Follow as follow
 use Rattle.log_records.specs.Sound.{AreOrderly}
 use Rattle.log_laws.specs.Tail.{next_lsn, whole}
@@ -27,10 +27,10 @@ use Rattle.txn_table.specs.Entries.{IsTable, entry_of}
 use Rattle.image_meaning.specs.Meaning.{picture_under, master_of, versions_on, version_in}
 use Rattle.image_meaning.proofs.Sames.{next_block_is}
 use Rattle.flash_cache.specs.Held.{version_on}
-use Rattle.engine.specs.declared.store.Store.{Store}
+use Rattle.redo_undo.specs.declared.store.Store.{Store}
 use Rattle.engine.specs.declared.engine.Engine.{Engine}
 use Rattle.engine.specs.Going.{sizes_of}
-use Rattle.engine.specs.Holding.{Holds, shown_in}
+use Rattle.redo_undo.specs.Stores.{Holds, shown_in}
 use Rattle.engine.specs.Fits.{Fits, SessionsAre, LocksAre}
 use Rattle.engine.proofs.Actives.{some_active}
 use Rattle.engine.proofs.Owing.{entry_is}

@@ -1,6 +1,5 @@
 -- Calls one after the other.
-use Rattle.std.proofs.Common.{◌≡◌, ◌⊎◌, inl, inr, ℕ, List, sym, ap, subst}
-use Rattle.std.specs.Prelude.{Result, Ok, Err, OnOk, IsErrOf}
+use Rattle.std.proofs.Common.{◌≡◌, ◌⊎◌, inl, inr, List, sym, subst, ℕ}
 use Rattle.site.specs.declared.outside.Dev.TheVariants.{Log}
 use Rattle.site.specs.declared.outside.Stop.{Stop}
 use Rattle.site.specs.declared.outside.Stop.TheVariants.{Device, Worn}
@@ -24,19 +23,3 @@ and_then g g' old mid new table commits same first second =
 pub log_stops : (stop : Stop) → (stop ≡ Device Log) ⊎ (stop ≡ Worn Log) → MayStop stop
 log_stops stop (inl is) = subst MayStop (sym is) tt
 log_stops stop (inr is) = subst MayStop (sym is) tt
-
--- what follows where a call succeeds
-pub where_ok : {T E : Type 0} (A B : Type 0) (result : Result T E) → OnOk result A → (A → B) → OnOk result B
-where_ok A B (Ok x) holds then = then holds
-where_ok A B (Err e) holds then = tt
-
-pub where_two : {T E : Type 0} (A B C : Type 0) (result : Result T E) → OnOk result A → OnOk result B → (A → B → C) → OnOk result C
-where_two A B C (Ok x) first second then = then first second
-where_two A B C (Err e) first second then = tt
-
--- an error of a call is the one that is answered
-pub err_again : {T U : Type 0} (stop is : Stop) → IsErrOf {T = T} (Err stop) is → IsErrOf {T = U} (Err stop) is
-err_again stop is same = let equal : stop ≡ is = cc in ap Err equal
-
-pub stop_is : {U : Type 0} (stop is : Stop) → IsErrOf {T = U} (Err stop) is → stop ≡ is
-stop_is stop is same = cc

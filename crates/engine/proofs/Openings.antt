@@ -1,5 +1,5 @@
 -- What a restart finds on devices.
-use Rattle.std.proofs.Common.{Option, ◌≡◌, ℕ, zero, suc, ◌+◌, ◌-◌, ◌<◌, min, false, nat_lt, List, [], ◌∷◌, ◌++◌, length, map, take, None, Some, Result, Ok, Err, IsErrOf, refl, sym, ap, subst, ◌∙◌, arith}
+use Rattle.std.proofs.Common.{Option, ◌≡◌, zero, suc, ◌+◌, ◌-◌, ◌<◌, min, false, nat_lt, List, [], ◌∷◌, ◌++◌, length, map, take, None, Some, Result, Ok, Err, IsErrOf, refl, sym, ap, subst, ◌∙◌, arith, ℕ}
 use Rattle.std.specs.Prelude.{if◌then◌else◌, IfOk}
 use Rattle.std.specs.List.{AllByRecursion, slice_get}
 use Rattle.std.proofs.lemmas.Option.{none-some, same_Some}
@@ -189,9 +189,6 @@ module _ (law : FitsBeside) (g : Geometry) (log : LogStore) (pages : PageStore) 
       }
 
 -- What undo owes.
-
-no_open : Open
-no_open = record { txn = 0; last = 0; updates = [] }
 
 pub owed_more : (table : List Open) (place : ℕ) (loser : Loser) → slice_get (map loser_of table) place ≡ Some loser → owed_for (take (suc place) table) ≡ owed_for (take place table) + (loser.remaining + 1)
 owed_more [] place loser is = absurd (none-some loser is)

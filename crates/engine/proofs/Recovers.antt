@@ -1,7 +1,7 @@
 -- What redo, undo and a checkpoint make of an opened log.
 use Rattle.checkpoint.specs.declared.master.Master.{Master}
 use Rattle.checkpoint.specs.declared.pairs.Pair.{Pair}
-use Rattle.std.proofs.Common.{Option, Some, ◌≡◌, inr, ℕ, ◌+◌, ◌-◌, ◌*◌, ◌^◌, ◌≤◌, min, Bool, true, false, true≢false, nat_lt, List, [], length, refl, sym, ap, subst, ◌∙◌, arith}
+use Rattle.std.proofs.Common.{Option, Some, ◌≡◌, inr, ℕ, ◌+◌, ◌-◌, ◌*◌, ◌^◌, ◌≤◌, min, Bool, true, false, nat_lt, List, [], length, refl, sym, ap, subst, ◌∙◌, arith, true≢false}
 use Rattle.std.specs.Prelude.{if◌then◌else◌}
 use Rattle.std.proofs.Math.Nat.{min-eq_left}
 use Rattle.site.specs.declared.geometry.Geometry.{Geometry}
@@ -29,7 +29,7 @@ use Rattle.redo_undo.specs.Holding.{Holds, blocks_to}
 use Rattle.redo_undo.specs.Checkpointing.{MayBeMade}
 use Rattle.engine.specs.declared.restart.Opened.{Opened}
 use Rattle.engine.specs.declared.restart.Restarted.{Restarted}
-use Rattle.engine.specs.Holding.{HasCheckpoint}
+use Rattle.redo_undo.specs.Stores.{HasCheckpoint}
 use Rattle.engine.specs.Restarting.{IsReady, RestartedAs}
 
 abbrev pub tail_blocks : Bool → ℕ

@@ -13,7 +13,7 @@ use Rattle.record_model.specs.declared.words.Command.{Command}
 use Rattle.record_model.specs.declared.words.Why.TheVariants.{BadSession, NoRecord, TooLong}
 use Rattle.record_model.specs.declared.words.Reply.{Reply}
 use Rattle.record_model.specs.declared.words.Reply.TheVariants as reply
-use Rattle.record_model.specs.State.{Session, State, session_at, active_sessions, used}
+use Rattle.record_model.specs.State.{Session, State, session_at, used}
 use Rattle.record_model.specs.State as model
 use Rattle.record_model.specs.Touches.{CacheWork, record_touches}
 use Rattle.record_model.specs.Step.{Outcome, refusal, outcome, effect, answer, full, lacks_room, wants_active, wants_record, wants_short, refuse_if}
@@ -140,3 +140,11 @@ pub refused_session : (engine : Engine) (site : Site) (s : State) (command : Com
 refused_session engine site s command n fits none test =
     let idle : session_at s n ≡ None = none_active fits.newest fits.records engine.active s fits.sessions n none in
     refused s command (reply.Refused BadSession) (test ∙ (λ i. refuse_if (is_none (idle i)) (reply.Refused BadSession)))
+
+-- no other session has the record
+pub none_busy : (o : Option ℕ) → option_map reply.Busy o ≡ None → o ≡ None
+none_busy None is = refl
+none_busy (Some n) is = absurd (some_none is)
+  where
+    some_none : option_map reply.Busy (Some n) ≡ None → ⊥
+    some_none e = none-some (reply.Busy n) (sym e)

@@ -1,5 +1,5 @@
 -- The numbers of the rings' units, over the calls of the database.
-use Rattle.std.proofs.Common.{◌≡◌, ℕ, ◌+◌, ◌≤◌, Bool, true, false, List, [], Option, None, Some, sym, ap, subst, arith}
+use Rattle.std.proofs.Common.{◌≡◌, ◌+◌, ◌≤◌, Bool, true, false, List, [], Option, None, Some, sym, ap, subst, arith, ℕ}
 use Rattle.std.specs.Prelude.{Result, Ok, Err, IfOk, if◌then◌else◌}
 use Rattle.site.specs.declared.outside.Stop.{Stop}
 use Rattle.site.specs.declared.geometry.Geometry.{Geometry}
@@ -10,7 +10,7 @@ use Rattle.record_model.specs.State.{Content, State}
 use Rattle.record_model.specs.declared.words.Command.{Command}
 use Rattle.record_model.specs.declared.words.Command.TheVariants.{Begin, Write, Erase, Commit, Abort, Set}
 use Rattle.record_model.specs.declared.words.Reply.{Reply}
-use Rattle.record_model.specs.Step.{Outcome, refusal, outcome, effect, answer, full, lacks_room, makes_checkpoint}
+use Rattle.record_model.specs.Step.{Outcome, refusal, outcome, effect, answer, full, lacks_room}
 use Rattle.log_records.specs.declared.log_record.LogRecord.{LogRecord}
 use Rattle.log_records.specs.Log.{Entry}
 use Rattle.log_records.specs.Unfinished.{owed}
@@ -19,16 +19,16 @@ use Rattle.log_store.specs.Held.{has_tail}
 use Rattle.checkpoint.specs.declared.master.Master.{Master}
 use Rattle.redo_undo.specs.Holding.{blocks_to}
 use Rattle.redo_undo.specs.Numbers.{SkipsNone}
-use Rattle.redo_undo.proofs.RingNumbers.{ok_as, skips_again, skips_refused, skips_answered, skips_nothing, hi_on}
+use Rattle.redo_undo.proofs.RingNumbers.{skips_nothing, hi_on}
 use Rattle.engine.specs.declared.engine.Engine.{Engine}
 use Rattle.engine.specs.declared.restart.Opened.{Opened}
-use Rattle.engine.specs.Fits.{Fits, run, run_now, checkpointed_if}
+use Rattle.engine.specs.Fits.{Fits, run_now}
 use Rattle.engine.specs.Going.{MayGoOn, sizes_of}
 use Rattle.engine.specs.Restarting.{IsReady}
-use Rattle.engine.specs.Numbers.{CountsOn, RestartsWithin, RestCountsNothing, checkpoints_by}
-use Rattle.engine.proofs.Firsts.{step_where}
+use Rattle.engine.specs.Numbers.{CountsOn, RestartsWithin, RestCountsNothing}
 use Rattle.engine.proofs.Openings.{no_tail}
 use Rattle.engine.proofs.Recovers.{tail_blocks}
+use Rattle.site.proofs.Working.{ok_as}
 
 -- Calls on log and pages, as calls of the database.
 
@@ -40,24 +40,6 @@ counts r old new before now s after n m first few = record {
   masters = first.masters;
   saved = first.saved;
 }
-
--- another value of its caller
-pub counts_answered : {T E A F : Type 0} (x : A) (y : T) (old new : Engine) (before now : Site) (s after : State) (n m : ℕ) → SkipsNone {T = A} {E = F} (Ok x) (sizes_of old.store) old.store.log new.store.log before now n m → s.made + n ≤ after.made
-    → CountsOn {T = T} {E = E} (Ok y) old new before now s after m
-counts_answered x y old new before now s after n m first few =
-    counts (Ok y) old new before now s after n m (skips_answered x y (sizes_of old.store) old.store.log new.store.log before now n m first) few
-
--- the error of a call is the error of its caller
-pub counts_failed : {T E A : Type 0} (e : E) (old new : Engine) (before now : Site) (s after : State) (n m : ℕ) → SkipsNone {T = A} {E = E} (Err e) (sizes_of old.store) old.store.log new.store.log before now n m → s.made + n ≤ after.made
-    → CountsOn {T = T} {E = E} (Err e) old new before now s after m
-counts_failed e old new before now s after n m first few =
-    counts (Err e) old new before now s after n m (skips_again e (sizes_of old.store) old.store.log new.store.log before now n m first) few
-
--- an error of its caller behind a call that was Ok
-pub counts_refused : {T E A F : Type 0} (x : A) (e : E) (old new : Engine) (before now : Site) (s after : State) (n m : ℕ) → SkipsNone {T = A} {E = F} (Ok x) (sizes_of old.store) old.store.log new.store.log before now n m → s.made + n ≤ after.made
-    → CountsOn {T = T} {E = E} (Err e) old new before now s after m
-counts_refused x e old new before now s after n m first few =
-    counts (Err e) old new before now s after n m (skips_refused x e (sizes_of old.store) old.store.log new.store.log before now n m first) few
 
 -- Calls of the database, one within the other.
 
@@ -144,13 +126,6 @@ run_makes s command = by (refusal s command)
     by (Some r) = omega arith
     by None = either (lacks_room s command)
 
--- a command counts what it counts where its checkpoint was made before, and that checkpoint
-pub count_first : {T E : Type 0} (r : Result T E) (old new : Engine) (before now : Site) (s : State) (command : Command) (wanted : Bool) → wanted ≡ makes_checkpoint true s command
-    → CountsOn r old new before now s (run_now (checkpointed_if wanted s) command).after (if wanted then 1 else 0) → CountsOn r old new before now s (run s command).after (checkpoints_by s command)
-count_first r old new before now s command wanted known first =
-    subst (λ (b : Bool). CountsOn r old new before now s (run s command).after (if b then 1 else 0)) known
-    (count_known r old new before now s (run s command) (run_now (checkpointed_if wanted s) command) (if wanted then 1 else 0) (step_where s command wanted known) first)
-
 -- A restart.
 
 if_ok_as : {A E : Type 0} (r : Result A E) (P Q : A → Type 0) → ((x : A) → P x → Q x) → IfOk r P → IfOk r Q
@@ -174,10 +149,6 @@ restart_failed e f g records old new before now n m is few one first = record {
   masters = let more = first.masters in omega (arith, more, one);
   saved = tt;
 }
-
-pub restart_refused : {T A F : Type 0} (x : A) (e : Stop) (f : T → LogStore) (g : Geometry) (records : List Entry) (old new : LogStore) (before now : Site) (n m : ℕ) → blocks_to old ≡ hi_of (log_shape g) before.image.log → n ≤ owed records → m ≤ 1
-    → SkipsNone {T = A} {E = F} (Ok x) g old new before now n m → RestartsWithin {T = T} (Err e) f g records before now
-restart_refused {A = A} x e f g records old new before now n m is few one first = restart_failed {A = A} e f g records old new before now n m is few one (skips_refused x e g old new before now n m first)
 
 -- it is done
 pub restart_done : {T A F : Type 0} (x : A) (y : T) (f : T → LogStore) (g : Geometry) (records : List Entry) (old new : LogStore) (before now : Site) (n : ℕ) → blocks_to old ≡ hi_of (log_shape g) before.image.log → n ≤ owed records → f y ≡ new

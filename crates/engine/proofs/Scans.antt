@@ -1,5 +1,5 @@
 -- Reading several records at once.
-use Rattle.std.proofs.Common.{◌≡◌, ℕ, zero, suc, ◌+◌, ◌-◌, ◌*◌, ◌^◌, ◌<◌, ◌≤◌, ◌==◌, ◌&&◌, ◌||◌, Bool, true, false, not, true≢false, List, [], ◌∷◌, ◌++◌, map, find, filter_map, length, Option, None, Some, refl, sym, ap, subst, ◌∙◌, arith, add-one, get_or-set_same}
+use Rattle.std.proofs.Common.{◌≡◌, zero, suc, ◌+◌, ◌-◌, ◌*◌, ◌^◌, ◌<◌, ◌≤◌, ◌==◌, ◌&&◌, ◌||◌, Bool, true, false, not, List, [], ◌∷◌, ◌++◌, map, find, filter_map, length, Option, None, Some, refl, sym, ap, ◌∙◌, arith, add-one, get_or-set_same, ℕ, true≢false}
 use Rattle.std.specs.Prelude.{slice_set, option_map, is_some, unwrap_or}
 use Rattle.std.specs.List.{range_with_len}
 use Rattle.std.proofs.lemmas.List.{map-append, append-nil, append_assoc, set-get_or}
@@ -7,14 +7,12 @@ use Rattle.std.proofs.lemmas.List.Elements.{filter_map-append}
 use Rattle.record_model.specs.declared.words.Reply.{Reply}
 use Rattle.record_model.specs.declared.words.Reply.TheVariants as reply
 use Rattle.record_model.specs.declared.words.Item.{Item}
-use Rattle.site.specs.State.{State as Site}
 use Rattle.site.specs.Geometry.{HasLimits}
 use Rattle.record_model.specs.State.{Content, Session, State, session_at, writes_of, seen, content_at, last_write}
 use Rattle.record_model.specs.Step.{first_refusal, item, having_read, may_read}
 use Rattle.lock_table.specs.declared.lock.Lock.{Lock}
 use Rattle.lock_table.specs.Locks.{AddsLock, has_written, busy_read}
-use Rattle.engine.specs.declared.engine.Engine.{Engine}
-use Rattle.engine.specs.Fits.{Fits, LocksAre, with_read, with_reads}
+use Rattle.engine.specs.Fits.{LocksAre, with_read, with_reads}
 use Rattle.engine.specs.Scans.{first_busy, items_seen, items_of}
 use Rattle.engine.proofs.Meanings.{busy_read_is}
 
@@ -173,11 +171,6 @@ seen_same s n number numbers small =
     same (Some session) = refl
 
 -- One record more of a scan.
-
-pub scanned_more : (engine : Engine) (site : Site) (s : State) (session number n : ℕ) → session < length s.sessions → Fits engine site (with_read (with_reads s session (range_with_len number n)) session (number + n)) →
-    Fits engine site (with_reads s session (range_with_len number (n + 1)))
-scanned_more engine site s session number n small fits =
-    subst (Fits engine site) (reads_more s session (number + n) (range_with_len number n) small ∙ ap (with_reads s session) (sym (range_more number n))) fits
 
 pub items_next : (s : State) (session number n : ℕ) (old new : List Item) (content : Content) → session < length s.sessions → old ≡ items_seen s session (range_with_len number n) →
     content ≡ seen (with_reads s session (range_with_len number n)) session (number + n) → new ≡ old ++ items_of (number + n) content → new ≡ items_seen s session (range_with_len number (n + 1))

@@ -1,15 +1,13 @@
 -- A set: a transaction of one write, outside sessions.
 use Rattle.checkpoint.specs.declared.master.Master.{Master}
-use Rattle.std.proofs.Common.{Option, ◌≡◌, ℕ, ◌+◌, ◌*◌, ◌/◌, ◌%◌, ◌<◌, ◌≤◌, ◌==◌, Bool, true, false, ◌||◌, cond, true≢false, List, [], ◌∷◌, ◌++◌, length, find, None, Some, inl, inr, ⊎_elim, refl, sym, ap, subst, ◌∙◌, arith, IsTrue}
+use Rattle.std.proofs.Common.{Option, ◌≡◌, ◌+◌, ◌*◌, ◌/◌, ◌%◌, ◌<◌, ◌≤◌, ◌==◌, Bool, true, false, ◌||◌, cond, List, [], ◌∷◌, ◌++◌, length, find, None, Some, refl, sym, ap, subst, ◌∙◌, arith, IsTrue, ℕ, ⊎_elim, true≢false}
 use Rattle.std.specs.Prelude.{filter_map}
 use Rattle.std.specs.List.{AllByRecursion, list_any, range_with_len}
 use Rattle.std.proofs.Math.Nat.{div-add-mod}
 use Rattle.std.proofs.lemmas.Bool.{cases_eq, ne_eqb, and_right}
 use Rattle.site.specs.declared.geometry.Geometry.{Geometry}
 use Rattle.site.specs.State.{State as Site}
-use Rattle.site.specs.Moments.{Leaves, LeavesOnly}
-use Rattle.site.specs.Laws.{in_sequence, holds_now, leaves_weaker}
-use Rattle.record_model.specs.State.{Content, Session, State, Write, session_at, table_with, content_at}
+use Rattle.record_model.specs.State.{Content, State, Write, session_at, table_with}
 use Rattle.record_model.specs.State as model
 use Rattle.record_model.specs.Step.{making, committed}
 use Rattle.log_records.specs.Log.{Entry, is_of, is_closed, is_loser}
@@ -31,19 +29,17 @@ use Rattle.image_meaning.specs.Meaning.{master_of, versions_on}
 use Rattle.image_meaning.specs.Moments as moments
 use Rattle.redo_undo.specs.Holding.{blocks_to}
 use Rattle.redo_undo.specs.Committing.{MayCommit}
-use Rattle.engine.specs.declared.store.Store.{Store}
+use Rattle.redo_undo.specs.declared.store.Store.{Store}
 use Rattle.engine.specs.declared.engine.Engine.{Engine}
 use Rattle.engine.specs.Going.{sizes_of}
-use Rattle.engine.specs.Image.{Stands}
-use Rattle.engine.specs.Holding.{Holds, MayGrow, shown_in, update_by}
-use Rattle.engine.specs.Leaves.{LeavesTable, LeavesEither}
-use Rattle.engine.specs.Rollback.{ConcernsOnly}
+use Rattle.redo_undo.specs.Stores.{Holds, MayGrow, shown_in, update_by}
+use Rattle.redo_undo.specs.StoreRollback.{ConcernsOnly}
 use Rattle.engine.specs.OneWrite.{HasOneWrite}
 use Rattle.engine.specs.Fits.{Fits, SessionsAre, LocksAre}
 use Rattle.engine.proofs.Meanings.{busy_write_is, begins_late, count_of_versions, free, fresh_behind, none_of}
 use Rattle.engine.proofs.Actives.{some_active, not_fresh}
 use Rattle.engine.proofs.Aborts.{others_go_on}
-use Rattle.engine.proofs.Rollbacks.{concerns_more}
+use Rattle.redo_undo.proofs.StoreRollbacks.{concerns_more}
 
 -- Where nobody has written or read a record, nobody has written it.
 
@@ -167,24 +163,6 @@ unconcerned newest records log active s txn are fresh concerns closed same = rec
 -- It may be committed.
 pub may_commit_one : (store : Store) (site : Site) (newest : Option Master) (records : List Entry) (table : List Content) (commits txn number next : ℕ) (after : Content) (w : HasOneWrite store site newest records table commits txn number after) → next ≡ commits → MayCommit newest w.log txn (next + 1) commits
 may_commit_one store site newest records table commits txn number next after w is = record { begun = w.active.lives; chain = w.active.chain; number_is = ap (λ (n : ℕ). n + 1) is }
-
--- a crash before it leaves the table of before
-pub set_before : (g : Geometry) (old new : Site) (s after : State) → LeavesOnly old new (LeavesTable g s.table s.commits old.told) → LeavesOnly old new (LeavesEither g s after old.told)
-set_before g old new s after = leaves_weaker old new (LeavesTable g s.table s.commits old.told) (LeavesEither g s after old.told) (λ snapshot q. record { told = q.told; stands = inl q.stands })
-
--- a crash meanwhile leaves the table of before or the one after
-pub set_either : (g g' : Geometry) (old mid new : Site) (s : State) (number : ℕ) (after : Content) (writes : List Write) → g' ≡ g → writes ≡ (number, after) ∷ [] →
-    LeavesOnly old mid (LeavesTable g s.table s.commits old.told) → LeavesOnly mid new (moments.LeavesEitherFor g' s.table (table_with s.table writes) s.commits mid.told) → LeavesOnly old new (LeavesEither g s (making 3 (committed s ((number, after) ∷ []))) old.told)
-set_either g g' old mid new s number after writes same are first second =
-    let told : mid.told ≡ old.told = (holds_now old mid (LeavesTable g s.table s.commits old.told) first).told in
-    let goal = LeavesEither g s (making 3 (committed s ((number, after) ∷ []))) old.told in
-    in_sequence old mid new (Leaves goal)
-    (set_before g old mid s (making 3 (committed s ((number, after) ∷ []))) first)
-    (leaves_weaker mid new (moments.LeavesEitherFor g' s.table (table_with s.table writes) s.commits mid.told) goal (λ snapshot q. record {
-      told = q.told ∙ told;
-      stands = ⊎_elim (λ before. inl (subst (λ (x : Geometry). Stands x snapshot.image s.table s.commits) same before))
-          (λ done. inr (subst (λ (x : Geometry). Stands x snapshot.image (table_with s.table ((number, after) ∷ [])) (s.commits + 1)) same (subst (λ (ws : List Write). Stands g' snapshot.image (table_with s.table ws) (s.commits + 1)) are done))) q.stands;
-    }) second)
 
 -- It is committed.
 pub set_fits : (engine one last : Engine) (old between new : Site) (s : State) (number txn lsn : ℕ) (after : Content) (fits : Fits engine old s) (w : HasOneWrite one.store between fits.newest fits.records s.table s.commits txn number after) → IsTrue new.honest →

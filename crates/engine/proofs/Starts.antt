@@ -1,6 +1,6 @@
 -- A run begins: what a restart leaves, and nobody at work.
 use Rattle.checkpoint.specs.declared.master.Master.{Master}
-use Rattle.std.proofs.Common.{arith, ◌≡◌, ℕ, zero, suc, ◌-◌, ◌==◌, true≢false, false, List, [], length, replicate, Option, None, refl, sym, ap, subst, ◌∙◌, IsTrue}
+use Rattle.std.proofs.Common.{arith, ◌≡◌, ℕ, zero, suc, ◌-◌, ◌==◌, false, List, [], length, replicate, Option, None, refl, sym, ap, subst, ◌∙◌, IsTrue, true≢false}
 use Rattle.std.specs.Prelude.{slice_index_or}
 use Rattle.std.specs.List.{list_any}
 use Rattle.std.proofs.lemmas.Option.{none-some}
@@ -12,11 +12,11 @@ use Rattle.log_records.specs.Unfinished.{owed}
 use Rattle.log_laws.specs.RoomLaws.{OwedNone}
 use Rattle.lock_table.specs.declared.lock.Lock.{Lock}
 use Rattle.txn_table.specs.declared.active.Active.{Active}
-use Rattle.engine.specs.declared.store.Store.{Store}
+use Rattle.redo_undo.specs.declared.store.Store.{Store}
 use Rattle.engine.specs.declared.engine.Engine.{Engine}
 use Rattle.engine.specs.declared.restart.Restarted.{Restarted}
 use Rattle.engine.specs.Image.{Opens}
-use Rattle.engine.specs.Holding.{Holds}
+use Rattle.redo_undo.specs.Stores.{Holds}
 use Rattle.engine.specs.Restarting.{RestartedAs}
 use Rattle.engine.specs.Fits.{Fits, SessionIs, SessionsAre, LocksAre}
 

@@ -23,9 +23,9 @@ use Rattle.txn_table.specs.Entries as entries
 use Rattle.engine.specs.declared.engine.Engine.{Engine}
 use Rattle.image_meaning.specs.Meaning.{master_of, versions_on}
 use Rattle.redo_undo.specs.Holding.{blocks_to}
-use Rattle.engine.specs.declared.store.Store.{Store}
+use Rattle.redo_undo.specs.declared.store.Store.{Store}
 use Rattle.engine.specs.Going.{sizes_of}
-use Rattle.engine.specs.Holding.{Holds, MayGrow, shown_in, update_by}
+use Rattle.redo_undo.specs.Stores.{Holds, MayGrow, shown_in, update_by}
 use Rattle.engine.specs.Fits.{Fits, LocksAre, SessionIs, SessionsAre, with_write, with_read}
 use Rattle.engine.proofs.Actives.{some_active}
 use Rattle.engine.proofs.Changes.{wrote_more}

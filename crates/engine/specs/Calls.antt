@@ -1,5 +1,5 @@
 -- What the calls of a run say, each as one record with the call's result as its index.
-use Rattle.std.specs.Prelude.{◌≡◌, ◌≢◌, ℕ, ◌+◌, ◌≤◌, List, Result, IfOk, OnOk, IfErr, IsErrOf}
+use Rattle.std.specs.Prelude.{◌≡◌, ◌≢◌, List, Result, IfOk, OnOk, IfErr, IsErrOf, ℕ}
 use Rattle.site.specs.declared.outside.Dev.{Dev}
 use Rattle.site.specs.declared.outside.Dev.TheVariants.{Log, Flash}
 use Rattle.site.specs.declared.outside.Stop.{Stop}
@@ -11,41 +11,15 @@ use Rattle.record_model.specs.State.{State}
 use Rattle.record_model.specs.Step.{Outcome}
 use Rattle.record_model.specs.Touches.{CacheWork}
 use Rattle.record_model.specs.declared.words.Reply.{Reply}
-use Rattle.log_store.specs.Held.{end_of}
 use Rattle.flash_cache.specs.Held.{IsWorn}
 use Rattle.page_store.specs.Stopping.{MayStop}
-use Rattle.redo_undo.specs.Holding.{blocks_to, IsLogWorn}
-use Rattle.redo_undo.specs.Numbers.{SkipsNone}
+use Rattle.redo_undo.specs.Holding.{IsLogWorn}
 use Rattle.redo_undo.specs.Works.{Asks}
-pub use Rattle.redo_undo.specs.Calls.{Calls}
-use Rattle.engine.specs.declared.store.Store.{Store}
+pub use Rattle.site.specs.Work.{Calls}
 use Rattle.engine.specs.declared.engine.Engine.{Engine}
-use Rattle.engine.specs.Going.{MayWork, MayGoOn, sizes_of}
+use Rattle.engine.specs.Going.{MayGoOn, sizes_of}
 use Rattle.engine.specs.Fits.{Fits}
 use Rattle.engine.specs.Numbers.{CountsOn}
-
--- A call of log and pages, on every site: it logs so many records, and leaves all else that counts room as it is.
-pub record Works {T : Type 0} (result : Result T Stop) (old new : Store) (before now : Site)
-    (records : ℕ) : Type 0 where
-  pub calls : Calls result before now
-  pub going : OnOk result (MayWork new now)
-  pub made : OnOk result (new.made ≡ old.made + records)
-  pub blocks : OnOk result (blocks_to new.log ≤ blocks_to old.log + records)
-  pub rises : OnOk result (end_of old.log ≤ end_of new.log)
-  pub kept : new.log.kept ≡ old.log.kept
-  pub sizes : sizes_of new ≡ sizes_of old
-  pub stops : IfErr result (λ stop. MayStop stop)
-
--- The same call on an honest site that log and pages fit: each crash meanwhile leaves P, no ring skips a number, and no error comes but
--- for its cause.
-pub record Keeps {T : Type 0} (result : Result T Stop) (old new : Store) (before now : Site) (P : Snapshot → Type 0)
-    (records checkpoints : ℕ) : Type 0 where
-  pub any_moment : IsQuiet before → LeavesOnly before now P
-  pub numbers : IsQuiet before → SkipsNone result (sizes_of old) old.log new.log before now records checkpoints
-  pub quiet : IsQuiet before → IfErr result (λ stop. ((d : Dev) → stop ≢ Device d) → IsQuiet now)
-  pub worn_log : IsErrOf result (Worn Log) → IsLogWorn (sizes_of old) now.image
-  pub worn : IsErrOf result (Worn Flash) → IsWorn (sizes_of old) now.image
-  pub readable : IsErrOf result Foreign → ⊥
 
 -- How a call ends on an honest site that stands for something: each crash meanwhile leaves P, and no error comes but for its cause.
 pub record Ends {T : Type 0} (result : Result T Stop) (g : Geometry) (before now : Site)

@@ -1,7 +1,7 @@
 -- The database of an honest site, and the model's state.
 use Rattle.std.specs.Prelude.{◌≡◌, ℕ, ◌+◌, ◌<◌, List, [], ◌∷◌, length, Option, Some, None, option_map, IsTrue, ⊤, Bool, true, false, if◌then◌else◌}
 use Rattle.site.specs.State.{State as Site}
-use Rattle.record_model.specs.State.{Content, Session, State, Write, session_at, kept_by_checkpoint}
+use Rattle.record_model.specs.State.{Session, State, Write, session_at, kept_by_checkpoint}
 use Rattle.record_model.specs.State as model
 use Rattle.record_model.specs.declared.words.Command.{Command}
 use Rattle.record_model.specs.Step.{Outcome, step, effect, answer, making, with_session, having_written, having_read}
@@ -19,7 +19,7 @@ use Rattle.txn_table.specs.Entries.{entry_of}
 use Rattle.txn_table.specs.Entries as entries
 use Rattle.log_records.specs.Unfinished as unfinished
 use Rattle.engine.specs.declared.engine.Engine.{Engine}
-use Rattle.engine.specs.Holding.{Holds}
+use Rattle.redo_undo.specs.Stores.{Holds}
 
 -- a session's transaction: it is open, was never undone, and has made the session's writes; records are counted from the oldest kept one on
 pub record IsUnderWay (newest : Option Master) (kept : ℕ) (records : List Entry) (entry : Active) (session : Session) : Type 0 where

@@ -1,30 +1,12 @@
 -- The database over every site.
 use Rattle.std.specs.Prelude.{◌≡◌, ℕ, ◌+◌, ◌/◌, ◌^◌, ◌≤◌, ◌<◌, false, Some}
 use Rattle.site.specs.State.{State}
-use Rattle.site.specs.declared.geometry.Geometry.{Geometry}
-use Rattle.sealed_ring.specs.Ready.{IsUsable}
-use Rattle.image_changes.specs.Rings.{master_shape}
 use Rattle.log_store.specs.Held.{end_of}
 use Rattle.txn_table.specs.declared.active.Active.{Active}
 use Rattle.txn_table.specs.Entries.{IsTable, entry_of, owed}
-use Rattle.redo_undo.specs.Holding as both
 use Rattle.redo_undo.specs.Holding.{blocks_to}
-use Rattle.engine.specs.declared.store.Store.{Store}
+pub use Rattle.redo_undo.specs.Stores.{MayWork, sizes_of}
 use Rattle.engine.specs.declared.engine.Engine.{Engine}
-
--- how large the devices are
-abbrev pub sizes_of : Store → Geometry
-sizes_of store = store.pages.flash.geometry
-
--- of every site: log and pages may go on
-pub record MayWork (store : Store) (site : State) : Type 0 where
-  pub both : both.MayGoOn store.log store.pages site
-  -- each kept block has a record that counts
-  pub blocks : blocks_to store.log ≤ store.log.kept + store.made
-  pub bounded : store.made ≤ 2 ^ 40
-  -- the ring of master units lies on the log's device
-  pub masters : IsUsable store.masters site
-  pub shape : store.masters.shape ≡ master_shape
 
 -- of every site: the database may go on
 pub record MayGoOn (engine : Engine) (site : State) : Type 0 where

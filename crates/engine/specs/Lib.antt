@@ -1,13 +1,12 @@
 pub mod Calls
 pub mod Fits
 pub mod Going
-pub mod Holding
 pub mod Image
 pub mod Leaves
 pub mod Listings
 pub mod Numbers
 pub mod OneWrite
 pub mod Paging
+pub mod Permits
 pub mod Restarting
-pub mod Rollback
 pub mod Scans

@@ -7,9 +7,9 @@ use Rattle.log_records.specs.Unfinished.{owed}
 use Rattle.log_laws.specs.Follow.{IsActive, IsFresh}
 use Rattle.checkpoint.specs.declared.master.Master.{Master}
 use Rattle.image_meaning.specs.Meaning.{master_of}
-use Rattle.engine.specs.declared.store.Store.{Store}
-use Rattle.engine.specs.Holding.{Holds}
-use Rattle.engine.specs.Rollback.{ConcernsOnly}
+use Rattle.redo_undo.specs.declared.store.Store.{Store}
+use Rattle.redo_undo.specs.Stores.{Holds}
+use Rattle.redo_undo.specs.StoreRollback.{ConcernsOnly}
 
 -- Behind these records a new transaction has written one record of the table, and isn't committed yet.
 pub record HasOneWrite (store : Store) (site : State) (newest : Option Master) (records : List Entry) (table : List Content) (commits txn number : ℕ) (after : Content) : Type 0 where

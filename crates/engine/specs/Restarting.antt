@@ -1,5 +1,5 @@
 -- What a restart leaves.
-use Rattle.std.specs.Prelude.{◌≡◌, ℕ, ◌+◌, ◌<◌, ◌≤◌, false, List, length, Option, Result, IfOk, IfErr}
+use Rattle.std.specs.Prelude.{◌≡◌, ◌+◌, ◌<◌, ◌≤◌, false, List, length, Option, Result, IfOk, IfErr, ℕ}
 use Rattle.site.specs.declared.outside.Stop.{Stop}
 use Rattle.site.specs.State.{State, IsQuiet}
 use Rattle.sealed_ring.specs.Ready.{IsUsable, Finds}
@@ -18,13 +18,16 @@ use Rattle.redo_undo.specs.Holding.{blocks_to}
 use Rattle.redo_undo.specs.Redoing.{IsOpened}
 use Rattle.engine.specs.declared.restart.Opened.{Opened}
 use Rattle.engine.specs.declared.restart.Restarted.{Restarted}
-use Rattle.engine.specs.Going.{MayWork, sizes_of}
-use Rattle.engine.specs.Holding.{Holds}
+use Rattle.engine.specs.Going.{sizes_of}
+use Rattle.redo_undo.specs.Stores.{MayWork, Holds}
 use Rattle.engine.specs.Image.{log_under}
 use Rattle.engine.specs.Leaves.{LeavesTable}
-use Rattle.engine.specs.Calls.{Calls, Ends}
+use Rattle.engine.specs.Calls.{Ends}
 use Rattle.engine.specs.Numbers.{RestartsWithin}
 use Rattle.engine.specs.Paging.{AsksFrom, restart_works}
+use Rattle.site.specs.Work.{Calls}
+use Rattle.analysis.specs.Laws.{OneTable, TableOfUnfinished, OwedOfUnfinished}
+use Rattle.analysis.specs.Taken.{TakenCommits}
 
 -- of every site: what was opened may be recovered
 pub record MayRecover (opened : Opened) (site : State) : Type 0 where
@@ -73,3 +76,10 @@ pub record Recovers (result : Result Restarted Stop) (opened : Opened) (before n
   pub asks : AsksFrom result (λ restarted. restarted.store.pages) (rules opened.pages)
       (restart_works (picture_under newest opened.pages.flash.geometry before.image blocks))
       (cache_of opened.pages) 0 before now
+
+-- the laws of the layers below on what a restart takes of a log
+pub record RecoveryLaws : Type 0 where
+  pub one : OneTable
+  pub unfinished : TableOfUnfinished
+  pub owed : OwedOfUnfinished
+  pub commits : TakenCommits

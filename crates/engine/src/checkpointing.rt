@@ -42,7 +42,7 @@ impl Engine {
         requires going { (site : Site) × MayGoOn self.now site }
         ensures { (s : State) (site : Site) → Fits self.now site s → result ≡ makes_checkpoint true s (Command.Set number value.now) }
     {
-        if self.lacks(number) {
+        if self.store.lacks(number) {
             return false;
         }
         if is_long(value) {

@@ -1,10 +1,9 @@
 // The database.
-ghost use Rattle.std.specs.Prelude.{Option, ◌≡◌, ◌+◌, ◌*◌, ◌/◌, ◌^◌, ◌<◌, ◌≤◌, ◌↔◌, nat_le, ℕ, List, true, false, Some, None, option_map, IsTrue, IfSome, IfNone, IfOk, IfErr};
+ghost use Rattle.std.specs.Prelude.{Option, ◌≡◌, ◌+◌, ◌*◌, ◌/◌, ◌^◌, ◌<◌, ◌≤◌, nat_le, List, true, false, Some, None, option_map, IsTrue, IfSome, IfNone, IfOk, IfErr, ℕ};
 ghost use Rattle.site.specs.declared.outside.Stop.{Stop};
 ghost use Rattle.site.specs.declared.geometry.Geometry.{Geometry};
 ghost use Rattle.site.specs.State.{State as Site, IsQuiet};
 ghost use Rattle.record_model.specs.declared.words.Command.{Command};
-ghost use Rattle.record_model.specs.declared.words.Why.{Why};
 ghost use Rattle.record_model.specs.declared.words.Reply.{Reply};
 ghost use Rattle.record_model.specs.State.{State, Content};
 ghost use Rattle.record_model.specs.Step.{step};
@@ -21,14 +20,15 @@ ghost use Rattle.second_chance.specs.Machine.{rules_of};
 ghost use Rattle.checkpoint.specs.declared.master.Master.{Master};
 ghost use Rattle.image_meaning.specs.Meaning.{picture_under};
 ghost use Rattle.engine.specs.Listings.{listing_of};
-ghost use Rattle.engine.specs.Calls.{Calls, Ends};
+ghost use Rattle.engine.specs.Calls.{Ends};
 ghost use Rattle.engine.specs.Numbers.{RestartsWithin};
+ghost use Rattle.site.specs.Work.{Calls};
 
 use crate::restart::restart;
-use crate::store::{SLOTS, Store};
 use lock_table::LockTable;
 use log_laws::owed_none;
 use record_model::{Reply, Stat, Why};
+use redo_undo::Store;
 use site::{Site, Stop};
 use std::alloc::Global;
 use txn_table::TxnTable;
@@ -152,14 +152,6 @@ impl Engine {
             Ok(()) => None,
             Err(busy) => Some(Reply::Busy(busy.holder)),
         }
-    }
-
-    /// Whether there is no such record.
-    pub(crate) fn lacks(&self, number: u32) -> bool
-        requires sizes { self.now.store.log.geometry ≡ sizes_of self.now.store }
-        ensures { IsTrue result ↔ (32 * (sizes_of self.now.store).pages ≤ number) }
-    {
-        number / SLOTS >= self.store.log.geometry().pages
     }
 
     /// Whether so many records count that a checkpoint is due.

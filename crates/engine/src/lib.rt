@@ -10,7 +10,6 @@ mod restart;
 mod scan;
 mod sessions;
 mod setting;
-mod store;
 #[cfg(test)]
 mod tests;
 mod transactions;

@@ -1,18 +1,17 @@
 // Records are read, in a session and outside of one.
-ghost use Rattle.std.specs.Prelude.{Option, map, ◌≡◌, ◌+◌, ◌*◌, ◌/◌, ◌^◌, ◌<◌, ◌≤◌, true, false, Some, None, IsSome, IfSome, IfNone, IfOk, OnOk, OnErr, IsErrOf};
+ghost use Rattle.std.specs.Prelude.{Option, map, ◌≡◌, ◌+◌, ◌/◌, ◌<◌, true, false, Some, None, IfSome, IfNone, IfOk, OnOk, OnErr, IsErrOf};
 ghost use Rattle.std.specs.List.{range_with_len};
 ghost use Rattle.site.specs.declared.outside.Dev.{Dev};
 ghost use Rattle.site.specs.declared.outside.Stop.{Stop};
-ghost use Rattle.site.specs.Geometry.{HasLimits};
 ghost use Rattle.site.specs.State.{State as Site};
 ghost use Rattle.record_model.specs.declared.words.Command.{Command};
 ghost use Rattle.record_model.specs.declared.words.Why.{Why};
 ghost use Rattle.record_model.specs.declared.words.Reply.{Reply};
 ghost use Rattle.record_model.specs.State.{State, seen, content_at};
 ghost use Rattle.record_model.specs.Step.{found};
-ghost use Rattle.lock_table.specs.Locks.{busy_read, AddsLock};
-ghost use Rattle.txn_table.specs.Entries.{entry_of, owed};
+ghost use Rattle.lock_table.specs.Locks.{AddsLock};
 ghost use Rattle.engine.specs.Going.{MayGoOn, sizes_of};
+ghost use Rattle.engine.specs.Permits.{MayShow, MayRead, MayScan};
 ghost use Rattle.engine.specs.Fits.{Fits, run, with_read, with_reads, Refuses, Accepts};
 ghost use Rattle.engine.specs.Leaves.{LeavesTable};
 ghost use Rattle.record_model.specs.Touches.{command_touches, read_touch};
@@ -26,25 +25,21 @@ use crate::engine::Engine;
 use crate::scan::{add_item, first_busy};
 use crate::values::found;
 use record_model::{Items, Octets, Reply, Why};
-use redo_undo::{hold_together, works_add_up};
+use redo_undo::hold_together;
 use site::{Site, Stop};
 
 impl Engine {
     // Why a session can't read a record, if it can't.
     fn read_refusal(&self, session: u32, number: u32) -> Option<Reply>
-        requires bounded { self.now.store.made + owed self.now.active ≤ 2 ^ 40 }
-        requires sizes { self.now.store.log.geometry ≡ sizes_of self.now.store }
+        requires going { (site : Site) × MayGoOn self.now site }
         ensures refused { IfSome result (λ reply. Refuses self.now (Command.Read session number) reply) }
         ensures accepted { IfNone result (Accepts self.now (Command.Read session number)) }
-        ensures session { IfNone result (session < 8) }
-        ensures active { IfNone result (IsSome (entry_of self.now.active session)) }
-        ensures number { IfNone result (number < 32 * (sizes_of self.now.store).pages) }
-        ensures free { IfNone result (busy_read self.now.locks (Some session) number ≡ None) }
+        ensures may { IfNone result (MayRead self.now session number) }
     {
         if self.active.find(session).is_none() {
             return Some(Reply::Refused(Why::BadSession));
         }
-        if self.lacks(number) {
+        if self.store.lacks(number) {
             return Some(Reply::Refused(Why::NoRecord));
         }
         if let Some(busy) = self.read_busy(Some(session), number) {
@@ -91,10 +86,7 @@ impl Engine {
         number: u32,
     ) -> Result<Option<Octets>, Stop>
         requires going { MayGoOn self.old (S.state site.old) }
-        requires session { session < 8 }
-        requires active { IsSome (entry_of self.old.active session) }
-        requires number { number < 32 * (sizes_of self.old.store).pages }
-        requires free { busy_read self.old.locks (Some session) number ≡ None }
+        requires may { MayRead self.old session number }
 
         // Of an honest site that the database fits.
         ensures content { (s : State) → Fits self.old (S.state site.old) s
@@ -123,15 +115,10 @@ impl Engine {
 
     // Why a session can't read so many records from a number on, if it can't.
     fn scan_refusal(&self, session: u32, number: u32, count: u32) -> Option<Reply>
-        requires limits { HasLimits (sizes_of self.now.store) }
-        requires sizes { self.now.store.log.geometry ≡ sizes_of self.now.store }
+        requires going { (site : Site) × MayGoOn self.now site }
         ensures refused { IfSome result (λ reply. Refuses self.now (Command.Scan session number count) reply) }
         ensures accepted { IfNone result (Accepts self.now (Command.Scan session number count)) }
-        ensures session { IfNone result (session < 8) }
-        ensures active { IfNone result (IsSome (entry_of self.now.active session)) }
-        ensures small { IfNone result (number + count < 2 ^ 32) }
-        ensures there { IfNone result (number + count ≤ 32 * (sizes_of self.now.store).pages) }
-        ensures free { IfNone result (first_busy self.now.locks session (range_with_len number count) ≡ None) }
+        ensures may { IfNone result (MayScan self.now session number count) }
     {
         if self.active.find(session).is_none() {
             return Some(Reply::Refused(Why::BadSession));
@@ -139,7 +126,7 @@ impl Engine {
         let Some(end) = number.checked_add(count) else {
             return Some(Reply::Refused(Why::NoRecord));
         };
-        if self.lacks(end.saturating_sub(1)) {
+        if self.store.lacks(end.saturating_sub(1)) {
             return Some(Reply::Refused(Why::NoRecord));
         }
         if let Some(busy) = first_busy(&self.locks, session, number, count) {
@@ -193,11 +180,7 @@ impl Engine {
         count: u32,
     ) -> Result<Items, Stop>
         requires going { MayGoOn self.old (S.state site.old) }
-        requires session { session < 8 }
-        requires active { IsSome (entry_of self.old.active session) }
-        requires small { number + count < 2 ^ 32 }
-        requires there { number + count ≤ 32 * (sizes_of self.old.store).pages }
-        requires free { first_busy self.old.locks session (range_with_len number count) ≡ None }
+        requires may { MayScan self.old session number count }
 
         // Of an honest site that the database fits.
         ensures items { (s : State) → Fits self.old (S.state site.old) s
@@ -213,7 +196,6 @@ impl Engine {
             (S.state site.old) (S.state site.new) }
     {
         hold_together();
-        works_add_up();
         let mut items = Items::new(self.alloc);
         for offset in 0..count {
             let content = match self.carry_out_read(site, session, number + offset) {
@@ -230,14 +212,12 @@ impl Engine {
 
     // Why a record can't be shown, if it can't.
     fn get_refusal(&self, number: u32) -> Option<Reply>
-        requires bounded { self.now.store.made + owed self.now.active ≤ 2 ^ 40 }
-        requires sizes { self.now.store.log.geometry ≡ sizes_of self.now.store }
+        requires going { (site : Site) × MayGoOn self.now site }
         ensures refused { IfSome result (λ reply. Refuses self.now (Command.Get number) reply) }
         ensures accepted { IfNone result (Accepts self.now (Command.Get number)) }
-        ensures number { IfNone result (number < 32 * (sizes_of self.now.store).pages) }
-        ensures free { IfNone result (busy_read self.now.locks None number ≡ None) }
+        ensures may { IfNone result (MayShow self.now None number) }
     {
-        if self.lacks(number) {
+        if self.store.lacks(number) {
             return Some(Reply::Refused(Why::NoRecord));
         }
         if let Some(busy) = self.read_busy(None, number) {
@@ -279,8 +259,7 @@ impl Engine {
     // Shows a record outside sessions.
     fn carry_out_get<S: Site>(&mut self, site: &mut S, number: u32) -> Result<Reply, Stop>
         requires going { MayGoOn self.old (S.state site.old) }
-        requires number { number < 32 * (sizes_of self.old.store).pages }
-        requires free { busy_read self.old.locks None number ≡ None }
+        requires may { MayShow self.old None number }
 
         // Of an honest site that the database fits.
         ensures reply { (s : State) → Fits self.old (S.state site.old) s

@@ -13,9 +13,6 @@ ghost use Rattle.log_records.specs.Sound.{Means};
 ghost use Rattle.log_store.specs.Held as log_held;
 ghost use Rattle.checkpoint.specs.declared.master.Master.{Master};
 ghost use Rattle.analysis.specs.Open.{owed_for};
-ghost use Rattle.analysis.specs.Laws.{OneTable, TableOfUnfinished, OwedOfUnfinished};
-ghost use Rattle.analysis.specs.Taken.{TakenCommits};
-ghost use Rattle.redo_undo.specs.Works.{WorksAddUp, ReadsAddUp, ReadsForMore, OverflowsWithMore};
 ghost use Rattle.analysis.specs.Table.{listed};
 ghost use Rattle.analysis.specs.Read as analysis;
 ghost use Rattle.page_store.specs.Stopping.{MayStop};
@@ -23,19 +20,18 @@ ghost use Rattle.image_meaning.specs.Meaning.{picture_under};
 ghost use Rattle.engine.specs.Going.{sizes_of};
 ghost use Rattle.engine.specs.Image.{log_under, IsSound, Stands};
 ghost use Rattle.engine.specs.Leaves.{HasNoSizes, IsRefused, LeavesTable};
-ghost use Rattle.engine.specs.Restarting.{MayRecover, IsReady, RestartedAs, Restarts, Recovers};
+ghost use Rattle.engine.specs.Restarting.{RecoveryLaws, MayRecover, IsReady, RestartedAs, Restarts, Recovers};
 ghost use Rattle.engine.specs.Calls.{Ends};
 ghost use Rattle.engine.specs.Paging.{AsksFrom, cache_on, restart_works};
 ghost use Rattle.engine.specs.Numbers.{RestartsWithin};
 ghost use Rattle.page_store.specs.Caching.{cache_of};
 ghost use Rattle.second_chance.specs.Machine.{rules_of};
 
-use crate::store::Store;
 use analysis::{Analysis, losers_are_taken, table_of_records};
 use checkpoint::{Master, Pairs, newest, one_master};
 use log_store::LogStore;
 use page_store::{PageStore, stays_beside};
-use redo_undo::{redo, undo_all, works_add_up};
+use redo_undo::{Store, redo, undo_all, works_add_up};
 use sealed_ring::Ring;
 use site::{Dev, Geometry, Site, Stop};
 use std::alloc::Global;
@@ -172,20 +168,12 @@ fn owed(found: &Analysis) -> u64
     sum
 }
 
-// On what a restart takes of a log, and on the work that it asks of the cache.
+// On what a restart takes of a log.
 fn recovery_laws()
-    ensures one { OneTable }
-    ensures unfinished { TableOfUnfinished }
-    ensures owed { OwedOfUnfinished }
-    ensures commits { TakenCommits }
-    ensures works { WorksAddUp }
-    ensures reads { ReadsAddUp }
-    ensures more { ReadsForMore }
-    ensures overflow { OverflowsWithMore }
+    ensures { RecoveryLaws }
 {
     table_of_records();
     losers_are_taken();
-    works_add_up();
 }
 
 // Redoes what the pages lack, undoes all that is unfinished, and makes a checkpoint.

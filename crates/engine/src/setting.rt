@@ -1,5 +1,5 @@
 // A transaction of one write, outside sessions.
-ghost use Rattle.std.specs.Prelude.{Option, ◌≡◌, ◌⊎◌, ◌+◌, ◌*◌, ◌/◌, ◌^◌, ◌<◌, ◌≤◌, [], ◌∷◌, ◌++◌, length, true, false, Some, None, IfSome, IfNone, IfOk, OnErr, IsErrOf};
+ghost use Rattle.std.specs.Prelude.{Option, ◌≡◌, ◌⊎◌, ◌+◌, ◌/◌, ◌<◌, ◌≤◌, [], ◌∷◌, ◌++◌, length, true, false, Some, None, IfSome, IfNone, IfOk, OnErr, IsErrOf};
 ghost use Rattle.site.specs.declared.outside.Dev.{Dev};
 ghost use Rattle.site.specs.declared.outside.Stop.{Stop};
 ghost use Rattle.site.specs.State.{State as Site};
@@ -10,23 +10,23 @@ ghost use Rattle.record_model.specs.State.{State};
 ghost use Rattle.byte_fields.specs.declared.TheConstants.{VALUE_MAX};
 ghost use Rattle.record_model.specs.Step.{making, committed};
 ghost use Rattle.log_records.specs.Spelling.{IsShort};
-ghost use Rattle.lock_table.specs.Locks.{busy_write};
-ghost use Rattle.txn_table.specs.Entries.{IsTable, owed};
 ghost use Rattle.engine.specs.Going.{MayGoOn, sizes_of};
+ghost use Rattle.engine.specs.Permits.{MayWrite};
 ghost use Rattle.engine.specs.OneWrite.{HasOneWrite};
 ghost use Rattle.engine.specs.Fits.{Fits, run, run_now, Refuses, Accepts};
 ghost use Rattle.engine.specs.Leaves.{LeavesTable, LeavesEither};
 ghost use Rattle.record_model.specs.Touches.{command_touches};
 ghost use Rattle.redo_undo.specs.Works.{Asks, Overflows, one_change, checkpoint_works};
 ghost use Rattle.page_store.specs.Caching.{cache_of, rules};
-ghost use Rattle.engine.specs.Calls.{Works, Keeps, Serves, Does, Answers};
+ghost use Rattle.engine.specs.Calls.{Serves, Does, Answers};
 ghost use Rattle.engine.specs.Numbers.{checkpoints_by};
+ghost use Rattle.redo_undo.specs.StoreCalls.{Works, Keeps};
 
 use crate::engine::Engine;
 use crate::values::{is_long, value_of};
 use page_store::touch_then_change;
 use record_model::{Octets, Reply, Why};
-use redo_undo::{changes_cost_a_touch, hold_together, works_add_up};
+use redo_undo::{hold_together, works_add_up};
 use site::{Site, Stop};
 
 impl Engine {
@@ -38,10 +38,8 @@ impl Engine {
         after: &Option<Octets>,
     ) -> Result<u64, Stop>
         requires going { MayGoOn self.old (S.state site.old) }
-        requires number { number < 32 * (sizes_of self.old.store).pages }
-        requires free { busy_write self.old.locks None number ≡ None }
         requires short { IsShort after.now }
-        requires room { self.old.store.made + owed self.old.active + 4 ≤ self.old.cap }
+        requires may { MayWrite self.old None number 4 }
 
         // Of an honest site that the database fits.
         ensures logged { (s : State) (fits : Fits self.old (S.state site.old) s)
@@ -58,8 +56,6 @@ impl Engine {
             (S.state site.old) (S.state site.new) }
     {
         touch_then_change();
-        changes_cost_a_touch();
-        works_add_up();
         let txn = match self.store.begin(site) {
             Ok(txn) => txn,
             Err(stop) => return Err(stop),
@@ -82,10 +78,8 @@ impl Engine {
         after: &Option<Octets>,
     ) -> Result<Reply, Stop>
         requires going { MayGoOn self.old (S.state site.old) }
-        requires number { number < 32 * (sizes_of self.old.store).pages }
-        requires free { busy_write self.old.locks None number ≡ None }
         requires short { IsShort after.now }
-        requires room { self.old.store.made + owed self.old.active + 4 ≤ self.old.cap }
+        requires may { MayWrite self.old None number 4 }
 
         // Of an honest site that the database fits.
         ensures reply { (s : State) → Fits self.old (S.state site.old) s
@@ -101,7 +95,6 @@ impl Engine {
         ensures asks { Asks result (one_change (number / 32)) self.old.store.pages self.new.store.pages
             (S.state site.old) (S.state site.new) }
     {
-        works_add_up();
         let txn = match self.log_set(site, number, after) {
             Ok(txn) => txn,
             Err(stop) => return Err(stop),
@@ -114,17 +107,13 @@ impl Engine {
 
     // Why a record can't be set, if it can't.
     fn set_refusal(&self, number: u32, value: &Octets) -> Option<Reply>
-        requires bounded { self.now.store.made + owed self.now.active ≤ 2 ^ 40 }
-        requires sizes { self.now.store.log.geometry ≡ sizes_of self.now.store }
-        requires table { IsTable self.now.active }
+        requires going { (site : Site) × MayGoOn self.now site }
         ensures refused { IfSome result (λ reply. Refuses self.now (Command.Set number value.now) reply) }
         ensures accepted { IfNone result (Accepts self.now (Command.Set number value.now)) }
-        ensures number { IfNone result (number < 32 * (sizes_of self.now.store).pages) }
         ensures short { IfNone result (length value.now ≤ VALUE_MAX) }
-        ensures free { IfNone result (busy_write self.now.locks None number ≡ None) }
-        ensures room { IfNone result (self.now.store.made + owed self.now.active + 4 ≤ self.now.cap) }
+        ensures may { IfNone result (MayWrite self.now None number 4) }
     {
-        if self.lacks(number) {
+        if self.store.lacks(number) {
             return Some(Reply::Refused(Why::NoRecord));
         }
         if is_long(value) {

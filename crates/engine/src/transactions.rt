@@ -1,5 +1,5 @@
 // Sessions' transactions begin, are committed and are undone.
-ghost use Rattle.std.specs.Prelude.{Option, map, reverse, ◌≡◌, ◌≢◌, ◌⊎◌, ◌+◌, ◌^◌, ◌<◌, ◌≤◌, ℕ, List, [], ◌∷◌, ◌++◌, true, false, Some, None, IfSome, IfNone, IfOk, IfErr, OnOk, OnErr, IsErrOf};
+ghost use Rattle.std.specs.Prelude.{Option, map, reverse, ◌≡◌, ◌≢◌, ◌⊎◌, ◌+◌, ◌<◌, ◌≤◌, ℕ, List, [], ◌∷◌, ◌++◌, true, false, Some, None, IfSome, IfNone, IfOk, IfErr, OnOk, OnErr, IsErrOf};
 ghost use Rattle.site.specs.declared.outside.Dev.{Dev};
 ghost use Rattle.site.specs.declared.outside.Stop.{Stop};
 ghost use Rattle.site.specs.State.{State as Site};
@@ -14,35 +14,35 @@ ghost use Rattle.log_laws.specs.Follow.{writes_in};
 ghost use Rattle.txn_table.specs.Entries.{entry_of, owed};
 ghost use Rattle.log_store.specs.Held.{end_of};
 ghost use Rattle.image_meaning.specs.Moments as moments;
-ghost use Rattle.redo_undo.specs.Holding.{blocks_to};
 ghost use Rattle.redo_undo.specs.Committing.{MayCommit};
-ghost use Rattle.engine.specs.Going.{MayWork, MayGoOn, sizes_of};
-ghost use Rattle.engine.specs.Holding.{Holds};
+ghost use Rattle.engine.specs.Going.{MayGoOn, sizes_of};
+ghost use Rattle.engine.specs.Permits.{MayBegin};
+ghost use Rattle.redo_undo.specs.Stores.{MayLog};
+ghost use Rattle.redo_undo.specs.Stores.{Holds};
 ghost use Rattle.engine.specs.Fits.{Fits, run, run_now, Refuses, Accepts};
 ghost use Rattle.engine.specs.Leaves.{LeavesTable, LeavesEither};
 ghost use Rattle.record_model.specs.Touches.{command_touches, write_touch};
 ghost use Rattle.redo_undo.specs.Works.{Asks, Overflows, checkpoint_works};
 ghost use Rattle.page_store.specs.Caching.{cache_of, rules};
 ghost use Rattle.checkpoint.specs.declared.master.Master.{Master};
-ghost use Rattle.engine.specs.Calls.{Works, Keeps, Serves, Does, Answers};
+ghost use Rattle.engine.specs.Calls.{Serves, Does, Answers};
 ghost use Rattle.engine.specs.Numbers.{checkpoints_by};
+ghost use Rattle.redo_undo.specs.StoreCalls.{Works, Keeps};
 
 use crate::engine::{Engine, SESSIONS};
 use crate::sessions;
 use record_model::{Reply, Why};
-use redo_undo::{hold_together, works_add_up};
+use redo_undo::hold_together;
 use site::{Site, Stop};
 use txn_table::Active;
 
 impl Engine {
     // Why a session can't begin, if it can't.
     fn begin_refusal(&self, session: u32) -> Option<Reply>
-        requires bounded { self.now.store.made + owed self.now.active ≤ 2 ^ 40 }
+        requires going { (site : Site) × MayGoOn self.now site }
         ensures refused { IfSome result (λ reply. Refuses self.now (Command.Begin session) reply) }
         ensures accepted { IfNone result (Accepts self.now (Command.Begin session)) }
-        ensures session { IfNone result (session < 8) }
-        ensures absent { IfNone result (entry_of self.now.active session ≡ None) }
-        ensures room { IfNone result (self.now.store.made + owed self.now.active + 2 ≤ self.now.cap) }
+        ensures may { IfNone result (MayBegin self.now session) }
     {
         if session >= SESSIONS {
             return Some(Reply::Refused(Why::BadSession));
@@ -102,7 +102,6 @@ impl Engine {
             → Overflows (rules self.old.store.pages) checkpoint_works (cache_of self.old.store.pages) }
         ensures foreign { IfErr result (λ stop. stop ≢ Stop.Foreign) }
     {
-        works_add_up();
         let wanted = self.wants_checkpoint_to_begin(session);
         match self.checkpoint_if(site, wanted) {
             Ok(()) => self.begin_now(site, session),
@@ -113,9 +112,7 @@ impl Engine {
     // A session that may begins.
     fn carry_out_begin<S: Site>(&mut self, site: &mut S, session: u32) -> Result<Reply, Stop>
         requires going { MayGoOn self.old (S.state site.old) }
-        requires session { session < 8 }
-        requires absent { entry_of self.old.active session ≡ None }
-        requires room { self.old.store.made + owed self.old.active + 2 ≤ self.old.cap }
+        requires may { MayBegin self.old session }
 
         // Of an honest site that the database fits.
         ensures done { IfOk result (λ reply. reply ≡ Reply.Done) }
@@ -149,9 +146,7 @@ impl Engine {
 
     /// Commits a transaction.
     pub(crate) fn seal_commit<S: Site>(&mut self, site: &mut S, txn: u64) -> Result<Reply, Stop>
-        requires going { MayWork self.old.store (S.state site.old) }
-        requires room { blocks_to self.old.store.log + 1 < self.old.store.log.kept + (sizes_of self.old.store).blocks }
-        requires few { self.old.store.made < 2 ^ 40 }
+        requires may { MayLog self.old.store (S.state site.old) }
         requires commits { self.old.commits ≤ end_of self.old.store.log }
 
         // Of an honest site whose log and pages hold these records.

@@ -1,5 +1,5 @@
 // A session's writes.
-ghost use Rattle.std.specs.Prelude.{Option, ◌≡◌, ◌+◌, ◌*◌, ◌/◌, ◌^◌, ◌<◌, ◌≤◌, length, true, Some, None, IsSome, IfSome, IfNone, IfOk, OnErr, IsErrOf};
+ghost use Rattle.std.specs.Prelude.{Option, ◌≡◌, ◌/◌, ◌<◌, ◌≤◌, length, true, Some, None, IsSome, IfSome, IfNone, IfOk, OnErr, IsErrOf};
 ghost use Rattle.site.specs.declared.outside.Dev.{Dev};
 ghost use Rattle.site.specs.declared.outside.Stop.{Stop};
 ghost use Rattle.site.specs.State.{State as Site};
@@ -9,9 +9,9 @@ ghost use Rattle.record_model.specs.declared.words.Reply.{Reply};
 ghost use Rattle.record_model.specs.State.{State};
 ghost use Rattle.byte_fields.specs.declared.TheConstants.{VALUE_MAX};
 ghost use Rattle.log_records.specs.Spelling.{IsShort};
-ghost use Rattle.lock_table.specs.Locks.{busy_write};
-ghost use Rattle.txn_table.specs.Entries.{entry_of, owed};
+ghost use Rattle.txn_table.specs.Entries.{entry_of};
 ghost use Rattle.engine.specs.Going.{MayGoOn, sizes_of};
+ghost use Rattle.engine.specs.Permits.{MayWrite};
 ghost use Rattle.engine.specs.Fits.{Fits, run, with_write, Refuses, Accepts};
 ghost use Rattle.engine.specs.Leaves.{LeavesTable};
 ghost use Rattle.record_model.specs.Touches.{command_touches};
@@ -25,7 +25,7 @@ use crate::sessions;
 use crate::values::{is_long, value_of};
 use page_store::touch_then_change;
 use record_model::{Octets, Reply, Why};
-use redo_undo::{changes_cost_a_touch, hold_together};
+use redo_undo::hold_together;
 use site::{Site, Stop};
 use txn_table::Active;
 
@@ -40,10 +40,8 @@ impl Engine {
     ) -> Result<Reply, Stop>
         requires going { MayGoOn self.old (S.state site.old) }
         requires active { entry_of self.old.active entry.session ≡ Some entry }
-        requires number { number < 32 * (sizes_of self.old.store).pages }
-        requires free { busy_write self.old.locks (Some entry.session) number ≡ None }
         requires short { IsShort after.now }
-        requires room { self.old.store.made + owed self.old.active + 2 ≤ self.old.cap }
+        requires may { MayWrite self.old (Some entry.session) number 2 }
 
         // Of an honest site that the database fits.
         ensures done { IfOk result (λ reply. reply ≡ Reply.Done) }
@@ -58,7 +56,6 @@ impl Engine {
             (S.state site.old) (S.state site.new) }
     {
         touch_then_change();
-        changes_cost_a_touch();
         match self.store.touch(site, number) {
             Ok(()) => {}
             Err(stop) => return Err(stop),
@@ -92,20 +89,17 @@ impl Engine {
 
     // Why a session can't write a value, if it can't.
     fn write_refusal(&self, session: u32, number: u32, value: &Octets) -> Option<Reply>
-        requires bounded { self.now.store.made + owed self.now.active ≤ 2 ^ 40 }
-        requires sizes { self.now.store.log.geometry ≡ sizes_of self.now.store }
+        requires going { (site : Site) × MayGoOn self.now site }
         ensures refused { IfSome result (λ reply. Refuses self.now (Command.Write session number value.now) reply) }
         ensures accepted { IfNone result (Accepts self.now (Command.Write session number value.now)) }
         ensures active { IfNone result (IsSome (entry_of self.now.active session)) }
-        ensures number { IfNone result (number < 32 * (sizes_of self.now.store).pages) }
-        ensures free { IfNone result (busy_write self.now.locks (Some session) number ≡ None) }
-        ensures room { IfNone result (self.now.store.made + owed self.now.active + 2 ≤ self.now.cap) }
+        ensures may { IfNone result (MayWrite self.now (Some session) number 2) }
         ensures short { IfNone result (length value.now ≤ VALUE_MAX) }
     {
         if self.active.find(session).is_none() {
             return Some(Reply::Refused(Why::BadSession));
         }
-        if self.lacks(number) {
+        if self.store.lacks(number) {
             return Some(Reply::Refused(Why::NoRecord));
         }
         if is_long(value) {
@@ -161,19 +155,16 @@ impl Engine {
 
     // Why a session can't take a value away, if it can't.
     fn erase_refusal(&self, session: u32, number: u32) -> Option<Reply>
-        requires bounded { self.now.store.made + owed self.now.active ≤ 2 ^ 40 }
-        requires sizes { self.now.store.log.geometry ≡ sizes_of self.now.store }
+        requires going { (site : Site) × MayGoOn self.now site }
         ensures refused { IfSome result (λ reply. Refuses self.now (Command.Erase session number) reply) }
         ensures accepted { IfNone result (Accepts self.now (Command.Erase session number)) }
         ensures active { IfNone result (IsSome (entry_of self.now.active session)) }
-        ensures number { IfNone result (number < 32 * (sizes_of self.now.store).pages) }
-        ensures free { IfNone result (busy_write self.now.locks (Some session) number ≡ None) }
-        ensures room { IfNone result (self.now.store.made + owed self.now.active + 2 ≤ self.now.cap) }
+        ensures may { IfNone result (MayWrite self.now (Some session) number 2) }
     {
         if self.active.find(session).is_none() {
             return Some(Reply::Refused(Why::BadSession));
         }
-        if self.lacks(number) {
+        if self.store.lacks(number) {
             return Some(Reply::Refused(Why::NoRecord));
         }
         if let Some(busy) = self.write_busy(Some(session), number) {

@@ -1,6 +1,6 @@
 -- Calls that ask the cache for work, one after the other.
-use Rattle.std.proofs.Common.{◌≡◌, ℕ, ◌+◌, ◌*◌, ◌^◌, ◌<◌, ◌≤◌, Bool, true, false, List, [], ◌++◌, arith, refl, sym, ap, subst, ◌∙◌}
-use Rattle.std.specs.Prelude.{Result, Ok, Err, OnOk, IsErrOf, if◌then◌else◌}
+use Rattle.std.proofs.Common.{◌≡◌, ◌+◌, ◌*◌, ◌^◌, ◌<◌, ◌≤◌, Bool, true, false, List, [], ◌++◌, arith, refl, sym, ap, subst, ◌∙◌, ℕ}
+use Rattle.std.specs.Prelude.{Result, Ok, Err, IsErrOf, if◌then◌else◌}
 use Rattle.site.specs.declared.outside.Dev.TheVariants.{Flash, Disk}
 use Rattle.site.specs.declared.outside.Stop.{Stop}
 use Rattle.site.specs.declared.outside.Stop.TheVariants.{Worn}
@@ -12,10 +12,10 @@ use Rattle.page_store.specs.declared.store.PageStore.{PageStore}
 use Rattle.page_store.specs.Caching.{cache_of, rules, pushes}
 use Rattle.redo_undo.specs.Works.{next_group, one_touch, one_change, Overflows, ReadsFor, Asks}
 use Rattle.redo_undo.proofs.Costs.{works_add_up, reads_add_up, reads_for_more, overflows_with_more, touched_next}
+use Rattle.site.proofs.Working.{err_again, no_error, ok_as, ok_always}
 
--- an error that is Ok's or another's
-pub err_again : {A B : Type 0} (stop is : Stop) → IsErrOf {T = A} (Err stop) is → IsErrOf {T = B} (Err stop) is
-err_again stop is same = let equal : stop ≡ is = cc in ap Err equal
+pub stop_is : {U : Type 0} (stop is : Stop) → IsErrOf {T = U} (Err stop) is → stop ≡ is
+stop_is stop is same = cc
 
 -- One touch.
 
@@ -59,15 +59,11 @@ no_reads r cache before now same = record { flash = omega (arith, same Flash); d
 pub asks_nothing : {T : Type 0} (result : Result T Stop) (pages : PageStore) (before now : State) → SameReads before now → (IsErrOf result (Worn Flash) → ⊥) →
     Asks result [] pages pages before now
 asks_nothing result pages before now same never = record {
-  machine = every_ok result refl;
+  machine = ok_always result _ refl;
   worn = λ is. absurd (never is);
   reads = no_reads (rules pages) (cache_of pages) before now same;
   rules_are = refl;
 }
-  where
-    every_ok : {T : Type 0} {P : Type 0} (r : Result T Stop) → P → OnOk r P
-    every_ok (Ok x) p = p
-    every_ok (Err stop) p = tt
 
 -- a call after one that was Ok
 pub asks_then : {A B : Type 0} (a : A) (result : Result B Stop) (first later : List CacheWork) (old mid new : PageStore) (before between now : State) →
@@ -78,16 +74,12 @@ asks_then a result first later old mid new before between now one two =
     let there : after_works (rules mid) later (cache_of mid) ≡ after_works (rules old) (first ++ later) (cache_of old) =
     ap (λ r. after_works r later (cache_of mid)) one.rules_are ∙ ap (after_works (rules old) later) start ∙ sym all in
     record {
-      machine = on_ok result (cache_of new) (after_works (rules mid) later (cache_of mid)) (after_works (rules old) (first ++ later) (cache_of old)) two.machine there;
+      machine = ok_as result _ _ (λ is. is ∙ there) two.machine;
       worn = λ is. subst (λ (c : Cache). 2 ^ 40 < next_group c) there (two.worn is);
       reads = reads_add_up (rules old) first later (cache_of old) before between now one.reads
           (subst (λ (c : Cache). ReadsFor (rules old) later c between now) start (subst (λ (r : Rules). ReadsFor r later (cache_of mid) between now) one.rules_are two.reads));
       rules_are = two.rules_are ∙ one.rules_are;
     }
-  where
-    on_ok : {B : Type 0} (r : Result B Stop) (c d e : Cache) → OnOk r (c ≡ d) → d ≡ e → OnOk r (c ≡ e)
-    on_ok (Ok x) c d e is there = is ∙ there
-    on_ok (Err stop) c d e is there = tt
 
 -- a call that stops before all of some work is done
 pub asks_stopped : {A B : Type 0} (stop : Stop) (first later : List CacheWork) (old new : PageStore) (before now : State) → 1 ≤ (rules old).groups →
@@ -96,5 +88,31 @@ asks_stopped {A} {B} stop first later old new before now some asks = record {
   machine = tt;
   worn = λ is. overflows_with_more (rules old) first later (cache_of old) some (asks.worn (err_again stop (Worn Flash) is));
   reads = reads_for_more (rules old) first later (cache_of old) before now some asks.reads;
+  rules_are = asks.rules_are;
+}
+
+-- Another answer of the same call.
+
+-- the same for other work, where the two are equal
+pub asks_same : {T : Type 0} (result : Result T Stop) (works other : List CacheWork) (old new : PageStore) (before now : State) → works ≡ other → Asks result other old new before now → Asks result works old new before now
+asks_same result works other old new before now same asks = subst (λ (w : List CacheWork). Asks result w old new before now) (sym same) asks
+
+-- before any call
+pub no_asks : (pages : PageStore) (now : State) → Asks {T = Unit {0}} (Ok tt) [] pages pages now now
+no_asks pages now = record { machine = refl; worn = λ is. absurd (no_error {T = Unit {0}} {x = tt} {e = Worn Flash} is); reads = record { flash = omega arith; disk = omega arith }; rules_are = refl }
+
+-- another answer of the same call
+pub asks_ok : {A B : Type 0} (a : A) (b : B) (works : List CacheWork) (old new : PageStore) (before now : State) → Asks {T = A} (Ok a) works old new before now → Asks {T = B} (Ok b) works old new before now
+asks_ok {A} {B} a b works old new before now asks = record { machine = asks.machine; worn = λ is. absurd (no_error {T = B} {x = b} {e = Worn Flash} is); reads = asks.reads; rules_are = asks.rules_are }
+
+pub asks_err : {A B : Type 0} (stop : Stop) (works : List CacheWork) (old new : PageStore) (before now : State) → Asks {T = A} (Err stop) works old new before now → Asks {T = B} (Err stop) works old new before now
+asks_err stop works old new before now asks = record { machine = tt; worn = λ is. asks.worn (err_again stop (Worn Flash) is); reads = asks.reads; rules_are = asks.rules_are }
+
+-- a call that fails behind it for another reason
+pub asks_fails : {A B : Type 0} (a : A) (stop : Stop) (works : List CacheWork) (old new : PageStore) (before now : State) → (stop ≡ Worn Flash → ⊥) → Asks {T = A} (Ok a) works old new before now → Asks {T = B} (Err stop) works old new before now
+asks_fails {A} {B} a stop works old new before now never asks = record {
+  machine = tt;
+  worn = λ is. absurd (never (stop_is {U = B} stop (Worn Flash) is));
+  reads = asks.reads;
   rules_are = asks.rules_are;
 }

@@ -1,6 +1,6 @@
 -- What a checkpoint asks of the page cache.
-use Rattle.std.proofs.Common.{◌≡◌, ◌⊎◌, inl, inr, List, arith}
-use Rattle.std.specs.Prelude.{◌≢◌, Result, Ok, Err, OnOk, IfErr, IsErrOf}
+use Rattle.std.proofs.Common.{◌≡◌, ◌⊎◌, List, arith}
+use Rattle.std.specs.Prelude.{Result, Ok, Err, OnOk, IfErr, IsErrOf}
 use Rattle.site.specs.declared.outside.Dev.TheVariants.{Log, Flash, Disk}
 use Rattle.site.specs.declared.outside.Stop.{Stop}
 use Rattle.site.specs.declared.outside.Stop.TheVariants.{Device, Worn}
@@ -11,11 +11,7 @@ use Rattle.second_chance.specs.Machine.{after_works}
 use Rattle.page_store.specs.declared.store.PageStore.{PageStore}
 use Rattle.page_store.specs.Caching.{cache_of, rules}
 use Rattle.redo_undo.specs.Works.{Asks}
-
--- a call on the log alone doesn't stop since flash is worn
-pub not_worn_flash : (stop : Stop) → (stop ≡ Device Log) ⊎ (stop ≡ Worn Log) → stop ≢ Worn Flash
-not_worn_flash stop (inl is) = λ same. cc
-not_worn_flash stop (inr is) = λ same. cc
+use Rattle.redo_undo.proofs.AskingUndo.{not_worn_flash}
 
 pub never_worn_flash : {A : Type 0} (r : Result A Stop) → IfErr r (λ stop. (stop ≡ Device Log) ⊎ (stop ≡ Worn Log)) → IsErrOf r (Worn Flash) → ⊥
 never_worn_flash (Ok x) stops is = cc

@@ -1,5 +1,5 @@
 -- What undo asks of the cache: calls on the log alone, and one Update after the other.
-use Rattle.std.proofs.Common.{◌≡◌, ◌≢◌, ◌⊎◌, inl, inr, ℕ, ◌+◌, ◌*◌, ◌<◌, ◌≤◌, true, List, [], ◌∷◌, ◌++◌, append_assoc, Option, Some, arith, refl, sym, ap, subst, ◌∙◌}
+use Rattle.std.proofs.Common.{◌≡◌, ◌≢◌, ◌⊎◌, inl, inr, ◌+◌, ◌*◌, ◌<◌, ◌≤◌, true, List, [], ◌∷◌, ◌++◌, append_assoc, Option, Some, arith, refl, sym, ap, subst, ◌∙◌, ℕ}
 use Rattle.std.specs.Prelude.{Result, Ok, Err, OnOk, IfErr, IsErrOf, option_map, ⊤}
 use Rattle.std.specs.List.{cons_option}
 use Rattle.std.proofs.lemmas.List.Elements.{filter_map-append}
@@ -19,7 +19,8 @@ use Rattle.page_store.specs.Laws.{TouchThenChange}
 use Rattle.redo_undo.specs.Works.{one_touch, one_change, ReadsFor, Asks}
 use Rattle.redo_undo.specs.UndoWorks.{works_of}
 use Rattle.redo_undo.proofs.Costs.{reads_add_up}
-use Rattle.redo_undo.proofs.Asking.{err_again, change_reads, change_overflows, asks_then, asks_stopped}
+use Rattle.redo_undo.proofs.Asking.{change_reads, change_overflows, asks_then, asks_stopped, stop_is}
+use Rattle.site.proofs.Working.{err_again, ok_as, ok_always}
 
 -- Calls on the log alone.
 
@@ -55,22 +56,12 @@ pub never_worn : {T : Type 0} (result : Result T Stop) → IfErr result (λ stop
 never_worn (Ok x) stops is = cc
 never_worn (Err stop) stops is = let equal : stop ≡ Worn Flash = cc in not_worn_either stop stops equal
 
-pub is_error : {T : Type 0} (stop is : Stop) → IsErrOf {T = T} (Err stop) is → stop ≡ is
-is_error stop is same = cc
-
 -- a call that stops before it asks for anything
 pub asks_refused : {T : Type 0} (stop : Stop) (works : List CacheWork) (pages : PageStore) (before now : State) → 1 ≤ (rules pages).groups → stop ≢ Worn Flash → SameElse before now →
     Asks {T = T} (Err stop) works pages pages before now
 asks_refused {T} stop works pages before now some other same =
-    asks_stopped stop [] works pages pages before now some (stopped stop other)
-  where
-    stopped : (stop : Stop) → stop ≢ Worn Flash → Asks {T = T} (Err stop) [] pages pages before now
-    stopped stop other = record {
-      machine = tt;
-      worn = λ is. absurd (other (is_error {T = T} stop (Worn Flash) is));
-      reads = no_reads_else (rules pages) (cache_of pages) before now same;
-      rules_are = refl;
-    }
+    asks_stopped {A = T} stop [] works pages pages before now some
+    (record { machine = tt; worn = λ is. absurd (other (stop_is {U = T} stop (Worn Flash) is)); reads = no_reads_else (rules pages) (cache_of pages) before now same; rules_are = refl })
 
 -- a call that reads the log before it asks
 pub asks_later : {T : Type 0} (result : Result T Stop) (works : List CacheWork) (old new : PageStore) (before between now : State) → SameElse before between → Asks result works old new between now →
@@ -86,7 +77,7 @@ asks_later result works old new before between now same asks = record {
 pub asks_before : {A B : Type 0} (a : A) (result : Result B Stop) (works : List CacheWork) (old new : PageStore) (before between now : State) → 1 ≤ (rules old).groups → SameElse between now →
     (IsErrOf result (Worn Flash) → ⊥) → Asks {T = A} (Ok a) works old new before between → Asks result works old new before now
 asks_before a result works old new before between now some same never asks = record {
-  machine = each_ok result asks.machine;
+  machine = ok_always result _ asks.machine;
   worn = λ is. absurd (never is);
   reads = record {
     flash = (let read = asks.reads.flash in omega (arith, read, same.flash));
@@ -94,10 +85,6 @@ asks_before a result works old new before between now some same never asks = rec
   };
   rules_are = asks.rules_are;
 }
-  where
-    each_ok : {B : Type 0} {P : Type 0} (r : Result B Stop) → P → OnOk r P
-    each_ok (Ok x) p = p
-    each_ok (Err stop) p = tt
 
 -- One Update.
 
@@ -120,7 +107,7 @@ change_made a result page old mid new before between now some law asks changed s
     let none = none_read between now read in
     let touches = asks.reads in
     record {
-      machine = on_ok result (cache_of new) (with_change (cache_of mid)) (touched (rules old) page true (cache_of old)) changed there;
+      machine = ok_as result _ _ (λ is. is ∙ there) changed;
       worn = λ is. absurd (never is);
       reads = change_reads (rules old) page (cache_of old) before now some (record {
         flash = (let reads = touches.flash in omega (arith, reads, none.flash));
@@ -128,10 +115,6 @@ change_made a result page old mid new before between now some law asks changed s
       });
       rules_are = same ∙ asks.rules_are;
     }
-  where
-    on_ok : {B : Type 0} (r : Result B Stop) (c d e : Cache) → OnOk r (c ≡ d) → d ≡ e → OnOk r (c ≡ e)
-    on_ok (Ok x) c d e is there = is ∙ there
-    on_ok (Err stop) c d e is there = tt
 
 page_is : (page slot : ℕ) → slot < 32 → page_of (32 * page + slot) ≡ page
 page_is page slot less = omega (arith, less)
@@ -171,14 +154,6 @@ pub all_work : {A B : Type 0} (a : A) (b : B) (all done : List Entry) (old new :
 all_work {A} {B} a b all done old new before now is asks =
     subst (λ (l : List Entry). Asks {T = B} (Ok b) (works_of l) old new before now) (sym is)
     (record { machine = asks.machine; worn = λ is. cc; reads = asks.reads; rules_are = asks.rules_are })
-
--- The same of another type of result.
-
-pub stops_again : {A B : Type 0} (stop : Stop) (works : List CacheWork) (old new : PageStore) (before now : State) → Asks {T = A} (Err stop) works old new before now → Asks {T = B} (Err stop) works old new before now
-stops_again stop works old new before now asks = record { machine = tt; worn = λ is. asks.worn (err_again stop (Worn Flash) is); reads = asks.reads; rules_are = asks.rules_are }
-
-pub ends_again : {A B : Type 0} (a : A) (b : B) (works : List CacheWork) (old new : PageStore) (before now : State) → Asks {T = A} (Ok a) works old new before now → Asks {T = B} (Ok b) works old new before now
-ends_again a b works old new before now asks = record { machine = asks.machine; worn = λ is. cc; reads = asks.reads; rules_are = asks.rules_are }
 
 -- an Update is undone behind a read of the log
 pub asks_of_update : {T : Type 0} (result : Result T Stop) (u : Entry) (page slot : ℕ) (old new : PageStore) (before between now : State) → slot < 32 → number_of u.rec ≡ Some (32 * page + slot) → SameElse before between →

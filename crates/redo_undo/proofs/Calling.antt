@@ -1,5 +1,5 @@
 -- Calls one after the other, each known by its record.
-use Rattle.std.proofs.Common.{◌≡◌, ◌≢◌, ◌⊎◌, inl, inr, ℕ, ◌+◌, ◌≤◌, List, refl, sym, subst, ap, ◌∙◌, arith, Option}
+use Rattle.std.proofs.Common.{◌≡◌, ◌≢◌, ◌⊎◌, inl, inr, ◌+◌, ◌≤◌, List, refl, sym, subst, ◌∙◌, arith, Option, ℕ}
 use Rattle.std.specs.Prelude.{Result, Ok, Err, OnOk, IfOk, IfErr, IsErrOf, IsTrue, ◌<◌}
 use Rattle.site.specs.declared.geometry.Geometry.{Geometry}
 use Rattle.site.specs.declared.outside.Dev.{Dev}
@@ -8,8 +8,6 @@ use Rattle.site.specs.declared.outside.Stop.{Stop}
 use Rattle.site.specs.declared.outside.Stop.TheVariants.{Device, Worn, Foreign, Memory}
 use Rattle.site.specs.State.{State, Snapshot, IsQuiet}
 use Rattle.site.specs.Calls.{IsUnchanged, FaultRose}
-use Rattle.site.specs.Faults.{Faults, faults_in, after_work}
-use Rattle.site.specs.Laws.{stays_honest, fault_since, goes_in_sequence, goes_nowhere}
 use Rattle.record_model.specs.State.{Content}
 use Rattle.log_records.specs.Log.{Entry}
 use Rattle.sealed_ring.specs.Ring.{hi_of}
@@ -22,37 +20,22 @@ use Rattle.page_store.specs.declared.store.PageStore.{PageStore}
 use Rattle.page_store.specs.Stopping.{MayStop}
 use Rattle.page_store.specs.Laws.{FitsBeside}
 use Rattle.checkpoint.specs.declared.master.Master.{Master}
-use Rattle.image_meaning.specs.Moments.{LeavesTableUnder}
+use Rattle.image_meaning.specs.Moments.{LeavesTableUnder, LeavesFor}
+use Rattle.redo_undo.proofs.Saved.{then_for}
 use Rattle.redo_undo.specs.Holding.{blocks_to, MayGoOn, Holds, IsLogWorn}
-use Rattle.redo_undo.specs.Calls.{Calls, Works, LogsNothing, WorksBeside, ReadsOne, Keeps, KeepsBeside}
+use Rattle.redo_undo.specs.Calls.{Works, LogsNothing, WorksBeside, ReadsOne, Keeps, KeepsBeside}
 use Rattle.redo_undo.specs.Laws.{PageLaws}
 use Rattle.redo_undo.specs.RedoLaws.{RedoLaws}
 use Rattle.redo_undo.specs.Redoing.{Opening, IsRedoing, LeavesOpened}
 use Rattle.redo_undo.proofs.Redoings.{nothing_happens, then_read}
 use Rattle.redo_undo.proofs.RingNumbers.{skips_reads, hi_on}
-use Rattle.redo_undo.proofs.Asking.{err_again}
+use Rattle.site.specs.Work.{Calls}
 use Rattle.redo_undo.proofs.Sames.{and_then, going_still, holds_still, leaves_still, units_then}
-use Rattle.redo_undo.proofs.RingNumbers.{ok_as, ok_always, then_skips, skips_again, skips_answered, skips_weaker, skips_on}
+use Rattle.redo_undo.proofs.RingNumbers.{then_skips, skips_again, skips_answered, skips_weaker, skips_on}
 use Rattle.redo_undo.proofs.LeftNumbers.{skips_not_saved}
 use Rattle.redo_undo.proofs.UndoneNumbers.{skips_so_far, masters_hi}
 use Rattle.site.specs.Moments.{LeavesOnly}
-
-pub no_error : {T : Type 0} {x : T} {e : Stop} → IsErrOf {T = T} {E = Stop} (Ok x) e → ⊥
-no_error is = cc
-
--- what is said of its error
-pub of_error : {T : Type 0} (r : Result T Stop) (P : Stop → Type 0) (e : Stop) → IfErr r P → IsErrOf r e → P e
-of_error (Ok x) P e p is = absurd (no_error {x = x} {e = e} is)
-of_error (Err stop) P e p is = let same : stop ≡ e = cc in subst P same p
-
--- and where another thing is said then
-pub err_as : {T : Type 0} (r : Result T Stop) (P Q : Stop → Type 0) → ((stop : Stop) → P stop → Q stop) → IfErr r P → IfErr r Q
-err_as (Ok x) P Q f p = tt
-err_as (Err stop) P Q f p = f stop p
-
-pub err_always : {T : Type 0} (r : Result T Stop) (P : Type 0) → P → IfErr r (λ stop. ((d : Dev) → stop ≢ Device d) → P)
-err_always (Ok x) P p = tt
-err_always (Err stop) P p = λ other. p
+use Rattle.site.proofs.Working.{err_again, ok_as, ok_always, no_error, of_error, err_as, err_always, calls_nothing, calls_then, calls_failed, calls_answered, calls_refused}
 
 -- The errors of calls on the log.
 
@@ -97,62 +80,6 @@ reads_worn d (inl is) = cc
 reads_worn d (inr is) = cc
 
 -- On every site.
-
-pub calls_nothing : {T : Type 0} {x : T} {site : State} → Calls {T = T} (Ok x) site site
-calls_nothing {T = T} {x = x} {site = site} = record {
-  goes = goes_nowhere site;
-  left = λ honest. refl;
-  stays_quiet = λ honest quiet. quiet;
-  device = λ d is. absurd (no_error {T = T} {x = x} {e = Device d} is);
-  faults = refl;
-}
-
-pub calls_then : {A B : Type 0} {a : A} {r : Result B Stop} {before between now : State} → Calls {T = A} (Ok a) before between → Calls r between now → Calls r before now
-calls_then {r = r} {before = before} {between = between} {now = now} first second = record {
-  goes = goes_in_sequence before between now first.goes second.goes;
-  left = λ honest. second.left (stays_honest before between first.goes honest) ∙ first.left honest;
-  stays_quiet = λ honest quiet. second.stays_quiet (stays_honest before between first.goes honest) (first.stays_quiet honest quiet);
-  device = λ d is. fault_since d before between now first.goes (second.device d is);
-  faults = second.faults ∙ ap (λ (f : Faults). after_work r f) first.faults;
-}
-
--- of an error the answer's type says nothing
-same_error : (A B : Type 0) (stop : Stop) (f : Faults) → after_work {T = A} (Err stop) f ≡ after_work {T = B} (Err stop) f
-same_error A B (Device d) f = refl
-same_error A B Memory f = refl
-same_error A B (Worn d) f = refl
-same_error A B Foreign f = refl
-
--- one that names no device raises no count
-no_fault : (A : Type 0) (stop : Stop) (f : Faults) → ((d : Dev) → stop ≢ Device d) → after_work {T = A} (Err stop) f ≡ f
-no_fault A (Device d) f other = absurd (other d refl)
-no_fault A Memory f other = refl
-no_fault A (Worn d) f other = refl
-no_fault A Foreign f other = refl
-
--- the error of a call is the error of its caller
-pub calls_failed : {A B : Type 0} {stop : Stop} {before now : State} → Calls {T = A} (Err stop) before now → Calls {T = B} (Err stop) before now
-calls_failed {A = A} {B = B} {stop = stop} {before = before} first = record {
-  goes = first.goes;
-  left = first.left;
-  stays_quiet = λ honest quiet. tt;
-  device = λ d is. first.device d (err_again stop (Device d) is);
-  faults = first.faults ∙ same_error A B stop (faults_in before);
-}
-
--- another value of its caller
-pub calls_answered : {A B : Type 0} {a : A} {b : B} {before now : State} → Calls {T = A} (Ok a) before now → Calls {T = B} (Ok b) before now
-calls_answered {B = B} {b = b} first = record { goes = first.goes; left = first.left; stays_quiet = first.stays_quiet; device = λ d is. absurd (no_error {T = B} {x = b} {e = Device d} is); faults = first.faults }
-
--- its caller refuses what it got
-pub calls_refused : {A B : Type 0} {a : A} {stop : Stop} {before now : State} → ((d : Dev) → stop ≢ Device d) → Calls {T = A} (Ok a) before now → Calls {T = B} (Err stop) before now
-calls_refused {B = B} {stop = stop} {before = before} other first = record {
-  goes = first.goes;
-  left = first.left;
-  stays_quiet = λ honest quiet. tt;
-  device = λ d is. absurd (other d (let same : stop ≡ Device d = cc in same));
-  faults = first.faults ∙ sym (no_fault B stop (faults_in before) other);
-}
 
 pub calls_read : {T : Type 0} {r : Result T Stop} {before now : State} → ReadsOne r before now → Calls r before now
 calls_read {r = r} {before = before} {now = now} read = record {
@@ -447,3 +374,16 @@ keeps_unsaved {B = B} {stop = stop} {g = g} {old = old} {new = new} {before = be
       readable = again.readable;
       masters = λ none. tt;
     }
+
+-- and one behind which a master is saved
+pub keeps_saved : {A B : Type 0} {a : A} {r : Result B Stop} {g g' : Geometry} {old mid new : LogStore} {before between now : State} {P : Snapshot → Type 0} {table : List Content} {commits n m : ℕ} → IsTrue before.honest → g' ≡ g → Calls {T = A} (Ok a) before between →
+    (LeavesOnly before between P → LeavesOnly before between (LeavesFor g table commits before.told)) → Keeps {T = A} (Ok a) g old mid before between P n 0 → Keeps r g' mid new between now (LeavesFor g' table commits between.told) m 1 → Keeps r g old new before now (LeavesFor g table commits before.told) (n + m) 1
+keeps_saved {a = a} {r = r} {g = g} {g' = g'} {old = old} {mid = mid} {new = new} {before = before} {between = between} {now = now} {table = table} {commits = commits} {n = n} {m = m} honest same calls more first second = record {
+  any_moment = λ quiet. then_for g g' before between now table commits same (more (first.any_moment quiet)) (second.any_moment (calls.stays_quiet honest quiet));
+  numbers = λ quiet. then_skips r a g old mid new before between now n 0 m 1 (n + m) 1 (first.numbers quiet) (skips_on r g' g mid new between now m 1 same (second.numbers (calls.stays_quiet honest quiet))) (omega arith) refl;
+  quiet = λ quiet. second.quiet (calls.stays_quiet honest quiet);
+  worn_log = λ is. subst (λ (x : Geometry). IsLogWorn x now.image) same (second.worn_log is);
+  worn = λ is. subst (λ (x : Geometry). IsWorn x now.image) same (second.worn is);
+  readable = second.readable;
+  masters = λ none. absurd (omega (arith, none));
+}

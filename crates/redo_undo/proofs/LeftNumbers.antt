@@ -1,5 +1,5 @@
 -- The numbers of the rings in what a call has left.
-use Rattle.std.proofs.Common.{◌≡◌, inl, inr, ℕ, ◌+◌, ◌≤◌, Bool, true, List, [], ◌∷◌, ◌++◌, length, ap, subst, arith}
+use Rattle.std.proofs.Common.{◌≡◌, inl, inr, ◌+◌, ◌≤◌, Bool, true, List, [], ◌∷◌, ◌++◌, length, ap, subst, arith, ℕ}
 use Rattle.std.specs.Prelude.{Result, Ok, Err, OnOk, Some, ◌≢◌, if◌then◌else◌}
 use Rattle.std.specs.List.{AllByRecursion}
 use Rattle.std.proofs.lemmas.List.{length-append}
@@ -23,7 +23,7 @@ use Rattle.redo_undo.specs.Numbers.{SkipsNone}
 use Rattle.redo_undo.proofs.Touched.{tail_blocks}
 use Rattle.redo_undo.proofs.Appended.{all_front}
 use Rattle.redo_undo.proofs.Forced.{seals_only, same_blocks}
-use Rattle.redo_undo.proofs.RingNumbers.{ok_as, ok_always}
+use Rattle.site.proofs.Working.{ok_as, ok_always}
 
 pub ok_both : {T E : Type 0} (r : Result T E) (P Q Z : Type 0) → (P → Q → Z) → OnOk r P → OnOk r Q → OnOk r Z
 ok_both (Ok x) P Q Z f p q = f p q

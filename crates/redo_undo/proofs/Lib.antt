@@ -37,3 +37,5 @@ pub mod RingNumbers
 pub mod UndoneNumbers
 pub mod LeftNumbers
 pub mod Calling
+pub mod StoreCalling
+pub mod StoreRollbacks

@@ -1,5 +1,5 @@
 -- Log and pages while the records of an opened log are redone.
-use Rattle.std.proofs.Common.{◌≡◌, ◌⊎◌, inl, inr, ℕ, ◌+◌, ◌*◌, ◌<◌, ◌==◌, ◌||◌, ◌&&◌, nat_lt, Bool, false, true≢false, IsTrue, List, [], append-nil, length, refl, sym, ap, subst, ◌∙◌, arith}
+use Rattle.std.proofs.Common.{◌≡◌, ◌⊎◌, inl, inr, ◌+◌, ◌*◌, ◌<◌, ◌==◌, ◌||◌, ◌&&◌, nat_lt, Bool, false, IsTrue, List, [], append-nil, length, refl, sym, ap, subst, ◌∙◌, arith, ℕ, true≢false}
 use Rattle.std.specs.Prelude.{Result, Ok, Err, OnOk, Option}
 use Rattle.std.specs.List.{AllByRecursion}
 use Rattle.std.proofs.lemmas.Bool.Decides.{nat_tests}
@@ -184,15 +184,6 @@ module _ (laws : PageLaws) (redo : RedoLaws) (o : Opening) (log : LogStore) (pag
       where
         kept_so : (number : ℕ) → number < o.sizes.pages → current pages' new.image number ≡ current pages site.image number
         kept_so = subst (λ (k : Geometry). (number : ℕ) → number < k.pages → current pages' new.image number ≡ current pages site.image number) h.geometry kept.each
-
--- results
-pub ok_always : {A E : Type 0} (r : Result A E) (Z : Type 0) → Z → OnOk r Z
-ok_always (Ok x) Z z = z
-ok_always (Err e) Z z = tt
-
-pub ok_one_of : {A E : Type 0} (r : Result A E) (P Z : Type 0) → (P → Z) → OnOk r P → OnOk r Z
-ok_one_of (Ok x) P Z f p = f p
-ok_one_of (Err e) P Z f p = tt
 
 pub ok_five_of : {A E : Type 0} (r : Result A E) (P Q R S T Z : Type 0) → (P → Q → R → S → T → Z) → OnOk r P → OnOk r Q → OnOk r R → OnOk r S → OnOk r T → OnOk r Z
 ok_five_of (Ok x) P Q R S T Z f p q r s t = f p q r s t

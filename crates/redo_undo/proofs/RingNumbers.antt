@@ -1,6 +1,6 @@
 -- How the numbers of the rings add up over calls.
-use Rattle.std.proofs.Common.{◌≡◌, ℕ, ◌+◌, ◌≤◌, refl, ap, subst, arith}
-use Rattle.std.specs.Prelude.{Result, Ok, Err, OnOk}
+use Rattle.std.proofs.Common.{◌≡◌, ◌+◌, ◌≤◌, refl, ap, subst, arith, ℕ}
+use Rattle.std.specs.Prelude.{Result, Ok, Err}
 use Rattle.site.specs.declared.geometry.Geometry.{Geometry}
 use Rattle.site.specs.State.{State, Image}
 use Rattle.sealed_ring.specs.Ring.{hi_of}
@@ -8,14 +8,7 @@ use Rattle.image_changes.specs.Rings.{log_shape, master_shape}
 use Rattle.log_store.specs.declared.store.LogStore.{LogStore}
 use Rattle.redo_undo.specs.Holding.{blocks_to}
 use Rattle.redo_undo.specs.Numbers.{SkipsNone}
-
-pub ok_as : {T E : Type 0} (r : Result T E) (P Q : Type 0) → (P → Q) → OnOk r P → OnOk r Q
-ok_as (Ok x) P Q f p = f p
-ok_as (Err e) P Q f p = tt
-
-pub ok_always : {T E : Type 0} (r : Result T E) (P : Type 0) → P → OnOk r P
-ok_always (Ok x) P p = p
-ok_always (Err e) P p = tt
+use Rattle.site.proofs.Working.{ok_as, ok_always}
 
 -- a call behind one of which this is known
 pub skips_after : {T E : Type 0} (r : Result T E) (g : Geometry) (old mid new : LogStore) (before middle now : State) (n m n' m' k j : ℕ) → blocks_to mid ≤ blocks_to old + n

@@ -1,5 +1,5 @@
 -- The numbers of the rings while records of an opened log are redone, and between the calls of undo.
-use Rattle.std.proofs.Common.{◌≡◌, ℕ, ◌+◌, ◌≤◌, Bool, false, List, [], length, refl, sym, ap, ◌∙◌, arith}
+use Rattle.std.proofs.Common.{◌≡◌, ◌+◌, ◌≤◌, Bool, false, List, [], length, refl, sym, ap, ◌∙◌, arith, ℕ}
 use Rattle.std.specs.Prelude.{Result, OnOk}
 use Rattle.site.specs.declared.geometry.Geometry.{Geometry}
 use Rattle.site.specs.State.{State, Image, snapshot_of}
@@ -21,7 +21,8 @@ use Rattle.redo_undo.proofs.WornLogs.{sealed_hi}
 use Rattle.redo_undo.specs.Laws.{PageLaws}
 use Rattle.redo_undo.specs.RedoLaws.{RedoLaws}
 use Rattle.redo_undo.proofs.Redoings.{leaves_so, blocks_left}
-use Rattle.redo_undo.proofs.RingNumbers.{ok_as, ok_always, hi_on, skips_on}
+use Rattle.redo_undo.proofs.RingNumbers.{hi_on, skips_on}
+use Rattle.site.proofs.Working.{ok_as, ok_always}
 
 -- a ring of master units that is kept has the same next number
 pub masters_hi : (old new : Image) → KeepsUnits master_shape old new → hi_of master_shape new.log ≡ hi_of master_shape old.log

@@ -1,5 +1,5 @@
 -- What the calls on log and pages say, each as one record with the call's result as its index.
-use Rattle.std.specs.Prelude.{◌≡◌, ◌≢◌, ◌⊎◌, ℕ, ◌+◌, ◌≤◌, Result, IsTrue, OnOk, IfErr, IsErrOf}
+use Rattle.std.specs.Prelude.{◌≡◌, ◌≢◌, ◌⊎◌, ◌+◌, ◌≤◌, Result, IsTrue, OnOk, IfErr, IsErrOf, ℕ}
 use Rattle.site.specs.declared.geometry.Geometry.{Geometry}
 use Rattle.site.specs.declared.outside.Dev.{Dev}
 use Rattle.site.specs.declared.outside.Dev.TheVariants.{Log, Flash}
@@ -8,6 +8,7 @@ use Rattle.site.specs.declared.outside.Stop.TheVariants.{Device, Worn, Foreign}
 use Rattle.site.specs.State.{State, Snapshot, IsQuiet, reads_of}
 use Rattle.site.specs.Calls.{Goes, IsUnchanged, SameReads, FaultRose}
 use Rattle.site.specs.Faults.{WorkFaults}
+use Rattle.site.specs.Work.{Calls}
 use Rattle.site.specs.Moments.{LeavesOnly}
 use Rattle.image_changes.specs.Rings.{KeepsUnits, master_shape}
 use Rattle.flash_cache.specs.Held.{IsWorn}
@@ -18,16 +19,6 @@ use Rattle.page_store.specs.declared.store.PageStore.{PageStore}
 use Rattle.page_store.specs.Stopping.{MayStop}
 use Rattle.redo_undo.specs.Holding.{MayGoOn, IsLogWorn, blocks_to}
 use Rattle.redo_undo.specs.Numbers.{SkipsNone}
-
--- What a call says of every site, however it ends: lengths and honesty stay, an honest site hears nothing, a quiet one
--- is quiet after Ok, and a device is said to fail only where its faults rose. A call of the site that fails is the last
--- one: Ok leaves all counts of faults as they were, and an error raises the one count that it names, by one.
-pub record Calls {T : Type 0} (result : Result T Stop) (before now : State) : Type 0 where
-  pub goes : Goes before now
-  pub left : IsTrue before.honest → now.left ≡ before.left
-  pub stays_quiet : IsTrue before.honest → IsQuiet before → OnOk result (IsQuiet now)
-  pub device : (d : Dev) → IsErrOf result (Device d) → FaultRose d before now
-  pub faults : WorkFaults result before now
 
 -- A call of log and pages, on every site: after Ok they may go on, and what sizes them stays.
 pub record Works {T : Type 0} (result : Result T Stop) (old new : LogStore) (pages pages' : PageStore) (before now : State) : Type 0 where

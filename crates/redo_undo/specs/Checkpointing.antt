@@ -1,12 +1,17 @@
 -- What a checkpoint rests on, and the laws of the layers below on it.
-use Rattle.std.specs.Prelude.{◌≡◌, ◌⊎◌, ◌==◌, ℕ, true, List, [], map}
+use Rattle.std.specs.Prelude.{◌≡◌, ◌⊎◌, ◌==◌, ℕ, true, List, [], map, Some}
 use Rattle.std.specs.List.{list_any, AllByRecursion}
 use Rattle.site.specs.State.{State}
 use Rattle.sealed_ring.specs.declared.ring.Ring.{Ring}
 use Rattle.sealed_ring.specs.Ready.{Finds}
 use Rattle.log_records.specs.Log.{Entry, is_loser, entries_of}
 use Rattle.log_records.specs.Unfinished.{owed}
-use Rattle.log_records.specs.Sound.{AreOrderly, last_lsn}
+use Rattle.log_records.specs.Sound.{AreOrderly, last_lsn, from_block}
+use Rattle.record_model.specs.State.{Content}
+use Rattle.checkpoint.specs.declared.master.Master.{Master}
+use Rattle.log_store.specs.declared.store.LogStore.{LogStore}
+use Rattle.page_store.specs.declared.store.PageStore.{PageStore}
+use Rattle.redo_undo.specs.Holding.{Holds}
 use Rattle.checkpoint.specs.declared.pairs.Pair.{Pair}
 use Rattle.checkpoint.specs.Laws.{UnitIsRead}
 use Rattle.image_changes.specs.Laws.{RingKept}
@@ -36,6 +41,14 @@ pub record KeepUnfinished (records kept : List Entry) : Type 0 where
   pub losers : (t : ℕ) → is_loser kept t ≡ is_loser records t
   pub entries : (t : ℕ) → is_loser records t ≡ true → entries_of t kept ≡ entries_of t records
   pub owes : owed kept ≡ owed records
+
+-- A master was saved: under it log and pages hold the records from its oldest kept block on, which are in order, and among them all
+-- records of unfinished transactions. The ring of master units is the one that stands there.
+pub record IsSaved (log : LogStore) (pages : PageStore) (masters : Ring) (site : State) (records : List Entry) (table : List Content) (commits : ℕ) (master : Master) : Type 0 where
+  pub holds : Holds log pages site (Some master) (from_block master.kept records) table commits
+  pub orderly : AreOrderly (from_block master.kept records)
+  pub keeps : KeepUnfinished records (from_block master.kept records)
+  pub found : Finds masters site
 
 -- the LSNs of their Begins
 abbrev pub begins_of : List Pair → List ℕ

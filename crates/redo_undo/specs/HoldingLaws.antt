@@ -60,3 +60,12 @@ EmptyHolds =
     (log : LogStore) (pages : PageStore) (site : State) (newest : Option Master) (table : List Content) (commits : ℕ) → log.geometry ≡ pages.flash.geometry → log.kept ≡ kept_by newest →
     AreReady pages log (record { first = kept_by newest; blocks = []; tail = [] }) site → IsSoundUnder newest pages.flash.geometry site.image [] → Means (picture_under newest pages.flash.geometry site.image []) table commits →
     pages.pool.frames ≡ [] → Holds log pages site newest [] table commits
+
+-- the laws on log and pages that hold together
+pub record HoldLaws : Type 0 where
+  pub opened : OpenedHolds
+  pub empty : EmptyHolds
+  pub stands : HoldsStands
+  pub moment : HoldsMoment
+  pub still : HoldsStill
+  pub front : FrontShows

@@ -14,3 +14,6 @@ pub mod RedoLaws
 pub mod Works
 pub mod UndoWorks
 pub mod Checkpointing
+pub mod Stores
+pub mod StoreCalls
+pub mod StoreRollback

@@ -1,6 +1,9 @@
 -- What analysis and redo of a restart begin with, and how far they are.
-use Rattle.std.specs.Prelude.{◌≡◌, ◌⊎◌, ℕ, ◌≤◌, ◌<◌, List, [], length, filter_map, Option, filter}
+use Rattle.std.specs.Prelude.{Result, OnOk, ◌++◌, ◌≡◌, ◌⊎◌, ℕ, ◌≤◌, ◌<◌, List, [], length, filter_map, Option, filter}
 use Rattle.site.specs.declared.geometry.Geometry.{Geometry}
+use Rattle.site.specs.declared.outside.Stop.{Stop}
+use Rattle.redo_undo.specs.Works.{Asks}
+use Rattle.redo_undo.specs.Calls.{Keeps}
 use Rattle.site.specs.State.{State, Image, Snapshot}
 use Rattle.record_model.specs.State.{Content}
 use Rattle.record_model.specs.Touches.{CacheWork}
@@ -89,3 +92,10 @@ pub record HasTaken (o : Opening) (log : LogStore) (pages : PageStore) (site : S
   pub pages_are : IsRedoing o log pages site front
   pub analysis : IsAnalysis (opened o).master (heard_of (opened o).master front) so_far.found
   pub count : so_far.records ≡ length front
+
+-- A call takes the next records of the log: then they are read, each crash meanwhile leaves what the log was opened with, and it asks the
+-- cache for their pages.
+pub record Takes {T : Type 0} (result : Result T Stop) (o : Opening) (old new : LogStore) (pages pages' : PageStore) (before now : State) (so_far : Redone) (front next : List Entry) : Type 0 where
+  pub taken : OnOk result (HasTaken o new pages' now so_far (front ++ next))
+  pub keeps : Keeps result pages.flash.geometry old new before now (LeavesOpened o before.told) 0 0
+  pub asks : Asks result (asked_of o next) pages pages' before now

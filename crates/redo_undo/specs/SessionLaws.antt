@@ -88,3 +88,18 @@ abbrev pub ActiveOutlives : Type 0
 ActiveOutlives =
     (newest : Option Master) (m : Master) (records kept : List Entry) (t last : ℕ) (writes : List Write) → KeepUnfinished records kept → AreUnfinished records m.active → is_loser records t ≡ true →
     IsActive (master_of newest) records t last writes → IsActive (master_of (Some m)) kept t last writes
+
+-- the laws on what may be logged next
+pub record GrowLaws : Type 0 where
+  pub fresh : NextIsFresh
+  pub begin : BeginMayGrow
+  pub update : UpdateMayGrow
+  pub commit : ActiveMayCommit
+  pub undo : ActiveMayBeUndone
+  pub end : EndMayGrow
+
+-- the laws on what the page in front shows
+pub record SeeLaws : Type 0 where
+  pub size : HoldsSize
+  pub committed : FrontIsCommitted
+  pub seen : FrontIsSeen

@@ -14,6 +14,7 @@ use Rattle.analysis.specs.declared.analysis.Loser.{Loser}
 use Rattle.analysis.specs.Open.{Open, found_in}
 use Rattle.analysis.specs.Table.{listed}
 use Rattle.analysis.specs.Read.{IsTable, loser_of}
+use Rattle.analysis.specs.Read as analysis_read
 use Rattle.redo_undo.specs.Holding.{Holds}
 
 -- what a list says of a transaction, as callers see it
@@ -21,6 +22,11 @@ pub record IsOf (table : List Open) (loser : Loser) : Type 0 where
   pub x : Open
   pub there : found_in table loser.txn ≡ Some x
   pub same : loser ≡ loser_of x
+
+-- of every log: analysis hears of a record that undo logs, and counts no commit by it
+pub record IsHeard (old new : Analysis) : Type 0 where
+  pub going : analysis_read.MayGoOn new
+  pub commits : new.commits ≡ old.commits
 
 -- of each transaction an Update remains
 abbrev pub Remain : List Open → Type 0

@@ -106,13 +106,6 @@ NumbersRise = (rules : Rules) (works : List CacheWork) (cache : Cache) → 1 ≤
 abbrev pub OverflowsWithMore : Type 0
 OverflowsWithMore = (rules : Rules) (first later : List CacheWork) (cache : Cache) → 1 ≤ rules.groups → Overflows rules first cache → Overflows rules (first ++ later) cache
 
--- a change costs what the touch costs
-abbrev pub ChangeReads : Type 0
-ChangeReads = (rules : Rules) (page : ℕ) (cache : Cache) (old new : State) → 1 ≤ rules.groups → ReadsFor rules (one_touch page) cache old new → ReadsFor rules (one_change page) cache old new
-
-abbrev pub ChangeOverflows : Type 0
-ChangeOverflows = (rules : Rules) (page : ℕ) (cache : Cache) → 1 ≤ rules.groups → Overflows rules (one_touch page) cache → Overflows rules (one_change page) cache
-
 -- undoing an active transaction touches the pages of its writes, the last one first
 abbrev pub ActiveIsUndoneBy : Type 0
 ActiveIsUndoneBy =

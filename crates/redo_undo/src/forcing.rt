@@ -1,5 +1,5 @@
 // The log's tail is sealed.
-ghost use Rattle.std.specs.Prelude.{◌≡◌, ◌⊎◌, ◌+◌, ◌^◌, ◌<◌, ℕ, List, OnOk, IfErr, IsErrOf, Option};
+ghost use Rattle.std.specs.Prelude.{◌≡◌, ◌⊎◌, ◌+◌, ◌<◌, ℕ, List, OnOk, IfErr, Option};
 ghost use Rattle.site.specs.declared.outside.Dev.{Dev};
 ghost use Rattle.site.specs.declared.outside.Stop.{Stop};
 ghost use Rattle.record_model.specs.State.{Content};
@@ -18,7 +18,7 @@ use site::{Site, Stop};
 
 /// Seals the log's tail, where it has records. What log and pages hold together stays, and at each moment the devices stand for the same
 /// table.
-pub fn force<S: Site>(site: &mut S, log: &mut LogStore) -> Result<(), Stop>
+pub(crate) fn force<S: Site>(site: &mut S, log: &mut LogStore) -> Result<(), Stop>
     requires going { log_held.MayGoOn log.old (S.state site.old) }
     requires room { blocks_to log.old < log.old.kept + log.old.geometry.blocks }
 
@@ -38,7 +38,6 @@ pub fn force<S: Site>(site: &mut S, log: &mut LogStore) -> Result<(), Stop>
     ensures blocks { OnOk result (blocks_to log.new ≡ blocks_to log.old) }
 
     // When each answer comes.
-    ensures worn { IsErrOf result (Stop.Worn Dev.Log) → log.old.ring.hi ≡ 2 ^ 40 }
     ensures stops { IfErr result (λ stop. (stop ≡ Stop.Device Dev.Log) ⊎ (stop ≡ Stop.Worn Dev.Log)) }
 {
     log_laws();

@@ -9,6 +9,7 @@ mod laws;
 mod logging;
 mod redo_pass;
 mod session_laws;
+mod store;
 #[cfg(test)]
 mod tests;
 mod undo;
@@ -17,13 +18,10 @@ mod undo_losers;
 mod undo_tests;
 mod work_laws;
 
-pub use checkpointing::checkpoint;
-pub use committing::commit;
-pub use forcing::force;
 pub use laws::hold_together;
-pub use logging::{log_change, log_record, touch};
 pub use redo_pass::{Redone, redo};
 pub use session_laws::{sessions_are_undone, sessions_go_on, sessions_outlive, sessions_see};
+pub use store::Store;
 pub use undo::undo_one;
 pub use undo_losers::undo_all;
-pub use work_laws::{changes_cost_a_touch, works_add_up};
+pub use work_laws::works_add_up;

@@ -1,5 +1,5 @@
 // A page is touched, a record is logged, and the page is changed.
-ghost use Rattle.std.specs.Prelude.{◌*◌, ◌≡◌, ◌⊎◌, ◌+◌, ◌^◌, ◌<◌, ◌≤◌, ◌++◌, ◌∷◌, [], ℕ, List, length, None, IfOk, true, false, OnOk, IfErr, IsErrOf, Option};
+ghost use Rattle.std.specs.Prelude.{◌*◌, ◌≡◌, ◌⊎◌, ◌+◌, ◌<◌, ◌≤◌, ◌++◌, ◌∷◌, [], ℕ, List, length, None, IfOk, true, OnOk, IfErr, Option};
 ghost use Rattle.site.specs.declared.outside.Dev.{Dev};
 ghost use Rattle.site.specs.declared.outside.Stop.{Stop};
 ghost use Rattle.site.specs.Calls.{SameReads};
@@ -11,19 +11,21 @@ ghost use Rattle.log_records.specs.Spelling.{HasForm};
 ghost use Rattle.log_store.specs.Held as log_held;
 ghost use Rattle.log_store.specs.Held.{end_of, has_tail};
 ghost use Rattle.page_store.specs.declared.store.PageStore.{PageStore};
-ghost use Rattle.second_chance.specs.Machine.{touched, holds};
+ghost use Rattle.second_chance.specs.Machine.{holds};
 ghost use Rattle.buffer_pool.specs.Frames.{front_of};
-ghost use Rattle.page_store.specs.Caching.{cache_of, rules, with_change, pushes};
+ghost use Rattle.page_store.specs.Caching.{cache_of, with_change};
 ghost use Rattle.page_store.specs.Ahead.{end_forced};
 ghost use Rattle.checkpoint.specs.declared.master.Master.{Master};
 ghost use Rattle.image_meaning.specs.Moments.{LeavesTableUnder};
 ghost use Rattle.redo_undo.specs.Holding.{MayGoOn, HoldsLog, Holds, MayGrow, KeepsPages, IsOnPage, blocks_to};
 ghost use Rattle.redo_undo.specs.Committing.{EndsWith};
 ghost use Rattle.redo_undo.specs.Works.{Asks, one_touch};
+ghost use Rattle.redo_undo.specs.Redoing.{Opening, IsRedoing, LeavesOpened};
 ghost use Rattle.redo_undo.specs.Calls.{Works, LogsNothing, WorksBeside, Keeps, KeepsBeside};
 
 use crate::changing::change_front;
 use crate::laws::{beside_laws, log_laws, page_laws};
+use crate::redo_pass::redo_laws;
 use image_changes::ring_kept;
 use log_laws::orderly_goes_on;
 use log_records::LogRecord;
@@ -33,7 +35,7 @@ use site::{Site, Stop};
 
 /// Brings a page to the front of the pool. What log and pages hold together stays, and at each moment the devices stand for
 /// the same table. The machine says which pages leave; where they have changes that aren't sealed the log is sealed before.
-pub fn touch<S: Site>(
+pub(crate) fn touch<S: Site>(
     site: &mut S,
     log: &mut LogStore,
     pages: &mut PageStore,
@@ -51,26 +53,33 @@ pub fn touch<S: Site>(
         → Keeps result pages.old.flash.geometry log.old log.new (S.state site.old) (S.state site.new)
         (LeavesTableUnder newest pages.old.flash.geometry table commits (S.state site.old).told) 0 0 }
 
+    // Of an honest site with an opened log, while its records are redone: no page knows of a record that isn't sealed.
+    ensures redoing { (o : Opening) (front : List Entry) → IsRedoing o log.old pages.old (S.state site.old) front
+        → OnOk result (IsRedoing o log.new pages.new (S.state site.new) front) }
+    ensures keeps_opened { (o : Opening) (front : List Entry)
+        → IsRedoing o log.old pages.old (S.state site.old) front
+        → Keeps result pages.old.flash.geometry log.old log.new (S.state site.old) (S.state site.new)
+        (LeavesOpened o (S.state site.old).told) 0 0 }
+
     // Of every site.
-    ensures machine { OnOk result (cache_of pages.new ≡ touched (rules pages.old) page false (cache_of pages.old)) }
     ensures asks { Asks result (one_touch page) pages.old pages.new (S.state site.old) (S.state site.new) }
     ensures front { OnOk result ((front_of pages.new.pool.frames).page ≡ page) }
     ensures there { OnOk result (0 < length pages.new.pool.frames) }
     ensures logs_nothing { LogsNothing result log.old log.new pages.old pages.new (S.state site.old) (S.state site.new) }
-
-    // When each answer comes.
-    ensures worn_log { IsErrOf result (Stop.Worn Dev.Log) → log.old.ring.hi ≡ 2 ^ 40 }
-    ensures worn_flash { IsErrOf result (Stop.Worn Dev.Flash)
-        → (pushes (rules pages.old) page (cache_of pages.old) ≡ true) × (pages.old.flash.ring.hi ≡ 2 ^ 40) }
 {
     log_laws();
     page_laws();
+    redo_laws();
     pages.touch(site, log, page)
 }
 
 /// Appends a record, and answers its LSN. From the kept block on there is room for one block more. The pages stay as they are, so where
 /// the record is on none of them log and pages hold together still.
-pub fn log_record<S: Site>(site: &mut S, log: &mut LogStore, rec: &LogRecord) -> Result<u64, Stop>
+pub(crate) fn log_record<S: Site>(
+    site: &mut S,
+    log: &mut LogStore,
+    rec: &LogRecord,
+) -> Result<u64, Stop>
     requires going { log_held.MayGoOn log.old (S.state site.old) }
     requires form { HasForm rec.now }
     requires room { blocks_to log.old + 1 < log.old.kept + log.old.geometry.blocks }
@@ -113,10 +122,8 @@ pub fn log_record<S: Site>(site: &mut S, log: &mut LogStore, rec: &LogRecord) ->
     ensures last_block { IfOk result (λ lsn. 512 * log.new.ring.hi ≤ lsn) }
     ensures some { OnOk result (has_tail log.new ≡ true) }
     ensures blocks { OnOk result (blocks_to log.new ≤ blocks_to log.old + 1) }
-    ensures hi { log.new.ring.hi ≤ log.old.ring.hi + 1 }
 
     // When each answer comes.
-    ensures worn { IsErrOf result (Stop.Worn Dev.Log) → log.old.ring.hi ≡ 2 ^ 40 }
     ensures stops { IfErr result (λ stop. (stop ≡ Stop.Device Dev.Log) ⊎ (stop ≡ Stop.Worn Dev.Log)) }
 {
     log_laws();
@@ -130,7 +137,7 @@ pub fn log_record<S: Site>(site: &mut S, log: &mut LogStore, rec: &LogRecord) ->
 /// Appends an Update or a CLR, which is on the page in front of the pool, and changes that page by it. Answers the record's LSN. From the
 /// kept block on there is room for one block more. What log and pages hold together goes on by the record, and at each moment the
 /// devices stand for the same table.
-pub fn log_change<S: Site>(
+pub(crate) fn log_change<S: Site>(
     site: &mut S,
     log: &mut LogStore,
     pages: &mut PageStore,
@@ -165,7 +172,6 @@ pub fn log_change<S: Site>(
     ensures reads { SameReads (S.state site.old) (S.state site.new) }
 
     // When each answer comes.
-    ensures worn { IsErrOf result (Stop.Worn Dev.Log) → log.old.ring.hi ≡ 2 ^ 40 }
     ensures stops { IfErr result (λ stop. (stop ≡ Stop.Device Dev.Log)
         ⊎ ((stop ≡ Stop.Worn Dev.Log) ⊎ (stop ≡ Stop.Foreign))) }
 {

@@ -5,7 +5,6 @@ ghost use Rattle.record_model.specs.State.{Content};
 ghost use Rattle.log_records.specs.declared.log_record.LogRecord.{LogRecord};
 ghost use Rattle.log_records.specs.Spelling.{HasForm, IsBlock, used_by};
 ghost use Rattle.log_records.specs.Log.{Entry, log_from, entries_from, number_of, txn_by};
-ghost use Rattle.buffer_pool.specs.Frames.{front_of};
 ghost use Rattle.checkpoint.specs.Actives.{Ascend};
 ghost use Rattle.checkpoint.specs.Newest.{seen};
 ghost use Rattle.image_meaning.specs.Meaning.{picture_under, master_of, kept_by, saved_by};
@@ -16,14 +15,15 @@ ghost use Rattle.analysis.specs.Read as read;
 ghost use Rattle.analysis.specs.Read.{IsAnalysis, IsTable};
 ghost use Rattle.analysis.specs.Taken.{is_named, is_taken, Steps, taken};
 ghost use Rattle.redo_undo.specs.Holding.{MayGoOn, Holds, IsOnPage, blocks_to};
-ghost use Rattle.redo_undo.specs.Redoing.{IsOpened, Opening, LeavesOpened, IsRedoing, HasTaken, touches_of, asked_of, heard_of};
+ghost use Rattle.redo_undo.specs.Redoing.{IsOpened, Opening, Takes, LeavesOpened, IsRedoing, HasTaken, touches_of, heard_of};
 ghost use Rattle.redo_undo.specs.RedoLaws.{RedoLaws};
 ghost use Rattle.checkpoint.specs.declared.master.Master.{Master};
-ghost use Rattle.redo_undo.specs.Works.{Asks, one_touch, redo_works};
+ghost use Rattle.redo_undo.specs.Works.{Asks, redo_works};
 ghost use Rattle.redo_undo.specs.Calls.{Works, LogsNothing, Keeps};
 
 use crate::changing::change_front;
 use crate::laws::{log_laws, page_laws};
+use crate::logging::touch;
 use analysis::{Analysis, losers_are_taken, sound_log_steps, table_of_records};
 use checkpoint::Master;
 use image_meaning::{new_versions, redoing, redone_versions, versions_beside_the_tail};
@@ -41,7 +41,7 @@ pub struct Redone {
 }
 
 // On redoing the records of a log.
-fn redo_laws()
+pub(crate) fn redo_laws()
     ensures { RedoLaws }
 {
     new_versions();
@@ -130,35 +130,6 @@ fn analyse(master: &Master, found: &mut Analysis, lsn: u64, rec: &LogRecord) -> 
     found.step(lsn, rec)
 }
 
-// Brings a page to the front of the pool while records are redone: no page knows of a record that isn't sealed, so the log is not forced.
-fn touch_page<S: Site>(
-    site: &mut S,
-    log: &mut LogStore,
-    pages: &mut PageStore,
-    page: u32,
-) -> Result<(), Stop>
-    requires going { MayGoOn log.old pages.old (S.state site.old) }
-    requires exists { page < pages.old.flash.geometry.pages }
-
-    // Of an honest site with an opened log.
-    ensures redoing { (o : Opening) (front : List Entry) → IsRedoing o log.old pages.old (S.state site.old) front
-        → OnOk result (IsRedoing o log.new pages.new (S.state site.new) front) }
-    ensures keeps { (o : Opening) (front : List Entry)
-        → IsRedoing o log.old pages.old (S.state site.old) front
-        → Keeps result pages.old.flash.geometry log.old log.new (S.state site.old) (S.state site.new)
-        (LeavesOpened o (S.state site.old).told) 0 0 }
-
-    // Of every site.
-    ensures asks { Asks result (one_touch page) pages.old pages.new (S.state site.old) (S.state site.new) }
-    ensures front { OnOk result ((front_of pages.new.pool.frames).page ≡ page) }
-    ensures there { OnOk result (0 < length pages.new.pool.frames) }
-    ensures logs_nothing { LogsNothing result log.old log.new pages.old pages.new (S.state site.old) (S.state site.new) }
-{
-    page_laws();
-    redo_laws();
-    pages.touch(site, log, page)
-}
-
 // Redoes a record: where it is on a page whose LSN is smaller, the page is changed by it. A page that doesn't exist is Foreign.
 fn redo_record<S: Site>(
     site: &mut S,
@@ -194,7 +165,7 @@ fn redo_record<S: Site>(
     if page >= log.geometry().pages {
         return Err(Stop::Foreign);
     }
-    match touch_page(site, log, pages, page) {
+    match touch(site, log, pages, page) {
         Ok(()) => {}
         Err(stop) => return Err(stop),
     }
@@ -221,19 +192,11 @@ fn take_record<S: Site>(
     requires few { so_far.old.records < 2 ^ 40 }
 
     // Of an honest site with an opened log and its newest master, of which it is the next record.
-    ensures taken { (o : Opening) (front rest : List Entry) → master.now ≡ saved_by o.newest
+    ensures takes { (o : Opening) (front rest : List Entry) → master.now ≡ saved_by o.newest
         → HasTaken o log.old pages.old (S.state site.old) so_far.old front
         → log_from (kept_by o.newest) o.blocks ≡ front ++ record { lsn = lsn; rec = rec.now } ∷ rest
-        → OnOk result (HasTaken o log.new pages.new (S.state site.new) so_far.new (front ++ record { lsn = lsn; rec = rec.now } ∷ [])) }
-    ensures keeps { (o : Opening) (front rest : List Entry) → master.now ≡ saved_by o.newest
-        → HasTaken o log.old pages.old (S.state site.old) so_far.old front
-        → log_from (kept_by o.newest) o.blocks ≡ front ++ record { lsn = lsn; rec = rec.now } ∷ rest
-        → Keeps result pages.old.flash.geometry log.old log.new (S.state site.old) (S.state site.new)
-        (LeavesOpened o (S.state site.old).told) 0 0 }
-    ensures asks { (o : Opening) (front rest : List Entry) → master.now ≡ saved_by o.newest
-        → HasTaken o log.old pages.old (S.state site.old) so_far.old front
-        → log_from (kept_by o.newest) o.blocks ≡ front ++ record { lsn = lsn; rec = rec.now } ∷ rest
-        → Asks result (asked_of o (record { lsn = lsn; rec = rec.now } ∷ [])) pages.old pages.new (S.state site.old) (S.state site.new) }
+        → Takes result o log.old log.new pages.old pages.new (S.state site.old) (S.state site.new) so_far.new
+        front (record { lsn = lsn; rec = rec.now } ∷ []) }
 
     // Of every site.
     ensures logs_nothing { LogsNothing result log.old log.new pages.old pages.new (S.state site.old) (S.state site.new) }
@@ -273,22 +236,12 @@ fn take_block<S: Site>(
     requires number { block ≤ 2 ^ 40 }
 
     // Of an honest site with an opened log and its newest master, of which they are the next records.
-    ensures taken { (o : Opening) (front rest : List Entry) (records : List LogRecord) → master.now ≡ saved_by o.newest
+    ensures takes { (o : Opening) (front rest : List Entry) (records : List LogRecord) → master.now ≡ saved_by o.newest
         → HasTaken o log.old pages.old (S.state site.old) so_far.old front
         → IsBlock content.now records → used ≡ used_by records
         → log_from (kept_by o.newest) o.blocks ≡ front ++ (entries_from (512 * block + 2) records ++ rest)
-        → OnOk result (HasTaken o log.new pages.new (S.state site.new) so_far.new (front ++ entries_from (512 * block + 2) records)) }
-    ensures keeps { (o : Opening) (front rest : List Entry) (records : List LogRecord) → master.now ≡ saved_by o.newest
-        → HasTaken o log.old pages.old (S.state site.old) so_far.old front
-        → IsBlock content.now records → used ≡ used_by records
-        → log_from (kept_by o.newest) o.blocks ≡ front ++ (entries_from (512 * block + 2) records ++ rest)
-        → Keeps result pages.old.flash.geometry log.old log.new (S.state site.old) (S.state site.new)
-        (LeavesOpened o (S.state site.old).told) 0 0 }
-    ensures asks { (o : Opening) (front rest : List Entry) (records : List LogRecord) → master.now ≡ saved_by o.newest
-        → HasTaken o log.old pages.old (S.state site.old) so_far.old front
-        → IsBlock content.now records → used ≡ used_by records
-        → log_from (kept_by o.newest) o.blocks ≡ front ++ (entries_from (512 * block + 2) records ++ rest)
-        → Asks result (asked_of o (entries_from (512 * block + 2) records)) pages.old pages.new (S.state site.old) (S.state site.new) }
+        → Takes result o log.old log.new pages.old pages.new (S.state site.old) (S.state site.new) so_far.new
+        front (entries_from (512 * block + 2) records) }
 
     // Of every site.
     ensures logs_nothing { LogsNothing result log.old log.new pages.old pages.new (S.state site.old) (S.state site.new) }

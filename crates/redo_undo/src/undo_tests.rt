@@ -4,11 +4,11 @@ ghost use Rattle.site.specs.Geometry.{HasLengths};
 ghost use Rattle.site.specs.MemState.{state_of};
 ghost use Rattle.log_records.specs.Spelling.{HasForm};
 ghost use Rattle.log_store.specs.Held as log_held;
-ghost use Rattle.log_store.specs.Held.{end_of};
 ghost use Rattle.analysis.specs.Read as analysis;
 ghost use Rattle.redo_undo.specs.Holding.{MayGoOn, blocks_to};
 
-use crate::{log_record, touch, undo_all, undo_one};
+use crate::logging::{log_record, touch};
+use crate::{undo_all, undo_one};
 use analysis::Analysis;
 use checkpoint::Master;
 use log_records::LogRecord;

@@ -1,4 +1,4 @@
-use Rattle.std.proofs.Common.{◌≡◌, ◌∙◌, ◌++◌, Err, ℕ, List, false, ap, sym, subst, arith, ◌≤◌, refl}
+use Rattle.std.proofs.Common.{◌≡◌, ◌∙◌, ◌++◌, Err, List, false, ap, sym, subst, arith, ◌≤◌, refl, ℕ}
 use Rattle.site.specs.declared.geometry.Geometry.{Geometry}
 use Rattle.site.specs.declared.outside.Stop.TheVariants.{Foreign}
 use Rattle.site.specs.State.{IsQuiet}
@@ -12,19 +12,21 @@ use Rattle.redo_undo.specs.Works.{Asks, redo_works, undo_works, checkpoint_works
 use Rattle.redo_undo.proofs.Saved.{finds_kept}
 use Rattle.redo_undo.specs.declared.redo_pass.Redone.{Redone}
 use Rattle.second_chance.specs.Machine.{Rules}
-use Rattle.engine.specs.Calls.{Calls, Ends}
-use Rattle.engine.proofs.Calling.{calls_then, calls_failed, calls_answered, calls_refused, ends_ok, ends_failed, ends_answered, ends_then, ends_of}
-use Rattle.engine.specs.Holding.{HasCheckpoint}
+use Rattle.engine.specs.Calls.{Ends}
+use Rattle.engine.proofs.Calling.{ends_ok, ends_failed, ends_answered, ends_then, ends_of}
+use Rattle.redo_undo.specs.Stores.{HasCheckpoint}
 use Rattle.engine.specs.Image.{log_under}
 use Rattle.engine.specs.Leaves.{LeavesTable}
-use Rattle.engine.proofs.Asking.{asks_then, asks_stopped, from_ok, from_err, from_stopped}
-use Rattle.engine.proofs.Moments.{err_again}
+use Rattle.engine.proofs.Asking.{from_ok, from_err, from_stopped}
+use Rattle.site.specs.Work.{Calls}
 use Rattle.engine.proofs.Recovers.{no_tail_still, owed_found, commits_fit, commits_found, may_be_made, restarted_as}
 use Rattle.engine.proofs.RingCounts.{opened_next, restart_failed, restart_done}
 use Rattle.redo_undo.proofs.RingNumbers.{skips_on, then_skips}
 use Rattle.std.specs.Prelude.{Ok}
 use Rattle.analysis.specs.Open.{owed_for}
 use Rattle.analysis.specs.Table.{listed}
+use Rattle.site.proofs.Working.{calls_then, calls_failed, calls_answered, calls_refused, err_again}
+use Rattle.redo_undo.proofs.Asking.{asks_then, asks_stopped}
 use Rattle.engine.proofs.restart.recover.Goals as goal
 
 pub returns-in-Err-clause-recovers : goal.returns-in-Err-clause-recovers
@@ -35,9 +37,7 @@ returns-in-Err-clause-recovers g c newest blocks table commits h =
     let p = picture_under newest k old.image blocks in
     let next = opened_next c.args.opened old newest blocks table commits h c.requires.may.going.sizes c.requires.empty in
     let some : 1 ≤ (rules c.args.opened.pages).groups = (let least = c.requires.may.going.pages_going.flash.limits.groups in omega (arith, least)) in
-    let more = c.recovery_laws.ensures.more in
-    let over = c.recovery_laws.ensures.overflow in
-    let two : Asks {T = Unit {0}} (Err c.in-Err.stop) (redo_works p ++ undo_works p.log) c.args.opened.pages c.redo.new.pages old mid = asks_stopped more over c.in-Err.stop (redo_works p) (undo_works p.log) _ _ old mid some (c.in-Err.ensures.asks newest blocks table commits h.master h.opened_is) in
+    let two : Asks {T = Unit {0}} (Err c.in-Err.stop) (redo_works p ++ undo_works p.log) c.args.opened.pages c.redo.new.pages old mid = asks_stopped c.in-Err.stop (redo_works p) (undo_works p.log) _ _ old mid some (c.in-Err.ensures.asks newest blocks table commits h.master h.opened_is) in
     let ends : Ends {T = Redone} (Err c.in-Err.stop) k old mid (LeavesTable k table commits old.told) = record {
       any_moment = λ quiet. under_leaves_for newest _ _ _ table commits _ ((c.redo.ensures.keeps newest blocks table commits h.master h.opened_is).any_moment quiet);
       quiet = (c.in-Err.ensures.keeps newest blocks table commits h.master h.opened_is).quiet;
@@ -49,7 +49,7 @@ returns-in-Err-clause-recovers g c newest blocks table commits h =
       restarted = tt;
       ends = ends_failed ends;
       numbers = λ quiet. restart_failed c.in-Err.stop _ k (log_under newest blocks) c.args.opened.log c.redo.new.log old mid 0 0 next (omega arith) (omega arith) ((c.in-Err.ensures.keeps newest blocks table commits h.master h.opened_is).numbers quiet);
-      asks = from_stopped more over c.in-Err.stop _ (redo_works p ++ undo_works p.log) checkpoint_works _ _ _ _ some two;
+      asks = from_stopped c.in-Err.stop _ (redo_works p ++ undo_works p.log) checkpoint_works _ _ _ _ some two;
     }
 
 -- what undo may take has room
@@ -78,8 +78,6 @@ returns-in-Err-undo_all-clause-recovers g c newest blocks table commits h =
     let p = picture_under newest k old.image blocks in
     let next = opened_next c.args.opened old newest blocks table commits h c.requires.may.going.sizes c.requires.empty in
     let some : 1 ≤ (rules c.args.opened.pages).groups = (let least = c.requires.may.going.pages_going.flash.limits.groups in omega (arith, least)) in
-    let more = c.recovery_laws.ensures.more in
-    let over = c.recovery_laws.ensures.overflow in
     let records = log_under newest blocks in
     let holds = c.in-Ok.ensures.holds newest blocks table commits h.master h.opened_is in
     let read = c.in-Ok.ensures.unfinished newest blocks table commits h.master h.opened_is in
@@ -87,8 +85,6 @@ returns-in-Err-undo_all-clause-recovers g c newest blocks table commits h =
     let owes = owed_found c.recovery_laws.ensures.one c.recovery_laws.ensures.unfinished c.recovery_laws.ensures.owed newest k old.image blocks c.in-Ok.redone.found h.opened_is.sound read in
     let n = owed_for (listed c.in-Ok.redone.found.table) in
     let und = g.S.Site.state c.undo_all.new.site in
-    let add = c.recovery_laws.ensures.works in
-    let reads = c.recovery_laws.ensures.reads in
     let calm = c.in-Ok.ensures.works.calls.stays_quiet h.opened_is.ready.blocks.honest in
     let first : Ends {T = Redone} (Ok c.in-Ok.redone) k old mid (LeavesTable k table commits old.told) = ends_ok (λ quiet. under_leaves_for newest _ _ _ table commits _ ((c.redo.ensures.keeps newest blocks table commits h.master h.opened_is).any_moment quiet)) in
     let second : Ends {T = Unit {0}} (Err c.in-Err-undo_all.stop) c.redo.new.pages.flash.geometry mid und (LeavesTable c.redo.new.pages.flash.geometry table commits mid.told) = record {
@@ -105,8 +101,8 @@ returns-in-Err-undo_all-clause-recovers g c newest blocks table commits h =
           let mine = skips_on (Err c.in-Err-undo_all.stop) c.redo.new.pages.flash.geometry k c.redo.new.log c.undo_all.new.log mid und n 0 c.redo.ensures.works.geometry ((c.in-Err-undo_all.ensures.keeps newest records table commits none holds read).numbers (calm quiet)) in
           let two = then_skips (Err c.in-Err-undo_all.stop) c.in-Ok.redone k c.args.opened.log c.redo.new.log c.undo_all.new.log old mid und 0 0 n 0 n 0 ((c.in-Ok.ensures.keeps newest blocks table commits h.master h.opened_is).numbers quiet) mine (omega arith) (omega arith) in
           restart_failed c.in-Err-undo_all.stop _ k records c.args.opened.log c.undo_all.new.log old und n 0 next (omega (arith, owes)) (omega arith) two;
-      asks = from_stopped more over c.in-Err-undo_all.stop _ (redo_works p ++ undo_works p.log) checkpoint_works _ _ _ _ some
-          (asks_then add reads c.in-Ok.redone _ (redo_works p) (undo_works p.log) _ _ _ old mid und (c.in-Ok.ensures.asks newest blocks table commits h.master h.opened_is) (c.in-Err-undo_all.ensures.asks newest records table commits none holds read));
+      asks = from_stopped c.in-Err-undo_all.stop _ (redo_works p ++ undo_works p.log) checkpoint_works _ _ _ _ some
+          (asks_then c.in-Ok.redone _ (redo_works p) (undo_works p.log) _ _ _ old mid und (c.in-Ok.ensures.asks newest blocks table commits h.master h.opened_is) (c.in-Err-undo_all.ensures.asks newest records table commits none holds read));
     }
 
 -- there are no more commits than blocks
@@ -138,8 +134,6 @@ returns-in-Ok-checkpoint-clause-recovers g c newest blocks table commits h =
     let p = picture_under newest k old.image blocks in
     let next = opened_next c.args.opened old newest blocks table commits h c.requires.may.going.sizes c.requires.empty in
     let some : 1 ≤ (rules c.args.opened.pages).groups = (let least = c.requires.may.going.pages_going.flash.limits.groups in omega (arith, least)) in
-    let more = c.recovery_laws.ensures.more in
-    let over = c.recovery_laws.ensures.overflow in
     let records = log_under newest blocks in
     let holds = c.in-Ok.ensures.holds newest blocks table commits h.master h.opened_is in
     let read = c.in-Ok.ensures.unfinished newest blocks table commits h.master h.opened_is in
@@ -147,8 +141,6 @@ returns-in-Ok-checkpoint-clause-recovers g c newest blocks table commits h =
     let owes = owed_found c.recovery_laws.ensures.one c.recovery_laws.ensures.unfinished c.recovery_laws.ensures.owed newest k old.image blocks c.in-Ok.redone.found h.opened_is.sound read in
     let n = owed_for (listed c.in-Ok.redone.found.table) in
     let und = g.S.Site.state c.undo_all.new.site in
-    let add = c.recovery_laws.ensures.works in
-    let reads = c.recovery_laws.ensures.reads in
     let calm = c.in-Ok.ensures.works.calls.stays_quiet h.opened_is.ready.blocks.honest in
     let first : Ends {T = Redone} (Ok c.in-Ok.redone) k old mid (LeavesTable k table commits old.told) = ends_ok (λ quiet. under_leaves_for newest _ _ _ table commits _ ((c.redo.ensures.keeps newest blocks table commits h.master h.opened_is).any_moment quiet)) in
     let undone = c.in-Ok-undo_all.ensures.undone newest records table commits none holds read in
@@ -181,8 +173,8 @@ returns-in-Ok-checkpoint-clause-recovers g c newest blocks table commits h =
           let three = then_skips (Ok c.in-Ok-checkpoint.field-0) c.in-Ok-undo_all.field-0 k c.args.opened.log c.undo_all.new.log c.checkpoint.new.self.log old und new n 0 0 1 n 1 two last (omega arith) (omega arith) in
           restart_done c.in-Ok-checkpoint.field-0 _ _ k records c.args.opened.log c.checkpoint.new.self.log old new n next (omega (arith, owes)) refl three;
       asks =
-          let two = asks_then add reads c.in-Ok.redone _ (redo_works p) (undo_works p.log) _ _ _ old mid und (c.in-Ok.ensures.asks newest blocks table commits h.master h.opened_is) (c.in-Ok-undo_all.ensures.asks newest records table commits none holds read) in
-          let all = asks_then add reads c.in-Ok-undo_all.field-0 _ (redo_works p ++ undo_works p.log) checkpoint_works _ _ _ old und new two c.in-Ok-checkpoint.ensures.asks in
+          let two = asks_then c.in-Ok.redone _ (redo_works p) (undo_works p.log) _ _ _ old mid und (c.in-Ok.ensures.asks newest blocks table commits h.master h.opened_is) (c.in-Ok-undo_all.ensures.asks newest records table commits none holds read) in
+          let all = asks_then c.in-Ok-undo_all.field-0 _ (redo_works p ++ undo_works p.log) checkpoint_works _ _ _ old und new two c.in-Ok-checkpoint.ensures.asks in
           from_ok c.in-Ok-checkpoint.field-0 _ _ (redo_works p ++ undo_works p.log ++ checkpoint_works) _ _ _ _ _ refl (λ dev. refl) all;
     }
 
@@ -194,8 +186,6 @@ returns-clause-recovers g c newest blocks table commits h =
     let p = picture_under newest k old.image blocks in
     let next = opened_next c.args.opened old newest blocks table commits h c.requires.may.going.sizes c.requires.empty in
     let some : 1 ≤ (rules c.args.opened.pages).groups = (let least = c.requires.may.going.pages_going.flash.limits.groups in omega (arith, least)) in
-    let more = c.recovery_laws.ensures.more in
-    let over = c.recovery_laws.ensures.overflow in
     let records = log_under newest blocks in
     let holds = c.in-Ok.ensures.holds newest blocks table commits h.master h.opened_is in
     let read = c.in-Ok.ensures.unfinished newest blocks table commits h.master h.opened_is in
@@ -203,8 +193,6 @@ returns-clause-recovers g c newest blocks table commits h =
     let owes = owed_found c.recovery_laws.ensures.one c.recovery_laws.ensures.unfinished c.recovery_laws.ensures.owed newest k old.image blocks c.in-Ok.redone.found h.opened_is.sound read in
     let n = owed_for (listed c.in-Ok.redone.found.table) in
     let und = g.S.Site.state c.undo_all.new.site in
-    let add = c.recovery_laws.ensures.works in
-    let reads = c.recovery_laws.ensures.reads in
     let calm = c.in-Ok.ensures.works.calls.stays_quiet h.opened_is.ready.blocks.honest in
     let first : Ends {T = Redone} (Ok c.in-Ok.redone) k old mid (LeavesTable k table commits old.told) = ends_ok (λ quiet. under_leaves_for newest _ _ _ table commits _ ((c.redo.ensures.keeps newest blocks table commits h.master h.opened_is).any_moment quiet)) in
     let undone = c.in-Ok-undo_all.ensures.undone newest records table commits none holds read in
@@ -233,8 +221,8 @@ returns-clause-recovers g c newest blocks table commits h =
           let three = then_skips (Err c.in-Err-checkpoint.stop) c.in-Ok-undo_all.field-0 k c.args.opened.log c.undo_all.new.log c.checkpoint.new.self.log old und new n 0 0 1 n 1 two last (omega arith) (omega arith) in
           restart_failed c.in-Err-checkpoint.stop _ k records c.args.opened.log c.checkpoint.new.self.log old new n 1 next (omega (arith, owes)) (omega arith) three;
       asks =
-          let two = asks_then add reads c.in-Ok.redone _ (redo_works p) (undo_works p.log) _ _ _ old mid und (c.in-Ok.ensures.asks newest blocks table commits h.master h.opened_is) (c.in-Ok-undo_all.ensures.asks newest records table commits none holds read) in
-          let all = asks_then add reads c.in-Ok-undo_all.field-0 _ (redo_works p ++ undo_works p.log) checkpoint_works _ _ _ old und new two c.in-Err-checkpoint.ensures.asks in
+          let two = asks_then c.in-Ok.redone _ (redo_works p) (undo_works p.log) _ _ _ old mid und (c.in-Ok.ensures.asks newest blocks table commits h.master h.opened_is) (c.in-Ok-undo_all.ensures.asks newest records table commits none holds read) in
+          let all = asks_then c.in-Ok-undo_all.field-0 _ (redo_works p ++ undo_works p.log) checkpoint_works _ _ _ old und new two c.in-Err-checkpoint.ensures.asks in
           from_err c.in-Err-checkpoint.stop _ (redo_works p ++ undo_works p.log ++ checkpoint_works) _ _ _ _ all;
     }
 

@@ -5,7 +5,7 @@ use Rattle.site.specs.declared.outside.Stop.TheVariants.{Worn, Foreign}
 use Rattle.log_records.specs.Log.{table_of}
 use Rattle.engine.proofs.Asking.{from_found, not_found}
 use Rattle.std.specs.Prelude.{Ok, IfOk}
-use Rattle.std.proofs.Common.{◌≡◌, ◌∙◌, ℕ, sym, subst, ◌*◌, ap, refl, arith}
+use Rattle.std.proofs.Common.{◌≡◌, ◌∙◌, sym, subst, ◌*◌, ap, refl, arith, ℕ}
 use Rattle.site.specs.State.{IsQuiet}
 use Rattle.site.specs.declared.geometry.Geometry.{Geometry}
 use Rattle.log_records.specs.Sound.{Means, commit_count}
@@ -16,8 +16,8 @@ use Rattle.engine.specs.Restarting.{IsReady, RestartedAs}
 use Rattle.engine.specs.declared.restart.Opened.{Opened}
 use Rattle.engine.specs.Leaves.{LeavesTable}
 use Rattle.engine.specs.Calls.{Ends}
-use Rattle.engine.proofs.Calling.{calls_failed, calls_stopped, calls_behind, ends_ok, ends_then}
-use Rattle.engine.proofs.Moments.{err_again}
+use Rattle.engine.proofs.Calling.{calls_stopped, calls_behind, ends_ok, ends_then}
+use Rattle.site.proofs.Working.{calls_failed, err_again}
 use Rattle.engine.proofs.Openings.{if_ok_both, stands_still}
 use Rattle.engine.proofs.RingCounts.{restart_unmoved, restart_behind}
 use Rattle.engine.proofs.restart.restart.Goals as goal

@@ -9,11 +9,10 @@ use Rattle.page_store.specs.Flushing.{flushed_contents}
 use Rattle.image_meaning.specs.Meaning.{kept_by}
 use Rattle.redo_undo.specs.Holding.{HoldsIn, Holds}
 use Rattle.redo_undo.proofs.Touched.{forced_tail, leaves_table, touched_holds, ok_seven}
-use Rattle.redo_undo.proofs.Redoings.{ok_one_of}
+use Rattle.site.proofs.Working.{ok_as, of_error}
 use Rattle.page_store.specs.Held.{current}
 use Rattle.redo_undo.proofs.LeftNumbers.{pages_skip, ready_next}
 use Rattle.site.specs.declared.outside.Stop.TheVariants.{Foreign}
-use Rattle.redo_undo.proofs.Calling.{of_error}
 use Rattle.redo_undo.proofs.checkpointing.flush.Goals as goal
 
 pub returns-clause-holds : goal.returns-clause-holds
@@ -61,5 +60,5 @@ returns-clause-keeps g c newest records table commits h =
       worn_log = λ worn. inl (c.flush_all.ensures.worn_log_end list ready worn);
       worn = c.flush_all.ensures.worn_end list ready;
       readable = λ is. of_error c.flush_all.result (λ stop. stop ≢ Foreign) Foreign c.flush_all.ensures.foreign is refl;
-      masters = λ none. ok_one_of c.flush_all.result _ (KeepsUnits master_shape site.image new.image) (λ leaves. leaves.rings Masters (λ same. cc) (λ same. cc)) (c.flush_all.ensures.leaves list ready);
+      masters = λ none. ok_as c.flush_all.result _ (KeepsUnits master_shape site.image new.image) (λ leaves. leaves.rings Masters (λ same. cc) (λ same. cc)) (c.flush_all.ensures.leaves list ready);
     }

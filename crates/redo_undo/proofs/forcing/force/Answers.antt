@@ -1,10 +1,10 @@
-use Rattle.std.proofs.Common.{◌≡◌, ◌∙◌, true, true≢false, sym, ap, inr, refl}
+use Rattle.std.proofs.Common.{◌≡◌, ◌∙◌, true, sym, ap, inr, refl, true≢false}
 use Rattle.log_store.specs.LogList.{LogList, changes_if}
 use Rattle.log_store.specs.Held.{has_tail}
 use Rattle.image_meaning.specs.Meaning.{kept_by}
 use Rattle.image_changes.specs.Rings.{Masters, KeepsUnits, master_shape}
 use Rattle.redo_undo.specs.Holding.{Holds}
-use Rattle.redo_undo.proofs.Redoings.{ok_one_of}
+use Rattle.site.proofs.Working.{ok_as}
 use Rattle.redo_undo.proofs.Sames.{nothing_happens}
 use Rattle.redo_undo.proofs.Appended.{append_leaves, found_fits}
 use Rattle.redo_undo.proofs.Forced.{forced_holds, some_now, ok_five, quiet_stops, seals_only}
@@ -55,6 +55,6 @@ returns-clause-keeps g c pages newest records table commits h =
           (ok_both c.force.result _ _ _ (λ next empty. same_at_most log c.force.new.self some next empty) c.force.ensures.next c.force.ensures.empty);
       quiet = λ quiet. quiet_stops c.force.result new site quiet (λ is. ap g.S.Site.state (c.force.ensures.unchanged (inr (c.force.ensures.worn.0 is).1))) c.force.ensures.stops;
       worn_log = λ is. (let worn = (c.force.ensures.worn.0 is).1 in log_at_end log site new ready.blocks (ap g.S.Site.state (c.force.ensures.unchanged (inr worn))) worn);
-      masters = ok_one_of c.force.result _ (KeepsUnits master_shape site.image new.image)
+      masters = ok_as c.force.result _ (KeepsUnits master_shape site.image new.image)
           (λ reaches. c.ring_kept.ensures log.geometry Masters (changes_if (has_tail log) list) site.image new.image (seals_only (has_tail log) list) reaches) (c.force.ensures.reaches list ready.blocks ready.records);
     }

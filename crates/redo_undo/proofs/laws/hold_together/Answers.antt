@@ -7,23 +7,14 @@ use Rattle.redo_undo.proofs.Changed.{front_exists, front_is_current}
 use Rattle.redo_undo.proofs.Empties.{empty_holds}
 use Rattle.redo_undo.proofs.laws.hold_together.Goals as goal
 
-pub returns-clause-stands : goal.returns-clause-stands
-returns-clause-stands c = stands_there
-
-pub returns-clause-moment : goal.returns-clause-moment
-returns-clause-moment c = nothing_happens
-
-pub returns-clause-still : goal.returns-clause-still
-returns-clause-still c = holds_still c.stays_beside.ensures.fits
-
-pub returns-clause-front : goal.returns-clause-front
-returns-clause-front c log pages site newest records table commits slot own some less h =
-    let front = (front_of pages.pool.frames).page in
-    ap (λ (o : List ℕ). content_at (slots_of o) slot) (sym (front_is_current pages site.image some))
-    ∙ (h.shows.each front (front_exists pages.flash.geometry.pages pages.pool.frames some own.pages)).slots slot less
-
-pub returns-clause-opened : goal.returns-clause-opened
-returns-clause-opened c = opened_holds c.log_laws.ensures c.page_laws.ensures
-
-pub returns-clause-empty : goal.returns-clause-empty
-returns-clause-empty c = empty_holds c.log_laws.ensures c.page_laws.ensures
+pub returns : goal.returns
+returns c = record {
+  opened = opened_holds c.log_laws.ensures c.page_laws.ensures;
+  empty = empty_holds c.log_laws.ensures c.page_laws.ensures;
+  stands = stands_there;
+  moment = nothing_happens;
+  still = holds_still c.stays_beside.ensures.fits;
+  front = λ log pages site newest records table commits slot own some less h. let front = (front_of pages.pool.frames).page in
+      ap (λ (o : List ℕ). content_at (slots_of o) slot) (sym (front_is_current pages site.image some))
+      ∙ (h.shows.each front (front_exists pages.flash.geometry.pages pages.pool.frames some own.pages)).slots slot less;
+}

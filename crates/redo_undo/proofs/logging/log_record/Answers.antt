@@ -1,4 +1,4 @@
-use Rattle.std.proofs.Common.{◌≡◌, ◌≤◌, ◌<◌, ◌+◌, ◌*◌, ℕ, Bool, true, false, ◌∷◌, [], ◌++◌, ap, inr, arith}
+use Rattle.std.proofs.Common.{◌≡◌, ◌≤◌, ◌<◌, ◌+◌, ◌*◌, Bool, true, false, ◌∷◌, [], ◌++◌, ap, inr, arith, ℕ}
 use Rattle.std.specs.Prelude.{Result, Ok, Err, IfOk, OnOk, if◌then◌else◌}
 use Rattle.log_records.specs.declared.log_record.LogRecord.{LogRecord}
 use Rattle.log_store.specs.declared.store.LogStore.{LogStore}
@@ -15,7 +15,7 @@ use Rattle.redo_undo.proofs.Appended.{found_fits, has_now, before_end, appended,
 use Rattle.redo_undo.specs.Committing.{EndsWith}
 use Rattle.redo_undo.proofs.Changed.{holds_off}
 use Rattle.image_changes.specs.Rings.{Masters, KeepsUnits, master_shape}
-use Rattle.redo_undo.proofs.Redoings.{ok_one_of}
+use Rattle.site.proofs.Working.{ok_as}
 use Rattle.redo_undo.proofs.WornLogs.{log_at_end}
 use Rattle.redo_undo.proofs.LeftNumbers.{log_skips, ready_next}
 use Rattle.redo_undo.proofs.logging.log_record.Goals as goal
@@ -164,6 +164,6 @@ returns-clause-keeps g c pages newest records table commits h =
           c.append.ensures.next c.append.ensures.lsn c.append.ensures.rises);
       quiet = λ quiet. quiet_stops c.append.result new site quiet (λ is. ap g.S.Site.state (c.append.ensures.unchanged (inr (c.append.ensures.worn.0 is).1))) c.append.ensures.stops;
       worn_log = λ is. (let worn = (c.append.ensures.worn.0 is).1 in log_at_end log site new ready.blocks (ap g.S.Site.state (c.append.ensures.unchanged (inr worn))) worn);
-      masters = ok_one_of c.append.result _ (KeepsUnits master_shape site.image new.image)
+      masters = ok_as c.append.result _ (KeepsUnits master_shape site.image new.image)
           (λ reaches. c.ring_kept.ensures log.geometry Masters (changes_if sealing list) site.image new.image (seals_only sealing list) reaches) (c.append.ensures.reaches list ready.blocks ready.records);
     }

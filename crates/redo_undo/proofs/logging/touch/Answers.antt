@@ -1,15 +1,20 @@
-use Rattle.std.proofs.Common.{◌≤◌, Bool, arith, sym, subst, ◌∙◌, inl}
-use Rattle.site.specs.declared.geometry.Geometry.{Geometry}
+use Rattle.std.proofs.Common.{◌≤◌, Bool, false, [], arith, ◌∙◌, inl}
+use Rattle.std.specs.Prelude.{◌≡◌}
 use Rattle.page_store.specs.Ahead.{forces, pushed_by_touch}
 use Rattle.log_store.specs.LogList.{LogList}
-use Rattle.image_meaning.specs.Meaning.{kept_by}
-use Rattle.redo_undo.specs.Holding.{HoldsIn, Holds}
-use Rattle.redo_undo.proofs.Touched.{forced_tail, leaves_table, touched_holds, ok_seven}
+use Rattle.redo_undo.specs.Redoing.{IsRedoing}
+use Rattle.redo_undo.proofs.Redoings.{never_forced, rings_given, rings_of, touch_leaves, touched, ok_five_of}
 use Rattle.second_chance.specs.Machine.{rules_of}
 use Rattle.page_store.specs.Caching.{cache_of, rules}
 use Rattle.redo_undo.proofs.Asking.{touch_overflows, touch_reads}
-use Rattle.image_changes.specs.Rings.{Masters, KeepsUnits, master_shape}
-use Rattle.redo_undo.proofs.Redoings.{ok_one_of}
+use Rattle.image_meaning.specs.Meaning.{kept_by}
+use Rattle.redo_undo.proofs.UndoneNumbers.{skips_touch}
+use Rattle.image_changes.specs.Rings.{KeepsUnits, Masters, master_shape}
+use Rattle.site.proofs.Working.{ok_as}
+use Rattle.std.proofs.Common.{sym, subst}
+use Rattle.site.specs.declared.geometry.Geometry.{Geometry}
+use Rattle.redo_undo.specs.Holding.{HoldsIn, Holds}
+use Rattle.redo_undo.proofs.Touched.{forced_tail, leaves_table, touched_holds, ok_seven}
 use Rattle.page_store.specs.Held.{current}
 use Rattle.redo_undo.proofs.LeftNumbers.{pages_skip, ready_next}
 use Rattle.redo_undo.proofs.logging.touch.Goals as goal
@@ -60,6 +65,41 @@ returns-clause-keeps g c newest records table commits h =
       quiet = c.touch.ensures.quiet list ready;
       worn_log = λ worn. inl (c.touch.ensures.worn_log_end list ready worn);
       worn = c.touch.ensures.worn_end list ready;
-      masters = λ none. ok_one_of c.touch.result _ (KeepsUnits master_shape site.image new.image) (λ leaves. leaves.rings Masters (λ same. cc) (λ same. cc)) (c.touch.ensures.leaves list ready);
+      masters = λ none. ok_as c.touch.result _ (KeepsUnits master_shape site.image new.image) (λ leaves. leaves.rings Masters (λ same. cc) (λ same. cc)) (c.touch.ensures.leaves list ready);
       readable = λ is. c.touch.ensures.foreign is list ready;
+    }
+
+pub returns-clause-redoing : goal.returns-clause-redoing
+returns-clause-redoing g c o front h =
+    let site = g.S.Site.state c.args.site.now in
+    let new = g.S.Site.state c.touch.new.site in
+    let log = c.args.log.now in
+    let pages = c.args.pages.now in
+    let list : LogList = record { first = kept_by o.newest; blocks = o.blocks; tail = [] } in
+    let sealing : Bool = forces log (pushed_by_touch pages c.args.page) in
+    let never : sealing ≡ false = never_forced log (pushed_by_touch pages c.args.page) h.ready.records.tail.end in
+    ok_five_of c.touch.result _ _ _ _ _ (IsRedoing o c.touch.new.log c.touch.new.self new front)
+    (λ ready kept are_ahead leaves rings. touched c.page_laws.ensures c.redo_laws.ensures o log pages site front h sealing never new
+    c.touch.new.log c.touch.new.self c.touch.ensures.geometry c.touch.ensures.kept ready kept are_ahead leaves rings)
+    (c.touch.ensures.ready list h.ready) (c.touch.ensures.current list h.ready) (c.touch.ensures.ahead list h.ready h.ahead)
+    (c.touch.ensures.leaves list h.ready) (c.touch.ensures.rings o.newest list h.ready (rings_given o log pages site front h))
+
+pub returns-clause-keeps_opened : goal.returns-clause-keeps_opened
+returns-clause-keeps_opened g c o front h =
+    let site = g.S.Site.state c.args.site.now in
+    let new = g.S.Site.state c.touch.new.site in
+    let log = c.args.log.now in
+    let pages = c.args.pages.now in
+    let list : LogList = record { first = kept_by o.newest; blocks = o.blocks; tail = [] } in
+    let sealing : Bool = forces log (pushed_by_touch pages c.args.page) in
+    let never : sealing ≡ false = never_forced log (pushed_by_touch pages c.args.page) h.ready.records.tail.end in
+    record {
+      any_moment = λ quiet. touch_leaves c.page_laws.ensures c.redo_laws.ensures o log pages site front h sealing never new (c.touch.ensures.any_moment list h.ready quiet)
+          (rings_of o log pages site front h new (c.touch.ensures.rings_moment o.newest list h.ready quiet (rings_given o log pages site front h))) c.requires.going.pages_going.own;
+      numbers = λ quiet. skips_touch c.page_laws.ensures c.redo_laws.ensures o log pages site front h sealing never new c.touch.result c.touch.new.log c.touch.new.self (c.touch.ensures.any_moment list h.ready quiet) (returns-clause-redoing g c o front h);
+      quiet = c.touch.ensures.quiet list h.ready;
+      worn_log = λ worn. inl (c.touch.ensures.worn_log_end list h.ready worn);
+      worn = c.touch.ensures.worn_end list h.ready;
+      readable = λ is. c.touch.ensures.foreign is list h.ready;
+      masters = λ none. ok_as c.touch.result _ (KeepsUnits master_shape site.image new.image) (λ leaves. leaves.rings Masters (λ same. cc) (λ same. cc)) (c.touch.ensures.leaves list h.ready);
     }

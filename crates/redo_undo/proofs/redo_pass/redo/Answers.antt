@@ -1,5 +1,5 @@
-use Rattle.std.proofs.Common.{◌≡◌, ◌≤◌, ◌+◌, ◌<◌, List, [], length, take, drop, suc, Err, refl, sym, subst, ◌∙◌, arith, ◌-◌, inl, ℕ, ◌⊎◌}
-use Rattle.std.specs.Prelude.{⊤, Ok}
+use Rattle.std.proofs.Common.{◌≡◌, ◌≤◌, ◌+◌, ◌<◌, List, [], length, take, drop, suc, Err, refl, sym, subst, ◌∙◌, arith, ◌-◌, inl, ◌⊎◌, ℕ}
+use Rattle.std.specs.Prelude.{Ok, ⊤}
 use Rattle.log_records.specs.Log.{Entry, log_from}
 use Rattle.checkpoint.specs.declared.master.Master.{Master}
 use Rattle.checkpoint.specs.Newest.{seen}
@@ -15,7 +15,8 @@ use Rattle.site.specs.declared.outside.Stop.TheVariants.{Worn, Device, Foreign}
 use Rattle.site.specs.declared.outside.Dev.TheVariants.{Log}
 use Rattle.redo_undo.proofs.RedoWorks.{stops_first, not_worn_log, stops_reading, asks_with_read, asks_more, asks_all, stops_within}
 use Rattle.redo_undo.specs.Calls.{ReadsOne}
-use Rattle.redo_undo.proofs.Calling.{calls_read, calls_then, keeps_answered, keeps_failed, keeps_opened, keeps_redoing, keeps_refused_by, keeps_then, logs_refused_by, no_error, of_error, works_answered, works_nothing, works_read, works_stopped, works_then, reads_worn}
+use Rattle.redo_undo.proofs.Calling.{calls_read, keeps_answered, keeps_failed, keeps_opened, keeps_redoing, keeps_refused_by, keeps_then, logs_refused_by, works_answered, works_nothing, works_read, works_stopped, works_then, reads_worn}
+use Rattle.site.proofs.Working.{calls_then, no_error, of_error}
 use Rattle.redo_undo.proofs.redo_pass.redo.Goals as goal
 
 pub returns-in-Err-clause-keeps : goal.returns-in-Err-clause-keeps
@@ -98,7 +99,7 @@ loop-block-preserved g c =
           record {
             from = (let low = up.from in omega (arith, low));
             taken = subst (HasTaken o c.take_block.new.log c.take_block.new.pages new c.take_block.new.so_far) (one_more_block o c.loop-block.block up.from inside)
-                (t.taken o (log_from (kept_by newest) (take (c.loop-block.block - kept_by newest) blocks)) (log_from (c.loop-block.block + 1) (drop (suc (c.loop-block.block - kept_by newest)) blocks)) (block_of blocks (c.loop-block.block - kept_by newest)) own next.taken next.content_is next.used_is next.split);
+                (t.takes o (log_from (kept_by newest) (take (c.loop-block.block - kept_by newest) blocks)) (log_from (c.loop-block.block + 1) (drop (suc (c.loop-block.block - kept_by newest)) blocks)) (block_of blocks (c.loop-block.block - kept_by newest)) own next.taken next.content_is next.used_is next.split).taken;
           };
       asked = λ newest blocks table commits own h.
           let o : Opening = record { sizes = c.args.pages.now.flash.geometry; image = old.image; newest = newest; blocks = blocks; table = table; commits = commits } in
@@ -114,7 +115,7 @@ loop-block-preserved g c =
           let front = log_from (kept_by newest) (take (c.loop-block.block - kept_by newest) blocks) in
           asks_more o c.args.pages.now c.loop-block.pages c.take_block.new.pages old read new front
           (asks_with_read o c.args.pages.now c.loop-block.pages old mid read front (i.asked newest blocks table commits own h) c.read_block.ensures.reads.others) _ _ _ (sym (one_more_block o c.loop-block.block up.from inside))
-          (t.asks o front (log_from (c.loop-block.block + 1) (drop (suc (c.loop-block.block - kept_by newest)) blocks)) (block_of blocks (c.loop-block.block - kept_by newest)) own next.taken next.content_is next.used_is next.split);
+          (t.takes o front (log_from (c.loop-block.block + 1) (drop (suc (c.loop-block.block - kept_by newest)) blocks)) (block_of blocks (c.loop-block.block - kept_by newest)) own next.taken next.content_is next.used_is next.split).asks;
       keeps = λ newest blocks table commits own h.
           let o : Opening = record { sizes = c.args.pages.now.flash.geometry; image = old.image; newest = newest; blocks = blocks; table = table; commits = commits } in
           let up = i.up_to newest blocks table commits own h in
@@ -128,7 +129,7 @@ loop-block-preserved g c =
           up.taken.pages_are.ready.records (let from = up.from in omega (arith, from))) in
           let so_far = keeps_then h.ready.blocks.honest i.works.geometry refl i.works.calls (i.keeps newest blocks table commits own h)
           (keeps_opened c.page_laws.ensures c.redo_laws.ensures {r = Ok c.in-Ok-read_block.used} i.works.going.sizes up.taken.pages_are (c.read_block.ensures.same up.taken.pages_are.ready.blocks.honest) (λ d is. no_error {x = c.in-Ok-read_block.used} {e = Worn d} is) (no_error {x = c.in-Ok-read_block.used} {e = Foreign})) in
-          keeps_answered (keeps_then h.ready.blocks.honest i.works.geometry refl (calls_then i.works.calls (calls_read read_one)) so_far (t.keeps o (log_from (kept_by newest) (take (c.loop-block.block - kept_by newest) blocks)) (log_from (c.loop-block.block + 1) (drop (suc (c.loop-block.block - kept_by newest)) blocks)) (block_of blocks (c.loop-block.block - kept_by newest)) own next.taken next.content_is next.used_is next.split));
+          keeps_answered (keeps_then h.ready.blocks.honest i.works.geometry refl (calls_then i.works.calls (calls_read read_one)) so_far (t.takes o (log_from (kept_by newest) (take (c.loop-block.block - kept_by newest) blocks)) (log_from (c.loop-block.block + 1) (drop (suc (c.loop-block.block - kept_by newest)) blocks)) (block_of blocks (c.loop-block.block - kept_by newest)) own next.taken next.content_is next.used_is next.split).keeps);
     }
 
 pub returns-clause-holds : goal.returns-clause-holds
@@ -210,7 +211,7 @@ returns-in-Err-take_block-clause-asks g c newest blocks table commits own h =
     (stops_within o c.args.pages.now c.loop-block.pages c.take_block.new.pages old read (g.S.Site.state c.take_block.new.site) front
     (asks_with_read o c.args.pages.now c.loop-block.pages old mid read front (c.loop-block.invariant.asked newest blocks table commits own h) c.read_block.ensures.reads.others)
     c.in-Err-take_block.stop _ behind (log_from (kept_by newest) blocks) some next.split
-    (c.in-Err-take_block.ensures.asks o front behind (block_of blocks (c.loop-block.block - kept_by newest)) own next.taken next.content_is next.used_is next.split))
+    (c.in-Err-take_block.ensures.takes o front behind (block_of blocks (c.loop-block.block - kept_by newest)) own next.taken next.content_is next.used_is next.split).asks)
 
 pub returns-clause-asks : goal.returns-clause-asks
 returns-clause-asks g c newest blocks table commits own h =
@@ -255,7 +256,7 @@ returns-in-Err-take_block-clause-keeps g c newest blocks table commits own h =
     let read_one : ReadsOne {T = ℕ} (Ok c.in-Ok-read_block.used) mid read = record { same = c.read_block.ensures.same; goes = c.read_block.ensures.goes; log_reads = c.read_block.ensures.reads.here; others = c.read_block.ensures.reads.others; device = c.in-Ok-read_block.ensures.device; stops = tt; faults = c.in-Ok-read_block.ensures.faults } in
     let first = keeps_then h.ready.blocks.honest i.works.geometry refl i.works.calls (i.keeps newest blocks table commits own h)
     (keeps_opened c.page_laws.ensures c.redo_laws.ensures {r = Ok c.in-Ok-read_block.used} i.works.going.sizes up.taken.pages_are (c.read_block.ensures.same up.taken.pages_are.ready.blocks.honest) (λ d is. no_error {x = c.in-Ok-read_block.used} {e = Worn d} is) (no_error {x = c.in-Ok-read_block.used} {e = Foreign})) in
-    keeps_failed (keeps_then h.ready.blocks.honest i.works.geometry refl (calls_then i.works.calls (calls_read read_one)) first (c.in-Err-take_block.ensures.keeps o (log_from (kept_by newest) (take (c.loop-block.block - kept_by newest) blocks)) (log_from (c.loop-block.block + 1) (drop (suc (c.loop-block.block - kept_by newest)) blocks)) (block_of blocks (c.loop-block.block - kept_by newest)) own next.taken next.content_is next.used_is next.split))
+    keeps_failed (keeps_then h.ready.blocks.honest i.works.geometry refl (calls_then i.works.calls (calls_read read_one)) first (c.in-Err-take_block.ensures.takes o (log_from (kept_by newest) (take (c.loop-block.block - kept_by newest) blocks)) (log_from (c.loop-block.block + 1) (drop (suc (c.loop-block.block - kept_by newest)) blocks)) (block_of blocks (c.loop-block.block - kept_by newest)) own next.taken next.content_is next.used_is next.split).keeps)
 
 pub returns-clause-keeps : goal.returns-clause-keeps
 returns-clause-keeps g c newest blocks table commits own h = keeps_answered (c.loop-block.invariant.keeps newest blocks table commits own h)

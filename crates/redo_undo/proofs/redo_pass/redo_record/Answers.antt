@@ -23,18 +23,18 @@ returns-in_default-clause-redoing g c o front rest h is =
 
 pub returns-then-front_lsn-lsn-clause-redoing : goal.returns-then-front_lsn-lsn-clause-redoing
 returns-then-front_lsn-lsn-clause-redoing g c o front rest h is =
-    let pages = c.touch_page.new.pages in
-    let site = g.S.Site.state c.touch_page.new.site in
+    let pages = c.touch.new.pages in
+    let site = g.S.Site.state c.touch.new.site in
     let on = c.in-Some.ensures.on in
-    no_change c.page_laws.ensures c.redo_laws.ensures o c.touch_page.new.log pages site front (c.in-Ok.ensures.redoing o front h) (record { lsn = c.args.lsn; rec = c.args.rec.now }) rest is
+    no_change c.page_laws.ensures c.redo_laws.ensures o c.touch.new.log pages site front (c.in-Ok.ensures.redoing o front h) (record { lsn = c.args.lsn; rec = c.args.rec.now }) rest is
     (λ page number exists own at. front_knows pages site.image c.args.rec.now c.args.lsn c.in-Some.page c.in-Ok.ensures.there c.in-Ok.ensures.front on
     (omega (arith, c.front_lsn.ensures, c.if-front_lsn-lsn.true)) page number own at)
 
 pub returns-clause-redoing : goal.returns-clause-redoing
 returns-clause-redoing g c o front rest h is =
-    let log = c.touch_page.new.log in
-    let pages = c.touch_page.new.pages in
-    let site = g.S.Site.state c.touch_page.new.site in
+    let log = c.touch.new.log in
+    let pages = c.touch.new.pages in
+    let site = g.S.Site.state c.touch.new.site in
     let on = c.in-Some.ensures.on in
     let e : Entry = record { lsn = c.args.lsn; rec = c.args.rec.now } in
     let first = (front_of pages.pool.frames).page in
@@ -58,28 +58,28 @@ pub returns-in-Err-clause-asks : goal.returns-in-Err-clause-asks
 returns-in-Err-clause-asks g c o front rest h is =
     let on = c.in-Some.ensures.on in
     let some : 1 ≤ (rules c.args.pages.now).groups = omega (arith, c.requires.going.pages_going.flash.limits.groups) in
-    stops_in_touch c.in-Err.stop o (record { lsn = c.args.lsn; rec = c.args.rec.now }) c.in-Some.page on.0 c.args.pages.now c.touch_page.new.pages (g.S.Site.state c.args.site.now) (g.S.Site.state c.touch_page.new.site)
+    stops_in_touch c.in-Err.stop o (record { lsn = c.args.lsn; rec = c.args.rec.now }) c.in-Some.page on.0 c.args.pages.now c.touch.new.pages (g.S.Site.state c.args.site.now) (g.S.Site.state c.touch.new.site)
     on.1 on.2 some c.in-Err.ensures.asks
 
 pub returns-then-front_lsn-lsn-clause-asks : goal.returns-then-front_lsn-lsn-clause-asks
 returns-then-front_lsn-lsn-clause-asks g c o front rest h is =
-    let pages = c.touch_page.new.pages in
-    let site = g.S.Site.state c.touch_page.new.site in
+    let pages = c.touch.new.pages in
+    let site = g.S.Site.state c.touch.new.site in
     let on = c.in-Some.ensures.on in
-    asks_known c.page_laws.ensures c.redo_laws.ensures o c.touch_page.new.log pages site front (c.in-Ok.ensures.redoing o front h) (record { lsn = c.args.lsn; rec = c.args.rec.now }) rest is
+    asks_known c.page_laws.ensures c.redo_laws.ensures o c.touch.new.log pages site front (c.in-Ok.ensures.redoing o front h) (record { lsn = c.args.lsn; rec = c.args.rec.now }) rest is
     c.in-Some.page on.0 on.1 on.2 c.args.pages.now (g.S.Site.state c.args.site.now) _ c.in-Ok.ensures.asks
     (front_knows pages site.image c.args.rec.now c.args.lsn c.in-Some.page c.in-Ok.ensures.there c.in-Ok.ensures.front on
     (omega (arith, c.front_lsn.ensures, c.if-front_lsn-lsn.true)) c.in-Some.page on.0 on.1 on.2)
 
 pub returns-clause-asks : goal.returns-clause-asks
 returns-clause-asks g c o front rest h is =
-    let pages = c.touch_page.new.pages in
-    let site = g.S.Site.state c.touch_page.new.site in
+    let pages = c.touch.new.pages in
+    let site = g.S.Site.state c.touch.new.site in
     let on = c.in-Some.ensures.on in
     let some : 1 ≤ (rules c.args.pages.now).groups = omega (arith, c.requires.going.pages_going.flash.limits.groups) in
     let content : lsn_of (current pages site.image c.in-Some.page) ≡ lsn_of (front_of pages.pool.frames).content =
     ap (λ page. lsn_of (current pages site.image page)) (sym c.in-Ok.ensures.front) ∙ ap lsn_of (front_is_current pages site.image c.in-Ok.ensures.there) in
-    asks_redone c.page_laws.ensures c.redo_laws.ensures o c.touch_page.new.log pages site front (c.in-Ok.ensures.redoing o front h) (record { lsn = c.args.lsn; rec = c.args.rec.now }) rest is
+    asks_redone c.page_laws.ensures c.redo_laws.ensures o c.touch.new.log pages site front (c.in-Ok.ensures.redoing o front h) (record { lsn = c.args.lsn; rec = c.args.rec.now }) rest is
     c.in-Some.page on.0 on.1 on.2 c.args.pages.now (g.S.Site.state c.args.site.now) _ c.in-Ok.ensures.asks
     (omega (arith, content, c.front_lsn.ensures, c.if-front_lsn-lsn.false)) c.change_front.new.pages some c.change_front.ensures.machine
     (λ i. rules_of (c.change_front.ensures.size i) (c.change_front.ensures.flash i).geometry.groups)
@@ -97,13 +97,13 @@ returns-then-page-geometry-clause-keeps g c o front rest h is =
     absurd (omega (arith, exists, all, c.if-page-geometry.true))
 
 pub returns-in-Err-clause-keeps : goal.returns-in-Err-clause-keeps
-returns-in-Err-clause-keeps g c o front rest h is = c.in-Err.ensures.keeps o front h
+returns-in-Err-clause-keeps g c o front rest h is = c.in-Err.ensures.keeps_opened o front h
 
 pub returns-then-front_lsn-lsn-clause-keeps : goal.returns-then-front_lsn-lsn-clause-keeps
-returns-then-front_lsn-lsn-clause-keeps g c o front rest h is = c.in-Ok.ensures.keeps o front h
+returns-then-front_lsn-lsn-clause-keeps g c o front rest h is = c.in-Ok.ensures.keeps_opened o front h
 
 pub returns-clause-keeps : goal.returns-clause-keeps
-returns-clause-keeps g c o front rest h is = c.in-Ok.ensures.keeps o front h
+returns-clause-keeps g c o front rest h is = c.in-Ok.ensures.keeps_opened o front h
 
 pub returns-in_default-clause-logs_nothing : goal.returns-in_default-clause-logs_nothing
 returns-in_default-clause-logs_nothing g c = logs_nothing c.requires.going

@@ -64,45 +64,50 @@ loop-at-preserved g c =
             done = a.done ++ e ∷ [];
             past = past_one c.read_again.ensures.only c.args.block c.args.content.now c.args.used c.loop-at.at records a.done a.past c.in-Ok.rec c.in-Ok.end before found;
             taken = subst (HasTaken o c.take_record.new.log c.take_record.new.pages new c.take_record.new.so_far) (append_assoc front a.done (e ∷ []))
-                (t.taken o (front ++ a.done) next.0 own a.taken next.1);
-            asked = asks_more o c.args.pages.now c.loop-at.pages c.take_record.new.pages old mid new a.done a.asked _ (e ∷ []) (a.done ++ e ∷ []) refl (t.asks o (front ++ a.done) next.0 own a.taken next.1);
+                (t.takes o (front ++ a.done) next.0 own a.taken next.1).taken;
+            asked = asks_more o c.args.pages.now c.loop-at.pages c.take_record.new.pages old mid new a.done a.asked _ (e ∷ []) (a.done ++ e ∷ []) refl (t.takes o (front ++ a.done) next.0 own a.taken next.1).asks;
           };
       keeps = λ o front rest records own h block used is.
           let a = i.part o front rest records own h block used is in
           let next = next_of_log c.read_again.ensures.only c.args.block c.args.content.now c.args.used c.loop-at.at records a.done a.past front c.in-Ok.rec c.in-Ok.end _ rest before found is in
-          keeps_answered (keeps_then h.pages_are.ready.blocks.honest i.logs.works.geometry refl i.logs.works.calls (i.keeps o front rest records own h block used is) (t.keeps o (front ++ a.done) next.0 own a.taken next.1));
+          keeps_answered (keeps_then h.pages_are.ready.blocks.honest i.logs.works.geometry refl i.logs.works.calls (i.keeps o front rest records own h block used is) (t.takes o (front ++ a.done) next.0 own a.taken next.1).keeps);
     }
 
 pub take_record-requires-clause-going : goal.take_record-requires-clause-going
 take_record-requires-clause-going g c = c.loop-at.invariant.logs.works.going
 
-pub returns-clause-taken : goal.returns-clause-taken
-returns-clause-taken g c o front rest records own h block used is =
-    let a = c.loop-at.invariant.part o front rest records own h block used is in
-    subst (λ (l : List Entry). HasTaken o c.loop-at.log c.loop-at.pages (g.S.Site.state c.loop-at.site) c.loop-at.so_far (front ++ l))
-    (past_all c.read_again.ensures.only c.args.block c.args.content.now c.args.used c.loop-at.at records a.done a.past c.loop-at-test.false) a.taken
-
-pub returns-in_default-clause-asks : goal.returns-in_default-clause-asks
-returns-in_default-clause-asks g c o front rest records own h block used is =
+pub returns-in_default-clause-takes : goal.returns-in_default-clause-takes
+returns-in_default-clause-takes g c o front rest records own h block used is =
     let a = c.loop-at.invariant.part o front rest records own h block used is in
     absurd (none_there c.read_again.ensures.only c.args.block c.args.content.now c.args.used c.loop-at.at records a.done a.past c.loop-at-test.true c.in_default.ensures.bad)
 
-pub returns-in-Err-clause-asks : goal.returns-in-Err-clause-asks
-returns-in-Err-clause-asks g c o front rest records own h block used is =
-    let a = c.loop-at.invariant.part o front rest records own h block used is in
+pub returns-in-Err-clause-takes : goal.returns-in-Err-clause-takes
+returns-in-Err-clause-takes g c o front rest records own h block used is =
+    let i = c.loop-at.invariant in
+    let a = i.part o front rest records own h block used is in
     let e : Entry = record { lsn = 512 * c.args.block + c.loop-at.at; rec = c.in-Ok.rec } in
     let entries = entries_from (512 * c.args.block + 2) records in
     let next = next_of_log c.read_again.ensures.only c.args.block c.args.content.now c.args.used c.loop-at.at records a.done a.past front c.in-Ok.rec c.in-Ok.end _ rest c.loop-at-test.true c.in-Ok.ensures.found is in
     let later = next_of_log c.read_again.ensures.only c.args.block c.args.content.now c.args.used c.loop-at.at records a.done a.past [] c.in-Ok.rec c.in-Ok.end entries [] c.loop-at-test.true c.in-Ok.ensures.found (sym (append-nil entries)) in
     let some : 1 ≤ (rules c.args.pages.now).groups = omega (arith, c.requires.going.pages_going.flash.limits.groups) in
-    stops_within o c.args.pages.now c.loop-at.pages c.take_record.new.pages (g.S.Site.state c.args.site.now) (g.S.Site.state c.loop-at.site) (g.S.Site.state c.take_record.new.site) a.done a.asked
-    c.in-Err.stop (e ∷ []) later.0 entries some later.1 (c.in-Err.ensures.asks o (front ++ a.done) next.0 own a.taken next.1)
+    let takes = c.in-Err.ensures.takes o (front ++ a.done) next.0 own a.taken next.1 in
+    record {
+      taken = tt;
+      keeps = keeps_then h.pages_are.ready.blocks.honest i.logs.works.geometry refl i.logs.works.calls (i.keeps o front rest records own h block used is) takes.keeps;
+      asks = stops_within o c.args.pages.now c.loop-at.pages c.take_record.new.pages (g.S.Site.state c.args.site.now) (g.S.Site.state c.loop-at.site) (g.S.Site.state c.take_record.new.site) a.done a.asked
+          c.in-Err.stop (e ∷ []) later.0 entries some later.1 takes.asks;
+    }
 
-pub returns-clause-asks : goal.returns-clause-asks
-returns-clause-asks g c o front rest records own h block used is =
-    let a = c.loop-at.invariant.part o front rest records own h block used is in
-    asks_all _ o c.args.pages.now c.loop-at.pages (g.S.Site.state c.args.site.now) (g.S.Site.state c.loop-at.site) a.done (entries_from (512 * c.args.block + 2) records)
-    (past_all c.read_again.ensures.only c.args.block c.args.content.now c.args.used c.loop-at.at records a.done a.past c.loop-at-test.false) a.asked
+pub returns-clause-takes : goal.returns-clause-takes
+returns-clause-takes g c o front rest records own h block used is =
+    let i = c.loop-at.invariant in
+    let a = i.part o front rest records own h block used is in
+    let all = past_all c.read_again.ensures.only c.args.block c.args.content.now c.args.used c.loop-at.at records a.done a.past c.loop-at-test.false in
+    record {
+      taken = subst (λ (l : List Entry). HasTaken o c.loop-at.log c.loop-at.pages (g.S.Site.state c.loop-at.site) c.loop-at.so_far (front ++ l)) all a.taken;
+      keeps = i.keeps o front rest records own h block used is;
+      asks = asks_all _ o c.args.pages.now c.loop-at.pages (g.S.Site.state c.args.site.now) (g.S.Site.state c.loop-at.site) a.done (entries_from (512 * c.args.block + 2) records) all a.asked;
+    }
 
 pub returns-in_default-clause-logs_nothing : goal.returns-in_default-clause-logs_nothing
 returns-in_default-clause-logs_nothing g c = logs_refused (λ d same. cc) tt c.loop-at.invariant.logs
@@ -112,18 +117,3 @@ returns-in-Err-clause-logs_nothing g c = logs_then c.loop-at.invariant.logs c.in
 
 pub returns-clause-logs_nothing : goal.returns-clause-logs_nothing
 returns-clause-logs_nothing g c = c.loop-at.invariant.logs
-
-pub returns-in_default-clause-keeps : goal.returns-in_default-clause-keeps
-returns-in_default-clause-keeps g c o front rest records own h block used is =
-    let a = c.loop-at.invariant.part o front rest records own h block used is in
-    absurd (none_there c.read_again.ensures.only c.args.block c.args.content.now c.args.used c.loop-at.at records a.done a.past c.loop-at-test.true c.in_default.ensures.bad)
-
-pub returns-in-Err-clause-keeps : goal.returns-in-Err-clause-keeps
-returns-in-Err-clause-keeps g c o front rest records own h block used is =
-    let i = c.loop-at.invariant in
-    let a = i.part o front rest records own h block used is in
-    let next = next_of_log c.read_again.ensures.only c.args.block c.args.content.now c.args.used c.loop-at.at records a.done a.past front c.in-Ok.rec c.in-Ok.end _ rest c.loop-at-test.true c.in-Ok.ensures.found is in
-    keeps_then h.pages_are.ready.blocks.honest i.logs.works.geometry refl i.logs.works.calls (i.keeps o front rest records own h block used is) (c.in-Err.ensures.keeps o (front ++ a.done) next.0 own a.taken next.1)
-
-pub returns-clause-keeps : goal.returns-clause-keeps
-returns-clause-keeps g c o front rest records own h block used is = c.loop-at.invariant.keeps o front rest records own h block used is

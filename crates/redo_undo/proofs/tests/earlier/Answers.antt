@@ -2,7 +2,7 @@ use Rattle.std.proofs.Common.{sym, subst, ◌∙◌}
 use Rattle.site.specs.declared.geometry.Geometry.{Geometry}
 use Rattle.site.specs.Geometry.{HasLengths}
 use Rattle.site.specs.MemState.{image_of}
-use Rattle.redo_undo.proofs.Redoings.{ok_always}
+use Rattle.site.proofs.Working.{ok_always}
 use Rattle.redo_undo.proofs.tests.earlier.Goals as goal
 
 pub returns : goal.returns

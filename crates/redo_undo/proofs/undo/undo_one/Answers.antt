@@ -1,5 +1,5 @@
-use Rattle.std.specs.Prelude.{⊤, IsErrOf}
-use Rattle.std.proofs.Common.{Ok, Err, inr, ◌≤◌, ◌≡◌, ◌+◌, ◌++◌, ◌∷◌, [], ℕ, length, true≢false, refl, sym, ap, subst, ◌∙◌, arith}
+use Rattle.std.specs.Prelude.{IsErrOf, ⊤}
+use Rattle.std.proofs.Common.{Ok, Err, inr, ◌≤◌, ◌≡◌, ◌+◌, ◌++◌, ◌∷◌, [], length, refl, sym, ap, subst, ◌∙◌, arith, ℕ, true≢false}
 use Rattle.site.specs.declared.geometry.Geometry.{Geometry}
 use Rattle.site.specs.declared.outside.Dev.TheVariants.{Log, Flash}
 use Rattle.site.specs.declared.outside.Stop.TheVariants.{Worn, Foreign}
@@ -11,8 +11,10 @@ use Rattle.redo_undo.proofs.Sames.{going_still}
 use Rattle.redo_undo.proofs.Rollbacks.{none_remains, room_for_end, may_end, owes_all, rolls_back}
 use Rattle.page_store.specs.Caching.{rules}
 use Rattle.redo_undo.specs.Works.{Asks, undo_one_works}
-use Rattle.redo_undo.proofs.AskingUndo.{log_alone, none_read, not_worn, not_worn_flash, is_error, asks_refused, asks_later, asks_before, stops_again}
-use Rattle.redo_undo.proofs.Calling.{calls_read, calls_then, held_read, keeps_answered, keeps_appended, keeps_failed, keeps_few, keeps_read, keeps_then, works_answered, works_appended, works_failed, works_foreign, works_read, works_stopped, works_then}
+use Rattle.redo_undo.proofs.AskingUndo.{log_alone, none_read, not_worn, not_worn_flash, asks_refused, asks_later, asks_before}
+use Rattle.redo_undo.proofs.Calling.{calls_read, held_read, keeps_answered, keeps_appended, keeps_failed, keeps_few, keeps_read, keeps_then, works_answered, works_appended, works_failed, works_foreign, works_read, works_stopped, works_then}
+use Rattle.site.proofs.Working.{calls_then}
+use Rattle.redo_undo.proofs.Asking.{stop_is, asks_err}
 use Rattle.redo_undo.proofs.undo.undo_one.Goals as goal
 
 pub undo_updates-requires-clause-going : goal.undo_updates-requires-clause-going
@@ -116,7 +118,7 @@ returns-in-Err-undo_updates-clause-asks g c newest records table commits x h unf
     let new = c.undo_updates.new.pages in
     let stop = c.in-Err-undo_updates.stop in
     subst (λ (t : ℕ). Asks {T = ⊤} (Err stop) (undo_one_works records t) pages new old now) own
-    (stops_again stop (undo_one_works records x.txn) pages new old now
+    (asks_err stop (undo_one_works records x.txn) pages new old now
     (asks_later (Err stop) (undo_one_works records x.txn) pages new old mid now alone (c.in-Err-undo_updates.ensures.asks newest records table commits x still unfinished at)))
 
 pub returns-then-not-has_room-clause-asks : goal.returns-then-not-has_room-clause-asks
@@ -132,7 +134,7 @@ returns-then-not-has_room-clause-asks g c newest records table commits x h unfin
     let new = c.undo_updates.new.pages in
     let asks = c.in-Ok-undo_updates.ensures.asks newest records table commits x still unfinished at in
     subst (λ (t : ℕ). Asks {T = ⊤} (Err Foreign) (undo_one_works records t) pages new old now) own
-    (asks_before c.in-Ok-undo_updates.at (Err Foreign) (undo_one_works records x.txn) pages new old now now some (record { flash = refl; disk = refl }) (λ is. not_worn Foreign (inr refl) (is_error Foreign (Worn Flash) is))
+    (asks_before c.in-Ok-undo_updates.at (Err Foreign) (undo_one_works records x.txn) pages new old now now some (record { flash = refl; disk = refl }) (λ is. not_worn Foreign (inr refl) (stop_is Foreign (Worn Flash) is))
     (asks_later (Ok c.in-Ok-undo_updates.at) (undo_one_works records x.txn) pages new old mid now alone asks))
 
 pub returns-in-Ok-log_record-clause-asks : goal.returns-in-Ok-log_record-clause-asks
@@ -164,7 +166,7 @@ returns-in-Err-log_record-clause-asks g c newest records table commits x h unfin
     let new = c.undo_updates.new.pages in
     let asks = c.in-Ok-undo_updates.ensures.asks newest records table commits x still unfinished at in
     subst (λ (t : ℕ). Asks {T = ⊤} (Err c.in-Err-log_record.stop) (undo_one_works records t) pages new old (g.S.Site.state c.log_record.new.site)) own
-    (asks_before c.in-Ok-undo_updates.at (Err c.in-Err-log_record.stop) (undo_one_works records x.txn) pages new old now (g.S.Site.state c.log_record.new.site) some (none_read now (g.S.Site.state c.log_record.new.site) c.log_record.ensures.works.reads) (λ is. not_worn_flash c.in-Err-log_record.stop c.in-Err-log_record.ensures.stops (is_error c.in-Err-log_record.stop (Worn Flash) is))
+    (asks_before c.in-Ok-undo_updates.at (Err c.in-Err-log_record.stop) (undo_one_works records x.txn) pages new old now (g.S.Site.state c.log_record.new.site) some (none_read now (g.S.Site.state c.log_record.new.site) c.log_record.ensures.works.reads) (λ is. not_worn_flash c.in-Err-log_record.stop c.in-Err-log_record.ensures.stops (stop_is c.in-Err-log_record.stop (Worn Flash) is))
     (asks_later (Ok c.in-Ok-undo_updates.at) (undo_one_works records x.txn) pages new old mid now alone asks))
 
 pub returns-then-not-has_room-clause-keeps : goal.returns-then-not-has_room-clause-keeps

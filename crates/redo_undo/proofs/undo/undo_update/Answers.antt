@@ -8,8 +8,9 @@ use Rattle.redo_undo.proofs.Compensations.{may_compensate, room_for_clr, owes_le
 use Rattle.site.specs.declared.outside.Stop.TheVariants.{Foreign}
 use Rattle.page_store.specs.Caching.{rules}
 use Rattle.redo_undo.specs.UndoWorks.{works_of}
-use Rattle.redo_undo.proofs.AskingUndo.{log_alone, not_worn, asks_refused, asks_of_update, stops_again, ends_again}
+use Rattle.redo_undo.proofs.AskingUndo.{log_alone, not_worn, asks_refused, asks_of_update}
 use Rattle.redo_undo.proofs.Calling.{calls_read, held_read, keeps_answered, keeps_failed, keeps_few, keeps_read, keeps_then, works_answered, works_failed, works_foreign, works_read, works_stopped, works_then}
+use Rattle.redo_undo.proofs.Asking.{asks_err, asks_ok}
 use Rattle.redo_undo.proofs.undo.undo_update.Goals as goal
 
 pub compensate-requires-clause-going : goal.compensate-requires-clause-going
@@ -54,7 +55,7 @@ returns-in-Err-compensate-clause-asks g c newest records table commits x u rest 
     let mid = g.S.Site.state c.read_update.new.site in
     let now = g.S.Site.state c.compensate.new.site in
     let w = c.in-Ok.wanted in
-    stops_again c.in-Err-compensate.stop (works_of (u ∷ [])) pages new old now
+    asks_err c.in-Err-compensate.stop (works_of (u ∷ [])) pages new old now
     (asks_of_update (Err c.in-Err-compensate.stop) u w.page w.slot pages new old mid now c.in-Ok.ensures.form.0
     (c.in-Ok.ensures.last_left pages newest records table commits x u rest c.requires.going.sizes h unfinished at left) (log_alone old mid c.read_update.ensures.reads.others) c.in-Err-compensate.ensures.asks)
 
@@ -66,7 +67,7 @@ returns-clause-asks g c newest records table commits x u rest h unfinished at le
     let mid = g.S.Site.state c.read_update.new.site in
     let now = g.S.Site.state c.compensate.new.site in
     let w = c.in-Ok.wanted in
-    ends_again c.in-Ok-compensate.last _ (works_of (u ∷ [])) pages new old now
+    asks_ok c.in-Ok-compensate.last _ (works_of (u ∷ [])) pages new old now
     (asks_of_update (Ok c.in-Ok-compensate.last) u w.page w.slot pages new old mid now c.in-Ok.ensures.form.0
     (c.in-Ok.ensures.last_left pages newest records table commits x u rest c.requires.going.sizes h unfinished at left) (log_alone old mid c.read_update.ensures.reads.others) c.in-Ok-compensate.ensures.asks)
 

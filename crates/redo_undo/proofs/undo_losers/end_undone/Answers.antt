@@ -25,10 +25,10 @@ loop-txn-preserved g c =
     let fewer = inv.fewer in
     record {
       works = beside_answered (beside_then inv.works c.in-Ok.ensures.works);
-      found_going = c.end_one.ensures.found_going;
+      found_going = c.end_one.ensures.found.going;
       before = c.in-Ok.ensures.before;
       rises = let before = inv.rises in let more = c.in-Ok.ensures.rises in omega (arith, before, more);
-      commits = c.end_one.ensures.commits ∙ inv.commits;
+      commits = c.end_one.ensures.found.commits ∙ inv.commits;
       blocks = let few = inv.blocks in let one = c.in-Ok.ensures.blocks in omega (arith, falls, few, one);
       fewer = omega (arith, falls, fewer);
       updates = λ pages newest records table commits going h.

@@ -23,10 +23,10 @@ loop-next-init g c =
     let few = c.in-Ok.ensures.blocks in
     record {
       works = works_answered (works_beside c.requires.going c.in-Ok.ensures.rises tt c.in-Ok.ensures.works);
-      found_going = c.end_undone.ensures.found_going;
+      found_going = c.end_undone.ensures.found.going;
       before = c.in-Ok.ensures.before;
       remain = c.in-Ok.ensures.remain;
-      commits = c.end_undone.ensures.commits;
+      commits = c.end_undone.ensures.found.commits;
       blocks = few;
       fewer = fewer;
       log_reads = omega (arith, fewer, c.end_undone.ensures.works.reads Log);
@@ -55,10 +55,10 @@ loop-next-preserved g c =
     let works = works_then inv.works c.in-Ok-undo_next.ensures.works in
     record {
       works = works_answered works;
-      found_going = c.undo_next.ensures.found_going;
+      found_going = c.undo_next.ensures.found.going;
       before = c.in-Ok-undo_next.ensures.before;
       remain = c.in-Ok-undo_next.ensures.remain;
-      commits = c.undo_next.ensures.commits ∙ inv.commits;
+      commits = c.undo_next.ensures.found.commits ∙ inv.commits;
       blocks = omega (arith, few, less);
       fewer = omega (arith, falls, fewer);
       log_reads = let reads = inv.log_reads in let one = c.undo_next.ensures.log_reads in omega (arith, falls, reads, one);

@@ -3,7 +3,7 @@ use Rattle.log_laws.specs.Analysis.{Unfinished}
 use Rattle.image_meaning.specs.Meaning.{kept_by}
 use Rattle.redo_undo.proofs.Found.{order, unfinished_loser, each_remains}
 use Rattle.redo_undo.specs.UndoWorks.{works_of}
-use Rattle.redo_undo.proofs.AskingUndo.{stops_again, ends_again}
+use Rattle.redo_undo.proofs.Asking.{asks_err, asks_ok}
 use Rattle.redo_undo.proofs.UndoneUpdates.{last_is_left, clr_updates}
 use Rattle.redo_undo.proofs.Calling.{keeps_answered, keeps_failed, works_answered, works_failed}
 use Rattle.redo_undo.proofs.undo_losers.undo_greatest.Goals as goal
@@ -18,7 +18,7 @@ returns-in-Err-clause-asks g c newest records table commits known u h last =
     let x : Unfinished = record { txn = c.args.loser.txn; last = c.args.loser.last; next = c.args.lsn; remaining = c.args.loser.remaining } in
     let standing = unfinished_loser c.found_laws.ensures c.undo_laws.ensures log pages site newest records table commits found h.holds h.analysis c.args.loser c.args.lsn c.requires.there c.requires.greatest in
     let left = last_is_left c.found_laws.ensures c.undo_laws.ensures log pages site newest records table commits found h.holds h.analysis c.args.loser.txn c.args.lsn u c.requires.greatest last in
-    stops_again c.in-Err.stop (works_of (u ∷ [])) pages c.undo_update.new.pages site new
+    asks_err c.in-Err.stop (works_of (u ∷ [])) pages c.undo_update.new.pages site new
     (c.in-Err.ensures.asks newest records table commits x u left.0 h.holds standing.0 (record { txn = refl; last = refl; next = refl }) left.1)
 
 pub returns-clause-asks : goal.returns-clause-asks
@@ -31,7 +31,7 @@ returns-clause-asks g c newest records table commits known u h last =
     let x : Unfinished = record { txn = c.args.loser.txn; last = c.args.loser.last; next = c.args.lsn; remaining = c.args.loser.remaining } in
     let standing = unfinished_loser c.found_laws.ensures c.undo_laws.ensures log pages site newest records table commits found h.holds h.analysis c.args.loser c.args.lsn c.requires.there c.requires.greatest in
     let left = last_is_left c.found_laws.ensures c.undo_laws.ensures log pages site newest records table commits found h.holds h.analysis c.args.loser.txn c.args.lsn u c.requires.greatest last in
-    ends_again c.in-Ok.now _ (works_of (u ∷ [])) pages c.undo_update.new.pages site new
+    asks_ok c.in-Ok.now _ (works_of (u ∷ [])) pages c.undo_update.new.pages site new
     (c.in-Ok.ensures.asks newest records table commits x u left.0 h.holds standing.0 (record { txn = refl; last = refl; next = refl }) left.1)
 
 pub returns-clause-updates : goal.returns-clause-updates

@@ -1,4 +1,4 @@
-use Rattle.std.proofs.Common.{◌∙◌, ◌++◌, [], ◌∷◌, ◌≤◌, inr, refl, ℕ, drop, sym, subst, arith}
+use Rattle.std.proofs.Common.{◌∙◌, ◌++◌, [], ◌∷◌, ◌≤◌, inr, refl, drop, sym, subst, arith, ℕ}
 use Rattle.analysis.specs.Open.{Open, Replaces, TakesOut}
 use Rattle.analysis.specs.Table.{listed}
 use Rattle.redo_undo.specs.UndoingAll.{Remain, HasNone}
@@ -11,9 +11,10 @@ use Rattle.redo_undo.specs.UndoWorks.{works_of, IsLastAt, UndoesUpdates}
 use Rattle.redo_undo.proofs.AskingUndo.{none_read, not_worn, never_worn, asks_refused, asks_before}
 use Rattle.redo_undo.proofs.UndoneUpdates.{more_updates}
 use Rattle.redo_undo.proofs.Opens.{some_owed}
-use Rattle.redo_undo.proofs.Calling.{ends_stop, err_as, keeps_few, keeps_then, works_at_once, works_beside, works_then}
+use Rattle.redo_undo.proofs.Calling.{ends_stop, keeps_few, keeps_then, works_at_once, works_beside, works_then}
 use Rattle.std.proofs.lemmas.Option.{none-some}
 use Rattle.site.specs.declared.outside.Dev.TheVariants.{Log}
+use Rattle.site.proofs.Working.{err_as}
 use Rattle.redo_undo.proofs.undo_losers.undo_next.Goals as goal
 
 pub returns-then-loser-gt1-clause-remain : goal.returns-then-loser-gt1-clause-remain
@@ -23,7 +24,7 @@ returns-then-loser-gt1-clause-remain g c =
 pub end_one-requires-clause-none : goal.end_one-requires-clause-none
 end_one-requires-clause-none g c =
     subst (HasNone (listed c.undo_greatest.new.found.table)) c.in-Some.ensures.named
-    (none_remains_of (listed c.args.found.now.table) (listed c.undo_greatest.new.found.table) c.in-Some.loser c.in-Ok.last c.requires.found c.undo_greatest.ensures.found_going c.in-Some.ensures.there (omega (arith, c.if-loser-gt1.false))
+    (none_remains_of (listed c.args.found.now.table) (listed c.undo_greatest.new.found.table) c.in-Some.loser c.in-Ok.last c.requires.found c.undo_greatest.ensures.found.going c.in-Some.ensures.there (omega (arith, c.if-loser-gt1.false))
     c.in-Ok.ensures.replaces)
 
 pub returns-clause-remain : goal.returns-clause-remain
@@ -32,7 +33,7 @@ returns-clause-remain g c =
     let mid = listed c.undo_greatest.new.found.table in
     let new = listed c.end_one.new.found.table in
     ok_one c.end_one.result (TakesOut mid new c.args.next.0) (Remain new)
-    (others_remain old mid new c.args.next.0 c.in-Ok.last c.undo_greatest.ensures.found_going c.requires.remain
+    (others_remain old mid new c.args.next.0 c.in-Ok.last c.undo_greatest.ensures.found.going c.requires.remain
     (subst (λ (t : ℕ). Replaces old mid t (λ (x : Open). record x { last = c.in-Ok.last; updates = drop 1 x.updates })) c.in-Some.ensures.named c.in-Ok.ensures.replaces))
     c.end_one.ensures.takes
 
@@ -107,7 +108,7 @@ pub returns-clause-keeps : goal.returns-clause-keeps
 returns-clause-keeps g c newest records table commits u h last =
     let first = c.in-Ok.ensures.updates newest records table commits c.args.known u h (subst (λ (t : ℕ). IsLastAt records t c.args.next.1 u) (sym c.in-Some.ensures.named) last) in
     let works = c.in-Ok.ensures.works in
-    let none = none_remains_of (listed c.args.found.now.table) (listed c.undo_greatest.new.found.table) c.in-Some.loser c.in-Ok.last c.requires.found c.undo_greatest.ensures.found_going c.in-Some.ensures.there (omega (arith, c.if-loser-gt1.false)) c.in-Ok.ensures.replaces in
+    let none = none_remains_of (listed c.args.found.now.table) (listed c.undo_greatest.new.found.table) c.in-Some.loser c.in-Ok.last c.requires.found c.undo_greatest.ensures.found.going c.in-Some.ensures.there (omega (arith, c.if-loser-gt1.false)) c.in-Ok.ensures.replaces in
     let some = some_owed (listed c.undo_greatest.new.found.table) c.in-Some.loser.txn none.x none.there in
     let less = c.in-Ok.ensures.owed in
     keeps_few (omega (arith, some, less)) (keeps_then h.holds.log_holds.ready.blocks.honest works.geometry works.geometry works.calls (c.in-Ok.ensures.keeps newest records table commits c.args.known h)

@@ -9,7 +9,7 @@ pub returns-in-Ok-clause-answers : goal.returns-in-Ok-clause-answers
 returns-in-Ok-clause-answers g c s fits =
     let old = g.S.Site.state c.args.site.now in
     let wanted = c.wants_checkpoint_to_begin-wanted.result in
-    first_then (Begin c.args.session) (c.wants_checkpoint_to_begin-wanted.ensures s old fits) (λ o. LeavesTable (sizes_of c.args.self.now.store) s.table s.commits old.told) c.works_add_up.ensures.works c.works_add_up.ensures.reads fits.honest
+    first_then (Begin c.args.session) (c.wants_checkpoint_to_begin-wanted.ensures s old fits) (λ o. LeavesTable (sizes_of c.args.self.now.store) s.table s.commits old.told) fits.honest
     (λ x p. p) (late_table c.in-Ok.ensures.serves.sizes) c.in-Ok.ensures.serves (c.in-Ok.ensures.does s fits) c.in-Ok.ensures.asks (c.begin_now.ensures.answers (checkpointed_if wanted s) (c.in-Ok.ensures.does s fits).after_fits)
 
 pub returns-in-Ok-clause-serves : goal.returns-in-Ok-clause-serves
@@ -18,7 +18,7 @@ returns-in-Ok-clause-serves g c = serves_then c.in-Ok.ensures.serves c.begin_now
 pub returns-in-Err-clause-answers : goal.returns-in-Err-clause-answers
 returns-in-Err-clause-answers g c s fits =
     let old = g.S.Site.state c.args.site.now in
-    first_failed (Begin c.args.session) (c.wants_checkpoint_to_begin-wanted.ensures s old fits) (λ o. LeavesTable (sizes_of c.args.self.now.store) s.table s.commits old.told) c.works_add_up.ensures.more c.works_add_up.ensures.overflow c.requires.going
+    first_failed (Begin c.args.session) (c.wants_checkpoint_to_begin-wanted.ensures s old fits) (λ o. LeavesTable (sizes_of c.args.self.now.store) s.table s.commits old.told) c.requires.going
     (λ x p. p) (c.in-Err.ensures.does s fits) c.in-Err.ensures.asks
 
 pub returns-in-Err-clause-serves : goal.returns-in-Err-clause-serves

@@ -1,13 +1,14 @@
 use Rattle.record_model.specs.State.{Session, writes_of}
 use Rattle.record_model.specs.Touches.{write_touch, CacheWork}
-use Rattle.engine.proofs.Asking.{asks_same, asks_ok, asks_err}
+use Rattle.redo_undo.proofs.Asking.{asks_same, asks_ok, asks_err}
 use Rattle.std.proofs.Common.{refl, sym, arith, ap, Option, Some, List, map, reverse, length}
 use Rattle.site.specs.Laws.{stays_honest}
 use Rattle.engine.specs.declared.engine.Engine.{Engine}
 use Rattle.engine.proofs.Owing.{owes, entry_is}
 use Rattle.engine.proofs.Actives.{some_active}
 use Rattle.engine.proofs.Aborts.{aborted_fits}
-use Rattle.engine.proofs.Calling.{does_of, keeps_answered, keeps_failed}
+use Rattle.engine.proofs.Calling.{does_of}
+use Rattle.redo_undo.proofs.StoreCalling.{keeps_answered, keeps_failed}
 use Rattle.engine.proofs.engine.Engine.carry_out_abort.Goals as goal
 
 pub roll_back-requires-clause-few : goal.roll_back-requires-clause-few

@@ -1,4 +1,4 @@
-use Rattle.engine.proofs.Asking.{asks_ok, asks_err}
+use Rattle.redo_undo.proofs.Asking.{asks_ok, asks_err}
 use Rattle.std.proofs.Common.{◌++◌, ◌∷◌, [], None, refl, arith}
 use Rattle.site.specs.Laws.{stays_honest}
 use Rattle.record_model.specs.State.{writes_of, reads_of}
@@ -6,7 +6,8 @@ use Rattle.engine.proofs.Meanings.{begins_late, fresh_behind}
 use Rattle.engine.proofs.Settings.{begin_at, may_begin}
 use Rattle.engine.proofs.Actives.{begun, none_active}
 use Rattle.engine.proofs.Locks.{locks_stay, at_set}
-use Rattle.engine.proofs.Calling.{does_of, keeps_failed, keeps_answered, serves_of, works_failed}
+use Rattle.engine.proofs.Calling.{does_of, serves_of}
+use Rattle.redo_undo.proofs.StoreCalling.{keeps_failed, keeps_answered, works_failed}
 use Rattle.engine.proofs.engine.Engine.carry_out_begin.Goals as goal
 
 pub returns-in-Err-clause-does : goal.returns-in-Err-clause-does
@@ -21,12 +22,12 @@ returns-clause-does g c s fits =
     let n = c.args.session in
     let going = c.requires.going in
     let behind = c.in-Ok.ensures.rises.0 in
-    let may = may_begin engine old s fits lsn behind c.requires.room going.store.blocks going.cap in
+    let may = may_begin engine old s fits lsn behind c.requires.may.room going.store.blocks going.cap in
     let fresh = fresh_behind engine.store old fits.newest fits.records s.table s.commits lsn fits.holds behind in
     let late = begins_late engine.store old fits.newest fits.records s.table s.commits lsn fits.holds behind in
-    let none = none_active fits.newest fits.records engine.active s fits.sessions n c.requires.absent in
+    let none = none_active fits.newest fits.records engine.active s fits.sessions n c.requires.may.absent in
     let count = fits.sessions.count in
-    let small = c.requires.session in
+    let small = c.requires.may.session in
     let made = c.in-Ok.ensures.works.made in
     let more = c.add.ensures.owed in
     does_of (omega arith) (record {
@@ -35,7 +36,7 @@ returns-clause-does g c s fits =
       records = fits.records ++ begin_at lsn ∷ [];
       holds = c.in-Ok.ensures.holds fits.newest fits.records s.table s.commits fits.holds may;
       counts = record { commits = fits.counts.commits; made = let before = fits.counts.made in omega (arith, made, before); cap = fits.counts.cap };
-      sessions = begun fits.newest fits.records engine.active c.add.new.active s n lsn engine.store.made _ fits.sessions small c.requires.absent c.add.ensures.entry (omega (arith, more)) fresh late refl refl fits.counts.made refl;
+      sessions = begun fits.newest fits.records engine.active c.add.new.active s n lsn engine.store.made _ fits.sessions small c.requires.may.absent c.add.ensures.entry (omega (arith, more)) fresh late refl refl fits.counts.made refl;
       locks_are = locks_stay engine.locks s _ (at_set writes_of s.sessions n _ None (omega (arith, small, count)) none refl) (at_set reads_of s.sessions n _ None (omega (arith, small, count)) none refl) fits.locks_are;
     })
     (keeps_answered (c.in-Ok.ensures.keeps fits.newest fits.records s.table s.commits fits.holds))

@@ -1,5 +1,5 @@
 use Rattle.std.specs.Prelude.{Ok}
-use Rattle.std.proofs.Common.{ℕ, Err, ◌≤◌, ◌+◌, List, refl, sym, subst, arith}
+use Rattle.std.proofs.Common.{Err, ◌≤◌, ◌+◌, List, refl, sym, subst, arith, ℕ}
 use Rattle.site.specs.Laws.{stays_honest}
 use Rattle.checkpoint.specs.declared.pairs.Pair.{Pair}
 use Rattle.image_meaning.specs.Flushed.{first_block}
@@ -7,12 +7,14 @@ use Rattle.redo_undo.specs.Holding as both
 use Rattle.redo_undo.specs.Holding.{blocks_to}
 use Rattle.redo_undo.specs.Checkpointing.{MayBeMade, begins_of}
 use Rattle.engine.specs.Going.{sizes_of}
-use Rattle.engine.specs.Holding.{HasCheckpoint}
+use Rattle.redo_undo.specs.Stores.{HasCheckpoint}
 use Rattle.engine.specs.Leaves.{LeavesTable}
 use Rattle.engine.proofs.Keeping.{LetsGo, lets_go}
 use Rattle.engine.proofs.Checkpoints.{may_be_made, goes_on, fits_after}
-use Rattle.engine.specs.Calls.{Keeps}
-use Rattle.engine.proofs.Calling.{calls_answered, does_of, keeps_answered, keeps_failed}
+use Rattle.redo_undo.specs.StoreCalls.{Keeps}
+use Rattle.engine.proofs.Calling.{does_of}
+use Rattle.site.proofs.Working.{calls_answered}
+use Rattle.redo_undo.proofs.StoreCalling.{keeps_answered, keeps_failed}
 use Rattle.engine.proofs.engine.Engine.carry_out_checkpoint.Goals as goal
 
 pub checkpoint-requires-clause-first : goal.checkpoint-requires-clause-first

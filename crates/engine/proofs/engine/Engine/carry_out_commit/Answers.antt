@@ -1,23 +1,19 @@
-use Rattle.engine.proofs.Asking.{asks_ok, asks_err}
+use Rattle.redo_undo.proofs.Asking.{asks_ok, asks_err}
 use Rattle.std.proofs.Common.{refl, arith, []}
 use Rattle.site.specs.Laws.{stays_honest}
 use Rattle.engine.proofs.Owing.{owes}
 use Rattle.engine.proofs.Commits.{may_commit, commits_either, committed_fits}
-use Rattle.engine.proofs.Calling.{does_of, keeps_failed, keeps_weaker, serves_of, works_failed}
+use Rattle.engine.proofs.Calling.{does_of, serves_of}
+use Rattle.redo_undo.proofs.StoreCalling.{keeps_failed, keeps_weaker, works_failed}
 use Rattle.engine.proofs.engine.Engine.carry_out_commit.Goals as goal
 
-pub seal_commit-requires-clause-room : goal.seal_commit-requires-clause-room
-seal_commit-requires-clause-room g c =
+pub seal_commit-requires-clause-may : goal.seal_commit-requires-clause-may
+seal_commit-requires-clause-may g c =
     let part = owes c.args.self.now.active c.args.entry.session c.args.entry c.requires.going.table c.requires.active in
     let room = c.requires.going.room in
     let cap = c.requires.going.cap in
-    omega (arith, part, room, cap)
-
-pub seal_commit-requires-clause-few : goal.seal_commit-requires-clause-few
-seal_commit-requires-clause-few g c =
-    let part = owes c.args.self.now.active c.args.entry.session c.args.entry c.requires.going.table c.requires.active in
     let bounded = c.requires.going.bounded in
-    omega (arith, part, bounded)
+    record { going = c.requires.going.store; room = omega (arith, part, room, cap); few = omega (arith, part, bounded) }
 
 pub returns-in-Err-clause-does : goal.returns-in-Err-clause-does
 returns-in-Err-clause-does g c s fits = does_of (omega arith) tt (keeps_weaker (commits_either c.args.self.now s c.args.entry fits c.requires.active) (keeps_failed (c.in-Err.ensures.keeps fits.newest fits.records s.table s.commits fits.holds (may_commit c.args.self.now (g.S.Site.state c.args.site.now) s c.args.entry fits c.requires.active))))

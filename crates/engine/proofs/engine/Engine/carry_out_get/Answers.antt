@@ -1,17 +1,17 @@
 use Rattle.redo_undo.specs.Works.{one_touch}
-use Rattle.engine.proofs.Asking.{asks_ok, asks_err}
+use Rattle.redo_undo.proofs.Asking.{asks_ok, asks_err}
 use Rattle.std.proofs.Common.{◌≡◌, ◌*◌, ◌<◌, None, sym, ap, ◌∙◌, arith, ◌/◌}
 use Rattle.site.specs.declared.geometry.Geometry.{Geometry}
 use Rattle.site.specs.Laws.{stays_honest}
 use Rattle.record_model.specs.State as model
-use Rattle.record_model.specs.State.{Content}
 use Rattle.record_model.specs.Step.{found}
 use Rattle.engine.specs.declared.engine.Engine.{Engine}
 use Rattle.engine.specs.Going.{sizes_of}
 use Rattle.engine.specs.Fits.{Fits}
 use Rattle.engine.proofs.Meanings.{busy_read_is, got_is}
 use Rattle.engine.proofs.Writes.{touched_fits}
-use Rattle.engine.proofs.Calling.{does_of, keeps_failed, keeps_answered, serves_of, works_failed}
+use Rattle.engine.proofs.Calling.{does_of, serves_of}
+use Rattle.redo_undo.proofs.StoreCalling.{keeps_failed, keeps_answered, works_failed}
 use Rattle.engine.proofs.engine.Engine.carry_out_get.Goals as goal
 
 pub returns-in-Ok-clause-reply : goal.returns-in-Ok-clause-reply
@@ -24,9 +24,9 @@ returns-in-Ok-clause-reply g c s fits =
     let mid : Engine = record engine { store = c.touch.new.self } in
     let fits_mid : Fits mid new s = touched_fits engine c.touch.new.self old new s fits (stays_honest old new c.touch.ensures.works.calls.goes fits.honest) holds c.touch.ensures.made in
     let same = ap (λ (x : Geometry). x.pages) c.touch.ensures.works.sizes in
-    let some = c.requires.number in
+    let some = c.requires.may.number in
     let less : number < 32 * (sizes_of c.touch.new.self).pages = omega (arith, same, some) in
-    let free : model.busy_read s None number ≡ None = sym (busy_read_is engine.locks s fits.locks_are None number) ∙ c.requires.free in
+    let free : model.busy_read s None number ≡ None = sym (busy_read_is engine.locks s fits.locks_are None number) ∙ c.requires.may.free in
     c.found.ensures ∙ ap found (c.shown.ensures.shown new fits.newest fits.records s.table s.commits holds ∙ sym (got_is mid new s fits_mid number c.requires.going.table less free))
 
 pub returns-in-Err-clause-does : goal.returns-in-Err-clause-does

@@ -1,18 +1,18 @@
 use Rattle.site.specs.declared.outside.Stop.TheVariants.{Memory}
 use Rattle.redo_undo.specs.Works.{one_touch}
-use Rattle.engine.proofs.Asking.{asks_ok, asks_err, asks_fails}
+use Rattle.redo_undo.proofs.Asking.{asks_ok, asks_err, asks_fails}
 use Rattle.std.proofs.Common.{◌≡◌, ◌*◌, ◌<◌, None, Some, sym, ap, ◌∙◌, arith, ◌/◌}
 use Rattle.site.specs.declared.geometry.Geometry.{Geometry}
 use Rattle.site.specs.Laws.{stays_honest}
 use Rattle.record_model.specs.State as model
-use Rattle.record_model.specs.State.{Content}
 use Rattle.engine.specs.declared.engine.Engine.{Engine}
 use Rattle.engine.specs.Going.{sizes_of}
 use Rattle.engine.specs.Fits.{Fits}
 use Rattle.engine.proofs.Meanings.{busy_read_is, seen_is}
 use Rattle.engine.proofs.Replies.{has}
 use Rattle.engine.proofs.Writes.{read_fits, touched_fits}
-use Rattle.engine.proofs.Calling.{does_of, keeps_failed, keeps_answered, keeps_no_memory, serves_of, works_failed, works_answered, works_no_memory}
+use Rattle.engine.proofs.Calling.{does_of, serves_of}
+use Rattle.redo_undo.proofs.StoreCalling.{keeps_failed, keeps_answered, keeps_no_memory, works_failed, works_answered, works_no_memory}
 use Rattle.engine.proofs.engine.Engine.carry_out_read.Goals as goal
 
 pub returns-in-Ok-add-clause-content : goal.returns-in-Ok-add-clause-content
@@ -25,11 +25,11 @@ returns-in-Ok-add-clause-content g c s fits =
     let mid : Engine = record engine { store = c.touch.new.self } in
     let fits_mid : Fits mid new s = touched_fits engine c.touch.new.self old new s fits (stays_honest old new c.touch.ensures.works.calls.goes fits.honest) holds c.touch.ensures.made in
     let same = ap (λ (x : Geometry). x.pages) c.touch.ensures.works.sizes in
-    let some = c.requires.number in
+    let some = c.requires.may.shown.number in
     let less : number < 32 * (sizes_of c.touch.new.self).pages = omega (arith, same, some) in
     let n = c.args.session in
-    let own = has _ c.requires.active in
-    let free : model.busy_read s (Some n) number ≡ None = sym (busy_read_is engine.locks s fits.locks_are (Some n) number) ∙ c.requires.free in
+    let own = has _ c.requires.may.active in
+    let free : model.busy_read s (Some n) number ≡ None = sym (busy_read_is engine.locks s fits.locks_are (Some n) number) ∙ c.requires.may.shown.free in
     c.shown.ensures.shown new fits.newest fits.records s.table s.commits holds ∙ sym (seen_is mid new s fits_mid n number own.own c.requires.going.table less own.is free)
 
 pub returns-in-Err-clause-does : goal.returns-in-Err-clause-does
@@ -48,9 +48,9 @@ returns-in-Ok-add-clause-does g c s fits =
     let mid : Engine = record engine { store = c.touch.new.self } in
     let fits_mid : Fits mid new s = touched_fits engine c.touch.new.self old new s fits (stays_honest old new c.touch.ensures.works.calls.goes fits.honest) holds c.touch.ensures.made in
     let same = ap (λ (x : Geometry). x.pages) c.touch.ensures.works.sizes in
-    let some = c.requires.number in
+    let some = c.requires.may.shown.number in
     let less : number < 32 * (sizes_of c.touch.new.self).pages = omega (arith, same, some) in
-    let own = has _ c.requires.active in
+    let own = has _ c.requires.may.active in
     does_of (omega arith) (read_fits mid c.add.new.self new s c.args.session number own.own fits_mid c.requires.going.table own.is c.in-Ok-add.ensures.ok)
     (keeps_answered (c.in-Ok.ensures.keeps fits.newest fits.records s.table s.commits fits.holds))
 

@@ -1,5 +1,8 @@
-use Rattle.std.proofs.Common.{map, ◌≡◌, ℕ, ◌+◌, refl, sym, ap, subst, ◌∙◌, arith, rules}
-use Rattle.std.specs.Prelude.{Ok}
+use Rattle.std.proofs.Common.{map, List, ◌*◌, ◌≡◌, ℕ, ◌+◌, refl, sym, ap, subst, ◌∙◌, arith, rules}
+use Rattle.std.specs.Prelude.{Ok, IsSome, ◌<◌}
+use Rattle.site.specs.declared.geometry.Geometry.{Geometry}
+use Rattle.txn_table.specs.declared.active.Active.{Active}
+use Rattle.txn_table.specs.Entries.{entry_of}
 use Rattle.std.specs.List.{range_with_len}
 use Rattle.record_model.specs.State.{State}
 use Rattle.record_model.specs.Touches.{read_touch}
@@ -8,9 +11,10 @@ use Rattle.engine.specs.Fits.{with_reads}
 use Rattle.engine.specs.Leaves.{LeavesTable}
 use Rattle.engine.specs.Scans.{items_seen}
 use Rattle.engine.specs.Calls.{Does}
-use Rattle.engine.proofs.Asking.{asks_same, asks_ok, asks_fails, scan_more, scan_stops, memory_only, has_group, no_asks}
+use Rattle.engine.proofs.Asking.{scan_more, scan_stops, memory_only, has_group}
 use Rattle.engine.proofs.Scans.{free_at, still_busy, reads_none, reads_more, range_more, items_next}
 use Rattle.engine.proofs.Calling.{does_nothing, does_answered, does_failed, does_then, does_no_memory, late_table, serves_nothing, serves_answered, serves_then, serves_failed, serves_no_memory, still}
+use Rattle.redo_undo.proofs.Asking.{asks_same, asks_ok, asks_fails, no_asks}
 use Rattle.engine.proofs.engine.Engine.carry_out_scan.Goals as goal
 
 pub loop-offset-init : goal.loop-offset-init
@@ -26,10 +30,18 @@ loop-offset-init g c =
       asks = no_asks c.args.self.now.store.pages old;
     }
 
-pub carry_out_read-requires-clause-free : goal.carry_out_read-requires-clause-free
-carry_out_read-requires-clause-free g c =
-    c.loop-offset.invariant.busy (c.args.number + c.loop-offset.offset)
-    ∙ free_at c.args.self.now.locks c.args.session c.args.number c.args.count c.loop-offset.offset c.loop-offset-test.true c.requires.free
+pub carry_out_read-requires-clause-may : goal.carry_out_read-requires-clause-may
+carry_out_read-requires-clause-may g c =
+    let inv = c.loop-offset.invariant in
+    let there = c.requires.may.there in
+    record {
+      session = c.requires.may.session;
+      active = subst (λ (l : List Active). IsSome (entry_of l c.args.session)) (sym inv.active) c.requires.may.active;
+      shown = record {
+        number = subst (λ (k : Geometry). c.args.number + c.loop-offset.offset < 32 * k.pages) (sym inv.serves.sizes) (omega (arith, there, c.loop-offset-test.true));
+        free = inv.busy (c.args.number + c.loop-offset.offset) ∙ free_at c.args.self.now.locks c.args.session c.args.number c.args.count c.loop-offset.offset c.loop-offset-test.true c.requires.may.free;
+      };
+    }
 
 pub loop-offset-preserved : goal.loop-offset-preserved
 loop-offset-preserved g c =
@@ -39,7 +51,7 @@ loop-offset-preserved g c =
     let inv = c.loop-offset.invariant in
     let number = c.args.number in
     let offset = c.loop-offset.offset in
-    let eight = c.requires.session in
+    let eight = c.requires.may.session in
     record {
       serves = serves_answered (serves_then inv.serves c.in-Ok.ensures.serves);
       active = c.carry_out_read.ensures.active ∙ inv.active;
@@ -54,7 +66,7 @@ loop-offset-preserved g c =
           let count = fits.sessions.count in
           items_next s c.args.session number offset c.loop-offset.items c.add_item.new.items _ (omega (arith, eight, count)) (inv.items s fits)
           (c.in-Ok.ensures.content (with_reads s c.args.session (range_with_len number offset)) (inv.does s fits).after_fits) c.in-Ok-add_item.ensures.items;
-      asks = scan_more c.works_add_up.ensures.works c.works_add_up.ensures.reads tt (Ok tt) number offset _ _ _ old mid new inv.asks (asks_ok c.in-Ok.content tt _ _ _ _ _ c.in-Ok.ensures.asks);
+      asks = scan_more tt (Ok tt) number offset _ _ _ old mid new inv.asks (asks_ok c.in-Ok.content tt _ _ _ _ _ c.in-Ok.ensures.asks);
     }
 
 pub returns-in-Err-clause-does : goal.returns-in-Err-clause-does
@@ -91,14 +103,14 @@ returns-clause-items g c s fits =
 pub returns-in-Err-clause-asks : goal.returns-in-Err-clause-asks
 returns-in-Err-clause-asks g c =
     let inv = c.loop-offset.invariant in
-    scan_stops c.works_add_up.ensures.more c.works_add_up.ensures.overflow c.in-Err.stop c.args.number c.loop-offset.offset c.args.count _ _ _ _ (has_group c.requires.going) c.loop-offset-test.true
-    (scan_more c.works_add_up.ensures.works c.works_add_up.ensures.reads tt _ c.args.number c.loop-offset.offset _ _ _ _ _ _ inv.asks c.in-Err.ensures.asks)
+    scan_stops c.in-Err.stop c.args.number c.loop-offset.offset c.args.count _ _ _ _ (has_group c.requires.going) c.loop-offset-test.true
+    (scan_more tt _ c.args.number c.loop-offset.offset _ _ _ _ _ _ inv.asks c.in-Err.ensures.asks)
 
 pub returns-in-Err-add_item-clause-asks : goal.returns-in-Err-add_item-clause-asks
 returns-in-Err-add_item-clause-asks g c =
     let inv = c.loop-offset.invariant in
-    scan_stops c.works_add_up.ensures.more c.works_add_up.ensures.overflow c.in-Err-add_item.stop c.args.number c.loop-offset.offset c.args.count _ _ _ _ (has_group c.requires.going) c.loop-offset-test.true
-    (scan_more c.works_add_up.ensures.works c.works_add_up.ensures.reads tt _ c.args.number c.loop-offset.offset _ _ _ _ _ _ inv.asks
+    scan_stops c.in-Err-add_item.stop c.args.number c.loop-offset.offset c.args.count _ _ _ _ (has_group c.requires.going) c.loop-offset-test.true
+    (scan_more tt _ c.args.number c.loop-offset.offset _ _ _ _ _ _ inv.asks
     (asks_fails {B = Unit {0}} c.in-Ok.content c.in-Err-add_item.stop _ _ _ _ _ (memory_only c.in-Err-add_item.stop c.in-Err-add_item.ensures.stops) c.in-Ok.ensures.asks))
 
 pub returns-clause-asks : goal.returns-clause-asks

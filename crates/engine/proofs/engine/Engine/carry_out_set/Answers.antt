@@ -1,5 +1,4 @@
 use Rattle.redo_undo.specs.Works.{one_change}
-use Rattle.engine.proofs.Asking.{asks_err, asks_then}
 use Rattle.std.proofs.Common.{◌≡◌, ℕ, ◌+◌, ◌∷◌, sym, ap, subst, ◌∙◌, arith, ◌/◌, []}
 use Rattle.site.specs.declared.geometry.Geometry.{Geometry}
 use Rattle.site.specs.Laws.{stays_honest}
@@ -10,7 +9,9 @@ use Rattle.engine.specs.declared.engine.Engine.{Engine}
 use Rattle.engine.specs.Going.{sizes_of}
 use Rattle.engine.proofs.Settings.{may_commit_one, set_fits}
 use Rattle.engine.proofs.Apart.{AreApart}
-use Rattle.engine.proofs.Calling.{works_then, works_failed, keeps_then, keeps_weaker, keeps_failed, early, late_commit, serves_of, does_of}
+use Rattle.engine.proofs.Calling.{early, late_commit, serves_of, does_of}
+use Rattle.redo_undo.proofs.StoreCalling.{works_then, works_failed, keeps_then, keeps_weaker, keeps_failed}
+use Rattle.redo_undo.proofs.Asking.{asks_err, asks_then}
 use Rattle.engine.proofs.engine.Engine.carry_out_set.Goals as goal
 
 pub returns-in-Err-clause-does : goal.returns-in-Err-clause-does
@@ -77,7 +78,7 @@ returns-in-Ok-seal_commit-clause-serves g c =
     let below = going.store.blocks in
     let cap = going.cap in
     let few = going.store.both.pages_going.flash.limits.few_blocks in
-    let room = c.requires.room in
+    let room = c.requires.may.room in
     serves_of (works_then c.in-Ok.ensures.works c.in-Ok-seal_commit.ensures.works) (record {
       store = c.in-Ok-seal_commit.ensures.works.going;
       going = ap (λ (x : Engine). x.ended) engine_is ∙ going.going;
@@ -96,7 +97,7 @@ pub returns-in-Err-clause-asks : goal.returns-in-Err-clause-asks
 returns-in-Err-clause-asks g c = asks_err c.in-Err.stop (one_change (c.args.number / 32)) _ _ _ _ c.in-Err.ensures.asks
 
 pub returns-in-Err-seal_commit-clause-asks : goal.returns-in-Err-seal_commit-clause-asks
-returns-in-Err-seal_commit-clause-asks g c = asks_then c.works_add_up.ensures.works c.works_add_up.ensures.reads c.in-Ok.txn _ (one_change (c.args.number / 32)) [] _ _ _ _ _ _ c.in-Ok.ensures.asks c.in-Err-seal_commit.ensures.asks
+returns-in-Err-seal_commit-clause-asks g c = asks_then c.in-Ok.txn _ (one_change (c.args.number / 32)) [] _ _ _ _ _ _ c.in-Ok.ensures.asks c.in-Err-seal_commit.ensures.asks
 
 pub returns-in-Ok-seal_commit-clause-asks : goal.returns-in-Ok-seal_commit-clause-asks
-returns-in-Ok-seal_commit-clause-asks g c = asks_then c.works_add_up.ensures.works c.works_add_up.ensures.reads c.in-Ok.txn _ (one_change (c.args.number / 32)) [] _ _ _ _ _ _ c.in-Ok.ensures.asks c.in-Ok-seal_commit.ensures.asks
+returns-in-Ok-seal_commit-clause-asks g c = asks_then c.in-Ok.txn _ (one_change (c.args.number / 32)) [] _ _ _ _ _ _ c.in-Ok.ensures.asks c.in-Ok-seal_commit.ensures.asks

@@ -1,5 +1,5 @@
 use Rattle.site.specs.declared.outside.Stop.TheVariants.{Memory}
-use Rattle.engine.proofs.Asking.{touch_stops, change_asks, change_stops, has_group, not_worn}
+use Rattle.engine.proofs.Asking.{has_group}
 use Rattle.std.proofs.Common.{◌≡◌, ◌+◌, ◌*◌, ◌<◌, ◌≤◌, ⊎_elim, refl, sym, ap, subst, ◌∙◌, arith, ◌/◌}
 use Rattle.std.proofs.lemmas.Option.{same_Some}
 use Rattle.std.proofs.lemmas.Bool.{cases_eq}
@@ -10,13 +10,16 @@ use Rattle.site.specs.declared.geometry.Geometry.{Geometry}
 use Rattle.site.specs.Laws.{stays_honest, goes_in_sequence}
 use Rattle.engine.specs.declared.engine.Engine.{Engine}
 use Rattle.engine.specs.Going.{sizes_of}
-use Rattle.engine.specs.Holding.{shown_in}
+use Rattle.redo_undo.specs.Stores.{shown_in}
 use Rattle.engine.specs.Fits.{Fits}
 use Rattle.redo_undo.specs.Holding.{blocks_to}
 use Rattle.engine.proofs.Owing.{entry_is, owes}
 use Rattle.engine.proofs.Writes.{touched_fits, may_write, write_fits}
 use Rattle.engine.proofs.Apart.{below_wrote, apart_wrote}
-use Rattle.engine.proofs.Calling.{does_of, works_then, works_failed, works_answered, works_no_memory, keeps_failed, keeps_answered, keeps_both, keeps_no_memory, serves_of}
+use Rattle.engine.proofs.Calling.{does_of, serves_of}
+use Rattle.redo_undo.proofs.StoreCalling.{works_then, works_failed, works_answered, works_no_memory, keeps_failed, keeps_answered, keeps_both, keeps_no_memory}
+use Rattle.std.specs.Prelude.{Err}
+use Rattle.redo_undo.proofs.AskingUndo.{change_stopped, change_made, never_worn}
 use Rattle.engine.proofs.engine.Engine.carry_out_write.Goals as goal
 
 pub add-requires : goal.add-requires
@@ -25,7 +28,7 @@ add-requires g c = (entry_is c.args.self.now.active c.args.entry.session c.args.
 pub wrote-requires-clause-room : goal.wrote-requires-clause-room
 wrote-requires-clause-room g c =
     let part = owes c.args.self.now.active c.args.entry.session c.args.entry c.requires.going.table c.requires.active in
-    let room = c.requires.room in
+    let room = c.requires.may.room in
     let cap = c.requires.going.cap in
     let few = c.requires.going.store.both.pages_going.flash.limits.few_blocks in
     omega (arith, part, room, cap, few)
@@ -50,7 +53,7 @@ returns-in-Ok-update-clause-does g c s fits =
     let mid : Engine = record engine { store = c.touch.new.self } in
     let fits_mid : Fits mid new s = touched_fits engine c.touch.new.self old new s fits (stays_honest old new c.touch.ensures.works.calls.goes fits.honest) holds c.touch.ensures.made in
     let same = ap (λ (x : Geometry). x.pages) c.touch.ensures.works.sizes in
-    let some = c.requires.number in
+    let some = c.requires.may.number in
     let less : number < 32 * (sizes_of c.touch.new.self).pages = omega (arith, same, some) in
     let entry = c.args.entry in
     let going = c.requires.going in
@@ -62,8 +65,8 @@ returns-in-Ok-update-clause-does g c s fits =
     let few = going.store.blocks in
     let count = ap (λ (x : Geometry). x.blocks) c.touch.ensures.works.sizes in
     let cap = going.cap in
-    let room = c.requires.room in
-    let may = may_write mid new s fits_mid entry number lsn after going.table c.requires.active less c.requires.free (omega (arith, made, room)) (let kept = c.touch.ensures.works.kept in omega (arith, blocks, few, made, kept)) (omega (arith, cap, count)) in
+    let room = c.requires.may.room in
+    let may = may_write mid new s fits_mid entry number lsn after going.table c.requires.active less c.requires.may.free (omega (arith, made, room)) (let kept = c.touch.ensures.works.kept in omega (arith, blocks, few, made, kept)) (omega (arith, cap, count)) in
     does_of (omega arith)
     (write_fits mid _ new last s entry number lsn (shown_in c.touch.new.self new fits.records number) after fits_mid going.table c.requires.active
     (stays_honest old last (goes_in_sequence old new last c.touch.ensures.works.calls.goes c.update.ensures.works.calls.goes) fits.honest)
@@ -92,7 +95,7 @@ returns-in-Ok-update-clause-serves g c =
     let made_before = c.touch.ensures.made in
     let made = c.in-Ok-update.ensures.works.made in
     let owed_is = c.wrote.ensures.owed in
-    let room = c.requires.room in
+    let room = c.requires.may.room in
     let below = going.store.blocks in
     let cap = going.cap in
     let few = going.store.both.pages_going.flash.limits.few_blocks in
@@ -120,17 +123,16 @@ returns-in-Ok-update-clause-serves g c =
     })
 
 pub returns-in-Err-clause-asks : goal.returns-in-Err-clause-asks
-returns-in-Err-clause-asks g c = touch_stops c.changes_cost_a_touch.ensures.reads c.changes_cost_a_touch.ensures.overflow c.in-Err.stop (c.args.number / 32) _ _ _ _ (has_group c.requires.going) c.in-Err.ensures.asks
+returns-in-Err-clause-asks g c = change_stopped c.in-Err.stop (c.args.number / 32) _ _ _ _ (has_group c.requires.going) c.in-Err.ensures.asks
 
 pub returns-in-Err-add-clause-asks : goal.returns-in-Err-add-clause-asks
 returns-in-Err-add-clause-asks g c =
-    change_stops c.changes_cost_a_touch.ensures.reads c.in-Ok.field-0 Memory (c.args.number / 32) _ _ _ _ _ _ (has_group c.requires.going) (λ is. cc) (λ dev. refl) refl c.in-Ok.ensures.asks
+    change_made c.in-Ok.field-0 (Err Memory) (c.args.number / 32) _ _ _ _ _ _ (has_group c.requires.going) c.touch_then_change.ensures c.in-Ok.ensures.asks tt refl (λ dev. refl) (λ is. cc)
 
 pub returns-in-Err-update-clause-asks : goal.returns-in-Err-update-clause-asks
 returns-in-Err-update-clause-asks g c =
-    change_stops c.changes_cost_a_touch.ensures.reads c.in-Ok.field-0 c.in-Err-update.stop (c.args.number / 32) _ _ _ _ _ _ (has_group c.requires.going) (not_worn c.in-Err-update.stop c.in-Err-update.ensures.stops) c.update.ensures.reads c.update.ensures.rules_stay
-    c.in-Ok.ensures.asks
+    change_made c.in-Ok.field-0 (Err c.in-Err-update.stop) (c.args.number / 32) _ _ _ _ _ _ (has_group c.requires.going) c.touch_then_change.ensures c.in-Ok.ensures.asks tt c.update.ensures.rules_stay c.update.ensures.reads (never_worn (Err c.in-Err-update.stop) c.in-Err-update.ensures.stops)
 
 pub returns-in-Ok-update-clause-asks : goal.returns-in-Ok-update-clause-asks
 returns-in-Ok-update-clause-asks g c =
-    change_asks c.touch_then_change.ensures c.changes_cost_a_touch.ensures.reads c.in-Ok.field-0 _ (c.args.number / 32) _ _ _ _ _ _ (has_group c.requires.going) c.update.ensures.reads c.in-Ok-update.ensures.machine c.update.ensures.rules_stay c.in-Ok.ensures.asks
+    change_made c.in-Ok.field-0 _ (c.args.number / 32) _ _ _ _ _ _ (has_group c.requires.going) c.touch_then_change.ensures c.in-Ok.ensures.asks c.in-Ok-update.ensures.machine c.update.ensures.rules_stay c.update.ensures.reads (λ is. cc)

@@ -1,5 +1,5 @@
 use Rattle.std.proofs.Common.{refl, arith}
-use Rattle.engine.proofs.Asking.{asks_ok, asks_err}
+use Rattle.redo_undo.proofs.Asking.{asks_ok, asks_err}
 use Rattle.engine.proofs.Calling.{does_answered, does_failed, serves_answered, serves_failed}
 use Rattle.engine.proofs.engine.Engine.checkpoint.Goals as goal
 

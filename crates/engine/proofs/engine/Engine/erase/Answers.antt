@@ -1,7 +1,7 @@
-use Rattle.std.proofs.Common.{ℕ, Some, ap, ◌∙◌, refl, arith}
-use Rattle.lock_table.specs.Locks.{busy_write}
+use Rattle.std.proofs.Common.{subst, sym, Some, ap, ◌∙◌, refl, arith, ℕ}
+use Rattle.engine.specs.Permits.{MayWrite}
 use Rattle.txn_table.specs.Entries.{entry_of}
-use Rattle.engine.proofs.Moments.{err_again}
+use Rattle.site.proofs.Working.{err_again}
 use Rattle.engine.proofs.Owing.{entry_is}
 use Rattle.engine.proofs.Calling.{answered, written, does_nothing, does_failed, asks_rest, still}
 use Rattle.engine.proofs.engine.Engine.erase.Goals as goal
@@ -11,10 +11,10 @@ carry_out_write-requires-clause-active g c =
     let engine = c.args.self.now in
     ap (entry_of engine.active) (entry_is engine.active c.args.session c.entry-entry.result c.requires.going.table c.entry-entry.ensures).session ∙ c.entry-entry.ensures
 
-pub carry_out_write-requires-clause-free : goal.carry_out_write-requires-clause-free
-carry_out_write-requires-clause-free g c =
+pub carry_out_write-requires-clause-may : goal.carry_out_write-requires-clause-may
+carry_out_write-requires-clause-may g c =
     let engine = c.args.self.now in
-    ap (λ (n : ℕ). busy_write engine.locks (Some n) c.args.number) (entry_is engine.active c.args.session c.entry-entry.result c.requires.going.table c.entry-entry.ensures).session ∙ c.in_default.ensures.free
+    subst (λ (n : ℕ). MayWrite engine (Some n) c.args.number 2) (sym (entry_is engine.active c.args.session c.entry-entry.result c.requires.going.table c.entry-entry.ensures).session) c.in_default.ensures.may
 
 pub returns-in-Some-clause-answers : goal.returns-in-Some-clause-answers
 returns-in-Some-clause-answers g c s fits =

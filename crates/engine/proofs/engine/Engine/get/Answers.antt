@@ -1,5 +1,5 @@
 use Rattle.std.proofs.Common.{refl, arith}
-use Rattle.engine.proofs.Moments.{err_again}
+use Rattle.site.proofs.Working.{err_again}
 use Rattle.engine.proofs.Calling.{answered, does_nothing, does_failed, asks_rest, still}
 use Rattle.engine.proofs.engine.Engine.get.Goals as goal
 

@@ -1,22 +1,14 @@
-use Rattle.std.proofs.Common.{◌≡◌, ℕ, ◌∙◌, [], ◌∷◌, Option, None, Some, refl, sym, ap, rules}
+use Rattle.std.proofs.Common.{◌≡◌, ◌∙◌, [], ◌∷◌, None, Some, refl, sym, ap, rules}
 use Rattle.std.specs.Prelude.{option_map}
-use Rattle.std.proofs.lemmas.Option.{none-some}
 use Rattle.record_model.specs.Step.{first_refusal, may_read}
 use Rattle.record_model.specs.declared.words.Command.TheVariants.{Get}
 use Rattle.record_model.specs.declared.words.Reply.TheVariants as reply
-use Rattle.engine.proofs.Replies.{refused, carried_out, has_record, lacks_record}
+use Rattle.engine.proofs.Replies.{refused, carried_out, has_record, lacks_record, none_busy}
 use Rattle.engine.proofs.Meanings.{busy_read_is}
 use Rattle.engine.proofs.engine.Engine.get_refusal.Goals as goal
 
-none_busy : (o : Option ℕ) → option_map reply.Busy o ≡ None → o ≡ None
-none_busy None is = refl
-none_busy (Some n) is = absurd (some_none is)
-  where
-    some_none : option_map reply.Busy (Some n) ≡ None → ⊥
-    some_none e = none-some (reply.Busy n) (sym e)
-
-pub returns-clause-free : goal.returns-clause-free
-returns-clause-free c = none_busy _ (sym c.read_busy.ensures ∙ c.in_default.is)
+pub returns-clause-may : goal.returns-clause-may
+returns-clause-may c = record { number = search rules; free = none_busy _ (sym c.read_busy.ensures ∙ c.in_default.is) }
 
 pub returns-then-lacks-clause-refused : goal.returns-then-lacks-clause-refused
 returns-then-lacks-clause-refused c s site fits =

@@ -1,10 +1,13 @@
 use Rattle.redo_undo.specs.Works.{one_change}
-use Rattle.engine.proofs.Asking.{asks_then, touch_stops, change_asks, change_stops, asks_stopped, has_group, store_has_group, not_worn}
+use Rattle.engine.proofs.Asking.{has_group, store_has_group}
 use Rattle.std.proofs.Common.{◌++◌, ◌∷◌, [], ◌∙◌, arith, ◌/◌}
 use Rattle.record_model.specs.State.{Content}
-use Rattle.engine.specs.Holding.{shown_in}
-use Rattle.engine.proofs.Calling.{works_then, works_before, works_stopped, works_answered, keeps_both, keeps_before, keeps_answered}
+use Rattle.redo_undo.specs.Stores.{shown_in}
+use Rattle.redo_undo.proofs.StoreCalling.{works_then, works_before, works_stopped, works_answered, keeps_both, keeps_before, keeps_answered}
 use Rattle.engine.proofs.Settings.{begin_at, may_begin, may_update, one_write}
+use Rattle.redo_undo.proofs.Asking.{asks_then, asks_stopped}
+use Rattle.std.specs.Prelude.{Err}
+use Rattle.redo_undo.proofs.AskingUndo.{change_stopped, change_made, never_worn}
 use Rattle.engine.proofs.engine.Engine.log_set.Goals as goal
 
 pub returns-in-Err-clause-works : goal.returns-in-Err-clause-works
@@ -27,7 +30,7 @@ returns-in-Err-touch-clause-keeps g c s fits =
     let engine = c.args.self.now in
     let old = g.S.Site.state c.args.site.now in
     let going = c.requires.going in
-    let room = c.requires.room in
+    let room = c.requires.may.room in
     let behind = c.in-Ok.ensures.rises.0 in
     let log = fits.records ++ begin_at c.in-Ok.txn ∷ [] in
     let may = may_begin engine old s fits c.in-Ok.txn behind (omega (arith, room)) going.store.blocks going.cap in
@@ -39,7 +42,7 @@ returns-in-Err-update-clause-keeps g c s fits =
     let engine = c.args.self.now in
     let old = g.S.Site.state c.args.site.now in
     let going = c.requires.going in
-    let room = c.requires.room in
+    let room = c.requires.may.room in
     let behind = c.in-Ok.ensures.rises.0 in
     let log = fits.records ++ begin_at c.in-Ok.txn ∷ [] in
     let may = may_begin engine old s fits c.in-Ok.txn behind (omega (arith, room)) going.store.blocks going.cap in
@@ -53,7 +56,7 @@ returns-in-Ok-update-clause-keeps g c s fits =
     let engine = c.args.self.now in
     let old = g.S.Site.state c.args.site.now in
     let going = c.requires.going in
-    let room = c.requires.room in
+    let room = c.requires.may.room in
     let behind = c.in-Ok.ensures.rises.0 in
     let log = fits.records ++ begin_at c.in-Ok.txn ∷ [] in
     let may = may_begin engine old s fits c.in-Ok.txn behind (omega (arith, room)) going.store.blocks going.cap in
@@ -67,7 +70,7 @@ returns-in-Ok-update-clause-logged g c s fits =
     let engine = c.args.self.now in
     let old = g.S.Site.state c.args.site.now in
     let going = c.requires.going in
-    let room = c.requires.room in
+    let room = c.requires.may.room in
     let behind = c.in-Ok.ensures.rises.0 in
     let log = fits.records ++ begin_at c.in-Ok.txn ∷ [] in
     let may = may_begin engine old s fits c.in-Ok.txn behind (omega (arith, room)) going.store.blocks going.cap in
@@ -81,27 +84,25 @@ returns-in-Ok-update-clause-logged g c s fits =
     let blocks = c.in-Ok.ensures.works.blocks in
     let same = c.in-Ok-touch.ensures.blocks in
     let before : Content = shown_in c.touch.new.self two log number in
-    let may = may_update engine old s number fits going.table c.requires.number c.requires.room going.store.blocks going.cap c.requires.free txn behind c.touch.new.self two lsn after (c.touch.ensures.works.sizes ∙ c.begin.ensures.works.sizes) (c.touch.ensures.works.kept ∙ c.begin.ensures.works.kept) (omega (arith, blocks, same)) in
-    one_write engine old s number fits going.table c.requires.number c.requires.room going.store.blocks going.cap c.requires.free txn behind c.update.new.self (g.S.Site.state c.update.new.site) lsn before after
+    let may = may_update engine old s number fits going.table c.requires.may.number c.requires.may.room going.store.blocks going.cap c.requires.may.free txn behind c.touch.new.self two lsn after (c.touch.ensures.works.sizes ∙ c.begin.ensures.works.sizes) (c.touch.ensures.works.kept ∙ c.begin.ensures.works.kept) (omega (arith, blocks, same)) in
+    one_write engine old s number fits going.table c.requires.may.number c.requires.may.room going.store.blocks going.cap c.requires.may.free txn behind c.update.new.self (g.S.Site.state c.update.new.site) lsn before after
     (c.in-Ok-update.ensures.holds fits.newest log s.table s.commits held may)
 
 pub returns-in-Err-clause-asks : goal.returns-in-Err-clause-asks
 returns-in-Err-clause-asks g c =
-    asks_stopped c.works_add_up.ensures.more c.works_add_up.ensures.overflow c.in-Err.stop [] (one_change (c.args.number / 32)) _ _ _ _ (has_group c.requires.going) c.in-Err.ensures.asks
+    asks_stopped c.in-Err.stop [] (one_change (c.args.number / 32)) _ _ _ _ (has_group c.requires.going) c.in-Err.ensures.asks
 
 pub returns-in-Err-touch-clause-asks : goal.returns-in-Err-touch-clause-asks
 returns-in-Err-touch-clause-asks g c =
-    asks_then c.works_add_up.ensures.works c.works_add_up.ensures.reads c.in-Ok.txn _ [] (one_change (c.args.number / 32)) _ _ _ _ _ _ c.in-Ok.ensures.asks
-    (touch_stops c.changes_cost_a_touch.ensures.reads c.changes_cost_a_touch.ensures.overflow c.in-Err-touch.stop (c.args.number / 32) _ _ _ _ (store_has_group c.in-Ok.ensures.works.going) c.in-Err-touch.ensures.asks)
+    asks_then c.in-Ok.txn _ [] (one_change (c.args.number / 32)) _ _ _ _ _ _ c.in-Ok.ensures.asks
+    (change_stopped c.in-Err-touch.stop (c.args.number / 32) _ _ _ _ (store_has_group c.in-Ok.ensures.works.going) c.in-Err-touch.ensures.asks)
 
 pub returns-in-Err-update-clause-asks : goal.returns-in-Err-update-clause-asks
 returns-in-Err-update-clause-asks g c =
-    asks_then c.works_add_up.ensures.works c.works_add_up.ensures.reads c.in-Ok.txn _ [] (one_change (c.args.number / 32)) _ _ _ _ _ _ c.in-Ok.ensures.asks
-    (change_stops c.changes_cost_a_touch.ensures.reads c.in-Ok-touch.field-0 c.in-Err-update.stop (c.args.number / 32) _ _ _ _ _ _ (store_has_group c.in-Ok.ensures.works.going) (not_worn c.in-Err-update.stop c.in-Err-update.ensures.stops) c.update.ensures.reads c.update.ensures.rules_stay
-    c.in-Ok-touch.ensures.asks)
+    asks_then c.in-Ok.txn _ [] (one_change (c.args.number / 32)) _ _ _ _ _ _ c.in-Ok.ensures.asks
+    (change_made c.in-Ok-touch.field-0 (Err c.in-Err-update.stop) (c.args.number / 32) _ _ _ _ _ _ (store_has_group c.in-Ok.ensures.works.going) c.touch_then_change.ensures c.in-Ok-touch.ensures.asks tt c.update.ensures.rules_stay c.update.ensures.reads (never_worn (Err c.in-Err-update.stop) c.in-Err-update.ensures.stops))
 
 pub returns-in-Ok-update-clause-asks : goal.returns-in-Ok-update-clause-asks
 returns-in-Ok-update-clause-asks g c =
-    asks_then c.works_add_up.ensures.works c.works_add_up.ensures.reads c.in-Ok.txn _ [] (one_change (c.args.number / 32)) _ _ _ _ _ _ c.in-Ok.ensures.asks
-    (change_asks c.touch_then_change.ensures c.changes_cost_a_touch.ensures.reads c.in-Ok-touch.field-0 _ (c.args.number / 32) _ _ _ _ _ _ (store_has_group c.in-Ok.ensures.works.going) c.update.ensures.reads c.in-Ok-update.ensures.machine c.update.ensures.rules_stay
-    c.in-Ok-touch.ensures.asks)
+    asks_then c.in-Ok.txn _ [] (one_change (c.args.number / 32)) _ _ _ _ _ _ c.in-Ok.ensures.asks
+    (change_made c.in-Ok-touch.field-0 _ (c.args.number / 32) _ _ _ _ _ _ (store_has_group c.in-Ok.ensures.works.going) c.touch_then_change.ensures c.in-Ok-touch.ensures.asks c.in-Ok-update.ensures.machine c.update.ensures.rules_stay c.update.ensures.reads (λ is. cc))

@@ -1,7 +1,7 @@
 use Rattle.std.proofs.Common.{refl, ap, ◌∙◌, arith, true}
 use Rattle.record_model.specs.Step.{found}
-use Rattle.engine.proofs.Moments.{err_again}
-use Rattle.engine.proofs.Asking.{asks_ok, asks_err}
+use Rattle.site.proofs.Working.{err_again}
+use Rattle.redo_undo.proofs.Asking.{asks_ok, asks_err}
 use Rattle.engine.proofs.Calling.{answered, does_nothing, does_answered, does_failed, asks_rest, still, serves_answered, serves_ended}
 use Rattle.engine.proofs.engine.Engine.read.Goals as goal
 

@@ -5,13 +5,15 @@ use Rattle.record_model.specs.declared.words.Why.TheVariants.{BadSession}
 use Rattle.engine.proofs.Actives.{none_active}
 use Rattle.record_model.specs.declared.words.Command.TheVariants.{Read}
 use Rattle.record_model.specs.declared.words.Reply.TheVariants as reply
-use Rattle.engine.proofs.Replies.{refused, carried_out, has_record, lacks_record, is_active, has}
+use Rattle.engine.proofs.Replies.{refused, carried_out, has_record, lacks_record, is_active, has, none_busy}
 use Rattle.engine.proofs.Meanings.{busy_read_is}
 use Rattle.engine.proofs.Owing.{entry_is}
 use Rattle.engine.proofs.engine.Engine.read_refusal.Goals as goal
 
-pub returns-clause-session : goal.returns-clause-session
-returns-clause-session c = let own = has _ (search rules) in (entry_is c.args.self.now.active c.args.session own.own c.find.ensures.table own.is).small
+pub returns-clause-may : goal.returns-clause-may
+returns-clause-may c =
+    let own = has _ (search rules) in
+    record { session = (entry_is c.args.self.now.active c.args.session own.own c.find.ensures.table own.is).small; active = search rules; shown = record { number = search rules; free = none_busy _ (sym c.read_busy.ensures ∙ c.in_default.is) } }
 
 pub returns-then-lacks-clause-refused : goal.returns-then-lacks-clause-refused
 returns-then-lacks-clause-refused c s site fits =

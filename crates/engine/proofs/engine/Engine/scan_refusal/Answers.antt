@@ -8,8 +8,18 @@ use Rattle.engine.proofs.Scans.{busy_is, past_all}
 use Rattle.engine.proofs.Owing.{entry_is}
 use Rattle.engine.proofs.engine.Engine.scan_refusal.Goals as goal
 
-pub returns-clause-session : goal.returns-clause-session
-returns-clause-session c = let own = has _ (search rules) in (entry_is c.args.self.now.active c.args.session own.own c.find.ensures.table own.is).small
+pub returns-clause-may : goal.returns-clause-may
+returns-clause-may c =
+    let own = has _ (search rules) in
+    let end : c.in-Some.end ≡ c.args.number + c.args.count = search rules in
+    let below : c.in-Some.end - 1 < 32 * (sizes_of c.args.self.now.store).pages = search rules in
+    record {
+      session = (entry_is c.args.self.now.active c.args.session own.own c.find.ensures.table own.is).small;
+      active = search rules;
+      small = search rules;
+      there = omega (arith, end, below);
+      free = sym c.first_busy.ensures ∙ c.in_default-first_busy.is;
+    }
 
 pub returns-in_default-clause-refused : goal.returns-in_default-clause-refused
 returns-in_default-clause-refused c s site fits =
@@ -18,7 +28,7 @@ returns-in_default-clause-refused c s site fits =
     let last = c.args.number + c.args.count - 1 in
     let big : 2 ^ 32 ≤ c.args.number + c.args.count = search rules in
     let active = is_active engine site s n fits (search rules) in
-    let lacks = lacks_record engine site s last fits (past_all (sizes_of engine.store) c.requires.limits last (omega (arith, big))) in
+    let lacks = lacks_record engine site s last fits (past_all (sizes_of engine.store) c.requires.going.1.store.both.pages_going.flash.limits last (omega (arith, big))) in
     refused s (Scan n c.args.number c.args.count) _ (λ i. first_refusal (active i ∷ lacks i ∷ map (may_read s (Some n)) (range_with_len c.args.number c.args.count)))
 
 pub returns-then-lacks-clause-refused : goal.returns-then-lacks-clause-refused

@@ -1,6 +1,6 @@
 use Rattle.std.proofs.Common.{[]}
-use Rattle.engine.proofs.Asking.{asks_ok, asks_err}
-use Rattle.engine.proofs.Calling.{keeps_answered, keeps_failed, works_answered, works_failed}
+use Rattle.redo_undo.proofs.Asking.{asks_ok, asks_err}
+use Rattle.redo_undo.proofs.StoreCalling.{keeps_answered, keeps_failed, works_answered, works_failed}
 use Rattle.engine.proofs.engine.Engine.seal_commit.Goals as goal
 
 pub returns-in-Ok-clause-holds : goal.returns-in-Ok-clause-holds

@@ -5,7 +5,7 @@ use Rattle.page_store.specs.Caching.{cache_of, rules}
 use Rattle.engine.specs.Going.{sizes_of}
 use Rattle.engine.specs.Fits.{checkpointed_if}
 use Rattle.engine.specs.Leaves.{LeavesEither}
-use Rattle.engine.proofs.Moments.{err_again}
+use Rattle.site.proofs.Working.{err_again}
 use Rattle.engine.proofs.Asking.{has_group}
 use Rattle.engine.proofs.Firsts.{overflows_before}
 use Rattle.engine.proofs.Calling.{first_then, first_failed, early, late_either, serves_then}
@@ -15,7 +15,7 @@ pub returns-in-Ok-clause-answers : goal.returns-in-Ok-clause-answers
 returns-in-Ok-clause-answers g c s fits =
     let old = g.S.Site.state c.args.site.now in
     let wanted = c.wants_checkpoint_to_set-wanted.result in
-    first_then (Set c.args.number c.args.value.now) (c.wants_checkpoint_to_set-wanted.ensures s old fits) (λ o. LeavesEither (sizes_of c.args.self.now.store) s o.after old.told) c.works_add_up.ensures.works c.works_add_up.ensures.reads fits.honest
+    first_then (Set c.args.number c.args.value.now) (c.wants_checkpoint_to_set-wanted.ensures s old fits) (λ o. LeavesEither (sizes_of c.args.self.now.store) s o.after old.told) fits.honest
     (early (sizes_of c.args.self.now.store) s _ old.told) (late_either refl refl c.in-Ok.ensures.serves.sizes) c.in-Ok.ensures.serves (c.in-Ok.ensures.does s fits) c.in-Ok.ensures.asks
     (c.set_now.ensures.answers (checkpointed_if wanted s) (c.in-Ok.ensures.does s fits).after_fits)
 
@@ -25,7 +25,7 @@ returns-in-Ok-clause-serves g c = serves_then c.in-Ok.ensures.serves c.set_now.e
 pub returns-in-Err-clause-answers : goal.returns-in-Err-clause-answers
 returns-in-Err-clause-answers g c s fits =
     let old = g.S.Site.state c.args.site.now in
-    first_failed (Set c.args.number c.args.value.now) (c.wants_checkpoint_to_set-wanted.ensures s old fits) (λ o. LeavesEither (sizes_of c.args.self.now.store) s o.after old.told) c.works_add_up.ensures.more c.works_add_up.ensures.overflow c.requires.going
+    first_failed (Set c.args.number c.args.value.now) (c.wants_checkpoint_to_set-wanted.ensures s old fits) (λ o. LeavesEither (sizes_of c.args.self.now.store) s o.after old.told) c.requires.going
     (early (sizes_of c.args.self.now.store) s _ old.told) (c.in-Err.ensures.does s fits) c.in-Err.ensures.asks
 
 pub returns-in-Err-clause-worn_flash : goal.returns-in-Err-clause-worn_flash

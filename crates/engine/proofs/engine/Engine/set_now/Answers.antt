@@ -1,4 +1,4 @@
-use Rattle.std.proofs.Common.{◌≡◌, ◌∷◌, [], refl, subst, ℕ, arith}
+use Rattle.std.proofs.Common.{◌≡◌, ◌∷◌, [], refl, subst, arith, ℕ}
 use Rattle.std.specs.Prelude.{Result}
 use Rattle.site.specs.declared.outside.Stop.{Stop}
 use Rattle.site.specs.State.{State as Site}
@@ -9,7 +9,7 @@ use Rattle.engine.specs.declared.engine.Engine.{Engine}
 use Rattle.engine.specs.Going.{sizes_of}
 use Rattle.engine.specs.Leaves.{LeavesEither}
 use Rattle.engine.specs.Calls.{Does}
-use Rattle.engine.proofs.Moments.{err_again}
+use Rattle.site.proofs.Working.{err_again}
 use Rattle.engine.proofs.Calling.{answered_as, does_nothing, does_weaker, does_failed, asks_rest, early, still}
 use Rattle.engine.proofs.engine.Engine.set_now.Goals as goal
 

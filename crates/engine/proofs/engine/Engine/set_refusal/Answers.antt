@@ -43,7 +43,7 @@ returns-in-Some-full-clause-refused c s site fits =
     let there = has_record engine site s number fits (search rules) in
     let short = is_short c.args.value.now (search rules) in
     let free : may_write s None number ≡ None = ap (option_map reply.Busy) (sym (busy_write_is engine.locks s fits.locks_are None number)) ∙ sym c.write_busy.ensures ∙ c.in_default.is in
-    let is = full_is engine site s 4 c.in-Some-full.full fits c.requires.table c.in-Some-full.ensures.full in
+    let is = full_is engine site s 4 c.in-Some-full.full fits c.requires.going.1.table c.in-Some-full.ensures.full in
     let r = no_room s (Set number c.args.value.now) (λ i. first_refusal (there i ∷ short i ∷ free i ∷ [])) is.1 in (r.0 ∙ ap (left s) (sym is.0), r.1)
 
 pub returns-clause-accepted : goal.returns-clause-accepted
@@ -53,4 +53,4 @@ returns-clause-accepted c s site fits =
     let there = has_record engine site s number fits (search rules) in
     let short = is_short c.args.value.now (search rules) in
     let free : may_write s None number ≡ None = ap (option_map reply.Busy) (sym (busy_write_is engine.locks s fits.locks_are None number)) ∙ sym c.write_busy.ensures ∙ c.in_default.is in
-    carried_out s (Set number c.args.value.now) (λ i. first_refusal (there i ∷ short i ∷ free i ∷ [])) (has_room engine site s 4 fits c.requires.table c.in_default-full.ensures.room)
+    carried_out s (Set number c.args.value.now) (λ i. first_refusal (there i ∷ short i ∷ free i ∷ [])) (has_room engine site s 4 fits c.requires.going.1.table c.in_default-full.ensures.room)

@@ -2,9 +2,10 @@ use Rattle.engine.proofs.Asking.{from_other, from_other_err, from_other_fails, m
 use Rattle.std.proofs.Common.{◌∙◌, refl, ap, rules}
 use Rattle.site.specs.Laws.{stays_honest}
 use Rattle.site.specs.declared.geometry.Geometry.{Geometry}
-use Rattle.engine.proofs.Calling.{calls_failed, calls_answered, calls_no_memory, ends_failed, ends_answered, ends_no_memory}
+use Rattle.engine.proofs.Calling.{calls_no_memory, ends_failed, ends_answered, ends_no_memory}
 use Rattle.engine.proofs.Starts.{started}
 use Rattle.engine.proofs.RingCounts.{restart_again, restart_stopped, restart_answered}
+use Rattle.site.proofs.Working.{calls_failed, calls_answered}
 use Rattle.engine.proofs.engine.Engine.start.Goals as goal
 
 pub returns-clause-opens : goal.returns-clause-opens

@@ -7,8 +7,8 @@ use Rattle.log_records.specs.Unfinished.{owed}
 use Rattle.log_laws.specs.Follow.{IsActive}
 use Rattle.checkpoint.specs.declared.master.Master.{Master}
 use Rattle.image_meaning.specs.Meaning.{master_of}
-use Rattle.engine.specs.declared.store.Store.{Store}
-use Rattle.engine.specs.Holding.{Holds}
+use Rattle.redo_undo.specs.declared.store.Store.{Store}
+use Rattle.redo_undo.specs.Stores.{Holds}
 
 -- all other transactions are as they were
 pub record ConcernsOnly (newest : Option Master) (txn : ℕ) (before now : List Entry) : Type 0 where

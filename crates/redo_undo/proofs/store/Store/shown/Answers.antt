@@ -3,8 +3,8 @@ use Rattle.std.proofs.Math.Nat.{div-add-mod}
 use Rattle.log_laws.specs.Follow.{shown}
 use Rattle.image_meaning.specs.Meaning.{versions_on}
 use Rattle.buffer_pool.specs.Frames.{front_of}
-use Rattle.engine.specs.Going.{sizes_of}
-use Rattle.engine.proofs.store.Store.shown.Goals as goal
+use Rattle.redo_undo.specs.Stores.{sizes_of}
+use Rattle.redo_undo.proofs.store.Store.shown.Goals as goal
 
 pub returns-in-None-clause-shown : goal.returns-in-None-clause-shown
 returns-in-None-clause-shown c site newest records table commits h =

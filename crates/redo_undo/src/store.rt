@@ -1,50 +1,43 @@
 // Log and pages of a run: the records that it logs, and the pages that they change.
-ghost use Rattle.std.specs.Prelude.{Option, map, reverse, ◌≡◌, ◌≢◌, ◌⊎◌, ◌+◌, ◌*◌, ◌/◌, ◌^◌, ◌<◌, ◌≤◌, ◌++◌, ◌∷◌, [], ℕ, List, length, IfOk, OnOk, IfErr};
+ghost use Rattle.std.specs.Prelude.{Option, map, reverse, ◌≡◌, ◌⊎◌, ◌+◌, ◌*◌, ◌/◌, ◌^◌, ◌<◌, ◌≤◌, ◌↔◌, ◌++◌, ◌∷◌, [], List, length, IfOk, OnOk, IfErr, IsTrue, ℕ};
 ghost use Rattle.site.specs.declared.outside.Dev.{Dev};
 ghost use Rattle.site.specs.declared.outside.Stop.{Stop};
 ghost use Rattle.site.specs.State.{State};
-ghost use Rattle.record_model.specs.State.{Content, Write, table_with};
+ghost use Rattle.record_model.specs.State.{Content, Write};
 ghost use Rattle.log_records.specs.declared.log_record.LogRecord.{LogRecord};
 ghost use Rattle.log_records.specs.Log.{Entry};
 ghost use Rattle.log_records.specs.Spelling.{IsShort};
 ghost use Rattle.log_records.specs.Unfinished as unfinished;
-ghost use Rattle.log_laws.specs.Follow.{writes_in, IsActive};
+ghost use Rattle.log_laws.specs.Follow.{IsActive};
 ghost use Rattle.log_store.specs.Held.{end_of};
 ghost use Rattle.page_store.specs.Held.{IsStore};
-ghost use Rattle.page_store.specs.Stopping.{MayStop};
 ghost use Rattle.checkpoint.specs.declared.master.Master.{Master};
 ghost use Rattle.image_meaning.specs.Meaning.{master_of};
-ghost use Rattle.image_meaning.specs.Moments.{LeavesEitherFor};
+ghost use Rattle.image_meaning.specs.Moments.{LeavesFor};
 ghost use Rattle.redo_undo.specs.Holding.{blocks_to};
 ghost use Rattle.redo_undo.specs.Holding as both;
-ghost use Rattle.redo_undo.specs.Checkpointing.{MayBeMade, begins_of};
-ghost use Rattle.image_meaning.specs.Flushed.{first_block};
-ghost use Rattle.checkpoint.specs.Actives.{Ascend};
-ghost use Rattle.redo_undo.specs.Committing.{MayCommit};
-ghost use Rattle.engine.specs.Going.{MayWork, sizes_of};
-ghost use Rattle.engine.specs.Holding.{Holds, HasCheckpoint, MayGrow, IsInFront, shown_in, update_by};
-ghost use Rattle.engine.specs.Rollback.{RollsBack};
-ghost use Rattle.engine.specs.Leaves.{LeavesTable};
-ghost use Rattle.engine.specs.Calls.{Calls, Works, Keeps};
+ghost use Rattle.redo_undo.specs.Stores.{sizes_of, MayWork, MayLog, Holds, MayGrow, IsInFront, shown_in, update_by};
+ghost use Rattle.redo_undo.specs.StoreRollback.{RollsBack};
+ghost use Rattle.redo_undo.specs.StoreCalls.{Works, Keeps};
 ghost use Rattle.record_model.specs.Touches.{write_touch};
-ghost use Rattle.redo_undo.specs.Works.{Asks, one_touch, checkpoint_works};
+ghost use Rattle.redo_undo.specs.Works.{Asks, one_touch};
 ghost use Rattle.page_store.specs.Caching.{cache_of, rules, with_change};
 ghost use Rattle.site.specs.Calls.{SameReads};
 
-use checkpoint::Pairs;
+use crate::laws::hold_together;
+use crate::logging::{log_change, log_record, touch};
+use crate::session_laws::sessions_are_undone;
+use crate::undo::undo_one;
 use log_records::LogRecord;
 use log_store::LogStore;
 use page_store::PageStore;
 use record_model::Octets;
-use redo_undo::{
-    checkpoint, commit, hold_together, log_change, log_record, sessions_are_undone, touch, undo_one,
-};
 use sealed_ring::Ring;
 use site::{Site, Stop};
 use txn_table::Active;
 
 /// The number of a page's slots.
-pub const SLOTS: u32 = 32;
+const SLOTS: u32 = 32;
 
 /// Log, pages and master units of a run, and how many of its records count: all that were made since those that a checkpoint let go.
 #[derive(Drop)]
@@ -79,11 +72,17 @@ impl Store {
         self.log.sealed_end() / 512 + tail
     }
 
+    /// Whether there is no such record.
+    pub fn lacks(&self, number: u32) -> bool
+        requires sizes { self.now.log.geometry ≡ sizes_of self.now }
+        ensures { IsTrue result ↔ (32 * (sizes_of self.now).pages ≤ number) }
+    {
+        number / SLOTS >= self.log.geometry().pages
+    }
+
     /// Logs the Begin of a transaction, and answers its LSN.
     pub fn begin<S: Site>(&mut self, site: &mut S) -> Result<u64, Stop>
-        requires going { MayWork self.old (S.state site.old) }
-        requires room { blocks_to self.old.log + 1 < self.old.log.kept + (sizes_of self.old).blocks }
-        requires few { self.old.made < 2 ^ 40 }
+        requires may { MayLog self.old (S.state site.old) }
 
         // Of an honest site whose log and pages hold these records.
         ensures holds { (newest : Option Master) (records : List Entry) (table : List Content) (commits : ℕ)
@@ -93,7 +92,7 @@ impl Store {
         ensures keeps { (newest : Option Master) (records : List Entry) (table : List Content) (commits : ℕ)
             → Holds self.old (S.state site.old) newest records table commits
             → Keeps result self.old self.new (S.state site.old) (S.state site.new)
-            (LeavesTable (sizes_of self.old) table commits (S.state site.old).told) 1 0 }
+            (LeavesFor (sizes_of self.old) table commits (S.state site.old).told) 1 0 }
 
         // Of every site.
         ensures works { Works result self.old self.new (S.state site.old) (S.state site.new) 1 }
@@ -125,7 +124,7 @@ impl Store {
         ensures keeps { (newest : Option Master) (records : List Entry) (table : List Content) (commits : ℕ)
             → Holds self.old (S.state site.old) newest records table commits
             → Keeps result self.old self.new (S.state site.old) (S.state site.new)
-            (LeavesTable (sizes_of self.old) table commits (S.state site.old).told) 0 0 }
+            (LeavesFor (sizes_of self.old) table commits (S.state site.old).told) 0 0 }
 
         // Of every site.
         ensures works { Works result self.old self.new (S.state site.old) (S.state site.new) 0 }
@@ -165,9 +164,7 @@ impl Store {
         number: u32,
         after: &Option<Octets>,
     ) -> Result<u64, Stop>
-        requires going { MayWork self.old (S.state site.old) }
-        requires room { blocks_to self.old.log + 1 < self.old.log.kept + (sizes_of self.old).blocks }
-        requires few { self.old.made < 2 ^ 40 }
+        requires may { MayLog self.old (S.state site.old) }
         requires front { IsInFront self.old number }
         requires short { IsShort after.now }
 
@@ -182,7 +179,7 @@ impl Store {
         ensures keeps { (newest : Option Master) (records : List Entry) (table : List Content) (commits : ℕ)
             → Holds self.old (S.state site.old) newest records table commits
             → Keeps result self.old self.new (S.state site.old) (S.state site.new)
-            (LeavesTable (sizes_of self.old) table commits (S.state site.old).told) 1 0 }
+            (LeavesFor (sizes_of self.old) table commits (S.state site.old).told) 1 0 }
 
         // Of every site.
         ensures works { Works result self.old self.new (S.state site.old) (S.state site.new) 1 }
@@ -201,42 +198,6 @@ impl Store {
             after: copy_of(after),
         };
         match log_change(site, &mut self.log, &mut self.pages, &update) {
-            Ok(lsn) => {
-                self.made += 1;
-                Ok(lsn)
-            }
-            Err(stop) => Err(stop),
-        }
-    }
-
-    /// Logs the Commit of a transaction, and seals it: then the transaction is committed. Answers the Commit's LSN.
-    pub fn commit<S: Site>(&mut self, site: &mut S, txn: u64, number: u64) -> Result<u64, Stop>
-        requires going { MayWork self.old (S.state site.old) }
-        requires room { blocks_to self.old.log + 1 < self.old.log.kept + (sizes_of self.old).blocks }
-        requires few { self.old.made < 2 ^ 40 }
-
-        // Of an honest site whose log and pages hold these records.
-        ensures holds { (newest : Option Master) (records : List Entry) (table : List Content) (commits : ℕ)
-            → Holds self.old (S.state site.old) newest records table commits
-            → MayCommit newest records txn number commits
-            → IfOk result (λ lsn. Holds self.new (S.state site.new) newest
-            (records ++ record { lsn = lsn; rec = LogRecord.Commit txn number } ∷ [])
-            (table_with table (writes_in txn records)) (commits + 1)) }
-        ensures keeps { (newest : Option Master) (records : List Entry) (table : List Content) (commits : ℕ)
-            → Holds self.old (S.state site.old) newest records table commits
-            → MayCommit newest records txn number commits
-            → Keeps result self.old self.new (S.state site.old) (S.state site.new)
-            (LeavesEitherFor (sizes_of self.old) table (table_with table (writes_in txn records)) commits
-            (S.state site.old).told) 1 0 }
-
-        // Of every site.
-        ensures works { Works result self.old self.new (S.state site.old) (S.state site.new) 1 }
-        ensures rises { IfOk result (λ lsn. (end_of self.old.log ≤ lsn) × (lsn < end_of self.new.log)) }
-        ensures asks { Asks result ([]) self.old.pages self.new.pages
-            (S.state site.old) (S.state site.new) }
-        ensures stops { IfErr result (λ stop. (stop ≡ Stop.Device Dev.Log) ⊎ (stop ≡ Stop.Worn Dev.Log)) }
-    {
-        match commit(site, &mut self.log, txn, number) {
             Ok(lsn) => {
                 self.made += 1;
                 Ok(lsn)
@@ -264,7 +225,7 @@ impl Store {
             → (writes : List Write) → IsActive (master_of newest) records entry.begin entry.last writes
             → length writes ≡ entry.writes → unfinished.owed records ≡ owed + (entry.writes + 1)
             → Keeps result self.old self.new (S.state site.old) (S.state site.new)
-            (LeavesTable (sizes_of self.old) table commits (S.state site.old).told) (entry.writes + 1) 0 }
+            (LeavesFor (sizes_of self.old) table commits (S.state site.old).told) (entry.writes + 1) 0 }
         ensures asks { (newest : Option Master) (records : List Entry) (table : List Content) (commits : ℕ)
             → Holds self.old (S.state site.old) newest records table commits
             → (writes : List Write) → IsActive (master_of newest) records entry.begin entry.last writes
@@ -296,61 +257,5 @@ impl Store {
             return Err(Stop::Foreign);
         }
         Ok(())
-    }
-
-    /// A checkpoint that names these unfinished transactions: what is unsealed is sealed, the changed pages are flushed to flash, a master is
-    /// saved, and the log lets go of the blocks that nothing needs. The first so many records count no more.
-    pub fn checkpoint<S: Site>(
-        &mut self,
-        site: &mut S,
-        active: Pairs,
-        commits: u64,
-        first: u64,
-    ) -> Result<(), Stop>
-        requires going { MayWork self.old (S.state site.old) }
-        requires ascend { Ascend active }
-        requires first { first ≤ self.old.made }
-        // The blocks that are kept have records that go on counting.
-        requires begun { first_block (blocks_to self.old.log) (begins_of active) ≤ blocks_to self.old.log }
-        requires enough { blocks_to self.old.log + first ≤ first_block (blocks_to self.old.log) (begins_of active) + self.old.made }
-
-        // Of an honest site on which log and pages hold together, and of the unfinished transactions.
-        ensures checkpoint { (newest : Option Master) (records : List Entry) (table : List Content)
-            → both.Holds self.old.log self.old.pages (S.state site.old) newest records table commits
-            → MayBeMade self.old.masters (S.state site.old) records active
-            → OnOk result (HasCheckpoint self.new (S.state site.new) records table commits active) }
-        ensures keeps { (newest : Option Master) (records : List Entry) (table : List Content)
-            → both.Holds self.old.log self.old.pages (S.state site.old) newest records table commits
-            → MayBeMade self.old.masters (S.state site.old) records active
-            → Keeps result self.old self.new (S.state site.old) (S.state site.new)
-            (LeavesTable (sizes_of self.old) table commits (S.state site.old).told) 0 1 }
-
-        // Of every site.
-        ensures calls { Calls result (S.state site.old) (S.state site.new) }
-        ensures going { OnOk result (MayWork self.new (S.state site.new)) }
-        ensures made { OnOk result (self.new.made + first ≡ self.old.made) }
-        ensures blocks { OnOk result (blocks_to self.new.log ≡ blocks_to self.old.log) }
-        ensures end { OnOk result (end_of self.old.log ≤ end_of self.new.log) }
-        ensures asks { Asks result checkpoint_works self.old.pages self.new.pages
-            (S.state site.old) (S.state site.new) }
-        ensures kept { OnOk result (self.old.log.kept ≤ self.new.log.kept) }
-        ensures sizes { sizes_of self.new ≡ sizes_of self.old }
-        ensures stops { IfErr result (λ stop. MayStop stop) }
-        ensures foreign { IfErr result (λ stop. stop ≢ Stop.Foreign) }
-    {
-        match checkpoint(
-            site,
-            &mut self.log,
-            &mut self.pages,
-            &mut self.masters,
-            active,
-            commits,
-        ) {
-            Ok(_) => {
-                self.made -= first;
-                Ok(())
-            }
-            Err(stop) => Err(stop),
-        }
     }
 }

@@ -1,17 +1,15 @@
+use Rattle.redo_undo.proofs.Calling.{keeps_few, keeps_failed, keeps_answered}
+use Rattle.redo_undo.proofs.StoreCalling.{keeps_of}
 use Rattle.image_meaning.proofs.Leaving.{under_leaves_for}
-use Rattle.engine.proofs.Asking.{asks_same, asks_err, asks_ok, asks_fails}
-use Rattle.site.specs.declared.outside.Dev.TheVariants.{Log, Flash}
-use Rattle.std.proofs.Common.{◌+◌, refl, ap, ◌∙◌, arith, sym, length}
+use Rattle.redo_undo.proofs.Asking.{asks_same, asks_err, asks_ok, asks_fails}
+use Rattle.std.proofs.Common.{◌+◌, refl, ap, ◌∙◌, arith, sym}
 use Rattle.site.specs.declared.geometry.Geometry.{Geometry}
-use Rattle.site.specs.declared.outside.Stop.TheVariants.{Worn, Foreign}
+use Rattle.site.specs.declared.outside.Stop.TheVariants.{Foreign}
 use Rattle.redo_undo.proofs.Saved.{finds_kept}
-use Rattle.engine.specs.declared.store.Store.{Store}
-use Rattle.engine.specs.Rollback.{RollsBack}
-use Rattle.engine.proofs.Rollbacks.{active_left, rolls_back, has_room}
-use Rattle.engine.proofs.Moments.{err_again}
-use Rattle.engine.proofs.Calling.{keeps_ok}
-use Rattle.redo_undo.proofs.RingNumbers.{skips_weaker, skips_again, skips_answered}
-use Rattle.engine.proofs.store.Store.roll_back.Goals as goal
+use Rattle.redo_undo.specs.declared.store.Store.{Store}
+use Rattle.redo_undo.specs.StoreRollback.{RollsBack}
+use Rattle.redo_undo.proofs.StoreRollbacks.{active_left, rolls_back, has_room}
+use Rattle.redo_undo.proofs.store.Store.roll_back.Goals as goal
 
 pub returns-clause-undone : goal.returns-clause-undone
 returns-clause-undone g c newest records table commits h writes active count =
@@ -26,16 +24,8 @@ returns-clause-undone g c newest records table commits h writes active count =
 
 pub returns-in-Err-clause-keeps : goal.returns-in-Err-clause-keeps
 returns-in-Err-clause-keeps g c newest records table commits h writes active count owes =
-    let old = g.S.Site.state c.args.site.now in
-    let left = active_left c.args.self.now old newest records table commits c.args.entry.begin c.args.entry.last writes h active in
-    record {
-      any_moment = λ quiet. under_leaves_for newest _ _ _ table commits _ ((c.undo_one.ensures.keeps newest records table commits _ h.both left refl refl).any_moment quiet);
-      numbers = λ quiet. skips_weaker _ _ _ _ _ _ (length writes + 1) (c.args.entry.writes + 1) 0 (omega (arith, count)) (skips_again c.in-Err.stop _ _ _ _ _ (length writes + 1) 0 ((c.in-Err.ensures.keeps newest records table commits _ h.both left refl refl).numbers quiet));
-      quiet = (c.in-Err.ensures.keeps newest records table commits _ h.both left refl refl).quiet;
-      worn_log = λ is. (c.in-Err.ensures.keeps newest records table commits _ h.both left refl refl).worn_log (err_again c.in-Err.stop (Worn Log) is);
-      worn = λ is. (c.in-Err.ensures.keeps newest records table commits _ h.both left refl refl).worn (err_again c.in-Err.stop (Worn Flash) is);
-      readable = λ is. (c.in-Err.ensures.keeps newest records table commits _ h.both left refl refl).readable (err_again c.in-Err.stop Foreign is);
-    }
+    let left = active_left c.args.self.now (g.S.Site.state c.args.site.now) newest records table commits c.args.entry.begin c.args.entry.last writes h active in
+    keeps_of (under_leaves_for newest _ _ _ table commits _) (keeps_few (omega (arith, count)) (keeps_failed (c.in-Err.ensures.keeps newest records table commits _ h.both left refl refl)))
 
 -- as many blocks as the transaction may take are never exceeded
 pub returns-then-blocks-before-clause-keeps : goal.returns-then-blocks-before-clause-keeps
@@ -71,8 +61,7 @@ returns-then-blocks-owed-clause-keeps g c newest records table commits h writes 
 pub returns-clause-keeps : goal.returns-clause-keeps
 returns-clause-keeps g c newest records table commits h writes active count owes =
     let left = active_left c.args.self.now (g.S.Site.state c.args.site.now) newest records table commits c.args.entry.begin c.args.entry.last writes h active in
-    keeps_ok (λ quiet. under_leaves_for newest _ _ _ table commits _ ((c.undo_one.ensures.keeps newest records table commits _ h.both left refl refl).any_moment quiet))
-    (λ quiet. skips_weaker _ _ _ _ _ _ (length writes + 1) (c.args.entry.writes + 1) 0 (omega (arith, count)) (skips_answered c.in-Ok.field-0 tt _ _ _ _ _ (length writes + 1) 0 ((c.in-Ok.ensures.keeps newest records table commits _ h.both left refl refl).numbers quiet)))
+    keeps_of (under_leaves_for newest _ _ _ table commits _) (keeps_few (omega (arith, count)) (keeps_answered (c.in-Ok.ensures.keeps newest records table commits _ h.both left refl refl)))
 
 pub returns-in-Err-clause-asks : goal.returns-in-Err-clause-asks
 returns-in-Err-clause-asks g c newest records table commits h writes active =

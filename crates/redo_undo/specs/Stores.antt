@@ -1,7 +1,9 @@
--- Log and pages of an honest site, as a list of records.
-use Rattle.std.specs.Prelude.{◌≡◌, ℕ, ◌/◌, ◌%◌, ◌<◌, List, length, Option, Some}
+-- Log, pages and master units of a run: over every site, and on an honest one as a list of records.
+use Rattle.std.specs.Prelude.{◌≡◌, ℕ, ◌+◌, ◌/◌, ◌%◌, ◌^◌, ◌≤◌, ◌<◌, List, length, Option, Some}
 use Rattle.site.specs.State.{State}
-use Rattle.sealed_ring.specs.Ready.{Finds}
+use Rattle.site.specs.declared.geometry.Geometry.{Geometry}
+use Rattle.sealed_ring.specs.Ready.{IsUsable, Finds}
+use Rattle.image_changes.specs.Rings.{master_shape}
 use Rattle.record_model.specs.State.{Content}
 use Rattle.log_records.specs.declared.log_record.LogRecord.{LogRecord}
 use Rattle.log_records.specs.declared.log_record.LogRecord.TheVariants.{Update}
@@ -14,7 +16,28 @@ use Rattle.checkpoint.specs.declared.pairs.Pair.{Pair}
 use Rattle.image_meaning.specs.Meaning.{versions_on}
 use Rattle.redo_undo.specs.Checkpointing.{KeepUnfinished}
 use Rattle.redo_undo.specs.Holding as both
-use Rattle.engine.specs.declared.store.Store.{Store}
+use Rattle.redo_undo.specs.Holding.{blocks_to}
+use Rattle.redo_undo.specs.declared.store.Store.{Store}
+
+-- how large the devices are
+abbrev pub sizes_of : Store → Geometry
+sizes_of store = store.pages.flash.geometry
+
+-- of every site: log and pages may go on
+pub record MayWork (store : Store) (site : State) : Type 0 where
+  pub both : both.MayGoOn store.log store.pages site
+  -- each kept block has a record that counts
+  pub blocks : blocks_to store.log ≤ store.log.kept + store.made
+  pub bounded : store.made ≤ 2 ^ 40
+  -- the ring of master units lies on the log's device
+  pub masters : IsUsable store.masters site
+  pub shape : store.masters.shape ≡ master_shape
+
+-- and it may log one more record
+pub record MayLog (store : Store) (site : State) : Type 0 where
+  pub going : MayWork store site
+  pub room : blocks_to store.log + 1 < store.log.kept + (sizes_of store).blocks
+  pub few : store.made < 2 ^ 40
 
 -- Of an honest site: under this newest master log and pages hold these records together, what is sealed of them stands for this table
 -- after so many commits, and they are in order. The ring of master units is the one that stands there.

@@ -20,10 +20,10 @@ use Rattle.image_meaning.specs.Meaning.{master_of, picture_under}
 use Rattle.redo_undo.specs.Holding.{blocks_to}
 use Rattle.redo_undo.specs.Rollback as undone
 use Rattle.redo_undo.specs.Rollback.{AreClrsOf}
-use Rattle.engine.specs.declared.store.Store.{Store}
-use Rattle.engine.specs.Going.{sizes_of}
-use Rattle.engine.specs.Holding.{Holds}
-use Rattle.engine.specs.Rollback.{ConcernsOnly, RollsBack}
+use Rattle.redo_undo.specs.declared.store.Store.{Store}
+use Rattle.redo_undo.specs.Stores.{sizes_of}
+use Rattle.redo_undo.specs.Stores.{Holds}
+use Rattle.redo_undo.specs.StoreRollback.{ConcernsOnly, RollsBack}
 
 -- one more record of the transaction
 pub concerns_more : (newest : Option Master) (txn : ℕ) (before now : List Entry) (e : Entry) → txn_of e ≡ txn → ConcernsOnly newest txn before now → ConcernsOnly newest txn before (now ++ e ∷ [])

@@ -1,0 +1,32 @@
+use Rattle.std.proofs.Common.{refl}
+use Rattle.image_meaning.proofs.Leaving.{under_leaves_for}
+use Rattle.redo_undo.proofs.Asking.{asks_nothing}
+use Rattle.redo_undo.proofs.AskingFlush.{never_worn_flash}
+use Rattle.redo_undo.proofs.Calling.{keeps_appended}
+use Rattle.redo_undo.proofs.StoreCalling.{keeps_of}
+use Rattle.redo_undo.proofs.Saved.{finds_kept}
+use Rattle.std.specs.Prelude.{Err}
+use Rattle.redo_undo.proofs.store.Store.begin.Goals as goal
+
+pub returns-in-Ok-clause-holds : goal.returns-in-Ok-clause-holds
+returns-in-Ok-clause-holds g c newest records table commits h = λ may.
+    let going = c.requires.may.going in
+    record {
+      both = c.in-Ok.ensures.holds c.args.self.now.pages newest records table commits going.both.sizes h.both refl may;
+      orderly = c.in-Ok.ensures.orderly c.args.self.now.pages newest records table commits going.both.sizes h.both may h.orderly;
+      masters = finds_kept c.args.self.now.masters (g.S.Site.state c.args.site.now) (g.S.Site.state c.log_record.new.site) going.shape ((c.in-Ok.ensures.keeps c.args.self.now.pages newest records table commits h.both).masters) h.masters;
+    }
+
+pub returns-in-Ok-clause-asks : goal.returns-in-Ok-clause-asks
+returns-in-Ok-clause-asks g c = asks_nothing _ c.args.self.now.pages _ _ c.log_record.ensures.works.reads (λ is. cc)
+
+pub returns-in-Err-clause-asks : goal.returns-in-Err-clause-asks
+returns-in-Err-clause-asks g c = asks_nothing _ c.args.self.now.pages _ _ c.log_record.ensures.works.reads (never_worn_flash (Err c.in-Err.stop) c.in-Err.ensures.stops)
+
+pub returns-in-Ok-clause-keeps : goal.returns-in-Ok-clause-keeps
+returns-in-Ok-clause-keeps g c newest records table commits h =
+    keeps_of (under_leaves_for newest _ _ _ table commits _) (keeps_appended c.requires.may.going.both tt (c.in-Ok.ensures.keeps c.args.self.now.pages newest records table commits h.both))
+
+pub returns-in-Err-clause-keeps : goal.returns-in-Err-clause-keeps
+returns-in-Err-clause-keeps g c newest records table commits h =
+    keeps_of (under_leaves_for newest _ _ _ table commits _) (keeps_appended c.requires.may.going.both c.in-Err.ensures.stops (c.in-Err.ensures.keeps c.args.self.now.pages newest records table commits h.both))

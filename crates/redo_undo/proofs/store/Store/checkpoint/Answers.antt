@@ -1,0 +1,123 @@
+use Rattle.std.proofs.Common.{◌≡◌, Err, refl, ap, arith, ◌≤◌}
+use Rattle.site.specs.declared.outside.Dev.TheVariants.{Flash}
+use Rattle.page_store.specs.Caching.{rules}
+use Rattle.redo_undo.specs.Works.{checkpoint_works}
+use Rattle.redo_undo.proofs.AskingUndo.{asks_refused, log_alone, not_worn_flash}
+use Rattle.redo_undo.proofs.AskingFlush.{never_worn_flash, asks_around}
+use Rattle.redo_undo.proofs.Saved.{may_still}
+use Rattle.redo_undo.proofs.Calling.{keeps_answered, keeps_failed, keeps_appended, keeps_saved, keeps_then, keeps_unsaved}
+use Rattle.redo_undo.proofs.StoreCalling.{keeps_of}
+use Rattle.site.proofs.Working.{no_error, calls_then, calls_failed, calls_answered}
+use Rattle.std.specs.Prelude.{Ok}
+use Rattle.site.specs.declared.outside.Stop.TheVariants.{Worn}
+use Rattle.redo_undo.proofs.store.Store.checkpoint.Goals as goal
+
+pub returns-in-Ok-save_master-clause-checkpoint : goal.returns-in-Ok-save_master-clause-checkpoint
+returns-in-Ok-save_master-clause-checkpoint g c newest records table h may =
+    let old = g.S.Site.state c.args.site.now in
+    let mid = g.S.Site.state c.force.new.site in
+    let pages = c.args.self.now.pages in
+    let going = c.requires.going.both in
+    let honest = h.log_holds.ready.blocks.honest in
+    let begun = c.in-Ok.ensures.keeps pages newest records table c.args.commits h in
+    let held = c.in-Ok.ensures.holds pages newest records table c.args.commits going.sizes h in
+    let flushed = g.S.Site.state c.flush.new.site in
+    let held' = c.in-Ok-flush.ensures.holds newest records table c.args.commits held in
+    let may' = may_still c.args.self.now.masters mid flushed records c.args.active c.requires.going.shape ((c.in-Ok-flush.ensures.keeps newest records table c.args.commits held).masters refl)
+    (may_still c.args.self.now.masters old mid records c.args.active c.requires.going.shape begun.masters may) in
+    let saved = c.in-Ok-save_master.ensures.saved c.flush.new.pages newest records table c.in-Ok-flush.ensures.works.going.sizes held' c.in-Ok-flush.ensures.sealed c.in-Ok-flush.ensures.clean may' in
+    record {
+      master = c.in-Ok-save_master.field-0;
+      named = c.in-Ok-save_master.ensures.master.2;
+      holds = record { both = saved.holds; orderly = saved.orderly; masters = saved.found };
+      keeps = saved.keeps;
+    }
+
+pub returns-in-Err-clause-keeps : goal.returns-in-Err-clause-keeps
+returns-in-Err-clause-keeps g c newest records table h may =
+    let old = g.S.Site.state c.args.site.now in
+    let pages = c.args.self.now.pages in
+    keeps_of (λ leaves. leaves) (keeps_unsaved (c.under_some_master.ensures.table newest pages.flash.geometry old (g.S.Site.state c.force.new.site) table c.args.commits old.told)
+    (keeps_appended c.requires.going.both c.in-Err.ensures.stops (c.in-Err.ensures.keeps pages newest records table c.args.commits h)))
+
+pub returns-in-Err-flush-clause-keeps : goal.returns-in-Err-flush-clause-keeps
+returns-in-Err-flush-clause-keeps g c newest records table h may =
+    let old = g.S.Site.state c.args.site.now in
+    let mid = g.S.Site.state c.force.new.site in
+    let pages = c.args.self.now.pages in
+    let going = c.requires.going.both in
+    let honest = h.log_holds.ready.blocks.honest in
+    let begun = c.in-Ok.ensures.keeps pages newest records table c.args.commits h in
+    let held = c.in-Ok.ensures.holds pages newest records table c.args.commits going.sizes h in
+    let flushed = g.S.Site.state c.flush.new.site in
+    keeps_of (λ leaves. leaves) (keeps_unsaved (c.under_some_master.ensures.table newest pages.flash.geometry old flushed table c.args.commits old.told)
+    (keeps_then honest refl refl c.in-Ok.ensures.works.calls (keeps_appended going tt begun) (c.in-Err-flush.ensures.keeps newest records table c.args.commits held)))
+
+pub returns-in-Err-save_master-clause-keeps : goal.returns-in-Err-save_master-clause-keeps
+returns-in-Err-save_master-clause-keeps g c newest records table h may =
+    let old = g.S.Site.state c.args.site.now in
+    let mid = g.S.Site.state c.force.new.site in
+    let pages = c.args.self.now.pages in
+    let going = c.requires.going.both in
+    let honest = h.log_holds.ready.blocks.honest in
+    let begun = c.in-Ok.ensures.keeps pages newest records table c.args.commits h in
+    let held = c.in-Ok.ensures.holds pages newest records table c.args.commits going.sizes h in
+    let flushed = g.S.Site.state c.flush.new.site in
+    let held' = c.in-Ok-flush.ensures.holds newest records table c.args.commits held in
+    let may' = may_still c.args.self.now.masters mid flushed records c.args.active c.requires.going.shape ((c.in-Ok-flush.ensures.keeps newest records table c.args.commits held).masters refl)
+    (may_still c.args.self.now.masters old mid records c.args.active c.requires.going.shape begun.masters may) in
+    let k = pages.flash.geometry in
+    let first = keeps_then honest refl refl c.in-Ok.ensures.works.calls (keeps_appended going tt begun) (c.in-Ok-flush.ensures.keeps newest records table c.args.commits held) in
+    keeps_of (λ leaves. leaves) (keeps_saved honest c.flush.ensures.works.geometry (calls_then c.in-Ok.ensures.works.calls c.in-Ok-flush.ensures.works.calls) (c.under_some_master.ensures.table newest k old flushed table c.args.commits old.told) first
+    ((keeps_failed (c.in-Err-save_master.ensures.keeps c.flush.new.pages newest records table c.in-Ok-flush.ensures.works.going.sizes held' c.in-Ok-flush.ensures.sealed c.in-Ok-flush.ensures.clean may'))))
+
+pub returns-in-Ok-save_master-clause-keeps : goal.returns-in-Ok-save_master-clause-keeps
+returns-in-Ok-save_master-clause-keeps g c newest records table h may =
+    let old = g.S.Site.state c.args.site.now in
+    let mid = g.S.Site.state c.force.new.site in
+    let pages = c.args.self.now.pages in
+    let going = c.requires.going.both in
+    let honest = h.log_holds.ready.blocks.honest in
+    let begun = c.in-Ok.ensures.keeps pages newest records table c.args.commits h in
+    let held = c.in-Ok.ensures.holds pages newest records table c.args.commits going.sizes h in
+    let flushed = g.S.Site.state c.flush.new.site in
+    let held' = c.in-Ok-flush.ensures.holds newest records table c.args.commits held in
+    let may' = may_still c.args.self.now.masters mid flushed records c.args.active c.requires.going.shape ((c.in-Ok-flush.ensures.keeps newest records table c.args.commits held).masters refl)
+    (may_still c.args.self.now.masters old mid records c.args.active c.requires.going.shape begun.masters may) in
+    let k = pages.flash.geometry in
+    let first = keeps_then honest refl refl c.in-Ok.ensures.works.calls (keeps_appended going tt begun) (c.in-Ok-flush.ensures.keeps newest records table c.args.commits held) in
+    keeps_of (λ leaves. leaves) (keeps_saved honest c.flush.ensures.works.geometry (calls_then c.in-Ok.ensures.works.calls c.in-Ok-flush.ensures.works.calls) (c.under_some_master.ensures.table newest k old flushed table c.args.commits old.told) first
+    (keeps_answered (c.in-Ok-save_master.ensures.keeps c.flush.new.pages newest records table c.in-Ok-flush.ensures.works.going.sizes held' c.in-Ok-flush.ensures.sealed c.in-Ok-flush.ensures.clean may')))
+
+pub returns-in-Err-clause-calls : goal.returns-in-Err-clause-calls
+returns-in-Err-clause-calls g c = calls_failed c.in-Err.ensures.works.calls
+
+pub returns-in-Err-flush-clause-calls : goal.returns-in-Err-flush-clause-calls
+returns-in-Err-flush-clause-calls g c = calls_failed (calls_then c.in-Ok.ensures.works.calls c.in-Err-flush.ensures.works.calls)
+
+pub returns-in-Err-save_master-clause-calls : goal.returns-in-Err-save_master-clause-calls
+returns-in-Err-save_master-clause-calls g c = calls_failed (calls_then (calls_then c.in-Ok.ensures.works.calls c.in-Ok-flush.ensures.works.calls) c.in-Err-save_master.ensures.calls)
+
+pub returns-in-Ok-save_master-clause-calls : goal.returns-in-Ok-save_master-clause-calls
+returns-in-Ok-save_master-clause-calls g c = calls_answered (calls_then (calls_then c.in-Ok.ensures.works.calls c.in-Ok-flush.ensures.works.calls) c.in-Ok-save_master.ensures.calls)
+
+pub returns-in-Err-clause-asks : goal.returns-in-Err-clause-asks
+returns-in-Err-clause-asks g c =
+    let pages = c.args.self.now.pages in
+    let some : 1 ≤ (rules pages).groups = omega (arith, c.requires.going.both.pages_going.flash.limits.groups) in
+    asks_refused c.in-Err.stop checkpoint_works pages (g.S.Site.state c.args.site.now) (g.S.Site.state c.force.new.site) some (not_worn_flash c.in-Err.stop c.in-Err.ensures.stops) (log_alone (g.S.Site.state c.args.site.now) (g.S.Site.state c.force.new.site) (λ dev other. c.force.ensures.works.reads dev))
+
+pub returns-in-Err-flush-clause-asks : goal.returns-in-Err-flush-clause-asks
+returns-in-Err-flush-clause-asks g c =
+    asks_around (Err c.in-Err-flush.stop) (Err c.in-Err-flush.stop) checkpoint_works c.args.self.now.pages c.flush.new.pages (g.S.Site.state c.args.site.now) (g.S.Site.state c.force.new.site) (g.S.Site.state c.flush.new.site) (g.S.Site.state c.flush.new.site)
+    c.force.ensures.works.reads (λ dev. refl) tt (λ is. let same : c.in-Err-flush.stop ≡ Worn Flash = cc in ap Err same) c.in-Err-flush.ensures.asks
+
+pub returns-in-Err-save_master-clause-asks : goal.returns-in-Err-save_master-clause-asks
+returns-in-Err-save_master-clause-asks g c =
+    asks_around c.flush.result (Err c.in-Err-save_master.stop) checkpoint_works c.args.self.now.pages c.flush.new.pages (g.S.Site.state c.args.site.now) (g.S.Site.state c.force.new.site) (g.S.Site.state c.flush.new.site) (g.S.Site.state c.save_master.new.site)
+    c.force.ensures.works.reads c.save_master.ensures.reads tt (λ is. absurd (never_worn_flash (Err c.in-Err-save_master.stop) c.in-Err-save_master.ensures.stops is)) c.flush.ensures.asks
+
+pub returns-in-Ok-save_master-clause-asks : goal.returns-in-Ok-save_master-clause-asks
+returns-in-Ok-save_master-clause-asks g c =
+    asks_around c.flush.result (Ok tt) checkpoint_works c.args.self.now.pages c.flush.new.pages (g.S.Site.state c.args.site.now) (g.S.Site.state c.force.new.site) (g.S.Site.state c.flush.new.site) (g.S.Site.state c.save_master.new.site)
+    c.force.ensures.works.reads c.save_master.ensures.reads c.in-Ok-flush.ensures.asks.machine (λ is. absurd (no_error is)) c.flush.ensures.asks

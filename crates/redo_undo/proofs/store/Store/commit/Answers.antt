@@ -1,0 +1,146 @@
+use Rattle.std.proofs.Common.{◌≡◌, ◌∙◌, ◌∷◌, [], ◌++◌, ◌+◌, Bool, true, nat_lt, inl, inr, Err, sym, ap, subst, arith, refl}
+use Rattle.std.specs.Prelude.{if◌then◌else◌}
+use Rattle.site.specs.State.{IsQuiet}
+use Rattle.site.specs.declared.outside.Dev.TheVariants.{Log}
+use Rattle.site.specs.declared.outside.Stop.TheVariants.{Worn}
+use Rattle.site.specs.declared.geometry.Geometry.{Geometry}
+use Rattle.log_records.specs.declared.log_record.LogRecord.TheVariants.{Commit}
+use Rattle.log_store.specs.LogList.{LogList, sealed_if, changes_if}
+use Rattle.log_store.specs.Held as log_held
+use Rattle.log_store.specs.Held.{has_tail}
+use Rattle.image_changes.specs.Rings.{Masters, KeepsUnits, master_shape}
+use Rattle.image_meaning.specs.Meaning.{kept_by, versions_on, master_of}
+use Rattle.image_meaning.proofs.Leaving.{under_leaves_either_for}
+use Rattle.redo_undo.specs.Holding.{IsLogWorn}
+use Rattle.redo_undo.proofs.Appended.{found_fits}
+use Rattle.redo_undo.proofs.Asking.{asks_nothing}
+use Rattle.redo_undo.proofs.AskingFlush.{never_worn_flash}
+use Rattle.redo_undo.proofs.Calling.{appends_foreign, keeps_appended}
+use Rattle.redo_undo.proofs.Committed.{leaves_either, rings_then, sealed_then, commit_holds, before_only, either_after}
+use Rattle.redo_undo.proofs.Forced.{seals_only}
+use Rattle.redo_undo.proofs.LeftNumbers.{log_skips, ready_next, same_at_most}
+use Rattle.redo_undo.proofs.Orderlies.{ends_orderly}
+use Rattle.redo_undo.proofs.RingNumbers.{then_skips, skips_on}
+use Rattle.redo_undo.proofs.Saved.{finds_kept}
+use Rattle.redo_undo.proofs.StoreCalling.{keeps_of, keeps_ok}
+use Rattle.redo_undo.proofs.Touched.{tail_blocks}
+use Rattle.redo_undo.proofs.WornLogs.{log_at_end}
+use Rattle.redo_undo.proofs.store.Store.commit.Goals as goal
+
+pub force-requires-clause-room : goal.force-requires-clause-room
+force-requires-clause-room g c =
+    let one = ap tail_blocks c.in-Ok.ensures.some in
+    let same = ap (λ (k : Geometry). k.blocks) c.log_record.ensures.works.geometry in
+    omega (arith, one, same, c.in-Ok.ensures.blocks, c.log_record.ensures.works.kept, c.requires.may.room, ap (λ (k : Geometry). k.blocks) c.requires.may.going.both.sizes)
+
+pub returns-in-Ok-force-clause-holds : goal.returns-in-Ok-force-clause-holds
+returns-in-Ok-force-clause-holds g c newest records table commits held may =
+    let old = g.S.Site.state c.args.site.now in
+    let mid = g.S.Site.state c.log_record.new.site in
+    let new = g.S.Site.state c.force.new.site in
+    let pages = c.args.self.now.pages in
+    let k = pages.flash.geometry in
+    let h = held.both in
+    let going = c.requires.may.going.both in
+    let log = c.log_record.new.log in
+    let log' = c.force.new.self in
+    let lsn = c.in-Ok.lsn in
+    let sizes = c.log_record.ensures.works.geometry ∙ going.sizes in
+    let some = c.in-Ok.ensures.some in
+    let m = c.in-Ok.ensures.last pages newest records table commits going.sizes h in
+    let ready = m.ready in
+    let list : LogList = record { first = kept_by newest; blocks = m.blocks; tail = m.front ++ Commit c.args.txn c.args.number ∷ [] } in
+    let finds = ready.blocks in
+    let changes = c.force.ensures.changes ready.blocks.honest in
+    let finds' = c.in-Ok-force.ensures.finds finds in
+    let holds : log_held.Holds log' new.image (sealed_if true list) = subst (λ (b : Bool). log_held.Holds log' new.image (sealed_if b list)) some (c.in-Ok-force.ensures.holds list finds ready.records) in
+    let next : log'.ring.hi ≡ log.ring.hi + 1 = c.in-Ok-force.ensures.next ∙ ap (λ (b : Bool). if b then log.ring.hi + 1 else log.ring.hi) some in
+    let first = (c.in-Ok.ensures.keeps pages newest records table commits h).masters in
+    let second : KeepsUnits master_shape mid.image new.image =
+    c.ring_kept.ensures log.geometry Masters (changes_if (has_tail log) list) mid.image new.image (seals_only (has_tail log) list) (c.in-Ok-force.ensures.reaches list m.ready.blocks m.ready.records) in
+    record {
+      both = commit_holds c.log_laws.ensures c.page_laws.ensures c.beside_laws.ensures c.commit_laws.ensures log pages mid newest records table commits c.args.txn c.args.number lsn m sizes some may log' new changes c.force.ensures.goes
+          (rings_then c.log_laws.ensures c.page_laws.ensures c.beside_laws.ensures c.commit_laws.ensures log pages mid newest records table commits c.args.txn c.args.number lsn m sizes some may new (c.in-Ok-force.ensures.reaches list finds ready.records))
+          (sealed_then c.log_laws.ensures c.page_laws.ensures c.beside_laws.ensures c.commit_laws.ensures log pages mid newest records table commits c.args.txn c.args.number lsn m sizes some may log' new changes c.force.ensures.geometry finds' c.force.ensures.at_most_one.0)
+          finds' holds next c.force.ensures.kept c.in-Ok-force.ensures.empty c.log_record.ensures.works.log_going.high
+          (ap (nat_lt 2) c.in-Ok-force.ensures.empty);
+      orderly = ends_orderly c.log_laws.ensures c.orderly_goes_on.ensures.orderly k log pages mid newest records table commits (Commit c.args.txn c.args.number) lsn (versions_on k old.image)
+          m (c.log_record.ensures.pages pages newest records table commits h).versions
+          (c.commit_laws.ensures.follows (master_of newest) (versions_on k old.image) records lsn c.args.txn c.args.number may.begun) held.orderly;
+      masters = finds_kept c.args.self.now.masters old new c.requires.may.going.shape (record { units = second.units ∙ first.units; form = λ form. second.form (first.form form) }) held.masters;
+    }
+
+pub returns-in-Err-clause-keeps : goal.returns-in-Err-clause-keeps
+returns-in-Err-clause-keeps g c newest records table commits held may =
+    let pages = c.args.self.now.pages in
+    keeps_of (λ leaves. under_leaves_either_for newest _ _ _ table _ commits _ (before_only newest pages.flash.geometry (g.S.Site.state c.args.site.now) (g.S.Site.state c.log_record.new.site) table _ commits leaves))
+    (keeps_appended c.requires.may.going.both c.in-Err.ensures.stops (c.in-Err.ensures.keeps pages newest records table commits held.both))
+
+pub returns-in-Err-force-clause-keeps : goal.returns-in-Err-force-clause-keeps
+returns-in-Err-force-clause-keeps g c newest records table commits held may =
+    let old = g.S.Site.state c.args.site.now in
+    let mid = g.S.Site.state c.log_record.new.site in
+    let new = g.S.Site.state c.force.new.site in
+    let pages = c.args.self.now.pages in
+    let k = pages.flash.geometry in
+    let h = held.both in
+    let going = c.requires.may.going.both in
+    let log = c.log_record.new.log in
+    let sizes = c.log_record.ensures.works.geometry ∙ going.sizes in
+    let m = c.in-Ok.ensures.last pages newest records table commits going.sizes h in
+    let list : LogList = record { first = kept_by newest; blocks = m.blocks; tail = m.front ++ Commit c.args.txn c.args.number ∷ [] } in
+    let calm : IsQuiet old → IsQuiet mid = λ quiet. c.in-Ok.ensures.works.calls.stays_quiet h.log_holds.ready.blocks.honest quiet in
+    let fits : IsQuiet old → log_held.Fits log mid = λ quiet. found_fits log mid (calm quiet) m.ready.blocks in
+    record {
+      any_moment = λ quiet. under_leaves_either_for newest _ _ _ table _ commits _ (either_after newest k old mid new table _ commits ((c.log_record.ensures.keeps pages newest records table commits h).any_moment going quiet)
+          (leaves_either c.log_laws.ensures c.page_laws.ensures c.beside_laws.ensures c.commit_laws.ensures log pages mid newest records table commits c.args.txn c.args.number c.in-Ok.lsn m sizes c.in-Ok.ensures.some may new (calm quiet)
+          (c.force.ensures.changes m.ready.blocks.honest) (c.force.ensures.any_moment list (fits quiet) m.ready.records) (c.force.ensures.front list (fits quiet) m.ready.records (calm quiet)) going.pages_going.own));
+      numbers = λ quiet. then_skips _ c.in-Ok.lsn k c.args.self.now.log log c.force.new.self old mid new 1 0 0 0 1 0
+          (skips_on _ c.args.self.now.log.geometry k c.args.self.now.log log old mid 1 0 going.sizes ((c.in-Ok.ensures.keeps pages newest records table commits h).numbers going quiet))
+          (skips_on _ log.geometry k log c.force.new.self mid new 0 0 sizes
+          (log_skips c.ring_kept.ensures _ log.geometry log c.force.new.self list (has_tail log) mid new 0 (ready_next pages log list mid m.ready) (λ tail. tail)
+          (c.force.ensures.any_moment list (fits quiet) m.ready.records) (c.force.ensures.front list (fits quiet) m.ready.records (calm quiet)) tt)) (omega arith) refl;
+      quiet = λ quiet other. elim c.in-Err-force.ensures.stops [
+        | inl device ↦ absurd (other Log device)
+        | inr worn ↦ subst IsQuiet (ap g.S.Site.state (sym (c.force.ensures.unchanged (inr (c.in-Err-force.ensures.worn.0 (ap Err worn)).1)))) (calm quiet)
+      ];
+      worn_log = λ is.
+          let same : c.in-Err-force.stop ≡ Worn Log = cc in
+          let worn = (c.in-Err-force.ensures.worn.0 (ap Err same)).1 in
+          subst (λ (x : Geometry). IsLogWorn x new.image) sizes (log_at_end log mid new m.ready.blocks (ap g.S.Site.state (c.force.ensures.unchanged (inr worn))) worn);
+      worn = λ is. absurd (never_worn_flash (Err c.in-Err-force.stop) c.in-Err-force.ensures.stops is);
+      readable = appends_foreign (Err c.in-Err-force.stop) c.in-Err-force.ensures.stops;
+    }
+
+pub returns-in-Ok-force-clause-keeps : goal.returns-in-Ok-force-clause-keeps
+returns-in-Ok-force-clause-keeps g c newest records table commits held may =
+    let old = g.S.Site.state c.args.site.now in
+    let mid = g.S.Site.state c.log_record.new.site in
+    let new = g.S.Site.state c.force.new.site in
+    let pages = c.args.self.now.pages in
+    let k = pages.flash.geometry in
+    let h = held.both in
+    let going = c.requires.may.going.both in
+    let log = c.log_record.new.log in
+    let sizes = c.log_record.ensures.works.geometry ∙ going.sizes in
+    let m = c.in-Ok.ensures.last pages newest records table commits going.sizes h in
+    let list : LogList = record { first = kept_by newest; blocks = m.blocks; tail = m.front ++ Commit c.args.txn c.args.number ∷ [] } in
+    let calm : IsQuiet old → IsQuiet mid = λ quiet. c.in-Ok.ensures.works.calls.stays_quiet h.log_holds.ready.blocks.honest quiet in
+    let fits : IsQuiet old → log_held.Fits log mid = λ quiet. found_fits log mid (calm quiet) m.ready.blocks in
+    keeps_ok (λ quiet. under_leaves_either_for newest _ _ _ table _ commits _ (either_after newest k old mid new table _ commits ((c.log_record.ensures.keeps pages newest records table commits h).any_moment going quiet)
+    (leaves_either c.log_laws.ensures c.page_laws.ensures c.beside_laws.ensures c.commit_laws.ensures log pages mid newest records table commits c.args.txn c.args.number c.in-Ok.lsn m sizes c.in-Ok.ensures.some may new (calm quiet)
+    (c.force.ensures.changes m.ready.blocks.honest) (c.force.ensures.any_moment list (fits quiet) m.ready.records) (c.force.ensures.front list (fits quiet) m.ready.records (calm quiet)) going.pages_going.own)))
+    (λ quiet. then_skips _ c.in-Ok.lsn k c.args.self.now.log log c.force.new.self old mid new 1 0 0 0 1 0
+    (skips_on _ c.args.self.now.log.geometry k c.args.self.now.log log old mid 1 0 going.sizes ((c.in-Ok.ensures.keeps pages newest records table commits h).numbers going quiet))
+    (skips_on _ log.geometry k log c.force.new.self mid new 0 0 sizes
+    (log_skips c.ring_kept.ensures _ log.geometry log c.force.new.self list (has_tail log) mid new 0 (ready_next pages log list mid m.ready) (λ tail. tail)
+    (c.force.ensures.any_moment list (fits quiet) m.ready.records) (c.force.ensures.front list (fits quiet) m.ready.records (calm quiet)) (same_at_most log c.force.new.self c.in-Ok.ensures.some c.in-Ok-force.ensures.next c.in-Ok-force.ensures.empty))) (omega arith) refl)
+
+pub returns-in-Err-clause-asks : goal.returns-in-Err-clause-asks
+returns-in-Err-clause-asks g c = asks_nothing _ c.args.self.now.pages _ _ c.log_record.ensures.works.reads (never_worn_flash (Err c.in-Err.stop) c.in-Err.ensures.stops)
+
+pub returns-in-Err-force-clause-asks : goal.returns-in-Err-force-clause-asks
+returns-in-Err-force-clause-asks g c = asks_nothing _ c.args.self.now.pages _ _ (λ d. c.force.ensures.reads d ∙ c.log_record.ensures.works.reads d) (never_worn_flash (Err c.in-Err-force.stop) c.in-Err-force.ensures.stops)
+
+pub returns-in-Ok-force-clause-asks : goal.returns-in-Ok-force-clause-asks
+returns-in-Ok-force-clause-asks g c = asks_nothing _ c.args.self.now.pages _ _ (λ d. c.force.ensures.reads d ∙ c.log_record.ensures.works.reads d) (λ is. cc)

@@ -1,0 +1,30 @@
+use Rattle.image_meaning.proofs.Leaving.{under_leaves_for}
+use Rattle.std.proofs.Common.{refl, ◌≡◌, ◌+◌, ◌++◌, ◌∷◌, [], sym, subst}
+use Rattle.log_records.specs.declared.log_record.LogRecord.{LogRecord}
+use Rattle.redo_undo.proofs.Saved.{finds_kept}
+use Rattle.redo_undo.proofs.StoreCalling.{keeps_of}
+use Rattle.redo_undo.specs.Stores.{Holds, MayGrow, shown_in, update_by}
+use Rattle.redo_undo.proofs.store.Store.update.Goals as goal
+
+pub returns-in-Ok-clause-holds : goal.returns-in-Ok-clause-holds
+returns-in-Ok-clause-holds g c newest records table commits h = λ may.
+    let store = c.args.self.now in
+    let old = g.S.Site.state c.args.site.now in
+    let new = g.S.Site.state c.log_change.new.site in
+    let lsn = c.in-Ok.lsn in
+    let before = c.shown.ensures.shown old newest records table commits h in
+    let is : update_by c.args.txn c.args.prev c.args.number c.shown.result c.copy_of.result ≡ update_by c.args.txn c.args.prev c.args.number (shown_in store old records c.args.number) c.args.after.now =
+    λ i. update_by c.args.txn c.args.prev c.args.number (before i) (c.copy_of.ensures i) in
+    let grows = subst (λ (rec : LogRecord). MayGrow store old newest records (record { lsn = lsn; rec = rec })) (sym is) may in
+    subst (λ (rec : LogRecord). Holds (record { log = c.log_change.new.log; pages = c.log_change.new.pages; masters = store.masters; made = store.made + 1 }) new newest (records ++ record { lsn = lsn; rec = rec } ∷ []) table commits) is
+    (record {
+      both = c.in-Ok.ensures.holds newest records table commits h.both grows;
+      orderly = c.in-Ok.ensures.orderly newest records table commits h.both grows h.orderly;
+      masters = finds_kept store.masters old new c.requires.may.going.shape ((c.in-Ok.ensures.keeps newest records table commits h.both).masters refl) h.masters;
+    })
+
+pub returns-in-Ok-clause-keeps : goal.returns-in-Ok-clause-keeps
+returns-in-Ok-clause-keeps g c newest records table commits h = keeps_of (under_leaves_for newest _ _ _ table commits _) (c.in-Ok.ensures.keeps newest records table commits h.both)
+
+pub returns-in-Err-clause-keeps : goal.returns-in-Err-clause-keeps
+returns-in-Err-clause-keeps g c newest records table commits h = keeps_of (under_leaves_for newest _ _ _ table commits _) (c.in-Err.ensures.keeps newest records table commits h.both)
