@@ -1,12 +1,9 @@
 -- A page is brought in, behind the eviction of another.
-use Rattle.std.proofs.Common.{◌≡◌, ◌≢◌, IsTrue, ℕ, ◌+◌, ◌*◌, ◌<◌, ◌≤◌, Bool, true, false, cond, arith, sym, ap, subst, ◌∙◌}
-use Rattle.std.specs.Prelude.{Result, Ok, Err, OnOk, IfErr}
+use Rattle.std.proofs.Common.{◌≡◌, IsTrue, ℕ, ◌+◌, ◌*◌, ◌<◌, ◌≤◌, Bool, true, false, cond, arith, sym, ap, subst, ◌∙◌}
+use Rattle.std.specs.Prelude.{Result, Ok, Err, OnOk}
 use Rattle.std.specs.List.{AllByRecursion}
 use Rattle.site.specs.declared.geometry.Geometry.{Geometry}
-use Rattle.site.specs.declared.outside.Dev.{Dev}
-use Rattle.site.specs.declared.outside.Stop.{Stop}
-use Rattle.site.specs.declared.outside.Stop.TheVariants.{Device}
-use Rattle.site.specs.State.{State, Image, IsQuiet, snapshot_of}
+use Rattle.site.specs.State.{State, Image, snapshot_of}
 use Rattle.site.specs.Calls.{IsUnchanged}
 use Rattle.sealed_ring.specs.Ring.{IsRing, hi_of}
 use Rattle.image_changes.specs.Rings.{log_shape}
@@ -26,10 +23,6 @@ use Rattle.page_store.proofs.PushLaws.{logged_more}
 pub ok_two : {A E : Type 0} (r : Result A E) (P Q Z : Type 0) → (P → Q → Z) → OnOk r P → OnOk r Q → OnOk r Z
 ok_two (Ok x) P Q Z f p q = f p q
 ok_two (Err e) P Q Z f p q = tt
-
-pub on_ok : {A E : Type 0} (r : Result A E) (P : Type 0) → P → OnOk r P
-on_ok (Ok x) P p = p
-on_ok (Err e) P p = tt
 
 -- a site of which nothing changed leaves the same snapshot
 pub snapshot_same : (old new : State) → IsUnchanged old new → snapshot_of new ≡ snapshot_of old
@@ -77,8 +70,3 @@ ahead_in store mid store' log page site new geometry geometry' log_geometry fits
     front : IsLogged (end_forced log) (front_of store'.pool.frames).content
     front = subst (IsLogged (end_forced log)) (sym (read ∙ ap (λ (g : Geometry). version_on g site.image page) geometry))
         (logged_more (sealed_end store.flash.geometry site.image) (end_forced log) _ below (sealed.each page exists))
-
--- a site that is quiet is so after any error
-pub still_quiet : {A : Type 0} (r : Result A Stop) (site : State) → IsQuiet site → IfErr r (λ stop. ((d : Dev) → stop ≢ Device d) → IsQuiet site)
-still_quiet (Ok x) site quiet = tt
-still_quiet (Err e) site quiet = λ named. quiet

@@ -1,12 +1,11 @@
 -- Lists of changes, call by call.
-use Rattle.std.proofs.Common.{◌≡◌, ℕ, zero, suc, ◌+◌, ◌*◌, ◌<◌, ◌≤◌, Bool, true, false, not, ◌&&◌, cond, List, [], ◌∷◌, ◌++◌, length, map, reverse, refl, sym, ap, subst, ◌∙◌, arith, append_assoc, append-nil}
+use Rattle.std.proofs.Common.{◌≡◌, ℕ, zero, suc, ◌+◌, ◌*◌, ◌<◌, ◌≤◌, Bool, true, false, not, ◌&&◌, cond, List, [], ◌∷◌, ◌++◌, length, map, reverse, refl, sym, ap, ◌∙◌, arith, append_assoc, append-nil}
 use Rattle.std.specs.List.{AllByRecursion}
 use Rattle.std.proofs.lemmas.List.{length-map}
 use Rattle.site.specs.declared.geometry.Geometry.{Geometry}
 use Rattle.site.specs.State.{State}
 use Rattle.site.specs.Laws.{leaves_weaker}
-use Rattle.image_changes.specs.Laws.{ChangesAddUp, FrontsAddUp}
-use Rattle.image_changes.specs.Changes.{Change, Reaches}
+use Rattle.image_changes.specs.Changes.{Change}
 use Rattle.image_changes.specs.Reached.{IsReached, IsFrontOf, LeavesFront}
 use Rattle.frame_group.specs.Groups.{Frame as Stored, group}
 use Rattle.flash_cache.specs.Pushed.{staged_pages, frames_given, pushed_queue, changes_of_push}
@@ -84,59 +83,31 @@ standing_after log log' list list' store store' any is next end sealed geometry 
     λ i. record { tail = tail i; next = next i; list = sealed i; groups = (geometry i).groups; queue = queue i; frames = frames i }
 
 -- What the pushes so far have made: the first of all changes, with those left that are still to come.
-pub record HasMade (g : Geometry) (all : List Change) (old now : State) (s : Standing) (count : ℕ) : Type 0 where
-  pub made : List Change
+pub record HasMade (all made : List Change) (s : Standing) (count : ℕ) : Type 0 where
   pub pushes : ℕ
   pub enough : count ≤ pushes
   pub split : all ≡ made ++ pushes_changes pushes s
-  pub front : LeavesFront g made old now
-  pub reaches : Reaches g made old.image now.image
 
-module _ (g : Geometry) (all : List Change) (old mid : State) (s : Standing) (count : ℕ) (so_far : HasMade g all old mid s count) where
+module _ (all made : List Change) (s : Standing) (count : ℕ) (so_far : HasMade all made s count) where
   -- no page is changed
-  pub none_to_come : wants_flush (cache_at s) ≡ false → so_far.made ≡ all
-  none_to_come none = sym (append-nil so_far.made) ∙ ap (λ (l : List Change). so_far.made ++ l) (sym (by so_far.pushes)) ∙ sym so_far.split
+  pub none_to_come : wants_flush (cache_at s) ≡ false → made ≡ all
+  none_to_come none = sym (append-nil made) ∙ ap (λ (l : List Change). made ++ l) (sym (by so_far.pushes)) ∙ sym so_far.split
     where
       by : (n : ℕ) → pushes_changes n s ≡ []
       by zero = refl
       by (suc n) = ap (λ (b : Bool). cond b (push_changes s (chosen s.frames) ++ pushes_changes n (after_push s)) []) none
 
   -- some page is
-  record IsNext : Type 0 where
-    pushes : ℕ
-    one_less : so_far.pushes ≡ suc pushes
-    split : all ≡ (so_far.made ++ push_changes s (chosen s.frames)) ++ pushes_changes pushes (after_push s)
-
-  next : wants_flush (cache_at s) ≡ true → 0 < count → IsNext
-  next some more = by so_far.pushes refl
+  pub one_to_come : wants_flush (cache_at s) ≡ true → (count' : ℕ) → count' < count → (s' : Standing) → s' ≡ after_push s → HasMade all (made ++ push_changes s (chosen s.frames)) s' count'
+  one_to_come some count' fewer s' is = by so_far.pushes refl
     where
-      by : (n : ℕ) → so_far.pushes ≡ n → IsNext
-      by zero is = absurd (omega (arith, more, so_far.enough, is))
-      by (suc n) is = record {
+      by : (n : ℕ) → so_far.pushes ≡ n → HasMade all (made ++ push_changes s (chosen s.frames)) s' count'
+      by zero none = absurd (omega (arith, fewer, so_far.enough, none))
+      by (suc n) more = record {
         pushes = n;
-        one_less = is;
-        split = so_far.split ∙ ap (λ (k : ℕ). so_far.made ++ pushes_changes k s) is
-            ∙ ap (λ (b : Bool). so_far.made ++ cond b (push_changes s (chosen s.frames) ++ pushes_changes n (after_push s)) []) some
-            ∙ sym (append_assoc so_far.made (push_changes s (chosen s.frames)) (pushes_changes n (after_push s)));
-      }
-
-  -- a push within, and behind it
-  pub within_push : FrontsAddUp → (new : State) → wants_flush (cache_at s) ≡ true → 0 < count → mid.told ≡ old.told → LeavesFront g (push_changes s (chosen s.frames)) mid new → LeavesFront g all old new
-  within_push law new some more told front =
-      let n = next some more in
-      subst (λ (l : List Change). LeavesFront g l old new) (sym n.split)
-      (front_more g (so_far.made ++ push_changes s (chosen s.frames)) (pushes_changes n.pushes (after_push s)) old new
-      (law g so_far.made (push_changes s (chosen s.frames)) old mid new so_far.front so_far.reaches told front))
-
-  pub behind_push : FrontsAddUp → ChangesAddUp → (new : State) (s' : Standing) (count' : ℕ) → wants_flush (cache_at s) ≡ true → count' < count → s' ≡ after_push s → mid.told ≡ old.told
-      → LeavesFront g (push_changes s (chosen s.frames)) mid new → Reaches g (push_changes s (chosen s.frames)) mid.image new.image → HasMade g all old new s' count'
-  behind_push law changes new s' count' some fewer is told front reaches =
-      let n = next some (omega (arith, fewer)) in
-      record {
-        made = so_far.made ++ push_changes s (chosen s.frames);
-        pushes = n.pushes;
-        enough = omega (arith, fewer, so_far.enough, n.one_less);
-        split = n.split ∙ ap (λ (t : Standing). (so_far.made ++ push_changes s (chosen s.frames)) ++ pushes_changes n.pushes t) (sym is);
-        front = law g so_far.made (push_changes s (chosen s.frames)) old mid new so_far.front so_far.reaches told front;
-        reaches = changes g so_far.made (push_changes s (chosen s.frames)) old.image mid.image new.image so_far.reaches reaches;
+        enough = omega (arith, fewer, so_far.enough, more);
+        split = so_far.split ∙ ap (λ (k : ℕ). made ++ pushes_changes k s) more
+            ∙ ap (λ (b : Bool). made ++ cond b (push_changes s (chosen s.frames) ++ pushes_changes n (after_push s)) []) some
+            ∙ sym (append_assoc made (push_changes s (chosen s.frames)) (pushes_changes n (after_push s)))
+            ∙ ap (λ (t : Standing). (made ++ push_changes s (chosen s.frames)) ++ pushes_changes n t) (sym is);
       }

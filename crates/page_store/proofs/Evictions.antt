@@ -19,7 +19,7 @@ use Rattle.buffer_pool.specs.Laws.{IsLast}
 use Rattle.second_chance.specs.Queue.{Queue, has_frame}
 use Rattle.second_chance.specs.Machine.{Rules, PoolPage, Cache, must_be_pushed, evict_first, evict_coldest, after_eviction, push_evicted, without, is_pulled}
 use Rattle.log_store.specs.declared.store.LogStore.{LogStore}
-use Rattle.log_store.specs.LogList.{LogList, sealed_if}
+use Rattle.log_store.specs.LogList.{LogList}
 use Rattle.log_store.specs.Held.{has_tail, HasBlocks}
 use Rattle.page_store.specs.declared.store.PageStore.{PageStore}
 use Rattle.page_store.specs.Held.{IsPage, IsStore, MayGoOn, Fits, content_by, current}
@@ -156,9 +156,22 @@ module _ (store : PageStore) (rest : Pool) (last : Frame) (is : store.pool.frame
   pub rest_ready : (log : LogStore) (list : LogList) (site : State) → AreReady store log list site → AreReady smaller log list site
   rest_ready log list site ready = record { pages = rest_fits site ready.pages; blocks = ready.blocks; records = ready.records }
 
-  pub rest_kept : (log : LogStore) (list : LogList) (site : State) → must_be_pushed store.flash.directory (pool_page last) ≡ false → AreReady store log list site
-      → AreReady smaller log (sealed_if (forces log (evicted store)) list) site
-  rest_kept log list site must ready = subst (λ b. AreReady smaller log (sealed_if b list) site) (sym (none_evicted log must)) (rest_ready log list site ready)
+  -- a page that isn't pushed is its version
+  pub rest_current : (site : State) → Fits store site → must_be_pushed store.flash.directory (pool_page last) ≡ false → KeepsCurrent store site.image smaller site.image
+  rest_current site fits must = record { each = λ page exists. by page (cases_eq page last.page) }
+    where
+      unmarked : (changed framed : Bool) → (changed || not framed) ≡ false → changed ≡ false
+      unmarked true framed is = absurd cc
+      unmarked false framed is = refl
+
+      by : (page : ℕ) → (page ≡ last.page) ⊎ (page ≢ last.page) → current smaller site.image page ≡ current store site.image page
+      by page (inl same) =
+          ap (current smaller site.image) same
+          ∙ ap (λ o. content_by o (version_on store.flash.geometry site.image last.page)) one.gone
+          ∙ sym (fits.unchanged last.page last own (unmarked last.changed (has_frame store.flash.directory last.page) must))
+          ∙ sym (ap (λ o. content_by o (version_on store.flash.geometry site.image last.page)) own)
+          ∙ ap (current store site.image) (sym same)
+      by page (inr other) = ap (λ o. content_by o (version_on store.flash.geometry site.image page)) (others page other)
 
   pub rest_logged : (end : ℕ) → AllByRecursion (λ (frame : Frame). IsLogged end frame.content) store.pool.frames → AllByRecursion (λ (frame : Frame). IsLogged end frame.content) rest.frames
   rest_logged end all = all_front (λ (frame : Frame). IsLogged end frame.content) rest.frames last (subst (AllByRecursion (λ (frame : Frame). IsLogged end frame.content)) is all)

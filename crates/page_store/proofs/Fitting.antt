@@ -1,6 +1,5 @@
 -- A store that fits its site, at its start and after a change.
 use Rattle.std.proofs.Common.{◌≡◌, ◌≢◌, ℕ, ◌<◌, true, false, List, [], ◌∷◌, length, drop, Option, Some, arith, sym, ap, subst, ◌∙◌, ◌⊎◌, inl, inr}
-use Rattle.std.specs.Prelude.{Result, Err, IsErrOf}
 use Rattle.std.specs.List.{AllByRecursion}
 use Rattle.std.proofs.lemmas.Option.{none-some}
 use Rattle.std.proofs.lemmas.Bool.{cases_eq}
@@ -15,10 +14,6 @@ use Rattle.buffer_pool.specs.Frames.{State as Pool, frame_of, front_of, ChangesF
 use Rattle.buffer_pool.specs.Laws.{ChangesOne}
 use Rattle.page_store.specs.declared.store.PageStore.{PageStore}
 use Rattle.page_store.specs.Held.{Fits}
-
--- an error is that error, of whatever it was the result
-pub err_again : {T U E : Type 0} (a b : E) → IsErrOf {T = T} (Err a) b → IsErrOf {T = U} (Err a) b
-err_again {T} {U} {E} a b is = let same : a ≡ b = cc in ap {A = E} {B = Result U E} (λ (e : E). Err e) same
 
 pub fits_at_start : (store : PageStore) (g : Geometry) (old new : State) (groups : List (List Stored)) → store.flash.geometry ≡ g → store.pool.frames ≡ []
     → new.image ≡ old.image → held.Fits store.flash new → held.Holds store.flash new.image groups → IsCleanOn g old.image

@@ -1,13 +1,14 @@
 -- Behind a push of changed pages.
-use Rattle.std.proofs.Common.{◌≡◌, inl, inr, ℕ, zero, suc, ◌<◌, ◌==◌, Bool, true, false, true≢false, not, ◌&&◌, ◌||◌, cond, List, [], ◌∷◌, ◌++◌, length, get_or, take, map, filter, reverse, Option, Some, None, option_map, is_some, arith, refl, sym, ap, subst, ◌∙◌}
-use Rattle.std.specs.Prelude.{IsSome, Contains}
+use Rattle.std.proofs.Common.{◌≡◌, inl, inr, ℕ, zero, suc, ◌<◌, ◌≤◌, ◌==◌, Bool, true, false, true≢false, not, ◌&&◌, ◌||◌, cond, List, [], ◌∷◌, ◌++◌, length, get_or, take, map, filter, reverse, replicate, Option, Some, None, option_map, is_some, arith, refl, sym, ap, subst, ◌∙◌}
+use Rattle.std.specs.Prelude.{IsSome, Contains, Ok}
 use Rattle.std.specs.List.{All, AllByRecursion}
 use Rattle.std.proofs.lemmas.Option.{none-some}
 use Rattle.std.proofs.lemmas.Bool.{eqb-true}
-use Rattle.std.proofs.lemmas.List.{get_or_default, reverse-append, map-append}
+use Rattle.std.proofs.lemmas.List.{get_or_default, reverse-append, map-append, length-map, length-take-le}
 use Rattle.site.specs.declared.geometry.Geometry.{Geometry}
-use Rattle.site.specs.State.{State}
+use Rattle.site.specs.State.{State, Image}
 use Rattle.flash_cache.specs.Held.{version_on}
+use Rattle.flash_cache.specs.Pushed.{known_given}
 use Rattle.buffer_pool.specs.declared.frame.Frame.{Frame}
 use Rattle.buffer_pool.specs.Frames.{State as Pool, frame_of}
 use Rattle.buffer_pool.specs.Laws.{ClearedKeepsFrames}
@@ -15,15 +16,24 @@ use Rattle.second_chance.specs.declared.plan.PoolMark.{PoolMark}
 use Rattle.second_chance.specs.Queue.{Queue, pushed, frame_of as known_of}
 use Rattle.second_chance.specs.Machine.{Cache, pool_mark, pool_frame, is_pulled, saved, push_changed, is_full}
 use Rattle.page_store.specs.declared.store.PageStore.{PageStore}
-use Rattle.page_store.specs.Held.{IsPage, Fits, content_by, current}
+use Rattle.page_store.specs.Held.{IsPage, IsStore, Fits, content_by, current}
 use Rattle.page_store.specs.Caching.{pool_page, cache_of, rules}
 use Rattle.page_store.specs.Leaves.{Gives, KeepsCurrent}
+use Rattle.log_store.specs.declared.store.LogStore.{LogStore}
+use Rattle.log_store.specs.LogList.{LogList, sealed_if}
+use Rattle.page_store.specs.Ahead.{IsLogged, end_forced}
+use Rattle.image_changes.specs.Changes.{Change}
+use Rattle.second_chance.specs.Laws.{changed_count}
+use Rattle.page_store.specs.Calls.{Keeps, Stands}
+use Rattle.page_store.specs.Changing.{standing, push_changes, given_changes}
 use Rattle.page_store.specs.Flushing.{changed_frames, chosen, mark_for, content_in, cleared_all}
 use Rattle.page_store.proofs.PushLaws.{or_listed}
 use Rattle.page_store.proofs.Pools.{page_is}
-use Rattle.page_store.proofs.Choosing.{chosen_changed}
+use Rattle.page_store.proofs.Choosing.{few_chosen, chosen_changed}
+use Rattle.page_store.proofs.Calling.{AreItsOwn}
+use Rattle.page_store.proofs.Changing.{given_is, known_pages, HasMade}
 use Rattle.page_store.proofs.Clearing.{frames_cleared, cleared_by, by_content, by_mark, is_among, pages_saved, all_pages}
-use Rattle.page_store.proofs.Saving.{all_weaker}
+use Rattle.page_store.proofs.Saving.{all_weaker, all_true, known_changed, HasChosen, has_chosen, chosen_contents}
 use Rattle.slotted_page.specs.Layout.{IsSound}
 
 -- Which pages are listed.
@@ -170,3 +180,39 @@ pages_cleared most ps frames all =
     all_weaker (λ (f : Frame). IsSound f.content × (f.page < most)) (IsPage most) (λ f p. record { sound = p.0; exists = p.1 }) (cleared_all ps frames)
     (all_pages (λ page content. IsSound content × (page < most)) ps frames
     (all_weaker (IsPage most) (λ (f : Frame). IsSound f.content × (f.page < most)) (λ f p. (p.sound, p.exists)) frames all))
+
+-- All that one push of a flush asks, and what it is.
+
+abbrev pub marked : List ℕ → List Bool
+marked pages = take (length pages) (replicate 8 true)
+
+pub record IsSaving (store : PageStore) (pages : List ℕ) (contents : List (List ℕ)) : Type 0 where
+  pub own : (log : LogStore) (image : Image) → AreItsOwn log store pages (marked pages) contents image
+  pub chosen_are : HasChosen store pages (marked pages) contents
+  pub changes : (log : LogStore) (list : LogList) → given_changes log list store pages (marked pages) contents ≡ push_changes (standing log list store) (chosen store.pool.frames)
+  pub known : known_given pages (marked pages) ≡ map (λ (f : Frame). known_of f.page true) (chosen store.pool.frames)
+
+pub is_saving : (store : PageStore) (pages : List ℕ) (contents : List (List ℕ)) → IsStore store → pages ≡ map (λ (f : Frame). f.page) (chosen store.pool.frames) → contents ≡ map (content_in store.pool.frames) pages → IsSaving store pages contents
+is_saving store pages contents is are have =
+    let frames = store.pool.frames in
+    let short : length pages ≤ 8 = let count = ap length are in omega (arith, count, few_chosen frames, length-map (chosen frames) (λ (f : Frame). f.page)) in
+    let lists = length-take-le (length pages) (replicate 8 true) short in
+    let facts = has_chosen store pages (marked pages) contents is.pool.distinct are have lists (all_true (length pages)) in
+    record {
+      own = λ log image. record {
+        given = facts.given image;
+        clean = facts.clean image;
+        sound = chosen_contents IsSound frames pages contents is.pool.distinct are have (all_weaker (IsPage store.flash.geometry.pages) (λ (f : Frame). IsSound f.content) (λ f p. p.sound) frames is.pages);
+        logged = chosen_contents (IsLogged (end_forced log)) frames pages contents is.pool.distinct are have;
+      };
+      chosen_are = facts;
+      changes = λ log list. given_is log list store pages (marked pages) contents (chosen frames) are facts.first lists (all_true (length pages)) (chosen_changed frames);
+      known = known_changed pages (marked pages) lists (all_true (length pages)) ∙ ap (map (λ page. known_of page true)) are ∙ known_pages (chosen frames);
+    }
+
+-- A flush, push by push: what its pushes so far leave, with the changes that are made and those still to come.
+pub record SoFar (all : List Change) (log0 log : LogStore) (first store : PageStore) (old now : State) (list : LogList) (b : Bool) : Type 0 where
+  pub made : List Change
+  pub has : HasMade all made (standing log (sealed_if b list) store) (changed_count (cache_of store).pool)
+  pub keeps : Keeps {T = Unit {0}} (Ok tt) log0 first old now list b made
+  pub stands : Stands log0 log first store old now list b made

@@ -16,6 +16,7 @@ pub mod Numbers
 pub mod Beside
 pub mod Unsealed
 pub mod Rings
+pub mod Calling
 pub mod Changing
 pub mod Lines
 pub mod Left

@@ -180,18 +180,6 @@ module _ (g : Geometry) (sealing : Bool) (list : LogList) (old mid : State) (lea
         (subst (IsLogged (sealed_end g old.image)) (sym (version_same g old.image s.image page p.flash p.disk)) (sealed.each page exists));
   }) forced
 
-  pub same_flash : mid.image.flash ≡ old.image.flash
-  same_flash = changes.only.now.content Flash flash_other
-
-  pub same_disk : mid.image.disk ≡ old.image.disk
-  same_disk = changes.only.now.content Disk disk_other
-
-  pub same_loose : loose_of Flash mid.loose ≡ loose_of Flash old.loose
-  same_loose = changes.only.now.loose Flash flash_other
-
-  pub same_told : mid.told ≡ old.told
-  same_told = changes.only.now.told
-
 -- The push.
 
 module _ (cache : FlashCache) (groups : List (List Stored)) (pages : List ℕ) (changed : List Bool) (contents : List (List ℕ)) (old mid new : State)
@@ -322,17 +310,17 @@ pub clean_given_same : (cache : FlashCache) (pages : List ℕ) (changed : List B
 clean_given_same cache pages changed contents old new disk are k less unchanged =
     let own = are k less unchanged in (own.0, own.1 ∙ ap (λ d. page_on (slice_index pages k) d) (sym disk))
 
-pub ok_then : {A E : Type 0} (r : Result A E) (P Q : Type 0) → (P → Q) → OnOk r P → OnOk r Q
-ok_then (Ok x) P Q f p = f p
-ok_then (Err e) P Q f p = tt
-
-pub ok_three : {A E : Type 0} (r : Result A E) (P Q R Z : Type 0) → (P → Q → R → Z) → OnOk r P → OnOk r Q → OnOk r R → OnOk r Z
-ok_three (Ok x) P Q R Z f p q r = f p q r
-ok_three (Err e) P Q R Z f p q r = tt
+pub ok_under : {A E : Type 0} (r : Result A E) (P Q : Type 0) → (P → OnOk r Q) → OnOk r (P → Q)
+ok_under (Ok x) P Q f = f
+ok_under (Err e) P Q f = tt
 
 pub ok_four : {A E : Type 0} (r : Result A E) (P Q R S Z : Type 0) → (P → Q → R → S → Z) → OnOk r P → OnOk r Q → OnOk r R → OnOk r S → OnOk r Z
 ok_four (Ok x) P Q R S Z f p q r s = f p q r s
 ok_four (Err e) P Q R S Z f p q r s = tt
+
+pub ok_six : {A E : Type 0} (r : Result A E) (P Q R S T U Z : Type 0) → (P → Q → R → S → T → U → Z) → OnOk r P → OnOk r Q → OnOk r R → OnOk r S → OnOk r T → OnOk r U → OnOk r Z
+ok_six (Ok x) P Q R S T U Z f p q r s t u = f p q r s t u
+ok_six (Err e) P Q R S T U Z f p q r s t u = tt
 
 -- the log that was found, where nothing of its device is loose
 pub log_fits : (log : LogStore) (site : State) → IsQuiet site → log_held.Finds log site → log_held.Fits log site

@@ -14,20 +14,10 @@ use Rattle.page_store.proofs.PushLaws.{units_then}
 
 -- Blocks and tail: where there is one block more, there was a tail and is none.
 
-pub had_tail : (h0 h1 : ℕ) (t0 t1 : Bool) → 512 * (h1 + cond t1 1 0) ≡ 512 * (h0 + cond t0 1 0) → nat_lt h0 h1 ≡ true → t0 ≡ true
-had_tail h0 h1 true t1 end more = refl
-had_tail h0 h1 false true end more = absurd (grind (arith, nat_tests))
-had_tail h0 h1 false false end more = absurd (grind (arith, nat_tests))
-
 pub no_tail : (h0 h1 : ℕ) (t0 t1 : Bool) → 512 * (h1 + cond t1 1 0) ≡ 512 * (h0 + cond t0 1 0) → nat_lt h0 h1 ≡ true → t1 ≡ false
 no_tail h0 h1 t0 false end more = refl
 no_tail h0 h1 true true end more = absurd (grind (arith, nat_tests))
 no_tail h0 h1 false true end more = absurd (grind (arith, nat_tests))
-
-pub still_tail : (h0 h1 : ℕ) (t0 t1 : Bool) → 512 * (h1 + cond t1 1 0) ≡ 512 * (h0 + cond t0 1 0) → h0 ≤ h1 → t1 ≡ true → t0 ≡ true
-still_tail h0 h1 true t1 end rises is = refl
-still_tail h0 h1 false true end rises is = absurd (omega (arith, end, rises))
-still_tail h0 h1 false false end rises is = absurd cc
 
 pub risen : (h0 h1 h2 : ℕ) (forced : Bool) → h0 ≤ h1 → h2 ≡ cond forced (h1 + 1) h1 → nat_lt h0 h2 ≡ (nat_lt h0 h1 || forced)
 risen h0 h1 h2 true rises is = ap (nat_lt h0) is ∙ more ∙ sym (or_true (nat_lt h0 h1))
@@ -57,6 +47,22 @@ pub not_forced : (a b : Bool) → a ≡ false → (a && b) ≡ false
 not_forced a b is = ap (λ t. t && b) is
 
 -- One push more.
+
+-- where more may be sealed
+pub more_sealed : (g : Geometry) (given : ℕ → List ℕ) (a b : Bool) (list : LogList) (old : State) (s : Snapshot) → (a ≡ true → b ≡ true) → LeavesPages g given a list old s → LeavesPages g given b list old s
+more_sealed g given a b list old s more p = record {
+  log = record {
+    told = p.log.told;
+    blocks = elim p.log.blocks [
+      | inl has ↦ inl has
+      | inr both ↦ inr (more both.0, both.1)
+    ];
+  };
+  rings = p.rings;
+  queue = p.queue;
+  clean = p.clean;
+  versions = p.versions;
+}
 
 -- What is left behind it, or at a moment of it.
 pub one_more_pages : (g : Geometry) (given given' : ℕ → List ℕ) (wanted b forced : Bool) (list : LogList) (old mid : State) (s : Snapshot) → (b ≡ true → wanted ≡ true) → (forced ≡ true → wanted ≡ true) → (b ≡ true → forced ≡ false)
@@ -101,7 +107,3 @@ pub kept_block : (h0 h1 : ℕ) (t0 t1 : Bool) → 512 * (h1 + cond t1 1 0) ≡ 5
 kept_block h0 h1 true true end rises is = omega (arith, end, rises)
 kept_block h0 h1 false true end rises is = absurd (omega (arith, end, rises))
 kept_block h0 h1 t0 false end rises is = absurd cc
-
--- nothing was told so far
-pub told_before : (g : Geometry) (given : ℕ → List ℕ) (wanted : Bool) (list : LogList) (old mid : State) → LeavesOnly old mid (LeavesPages g given wanted list old) → mid.told ≡ old.told
-told_before g given wanted list old mid leaves = (holds_now old mid (LeavesPages g given wanted list old) leaves).log.told

@@ -4,7 +4,7 @@ use Rattle.std.specs.Prelude.{nat_le}
 use Rattle.std.specs.List.{AllByRecursion}
 use Rattle.std.proofs.lemmas.Option.{none-some}
 use Rattle.std.proofs.lemmas.List.{length-map}
-use Rattle.site.specs.State.{State}
+use Rattle.site.specs.State.{State, Image}
 use Rattle.buffer_pool.specs.declared.frame.Frame.{Frame}
 use Rattle.buffer_pool.specs.Frames as pool
 use Rattle.buffer_pool.specs.Frames.{State as Pool, IsPool, frame_of}
@@ -13,9 +13,11 @@ use Rattle.second_chance.specs.Machine.{Cache, holds, lacks_room, with_room, evi
 use Rattle.log_store.specs.declared.store.LogStore.{LogStore}
 use Rattle.log_store.specs.LogList.{LogList}
 use Rattle.page_store.specs.declared.store.PageStore.{PageStore}
-use Rattle.page_store.specs.Held.{IsPage, MayGoOn, Fits}
+use Rattle.page_store.specs.Held.{IsPage, MayGoOn, Fits, content_by}
 use Rattle.page_store.specs.Caching.{pool_page, cache_of, rules, is_full, is_pushed, with_way, pushes}
 use Rattle.page_store.specs.Ahead.{forces, evicted, pushed_for_room, pushed_by_touch}
+use Rattle.flash_cache.specs.Held.{version_on}
+use Rattle.page_store.specs.Leaves.{KeepsCurrent}
 use Rattle.page_store.specs.Changing.{eviction_changes, room_changes, touch_changes}
 use Rattle.page_store.proofs.Pools.{is_held, not_held}
 use Rattle.page_store.proofs.Evictions.{not_forced}
@@ -107,6 +109,9 @@ order_fits store pool site same fits = record {
   sound = fits.sound;
   unchanged = λ page frame found unchanged. fits.unchanged page frame (sym (same page) ∙ found) unchanged;
 }
+
+pub order_current : (store : PageStore) (pool : Pool) (image : Image) → ((n : ℕ) → frame_of pool.frames n ≡ frame_of store.pool.frames n) → KeepsCurrent store image (record store { pool = pool }) image
+order_current store pool image same = record { each = λ page exists. ap (λ o. content_by o (version_on store.flash.geometry image page)) (same page) }
 
 pub pool_going : (store : PageStore) (pool : Pool) (site : State) → pool.size ≡ store.pool.size → IsPool pool → AllByRecursion (IsPage store.flash.geometry.pages) pool.frames → MayGoOn store site
     → MayGoOn (record store { pool = pool }) site

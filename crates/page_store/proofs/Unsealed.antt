@@ -1,9 +1,7 @@
 -- Which changed pages have an LSN in the tail, before a push of a flush and behind it.
-use Rattle.std.proofs.Common.{◌≡◌, ℕ, zero, suc, ◌+◌, ◌*◌, ◌≤◌, Bool, true, false, not, ◌&&◌, ◌||◌, cond, List, [], ◌∷◌, ◌++◌, get_or, take, map, filter, reverse, Some, arith, refl, sym, ap, ◌∙◌}
-use Rattle.std.specs.Prelude.{nat_lt}
+use Rattle.std.proofs.Common.{◌≡◌, ℕ, zero, suc, ◌+◌, ◌*◌, Bool, true, false, not, ◌&&◌, ◌||◌, cond, List, [], ◌∷◌, ◌++◌, get_or, take, map, filter, reverse, Some, arith, refl, sym, ap, ◌∙◌}
 use Rattle.std.specs.List.{AllByRecursion, list_any}
 use Rattle.std.proofs.lemmas.List.{reverse-append, get_or_default}
-use Rattle.std.proofs.lemmas.Bool.Decides.{nat_tests}
 use Rattle.buffer_pool.specs.declared.frame.Frame.{Frame}
 use Rattle.buffer_pool.specs.Frames.{AreDistinct, frame_of}
 use Rattle.page_store.specs.Caching.{pool_page}
@@ -186,19 +184,6 @@ nothing_forced tail u frames none = ap (λ t. tail && t) (any_changed u frames �
     and_false : (b : Bool) → (b && false) ≡ false
     and_false true = refl
     and_false false = refl
-
-pub risen_to : (h0 h1 : ℕ) (t0 t1 : Bool) → 512 * (h1 + cond t1 1 0) ≡ 512 * (h0 + cond t0 1 0) → h0 ≤ h1 → h1 ≡ cond (nat_lt h0 h1) (h0 + 1) h0
-risen_to h0 h1 t0 t1 end rises = by t0 t1 (nat_lt h0 h1) refl end
-  where
-    by : (a c b : Bool) → nat_lt h0 h1 ≡ b → 512 * (h1 + cond c 1 0) ≡ 512 * (h0 + cond a 1 0) → h1 ≡ cond b (h0 + 1) h0
-    by true true true is end = grind (arith, nat_tests)
-    by true true false is end = grind (arith, nat_tests)
-    by true false true is end = grind (arith, nat_tests)
-    by true false false is end = grind (arith, nat_tests)
-    by false true true is end = grind (arith, nat_tests)
-    by false true false is end = grind (arith, nat_tests)
-    by false false true is end = grind (arith, nat_tests)
-    by false false false is end = grind (arith, nat_tests)
 
 -- Where the first ones force the log, all do.
 pub forced_by_first : (tail : Bool) (u : List ℕ → Bool) (frames : List Frame) → (tail && list_any u (map (λ (f : Frame). f.content) (chosen frames))) ≡ true

@@ -3,6 +3,7 @@ pub mod Caching
 pub mod Changing
 pub mod Ahead
 pub mod Leaves
+pub mod Calls
 pub mod Stopping
 pub mod Flushing
 pub mod Trying

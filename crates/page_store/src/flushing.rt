@@ -1,34 +1,18 @@
 // Changed pages are pushed, until none is changed.
-ghost use Rattle.std.specs.Prelude.{nat_lt, ◌≡◌, ◌≢◌, ◌+◌, ◌*◌, ◌^◌, ◌<◌, ◌≤◌, ◌++◌, ◌∷◌, ℕ, List, [], length, map, Bool, true, false, if◌then◌else◌, IsTrue, IfOk, OnOk, OnErr, IfErr, IsErrOf, IsSome, Some, slice_index_or, Option};
+ghost use Rattle.std.specs.Prelude.{◌≡◌, ◌<◌, ◌≤◌, [], length, map, true, if◌then◌else◌, IfOk, OnOk, IfErr, IsSome, Some};
 ghost use Rattle.std.specs.List.{All};
-ghost use Rattle.site.specs.declared.outside.Dev.{Dev};
 ghost use Rattle.site.specs.declared.outside.Stop.{Stop};
-ghost use Rattle.site.specs.State.{State, reads_of, IsQuiet, snapshot_of};
-ghost use Rattle.site.specs.Calls.{Goes, FaultRose};
-ghost use Rattle.site.specs.Faults.{WorkFaults};
-ghost use Rattle.site.specs.Moments.{LeavesOnly};
-ghost use Rattle.image_changes.specs.Changes.{Reaches};
-ghost use Rattle.image_changes.specs.Reached.{LeavesFront};
-ghost use Rattle.flash_cache.specs.Held.{IsWorn};
-ghost use Rattle.flash_cache.specs.Pushed.{staged_marks, pushed_queue};
-ghost use Rattle.second_chance.specs.Queue.{frame_of as known_of};
-ghost use Rattle.second_chance.specs.Machine.{wants_flush, push_changed, flushed};
-ghost use Rattle.second_chance.specs.Laws.{changed_count};
-ghost use Rattle.buffer_pool.specs.declared.frame.Frame.{Frame};
+ghost use Rattle.flash_cache.specs.Pushed.{staged_marks};
+ghost use Rattle.second_chance.specs.Machine.{wants_flush, push_changed};
 ghost use Rattle.buffer_pool.specs.Frames.{IsPool, frame_of};
 ghost use Rattle.log_store.specs.declared.store.LogStore.{LogStore};
-ghost use Rattle.log_store.specs.LogList.{LogList, sealed_if};
-ghost use Rattle.log_store.specs.Held as log_held;
-ghost use Rattle.log_store.specs.Held.{has_tail, end_of, HasRoom};
-ghost use Rattle.checkpoint.specs.declared.master.Master.{Master};
-ghost use Rattle.image_meaning.specs.Beside.{AreRingsSoundUnder};
-ghost use Rattle.page_store.specs.Held.{IsStore, MayGoOn, current};
-ghost use Rattle.page_store.specs.Caching.{next_group, cache_of, rules};
-ghost use Rattle.page_store.specs.Ahead.{IsAhead, AreLogged, AreSealed, LeavesSealed, end_forced, forces};
-ghost use Rattle.page_store.specs.Leaves.{AreReady, LeavesPages, LeavesRings, KeepsCurrent};
+ghost use Rattle.log_store.specs.LogList.{LogList};
+ghost use Rattle.page_store.specs.Caching.{cache_of};
+ghost use Rattle.page_store.specs.Ahead.{forces};
+ghost use Rattle.page_store.specs.Leaves.{AreReady};
 ghost use Rattle.page_store.specs.Flushing.{chosen, mark_for, content_in, cleared_all, flushed_first, flushed_contents};
 ghost use Rattle.page_store.specs.Changing.{standing, push_changes, flush_changes};
-ghost use Rattle.page_store.specs.Stopping.{MayStop, IsLogAtEnd};
+ghost use Rattle.page_store.specs.Calls.{MayWork, Pushes, Saves, Flushes, Keeps, Stands};
 
 use crate::pushing::{NO_MARK, leaving};
 use crate::store::PageStore;
@@ -129,94 +113,25 @@ impl PageStore {
         pages: &[u32],
         contents: &[Page],
     ) -> Result<(), Stop>
-        requires going { MayGoOn self.old (S.state site.old) }
-        requires log_going { log_held.MayGoOn log.old (S.state site.old) }
-        requires sizes { log.old.geometry ≡ self.old.flash.geometry }
+        requires going { MayWork log.old self.old (S.state site.old) }
         requires some { wants_flush (cache_of self.old) ≡ true }
         requires chances { plan.now.chances ≡ [] }
         requires staged { plan.now.staged ≡ map (λ f. f.0) (staged_marks self.old.flash) }
         requires pages { pages.now ≡ map (λ f. f.page) (chosen self.old.pool.frames) }
         requires contents { contents.now ≡ map (content_in self.old.pool.frames) pages.now }
-        requires room { has_tail log.old ≡ true → HasRoom log.old }
 
         // Of an honest site.
-        ensures any_moment { (list : LogList) → AreReady self.old log.old list (S.state site.old) → IsQuiet (S.state site.old)
-            → LeavesOnly (S.state site.old) (S.state site.new) (LeavesPages self.old.flash.geometry
-            (current self.old (S.state site.old).image) (forces log.old (flushed_first self.old)) list (S.state site.old)) }
-        ensures ahead_moment { (list : LogList) → AreReady self.old log.old list (S.state site.old) → IsQuiet (S.state site.old)
-            → IsAhead log.old self.old (S.state site.old).image
-            → LeavesOnly (S.state site.old) (S.state site.new) (LeavesSealed self.old.flash.geometry) }
-        ensures rings_moment { (newest : Option Master) (list : LogList) → AreReady self.old log.old list (S.state site.old) → IsQuiet (S.state site.old)
-            → AreRingsSoundUnder newest self.old.flash.geometry (S.state site.old).image
-            → LeavesOnly (S.state site.old) (S.state site.new) (LeavesRings newest self.old.flash.geometry) }
-        ensures front_moment { (list : LogList) → AreReady self.old log.old list (S.state site.old) → IsQuiet (S.state site.old)
-            → LeavesFront self.old.flash.geometry (push_changes (standing log.old list self.old) (chosen self.old.pool.frames))
-            (S.state site.old) (S.state site.new) }
-        ensures reaches { (list : LogList) → AreReady self.old log.old list (S.state site.old)
-            → OnOk result (Reaches self.old.flash.geometry (push_changes (standing log.old list self.old) (chosen self.old.pool.frames))
-            (S.state site.old).image (S.state site.new).image) }
-        ensures ready { (list : LogList) → AreReady self.old log.old list (S.state site.old)
-            → OnOk result (AreReady self.new log.new (sealed_if (forces log.old (flushed_first self.old)) list) (S.state site.new)) }
-        ensures leaves { (list : LogList) → AreReady self.old log.old list (S.state site.old)
-            → OnOk result (LeavesPages self.old.flash.geometry (current self.old (S.state site.old).image)
-            (forces log.old (flushed_first self.old)) list (S.state site.old) (snapshot_of (S.state site.new))) }
-        ensures sealed { (list : LogList) → AreReady self.old log.old list (S.state site.old)
-            → IsAhead log.old self.old (S.state site.old).image
-            → OnOk result (AreSealed self.old.flash.geometry (S.state site.new).image) }
-        ensures rings { (newest : Option Master) (list : LogList) → AreReady self.old log.old list (S.state site.old)
-            → AreRingsSoundUnder newest self.old.flash.geometry (S.state site.old).image
-            → OnOk result (AreRingsSoundUnder newest self.old.flash.geometry (S.state site.new).image) }
-        ensures stays_quiet { IsTrue (S.state site.old).honest → IsQuiet (S.state site.old)
-            → OnOk result (IsQuiet (S.state site.new)) }
-        ensures current { (list : LogList) → AreReady self.old log.old list (S.state site.old)
-            → OnOk result (KeepsCurrent self.old (S.state site.old).image self.new (S.state site.new).image) }
-        ensures ahead { AreLogged (end_forced log.old) self.old.pool.frames
-            → OnOk result (AreLogged (end_forced log.new) self.new.pool.frames) }
-        ensures left { IsTrue (S.state site.old).honest → (S.state site.new).left ≡ (S.state site.old).left }
-        ensures quiet { (list : LogList) → AreReady self.old log.old list (S.state site.old) → IsQuiet (S.state site.old)
-            → IfErr result (λ stop. ((d : Dev) → stop ≢ Stop.Device d) → IsQuiet (S.state site.new)) }
+        ensures keeps { (list : LogList) → AreReady self.old log.old list (S.state site.old)
+            → Keeps result log.old self.old (S.state site.old) (S.state site.new) list (forces log.old (flushed_first self.old))
+            (push_changes (standing log.old list self.old) (chosen self.old.pool.frames)) }
+        ensures stands { (list : LogList) → AreReady self.old log.old list (S.state site.old)
+            → OnOk result (Stands log.old log.new self.old self.new (S.state site.old) (S.state site.new) list (forces log.old (flushed_first self.old))
+            (push_changes (standing log.old list self.old) (chosen self.old.pool.frames))) }
 
         // Of every site.
-        ensures machine { OnOk result (cache_of self.new ≡ push_changed (rules self.old) (cache_of self.old)) }
-        ensures frames { OnOk result (self.new.pool.frames
-            ≡ cleared_all (map (λ f. f.page) (chosen self.old.pool.frames)) self.old.pool.frames) }
-        ensures directory { OnOk result (self.new.flash.directory ≡ pushed_queue self.old.flash
-            (map (λ f. known_of f.page true) (chosen self.old.pool.frames))) }
-        ensures size { self.new.pool.size ≡ self.old.pool.size }
-        ensures ended { self.new.ended ≡ self.old.ended }
-        ensures rises { log.old.ring.hi ≤ log.new.ring.hi }
-        ensures going { MayGoOn self.new (S.state site.new) }
-        ensures log_going { log_held.MayGoOn log.new (S.state site.new) }
-        ensures geometry { self.new.flash.geometry ≡ self.old.flash.geometry }
-        ensures log_geometry { log.new.geometry ≡ log.old.geometry }
-        ensures kept { log.new.kept ≡ log.old.kept }
-        ensures room { OnOk result (has_tail log.new ≡ true → HasRoom log.new) }
-        ensures grows { OnOk result (end_of log.old ≤ end_of log.new) }
-        ensures end { OnOk result (end_forced log.new ≡ end_forced log.old) }
-        ensures next { OnOk result (log.new.ring.hi
-            ≡ (if forces log.old (flushed_first self.old) then log.old.ring.hi + 1 else log.old.ring.hi)) }
-        ensures goes { Goes (S.state site.old) (S.state site.new) }
-        ensures faults { WorkFaults result (S.state site.old) (S.state site.new) }
-        ensures reads { (S.state site.new).flash_reads ≤ (S.state site.old).flash_reads
-            + 8 }
-        ensures others { (d : Dev) → d ≢ Dev.Flash
-            → reads_of d (S.state site.new) ≡ reads_of d (S.state site.old) }
-
-        // When each answer comes.
-        ensures worn_log { IsErrOf result (Stop.Worn Dev.Log)
-            → (forces log.old (flushed_first self.old) ≡ true) × (log.old.ring.hi ≡ 2 ^ 40) }
-        ensures worn_flash { IsErrOf result (Stop.Worn Dev.Flash)
-            → self.old.flash.ring.hi ≡ 2 ^ 40 }
-        ensures worn_at { IsErrOf result (Stop.Worn Dev.Flash) → self.new.flash.ring.hi ≡ 2 ^ 40 }
-        ensures worn_end { (list : LogList) → AreReady self.old log.old list (S.state site.old)
-            → IsErrOf result (Stop.Worn Dev.Flash) → IsWorn self.old.flash.geometry (S.state site.new).image }
-        ensures worn_log_end { (list : LogList) → AreReady self.old log.old list (S.state site.old)
-            → IsErrOf result (Stop.Worn Dev.Log) → IsLogAtEnd self.old.flash.geometry (S.state site.new).image }
-        ensures never_past { self.old.flash.ring.hi ≡ 2 ^ 40 → OnOk result ⊥ }
-        ensures device { (d : Dev) → IsErrOf result (Stop.Device d)
-            → FaultRose d (S.state site.old) (S.state site.new) }
-        ensures stops { IfErr result (λ stop. MayStop stop) }
-        ensures foreign { IfErr result (λ stop. stop ≢ Stop.Foreign) }
+        ensures pushes { Pushes result log.old log.new self.old self.new (S.state site.old) (S.state site.new)
+            (forces log.old (flushed_first self.old)) }
+        ensures saves { Saves result log.old self.old self.new (S.state site.old) (S.state site.new) }
     {
         frames_of_pages();
         let changed = [true; GROUP_SIZE];
@@ -236,91 +151,22 @@ impl PageStore {
         log: &mut LogStore,
         pages: &[u32],
     ) -> Result<(), Stop>
-        requires going { MayGoOn self.old (S.state site.old) }
-        requires log_going { log_held.MayGoOn log.old (S.state site.old) }
-        requires sizes { log.old.geometry ≡ self.old.flash.geometry }
+        requires going { MayWork log.old self.old (S.state site.old) }
         requires some { wants_flush (cache_of self.old) ≡ true }
         requires pages { pages.now ≡ map (λ f. f.page) (chosen self.old.pool.frames) }
-        requires room { has_tail log.old ≡ true → HasRoom log.old }
 
         // Of an honest site.
-        ensures any_moment { (list : LogList) → AreReady self.old log.old list (S.state site.old) → IsQuiet (S.state site.old)
-            → LeavesOnly (S.state site.old) (S.state site.new) (LeavesPages self.old.flash.geometry
-            (current self.old (S.state site.old).image) (forces log.old (flushed_first self.old)) list (S.state site.old)) }
-        ensures ahead_moment { (list : LogList) → AreReady self.old log.old list (S.state site.old) → IsQuiet (S.state site.old)
-            → IsAhead log.old self.old (S.state site.old).image
-            → LeavesOnly (S.state site.old) (S.state site.new) (LeavesSealed self.old.flash.geometry) }
-        ensures rings_moment { (newest : Option Master) (list : LogList) → AreReady self.old log.old list (S.state site.old) → IsQuiet (S.state site.old)
-            → AreRingsSoundUnder newest self.old.flash.geometry (S.state site.old).image
-            → LeavesOnly (S.state site.old) (S.state site.new) (LeavesRings newest self.old.flash.geometry) }
-        ensures front_moment { (list : LogList) → AreReady self.old log.old list (S.state site.old) → IsQuiet (S.state site.old)
-            → LeavesFront self.old.flash.geometry (push_changes (standing log.old list self.old) (chosen self.old.pool.frames))
-            (S.state site.old) (S.state site.new) }
-        ensures reaches { (list : LogList) → AreReady self.old log.old list (S.state site.old)
-            → OnOk result (Reaches self.old.flash.geometry (push_changes (standing log.old list self.old) (chosen self.old.pool.frames))
-            (S.state site.old).image (S.state site.new).image) }
-        ensures ready { (list : LogList) → AreReady self.old log.old list (S.state site.old)
-            → OnOk result (AreReady self.new log.new (sealed_if (forces log.old (flushed_first self.old)) list) (S.state site.new)) }
-        ensures leaves { (list : LogList) → AreReady self.old log.old list (S.state site.old)
-            → OnOk result (LeavesPages self.old.flash.geometry (current self.old (S.state site.old).image)
-            (forces log.old (flushed_first self.old)) list (S.state site.old) (snapshot_of (S.state site.new))) }
-        ensures sealed { (list : LogList) → AreReady self.old log.old list (S.state site.old)
-            → IsAhead log.old self.old (S.state site.old).image
-            → OnOk result (AreSealed self.old.flash.geometry (S.state site.new).image) }
-        ensures rings { (newest : Option Master) (list : LogList) → AreReady self.old log.old list (S.state site.old)
-            → AreRingsSoundUnder newest self.old.flash.geometry (S.state site.old).image
-            → OnOk result (AreRingsSoundUnder newest self.old.flash.geometry (S.state site.new).image) }
-        ensures stays_quiet { IsTrue (S.state site.old).honest → IsQuiet (S.state site.old)
-            → OnOk result (IsQuiet (S.state site.new)) }
-        ensures current { (list : LogList) → AreReady self.old log.old list (S.state site.old)
-            → OnOk result (KeepsCurrent self.old (S.state site.old).image self.new (S.state site.new).image) }
-        ensures ahead { AreLogged (end_forced log.old) self.old.pool.frames
-            → OnOk result (AreLogged (end_forced log.new) self.new.pool.frames) }
-        ensures left { IsTrue (S.state site.old).honest → (S.state site.new).left ≡ (S.state site.old).left }
-        ensures quiet { (list : LogList) → AreReady self.old log.old list (S.state site.old) → IsQuiet (S.state site.old)
-            → IfErr result (λ stop. ((d : Dev) → stop ≢ Stop.Device d) → IsQuiet (S.state site.new)) }
+        ensures keeps { (list : LogList) → AreReady self.old log.old list (S.state site.old)
+            → Keeps result log.old self.old (S.state site.old) (S.state site.new) list (forces log.old (flushed_first self.old))
+            (push_changes (standing log.old list self.old) (chosen self.old.pool.frames)) }
+        ensures stands { (list : LogList) → AreReady self.old log.old list (S.state site.old)
+            → OnOk result (Stands log.old log.new self.old self.new (S.state site.old) (S.state site.new) list (forces log.old (flushed_first self.old))
+            (push_changes (standing log.old list self.old) (chosen self.old.pool.frames))) }
 
         // Of every site.
-        ensures machine { OnOk result (cache_of self.new ≡ push_changed (rules self.old) (cache_of self.old)) }
-        ensures frames { OnOk result (self.new.pool.frames
-            ≡ cleared_all (map (λ f. f.page) (chosen self.old.pool.frames)) self.old.pool.frames) }
-        ensures directory { OnOk result (self.new.flash.directory ≡ pushed_queue self.old.flash
-            (map (λ f. known_of f.page true) (chosen self.old.pool.frames))) }
-        ensures size { self.new.pool.size ≡ self.old.pool.size }
-        ensures ended { self.new.ended ≡ self.old.ended }
-        ensures rises { log.old.ring.hi ≤ log.new.ring.hi }
-        ensures going { MayGoOn self.new (S.state site.new) }
-        ensures log_going { log_held.MayGoOn log.new (S.state site.new) }
-        ensures geometry { self.new.flash.geometry ≡ self.old.flash.geometry }
-        ensures log_geometry { log.new.geometry ≡ log.old.geometry }
-        ensures kept { log.new.kept ≡ log.old.kept }
-        ensures room { OnOk result (has_tail log.new ≡ true → HasRoom log.new) }
-        ensures grows { OnOk result (end_of log.old ≤ end_of log.new) }
-        ensures end { OnOk result (end_forced log.new ≡ end_forced log.old) }
-        ensures next { OnOk result (log.new.ring.hi
-            ≡ (if forces log.old (flushed_first self.old) then log.old.ring.hi + 1 else log.old.ring.hi)) }
-        ensures goes { Goes (S.state site.old) (S.state site.new) }
-        ensures faults { WorkFaults result (S.state site.old) (S.state site.new) }
-        ensures reads { (S.state site.new).flash_reads ≤ (S.state site.old).flash_reads
-            + 8 }
-        ensures others { (d : Dev) → d ≢ Dev.Flash
-            → reads_of d (S.state site.new) ≡ reads_of d (S.state site.old) }
-
-        // When each answer comes.
-        ensures worn_log { IsErrOf result (Stop.Worn Dev.Log)
-            → (forces log.old (flushed_first self.old) ≡ true) × (log.old.ring.hi ≡ 2 ^ 40) }
-        ensures worn_flash { IsErrOf result (Stop.Worn Dev.Flash)
-            → self.old.flash.ring.hi ≡ 2 ^ 40 }
-        ensures worn_at { IsErrOf result (Stop.Worn Dev.Flash) → self.new.flash.ring.hi ≡ 2 ^ 40 }
-        ensures worn_end { (list : LogList) → AreReady self.old log.old list (S.state site.old)
-            → IsErrOf result (Stop.Worn Dev.Flash) → IsWorn self.old.flash.geometry (S.state site.new).image }
-        ensures worn_log_end { (list : LogList) → AreReady self.old log.old list (S.state site.old)
-            → IsErrOf result (Stop.Worn Dev.Log) → IsLogAtEnd self.old.flash.geometry (S.state site.new).image }
-        ensures never_past { self.old.flash.ring.hi ≡ 2 ^ 40 → OnOk result ⊥ }
-        ensures device { (d : Dev) → IsErrOf result (Stop.Device d)
-            → FaultRose d (S.state site.old) (S.state site.new) }
-        ensures stops { IfErr result (λ stop. MayStop stop) }
-        ensures foreign { IfErr result (λ stop. stop ≢ Stop.Foreign) }
+        ensures pushes { Pushes result log.old log.new self.old self.new (S.state site.old) (S.state site.new)
+            (forces log.old (flushed_first self.old)) }
+        ensures saves { Saves result log.old self.old self.new (S.state site.old) (S.state site.new) }
     {
         let plan = self.plan_for_changed(pages)?;
         let contents = self.contents_of(pages)?;
@@ -333,88 +179,20 @@ impl PageStore {
         site: &mut S,
         log: &mut LogStore,
     ) -> Result<(), Stop>
-        requires going { MayGoOn self.old (S.state site.old) }
-        requires log_going { log_held.MayGoOn log.old (S.state site.old) }
-        requires sizes { log.old.geometry ≡ self.old.flash.geometry }
-        requires room { has_tail log.old ≡ true → HasRoom log.old }
+        requires going { MayWork log.old self.old (S.state site.old) }
 
         // Of an honest site.
-        ensures any_moment { (list : LogList) → AreReady self.old log.old list (S.state site.old) → IsQuiet (S.state site.old)
-            → LeavesOnly (S.state site.old) (S.state site.new) (LeavesPages self.old.flash.geometry
-            (current self.old (S.state site.old).image) (forces log.old (flushed_contents self.old)) list (S.state site.old)) }
-        ensures ahead_moment { (list : LogList) → AreReady self.old log.old list (S.state site.old) → IsQuiet (S.state site.old)
-            → IsAhead log.old self.old (S.state site.old).image
-            → LeavesOnly (S.state site.old) (S.state site.new) (LeavesSealed self.old.flash.geometry) }
-        ensures rings_moment { (newest : Option Master) (list : LogList) → AreReady self.old log.old list (S.state site.old) → IsQuiet (S.state site.old)
-            → AreRingsSoundUnder newest self.old.flash.geometry (S.state site.old).image
-            → LeavesOnly (S.state site.old) (S.state site.new) (LeavesRings newest self.old.flash.geometry) }
-        ensures front_moment { (list : LogList) → AreReady self.old log.old list (S.state site.old) → IsQuiet (S.state site.old)
-            → LeavesFront self.old.flash.geometry (flush_changes log.old list self.old)
-            (S.state site.old) (S.state site.new) }
-        ensures reaches { (list : LogList) → AreReady self.old log.old list (S.state site.old) → IsQuiet (S.state site.old)
-            → OnOk result (Reaches self.old.flash.geometry (flush_changes log.old list self.old)
-            (S.state site.old).image (S.state site.new).image) }
-        ensures ready { (list : LogList) → AreReady self.old log.old list (S.state site.old)
-            → OnOk result (AreReady self.new log.new (sealed_if (nat_lt log.old.ring.hi log.new.ring.hi) list) (S.state site.new)) }
-        ensures leaves { (list : LogList) → AreReady self.old log.old list (S.state site.old)
-            → OnOk result (LeavesPages self.old.flash.geometry (current self.old (S.state site.old).image)
-            (forces log.old (flushed_contents self.old)) list (S.state site.old) (snapshot_of (S.state site.new))) }
-        ensures sealed { (list : LogList) → AreReady self.old log.old list (S.state site.old)
-            → IsAhead log.old self.old (S.state site.old).image
-            → OnOk result (AreSealed self.old.flash.geometry (S.state site.new).image) }
-        ensures rings { (newest : Option Master) (list : LogList) → AreReady self.old log.old list (S.state site.old)
-            → AreRingsSoundUnder newest self.old.flash.geometry (S.state site.old).image
-            → OnOk result (AreRingsSoundUnder newest self.old.flash.geometry (S.state site.new).image) }
-        ensures stays_quiet { IsTrue (S.state site.old).honest → IsQuiet (S.state site.old)
-            → OnOk result (IsQuiet (S.state site.new)) }
-        ensures current { (list : LogList) → AreReady self.old log.old list (S.state site.old)
-            → OnOk result (KeepsCurrent self.old (S.state site.old).image self.new (S.state site.new).image) }
-        ensures ahead { AreLogged (end_forced log.old) self.old.pool.frames
-            → OnOk result (AreLogged (end_forced log.new) self.new.pool.frames) }
-        ensures left { IsTrue (S.state site.old).honest → (S.state site.new).left ≡ (S.state site.old).left }
-        ensures quiet { (list : LogList) → AreReady self.old log.old list (S.state site.old) → IsQuiet (S.state site.old)
-            → IfErr result (λ stop. ((d : Dev) → stop ≢ Stop.Device d) → IsQuiet (S.state site.new)) }
+        ensures keeps { (list : LogList) → AreReady self.old log.old list (S.state site.old)
+            → Keeps result log.old self.old (S.state site.old) (S.state site.new) list (forces log.old (flushed_contents self.old))
+            (flush_changes log.old list self.old) }
+        ensures stands { (list : LogList) → AreReady self.old log.old list (S.state site.old)
+            → OnOk result (Stands log.old log.new self.old self.new (S.state site.old) (S.state site.new) list (forces log.old (flushed_contents self.old))
+            (flush_changes log.old list self.old)) }
 
         // Of every site.
-        ensures machine { OnOk result (cache_of self.new ≡ flushed (rules self.old) (cache_of self.old)) }
-        ensures size { self.new.pool.size ≡ self.old.pool.size }
-        ensures ended { self.new.ended ≡ self.old.ended }
-        ensures rises { log.old.ring.hi ≤ log.new.ring.hi }
-        ensures going { MayGoOn self.new (S.state site.new) }
-        ensures log_going { log_held.MayGoOn log.new (S.state site.new) }
-        ensures geometry { self.new.flash.geometry ≡ self.old.flash.geometry }
-        ensures log_geometry { log.new.geometry ≡ log.old.geometry }
-        ensures kept { log.new.kept ≡ log.old.kept }
-        ensures room { OnOk result (has_tail log.new ≡ true → HasRoom log.new) }
-        ensures grows { OnOk result (end_of log.old ≤ end_of log.new) }
-        ensures end { OnOk result (end_forced log.new ≡ end_forced log.old) }
-        ensures next { OnOk result (log.new.ring.hi ≡ (if forces log.old (flushed_contents self.old)
-            then log.old.ring.hi + 1 else log.old.ring.hi)) }
-        ensures goes { Goes (S.state site.old) (S.state site.new) }
-        ensures faults { WorkFaults result (S.state site.old) (S.state site.new) }
-        ensures reads { (S.state site.new).flash_reads ≤ (S.state site.old).flash_reads
-            + 8 * changed_count (cache_of self.old).pool }
-        ensures asked { (S.state site.new).flash_reads + 8 * next_group (cache_of self.old)
-            ≤ (S.state site.old).flash_reads + 8 * next_group (flushed (rules self.old) (cache_of self.old)) }
-        ensures overflows { IsErrOf result (Stop.Worn Dev.Flash)
-            → 2 ^ 40 < next_group (flushed (rules self.old) (cache_of self.old)) }
-        ensures others { (d : Dev) → d ≢ Dev.Flash
-            → reads_of d (S.state site.new) ≡ reads_of d (S.state site.old) }
-
-        // When each answer comes.
-        ensures worn_log { IsErrOf result (Stop.Worn Dev.Log)
-            → (forces log.old (flushed_contents self.old) ≡ true) × (log.old.ring.hi ≡ 2 ^ 40) }
-        ensures worn_flash { IsErrOf result (Stop.Worn Dev.Flash) → self.new.flash.ring.hi ≡ 2 ^ 40 }
-        ensures worn_end { (list : LogList) → AreReady self.old log.old list (S.state site.old)
-            → IsErrOf result (Stop.Worn Dev.Flash) → IsWorn self.old.flash.geometry (S.state site.new).image }
-        ensures worn_log_end { (list : LogList) → AreReady self.old log.old list (S.state site.old)
-            → IsErrOf result (Stop.Worn Dev.Log) → IsLogAtEnd self.old.flash.geometry (S.state site.new).image }
-        ensures never_past { wants_flush (cache_of self.old) ≡ true → self.old.flash.ring.hi ≡ 2 ^ 40
-            → OnOk result ⊥ }
-        ensures device { (d : Dev) → IsErrOf result (Stop.Device d)
-            → FaultRose d (S.state site.old) (S.state site.new) }
-        ensures stops { IfErr result (λ stop. MayStop stop) }
-        ensures foreign { IfErr result (λ stop. stop ≢ Stop.Foreign) }
+        ensures pushes { Pushes result log.old log.new self.old self.new (S.state site.old) (S.state site.new)
+            (forces log.old (flushed_contents self.old)) }
+        ensures flushes { Flushes result log.old self.old self.new (S.state site.old) (S.state site.new) }
     {
         flushes_save_all();
         changes_add_up();

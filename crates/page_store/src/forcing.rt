@@ -1,17 +1,18 @@
 // The log is sealed before pages leave for the devices.
-ghost use Rattle.std.specs.Prelude.{◌≡◌, ◌≢◌, ◌⊎◌, ◌↔◌, ◌+◌, ◌*◌, ◌^◌, ◌≤◌, Bool, true, false, if◌then◌else◌, IsTrue, OnOk, OnErr, IfErr, IsErrOf};
-ghost use Rattle.std.specs.List.{AllByRecursion, list_any};
+ghost use Rattle.std.specs.Prelude.{◌≡◌, ◌≢◌, ◌⊎◌, ◌↔◌, ◌^◌, ◌≤◌, true, false, IsTrue, OnOk, OnErr, IfErr, IsErrOf};
+ghost use Rattle.std.specs.List.{AllByRecursion};
 ghost use Rattle.site.specs.declared.outside.Dev.{Dev};
 ghost use Rattle.site.specs.declared.outside.Stop.{Stop};
-ghost use Rattle.site.specs.State.{State, IsQuiet};
-ghost use Rattle.site.specs.Calls.{Goes, SameReads, FaultRose};
-ghost use Rattle.site.specs.Faults.{WorkFaults};
+ghost use Rattle.site.specs.State.{IsQuiet};
+ghost use Rattle.site.specs.Calls.{SameReads};
 ghost use Rattle.site.specs.Moments.{LeavesOnly, ChangesOnly};
 ghost use Rattle.image_changes.specs.Changes.{Reaches};
 ghost use Rattle.image_changes.specs.Reached.{LeavesFront};
 ghost use Rattle.log_store.specs.LogList.{LogList, sealed_if, changes_if};
-ghost use Rattle.log_store.specs.Held.{MayGoOn, HasRoom, has_tail, end_of, Fits, Finds, Holds, LeavesLog};
+ghost use Rattle.log_store.specs.Held.{MayGoOn, HasRoom, has_tail, Fits, Finds, Holds, LeavesLog};
 ghost use Rattle.page_store.specs.Ahead.{IsLogged, end_now, end_forced, is_unsealed, forces};
+ghost use Rattle.site.specs.Work.{Calls};
+ghost use Rattle.page_store.specs.Calls.{Forces};
 ghost use Rattle.page_store.specs.Stopping.{IsLogAtEnd};
 
 use log_store::LogStore;
@@ -69,27 +70,17 @@ pub fn force_for<S: Site>(site: &mut S, log: &mut LogStore, contents: &[Page]) -
     ensures fits { Fits log.old (S.state site.old) → OnOk result (Fits log.new (S.state site.new)) }
     ensures changes { IsTrue (S.state site.old).honest
         → ChangesOnly Dev.Log (S.state site.old) (S.state site.new) }
-    ensures quiet { IsTrue (S.state site.old).honest → IsQuiet (S.state site.old)
-        → OnOk result (IsQuiet (S.state site.new)) }
     ensures quiet_err { IsTrue (S.state site.old).honest → IsQuiet (S.state site.old)
         → IfErr result (λ stop. ((d : Dev) → stop ≢ Stop.Device d) → IsQuiet (S.state site.new)) }
 
     // Of every site.
+    ensures calls { Calls result (S.state site.old) (S.state site.new) }
+    ensures forces { Forces result log.old log.new (forces log.old contents.now) }
     ensures sealed { AllByRecursion (IsLogged (end_forced log.old)) contents.now
         → OnOk result (AllByRecursion (IsLogged (end_now log.new)) contents.now) }
-    ensures next { OnOk result (log.new.ring.hi
-        ≡ (if forces log.old contents.now then log.old.ring.hi + 1 else log.old.ring.hi)) }
-    ensures end { OnOk result (end_forced log.new ≡ end_forced log.old) }
-    ensures grows { OnOk result (end_of log.old ≤ end_of log.new) }
-    ensures rises { log.old.ring.hi ≤ log.new.ring.hi }
     ensures ended { OnOk result (log.new.ring.ended ≡ log.old.ring.ended) }
     ensures err { OnErr result (log.new.ring.ended ≡ true) }
     ensures going { MayGoOn log.new (S.state site.new) }
-    ensures room { OnOk result (has_tail log.new ≡ true → HasRoom log.new) }
-    ensures kept { log.new.kept ≡ log.old.kept }
-    ensures geometry { log.new.geometry ≡ log.old.geometry }
-    ensures goes { Goes (S.state site.old) (S.state site.new) }
-    ensures faults { WorkFaults result (S.state site.old) (S.state site.new) }
     ensures reads { SameReads (S.state site.old) (S.state site.new) }
 
     // When each answer comes.
@@ -99,8 +90,6 @@ pub fn force_for<S: Site>(site: &mut S, log: &mut LogStore, contents: &[Page]) -
         → IsLogAtEnd log.old.geometry (S.state site.new).image }
     ensures unchanged { forces log.old contents.now ≡ false
         → (site.new ≡ site.old) × (log.new ≡ log.old) }
-    ensures device { IsErrOf result (Stop.Device Dev.Log)
-        → FaultRose Dev.Log (S.state site.old) (S.state site.new) }
     ensures stops { IfErr result (λ stop. (stop ≡ Stop.Device Dev.Log)
         ⊎ (stop ≡ Stop.Worn Dev.Log)) }
 {

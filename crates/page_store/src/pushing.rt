@@ -1,32 +1,18 @@
 // Pages leave the pool for the queue on flash.
-ghost use Rattle.std.specs.Prelude.{◌≡◌, ◌≢◌, ◌↔◌, ◌+◌, ◌*◌, ◌^◌, ◌<◌, ◌≤◌, ◌++◌, ◌∷◌, ◌&&◌, ℕ, List, [], length, map, take, reverse, Bool, true, false, if◌then◌else◌, IsTrue, OnOk, OnErr, IfErr, IsErrOf, Some, None, AllPairs, Option};
-ghost use Rattle.std.specs.List.{All, AllByRecursion};
+ghost use Rattle.std.specs.Prelude.{◌≡◌, ◌≢◌, ◌+◌, ◌^◌, ◌<◌, ◌≤◌, ◌&&◌, ℕ, [], length, map, take, true, false, if◌then◌else◌, OnOk, IsErrOf, Some, None, AllPairs};
+ghost use Rattle.std.specs.List.{All};
 ghost use Rattle.site.specs.declared.outside.Dev.{Dev};
 ghost use Rattle.site.specs.declared.outside.Stop.{Stop};
-ghost use Rattle.site.specs.State.{State, reads_of, IsQuiet, snapshot_of};
-ghost use Rattle.site.specs.Calls.{Goes, FaultRose};
-ghost use Rattle.site.specs.Faults.{WorkFaults};
-ghost use Rattle.site.specs.Moments.{LeavesOnly};
-ghost use Rattle.slotted_page.specs.Layout.{IsSound};
-ghost use Rattle.image_changes.specs.Changes.{Reaches};
-ghost use Rattle.image_changes.specs.Reached.{LeavesFront};
-ghost use Rattle.flash_cache.specs.Held.{IsWorn};
 ghost use Rattle.flash_cache.specs.Pushed.{staged_marks, known_given, pushed_queue};
-ghost use Rattle.flash_cache.specs.Kept.{AreCleanGiven};
 ghost use Rattle.second_chance.specs.Machine.{rules_of, leaving, evict_coldest, must_be_pushed};
 ghost use Rattle.buffer_pool.specs.Frames.{frame_of};
 ghost use Rattle.log_store.specs.declared.store.LogStore.{LogStore};
-ghost use Rattle.log_store.specs.LogList.{LogList, sealed_if};
-ghost use Rattle.log_store.specs.Held as log_held;
-ghost use Rattle.log_store.specs.Held.{has_tail, end_of, HasRoom};
-ghost use Rattle.checkpoint.specs.declared.master.Master.{Master};
-ghost use Rattle.image_meaning.specs.Beside.{AreRingsSoundUnder};
-ghost use Rattle.page_store.specs.Held.{MayGoOn, current};
-ghost use Rattle.page_store.specs.Caching.{cache_of, rules, is_full, is_pushed};
-ghost use Rattle.page_store.specs.Ahead.{IsAhead, IsLogged, AreLogged, AreSealed, LeavesSealed, end_forced, forces, evicted, pushed_for_room};
-ghost use Rattle.page_store.specs.Leaves.{AreReady, LeavesPages, LeavesRings, AreGiven, Gives, AreChanged, KeepsCurrent};
+ghost use Rattle.log_store.specs.LogList.{LogList};
+ghost use Rattle.page_store.specs.Caching.{cache_of, rules, is_full, is_pushed, with_way};
+ghost use Rattle.page_store.specs.Ahead.{forces, evicted, pushed_for_room};
+ghost use Rattle.page_store.specs.Leaves.{AreReady};
 ghost use Rattle.page_store.specs.Changing.{given_changes, eviction_changes, room_changes};
-ghost use Rattle.page_store.specs.Stopping.{MayStop, IsLogAtEnd};
+ghost use Rattle.page_store.specs.Calls.{MayWork, Pushes, StopsAtEnd, Keeps, Stands, KeepsGiven, StandsGiven};
 
 use crate::forcing::force_for;
 use crate::store::PageStore;
@@ -90,10 +76,7 @@ impl PageStore {
         changed: &[bool],
         contents: &[Page],
     ) -> Result<(), Stop>
-        requires going { MayGoOn self.old (S.state site.old) }
-        requires log_going { log_held.MayGoOn log.old (S.state site.old) }
-        requires sizes { log.old.geometry ≡ self.old.flash.geometry }
-        requires room { has_tail log.old ≡ true → HasRoom log.old }
+        requires going { MayWork log.old self.old (S.state site.old) }
         requires chances { plan.now.chances ≡ [] }
         requires staged { plan.now.staged ≡ map (λ f. f.0) (staged_marks self.old.flash) }
         requires marks { length changed.now ≡ length pages.now }
@@ -104,88 +87,23 @@ impl PageStore {
         requires apart { AllPairs (λ a b. a ≢ b) pages.now }
 
         // Of an honest site.
-        ensures any_moment { (list : LogList) (given : ℕ → List ℕ)
-            → AreReady self.old log.old list (S.state site.old) → IsQuiet (S.state site.old)
-            → AreGiven given pages.now contents.now
-            → AreCleanGiven self.old.flash pages.now changed.now contents.now (S.state site.old).image
-            → LeavesOnly (S.state site.old) (S.state site.new) (LeavesPages self.old.flash.geometry
-            given (forces log.old contents.now) list (S.state site.old)) }
-        ensures ahead_moment { (list : LogList) → AreReady self.old log.old list (S.state site.old) → IsQuiet (S.state site.old)
-            → AreSealed self.old.flash.geometry (S.state site.old).image
-            → AllByRecursion (IsLogged (end_forced log.old)) contents.now
-            → LeavesOnly (S.state site.old) (S.state site.new) (LeavesSealed self.old.flash.geometry) }
-        ensures rings_moment { (newest : Option Master) (list : LogList) → AreReady self.old log.old list (S.state site.old) → IsQuiet (S.state site.old)
-            → AreRingsSoundUnder newest self.old.flash.geometry (S.state site.old).image
-            → AllByRecursion IsSound contents.now
-            → LeavesOnly (S.state site.old) (S.state site.new) (LeavesRings newest self.old.flash.geometry) }
-        ensures front_moment { (list : LogList) → AreReady self.old log.old list (S.state site.old) → IsQuiet (S.state site.old)
-            → LeavesFront self.old.flash.geometry (given_changes log.old list self.old pages.now changed.now contents.now)
-            (S.state site.old) (S.state site.new) }
-        ensures reaches { (list : LogList) → AreReady self.old log.old list (S.state site.old)
-            → OnOk result (Reaches self.old.flash.geometry (given_changes log.old list self.old pages.now changed.now contents.now)
-            (S.state site.old).image (S.state site.new).image) }
-        ensures gives { (list : LogList) → AreReady self.old log.old list (S.state site.old)
-            → OnOk result (Gives self.old.flash.geometry pages.now contents.now
-            (S.state site.old).image (S.state site.new).image) }
-        ensures ready { (list : LogList) → AreReady self.old log.old list (S.state site.old)
-            → AreCleanGiven self.old.flash pages.now changed.now contents.now (S.state site.old).image
-            → AllByRecursion IsSound contents.now → AreChanged self.old pages.now
-            → OnOk result (AreReady self.new log.new (sealed_if (forces log.old contents.now) list) (S.state site.new)) }
-        ensures left { IsTrue (S.state site.old).honest → (S.state site.new).left ≡ (S.state site.old).left }
-        ensures quiet { (list : LogList) → AreReady self.old log.old list (S.state site.old) → IsQuiet (S.state site.old)
-            → IfErr result (λ stop. ((d : Dev) → stop ≢ Stop.Device d) → IsQuiet (S.state site.new)) }
-        ensures leaves { (list : LogList) (given : ℕ → List ℕ)
-            → AreReady self.old log.old list (S.state site.old) → AreGiven given pages.now contents.now
-            → AreCleanGiven self.old.flash pages.now changed.now contents.now (S.state site.old).image
-            → OnOk result (LeavesPages self.old.flash.geometry given (forces log.old contents.now) list
-            (S.state site.old) (snapshot_of (S.state site.new))) }
-        ensures sealed { (list : LogList) → AreReady self.old log.old list (S.state site.old)
-            → AreSealed self.old.flash.geometry (S.state site.old).image
-            → AllByRecursion (IsLogged (end_forced log.old)) contents.now
-            → OnOk result (AreSealed self.old.flash.geometry (S.state site.new).image) }
-        ensures rings { (newest : Option Master) (list : LogList) → AreReady self.old log.old list (S.state site.old)
-            → AreRingsSoundUnder newest self.old.flash.geometry (S.state site.old).image
-            → AllByRecursion IsSound contents.now
-            → OnOk result (AreRingsSoundUnder newest self.old.flash.geometry (S.state site.new).image) }
-        ensures stays_quiet { IsTrue (S.state site.old).honest → IsQuiet (S.state site.old)
-            → OnOk result (IsQuiet (S.state site.new)) }
+        ensures keeps { (list : LogList) → AreReady self.old log.old list (S.state site.old)
+            → KeepsGiven result log.old self.old pages.now changed.now contents.now (S.state site.old) (S.state site.new) list
+            (given_changes log.old list self.old pages.now changed.now contents.now) }
+        ensures stands { (list : LogList) → AreReady self.old log.old list (S.state site.old)
+            → OnOk result (StandsGiven log.old log.new self.old self.new pages.now changed.now contents.now
+            (S.state site.old) (S.state site.new) list
+            (given_changes log.old list self.old pages.now changed.now contents.now)) }
 
         // Of every site.
+        ensures pushes { Pushes result log.old log.new self.old self.new (S.state site.old) (S.state site.new)
+            (forces log.old contents.now) }
+        ensures worn { StopsAtEnd result log.old self.old (forces log.old contents.now) true }
+        ensures worn_at { IsErrOf result (Stop.Worn Dev.Flash) → self.new.flash.ring.hi ≡ 2 ^ 40 }
+        ensures pool { self.new.pool ≡ self.old.pool }
         ensures directory { OnOk result (self.new.flash.directory
             ≡ pushed_queue self.old.flash (known_given pages.now changed.now)) }
-        ensures pool { self.new.pool ≡ self.old.pool }
-        ensures ended { self.new.ended ≡ self.old.ended }
-        ensures going { MayGoOn self.new (S.state site.new) }
-        ensures log_going { log_held.MayGoOn log.new (S.state site.new) }
-        ensures geometry { self.new.flash.geometry ≡ self.old.flash.geometry }
-        ensures log_geometry { log.new.geometry ≡ log.old.geometry }
-        ensures kept { log.new.kept ≡ log.old.kept }
-        ensures room { OnOk result (has_tail log.new ≡ true → HasRoom log.new) }
-        ensures end { OnOk result (end_forced log.new ≡ end_forced log.old) }
-        ensures grows { OnOk result (end_of log.old ≤ end_of log.new) }
-        ensures next { OnOk result (log.new.ring.hi
-            ≡ (if forces log.old contents.now then log.old.ring.hi + 1 else log.old.ring.hi)) }
-        ensures rises { log.old.ring.hi ≤ log.new.ring.hi }
-        ensures goes { Goes (S.state site.old) (S.state site.new) }
-        ensures faults { WorkFaults result (S.state site.old) (S.state site.new) }
         ensures reads { (S.state site.new).flash_reads ≤ (S.state site.old).flash_reads + 8 }
-        ensures others { (d : Dev) → d ≢ Dev.Flash
-            → reads_of d (S.state site.new) ≡ reads_of d (S.state site.old) }
-
-        // When each answer comes.
-        ensures worn_log { IsErrOf result (Stop.Worn Dev.Log)
-            ↔ ((forces log.old contents.now ≡ true) × (log.old.ring.hi ≡ 2 ^ 40)) }
-        ensures worn_flash { IsErrOf result (Stop.Worn Dev.Flash) → self.old.flash.ring.hi ≡ 2 ^ 40 }
-        ensures worn_at { IsErrOf result (Stop.Worn Dev.Flash) → self.new.flash.ring.hi ≡ 2 ^ 40 }
-        ensures worn_end { (list : LogList) → AreReady self.old log.old list (S.state site.old)
-            → IsErrOf result (Stop.Worn Dev.Flash) → IsWorn self.old.flash.geometry (S.state site.new).image }
-        ensures worn_log_end { (list : LogList) → AreReady self.old log.old list (S.state site.old)
-            → IsErrOf result (Stop.Worn Dev.Log) → IsLogAtEnd self.old.flash.geometry (S.state site.new).image }
-        ensures never_past { self.old.flash.ring.hi ≡ 2 ^ 40 → OnOk result ⊥ }
-        ensures device { (d : Dev) → IsErrOf result (Stop.Device d)
-            → FaultRose d (S.state site.old) (S.state site.new) }
-        ensures stops { IfErr result (λ stop. MayStop stop) }
-        ensures foreign { IfErr result (λ stop. stop ≢ Stop.Foreign) }
     {
         stays_beside();
         ring_kept();
@@ -200,88 +118,27 @@ impl PageStore {
 
     /// Takes the coldest page out of the pool. Where it was changed, or has no frame in the queue, it is pushed.
     pub(crate) fn evict<S: Site>(&mut self, site: &mut S, log: &mut LogStore) -> Result<(), Stop>
-        requires going { MayGoOn self.old (S.state site.old) }
-        requires log_going { log_held.MayGoOn log.old (S.state site.old) }
-        requires sizes { log.old.geometry ≡ self.old.flash.geometry }
-        requires room { has_tail log.old ≡ true → HasRoom log.old }
+        requires going { MayWork log.old self.old (S.state site.old) }
 
         // Of an honest site.
-        ensures any_moment { (list : LogList) → AreReady self.old log.old list (S.state site.old) → IsQuiet (S.state site.old)
-            → LeavesOnly (S.state site.old) (S.state site.new) (LeavesPages self.old.flash.geometry
-            (current self.old (S.state site.old).image) (forces log.old (evicted self.old)) list (S.state site.old)) }
-        ensures ahead_moment { (list : LogList) → AreReady self.old log.old list (S.state site.old) → IsQuiet (S.state site.old)
-            → IsAhead log.old self.old (S.state site.old).image
-            → LeavesOnly (S.state site.old) (S.state site.new) (LeavesSealed self.old.flash.geometry) }
-        ensures rings_moment { (newest : Option Master) (list : LogList) → AreReady self.old log.old list (S.state site.old) → IsQuiet (S.state site.old)
-            → AreRingsSoundUnder newest self.old.flash.geometry (S.state site.old).image
-            → LeavesOnly (S.state site.old) (S.state site.new) (LeavesRings newest self.old.flash.geometry) }
-        ensures front_moment { (list : LogList) → AreReady self.old log.old list (S.state site.old) → IsQuiet (S.state site.old)
-            → LeavesFront self.old.flash.geometry (eviction_changes log.old list self.old)
-            (S.state site.old) (S.state site.new) }
-        ensures reaches { (list : LogList) → AreReady self.old log.old list (S.state site.old)
-            → OnOk result (Reaches self.old.flash.geometry (eviction_changes log.old list self.old)
-            (S.state site.old).image (S.state site.new).image) }
-        ensures ready { (list : LogList) → AreReady self.old log.old list (S.state site.old)
-            → OnOk result (AreReady self.new log.new (sealed_if (forces log.old (evicted self.old)) list) (S.state site.new)) }
-        ensures leaves { (list : LogList) → AreReady self.old log.old list (S.state site.old)
-            → OnOk result (LeavesPages self.old.flash.geometry (current self.old (S.state site.old).image)
-            (forces log.old (evicted self.old)) list (S.state site.old) (snapshot_of (S.state site.new))) }
-        ensures sealed { (list : LogList) → AreReady self.old log.old list (S.state site.old)
-            → IsAhead log.old self.old (S.state site.old).image
-            → OnOk result (AreSealed self.old.flash.geometry (S.state site.new).image) }
-        ensures rings { (newest : Option Master) (list : LogList) → AreReady self.old log.old list (S.state site.old)
-            → AreRingsSoundUnder newest self.old.flash.geometry (S.state site.old).image
-            → OnOk result (AreRingsSoundUnder newest self.old.flash.geometry (S.state site.new).image) }
-        ensures stays_quiet { IsTrue (S.state site.old).honest → IsQuiet (S.state site.old)
-            → OnOk result (IsQuiet (S.state site.new)) }
-        ensures current { (list : LogList) → AreReady self.old log.old list (S.state site.old)
-            → OnOk result (KeepsCurrent self.old (S.state site.old).image self.new (S.state site.new).image) }
-        ensures ahead { IsAhead log.old self.old (S.state site.old).image
-            → OnOk result (AreLogged (end_forced log.new) self.new.pool.frames) }
-        ensures left { IsTrue (S.state site.old).honest → (S.state site.new).left ≡ (S.state site.old).left }
-        ensures quiet { (list : LogList) → AreReady self.old log.old list (S.state site.old) → IsQuiet (S.state site.old)
-            → IfErr result (λ stop. ((d : Dev) → stop ≢ Stop.Device d) → IsQuiet (S.state site.new)) }
+        ensures keeps { (list : LogList) → AreReady self.old log.old list (S.state site.old)
+            → Keeps result log.old self.old (S.state site.old) (S.state site.new) list (forces log.old (evicted self.old))
+            (eviction_changes log.old list self.old) }
+        ensures stands { (list : LogList) → AreReady self.old log.old list (S.state site.old)
+            → OnOk result (Stands log.old log.new self.old self.new (S.state site.old) (S.state site.new) list (forces log.old (evicted self.old))
+            (eviction_changes log.old list self.old)) }
 
         // Of every site.
+        ensures pushes { Pushes result log.old log.new self.old self.new (S.state site.old) (S.state site.new)
+            (forces log.old (evicted self.old)) }
+        ensures worn { StopsAtEnd result log.old self.old (forces log.old (evicted self.old)) (is_pushed (cache_of self.old)) }
         ensures machine { OnOk result (cache_of self.new ≡ evict_coldest (rules self.old) (cache_of self.old)) }
-        ensures size { self.new.pool.size ≡ self.old.pool.size }
         ensures room_made { 0 < length self.old.pool.frames
             → length self.new.pool.frames < length self.old.pool.frames }
         ensures absent { (page : ℕ) → frame_of self.old.pool.frames page ≡ None
             → frame_of self.new.pool.frames page ≡ None }
-        ensures ended { self.new.ended ≡ self.old.ended }
-        ensures going { MayGoOn self.new (S.state site.new) }
-        ensures log_going { log_held.MayGoOn log.new (S.state site.new) }
-        ensures geometry { self.new.flash.geometry ≡ self.old.flash.geometry }
-        ensures log_geometry { log.new.geometry ≡ log.old.geometry }
-        ensures kept { log.new.kept ≡ log.old.kept }
-        ensures room { OnOk result (has_tail log.new ≡ true → HasRoom log.new) }
-        ensures end { OnOk result (end_forced log.new ≡ end_forced log.old) }
-        ensures grows { OnOk result (end_of log.old ≤ end_of log.new) }
-        ensures next { OnOk result (log.new.ring.hi
-            ≡ (if forces log.old (evicted self.old) then log.old.ring.hi + 1 else log.old.ring.hi)) }
-        ensures goes { Goes (S.state site.old) (S.state site.new) }
-        ensures faults { WorkFaults result (S.state site.old) (S.state site.new) }
         ensures reads { (S.state site.new).flash_reads ≤ (S.state site.old).flash_reads
             + (if is_pushed (cache_of self.old) then 8 else 0) }
-        ensures others { (d : Dev) → d ≢ Dev.Flash
-            → reads_of d (S.state site.new) ≡ reads_of d (S.state site.old) }
-
-        // When each answer comes.
-        ensures worn_log { IsErrOf result (Stop.Worn Dev.Log)
-            ↔ ((forces log.old (evicted self.old) ≡ true) × (log.old.ring.hi ≡ 2 ^ 40)) }
-        ensures worn_flash { IsErrOf result (Stop.Worn Dev.Flash)
-            → (is_pushed (cache_of self.old) ≡ true) × (self.old.flash.ring.hi ≡ 2 ^ 40) }
-        ensures worn_end { (list : LogList) → AreReady self.old log.old list (S.state site.old)
-            → IsErrOf result (Stop.Worn Dev.Flash) → IsWorn self.old.flash.geometry (S.state site.new).image }
-        ensures worn_log_end { (list : LogList) → AreReady self.old log.old list (S.state site.old)
-            → IsErrOf result (Stop.Worn Dev.Log) → IsLogAtEnd self.old.flash.geometry (S.state site.new).image }
-        ensures never_past { is_pushed (cache_of self.old) ≡ true → self.old.flash.ring.hi ≡ 2 ^ 40
-            → OnOk result ⊥ }
-        ensures device { (d : Dev) → IsErrOf result (Stop.Device d)
-            → FaultRose d (S.state site.old) (S.state site.new) }
-        ensures stops { IfErr result (λ stop. MayStop stop) }
-        ensures foreign { IfErr result (λ stop. stop ≢ Stop.Foreign) }
     {
         frames_of_pages();
         unframed_is_disk();
@@ -301,87 +158,26 @@ impl PageStore {
         site: &mut S,
         log: &mut LogStore,
     ) -> Result<(), Stop>
-        requires going { MayGoOn self.old (S.state site.old) }
-        requires log_going { log_held.MayGoOn log.old (S.state site.old) }
-        requires sizes { log.old.geometry ≡ self.old.flash.geometry }
-        requires room { has_tail log.old ≡ true → HasRoom log.old }
+        requires going { MayWork log.old self.old (S.state site.old) }
 
         // Of an honest site.
-        ensures any_moment { (list : LogList) → AreReady self.old log.old list (S.state site.old) → IsQuiet (S.state site.old)
-            → LeavesOnly (S.state site.old) (S.state site.new) (LeavesPages self.old.flash.geometry
-            (current self.old (S.state site.old).image) (forces log.old (pushed_for_room self.old)) list (S.state site.old)) }
-        ensures ahead_moment { (list : LogList) → AreReady self.old log.old list (S.state site.old) → IsQuiet (S.state site.old)
-            → IsAhead log.old self.old (S.state site.old).image
-            → LeavesOnly (S.state site.old) (S.state site.new) (LeavesSealed self.old.flash.geometry) }
-        ensures rings_moment { (newest : Option Master) (list : LogList) → AreReady self.old log.old list (S.state site.old) → IsQuiet (S.state site.old)
-            → AreRingsSoundUnder newest self.old.flash.geometry (S.state site.old).image
-            → LeavesOnly (S.state site.old) (S.state site.new) (LeavesRings newest self.old.flash.geometry) }
-        ensures front_moment { (list : LogList) → AreReady self.old log.old list (S.state site.old) → IsQuiet (S.state site.old)
-            → LeavesFront self.old.flash.geometry (room_changes log.old list self.old)
-            (S.state site.old) (S.state site.new) }
-        ensures reaches { (list : LogList) → AreReady self.old log.old list (S.state site.old)
-            → OnOk result (Reaches self.old.flash.geometry (room_changes log.old list self.old)
-            (S.state site.old).image (S.state site.new).image) }
-        ensures ready { (list : LogList) → AreReady self.old log.old list (S.state site.old)
-            → OnOk result (AreReady self.new log.new (sealed_if (forces log.old (pushed_for_room self.old)) list) (S.state site.new)) }
-        ensures leaves { (list : LogList) → AreReady self.old log.old list (S.state site.old)
-            → OnOk result (LeavesPages self.old.flash.geometry (current self.old (S.state site.old).image)
-            (forces log.old (pushed_for_room self.old)) list (S.state site.old) (snapshot_of (S.state site.new))) }
-        ensures sealed { (list : LogList) → AreReady self.old log.old list (S.state site.old)
-            → IsAhead log.old self.old (S.state site.old).image
-            → OnOk result (AreSealed self.old.flash.geometry (S.state site.new).image) }
-        ensures rings { (newest : Option Master) (list : LogList) → AreReady self.old log.old list (S.state site.old)
-            → AreRingsSoundUnder newest self.old.flash.geometry (S.state site.old).image
-            → OnOk result (AreRingsSoundUnder newest self.old.flash.geometry (S.state site.new).image) }
-        ensures stays_quiet { IsTrue (S.state site.old).honest → IsQuiet (S.state site.old)
-            → OnOk result (IsQuiet (S.state site.new)) }
-        ensures current { (list : LogList) → AreReady self.old log.old list (S.state site.old)
-            → OnOk result (KeepsCurrent self.old (S.state site.old).image self.new (S.state site.new).image) }
-        ensures ahead { IsAhead log.old self.old (S.state site.old).image
-            → OnOk result (AreLogged (end_forced log.new) self.new.pool.frames) }
-        ensures left { IsTrue (S.state site.old).honest → (S.state site.new).left ≡ (S.state site.old).left }
-        ensures quiet { (list : LogList) → AreReady self.old log.old list (S.state site.old) → IsQuiet (S.state site.old)
-            → IfErr result (λ stop. ((d : Dev) → stop ≢ Stop.Device d) → IsQuiet (S.state site.new)) }
+        ensures keeps { (list : LogList) → AreReady self.old log.old list (S.state site.old)
+            → Keeps result log.old self.old (S.state site.old) (S.state site.new) list (forces log.old (pushed_for_room self.old))
+            (room_changes log.old list self.old) }
+        ensures stands { (list : LogList) → AreReady self.old log.old list (S.state site.old)
+            → OnOk result (Stands log.old log.new self.old self.new (S.state site.old) (S.state site.new) list (forces log.old (pushed_for_room self.old))
+            (room_changes log.old list self.old)) }
 
         // Of every site.
-        ensures machine { OnOk result (cache_of self.new ≡ (if is_full self.old then evict_coldest (rules self.old) (cache_of self.old) else cache_of self.old)) }
-        ensures size { self.new.pool.size ≡ self.old.pool.size }
+        ensures pushes { Pushes result log.old log.new self.old self.new (S.state site.old) (S.state site.new)
+            (forces log.old (pushed_for_room self.old)) }
+        ensures worn { StopsAtEnd result log.old self.old (forces log.old (pushed_for_room self.old)) (is_full self.old && is_pushed (cache_of self.old)) }
+        ensures machine { OnOk result (cache_of self.new ≡ with_way self.old) }
         ensures room_made { OnOk result (length self.new.pool.frames < self.new.pool.size) }
         ensures absent { (page : ℕ) → frame_of self.old.pool.frames page ≡ None
             → frame_of self.new.pool.frames page ≡ None }
-        ensures ended { self.new.ended ≡ self.old.ended }
-        ensures going { MayGoOn self.new (S.state site.new) }
-        ensures log_going { log_held.MayGoOn log.new (S.state site.new) }
-        ensures geometry { self.new.flash.geometry ≡ self.old.flash.geometry }
-        ensures log_geometry { log.new.geometry ≡ log.old.geometry }
-        ensures kept { log.new.kept ≡ log.old.kept }
-        ensures room { OnOk result (has_tail log.new ≡ true → HasRoom log.new) }
-        ensures end { OnOk result (end_forced log.new ≡ end_forced log.old) }
-        ensures grows { OnOk result (end_of log.old ≤ end_of log.new) }
-        ensures next { OnOk result (log.new.ring.hi
-            ≡ (if forces log.old (pushed_for_room self.old) then log.old.ring.hi + 1 else log.old.ring.hi)) }
-        ensures goes { Goes (S.state site.old) (S.state site.new) }
-        ensures faults { WorkFaults result (S.state site.old) (S.state site.new) }
         ensures reads { (S.state site.new).flash_reads ≤ (S.state site.old).flash_reads
             + (if (is_full self.old && is_pushed (cache_of self.old)) then 8 else 0) }
-        ensures others { (d : Dev) → d ≢ Dev.Flash
-            → reads_of d (S.state site.new) ≡ reads_of d (S.state site.old) }
-
-        // When each answer comes.
-        ensures worn_log { IsErrOf result (Stop.Worn Dev.Log)
-            ↔ ((forces log.old (pushed_for_room self.old) ≡ true) × (log.old.ring.hi ≡ 2 ^ 40)) }
-        ensures worn_flash { IsErrOf result (Stop.Worn Dev.Flash)
-            → ((is_full self.old && is_pushed (cache_of self.old)) ≡ true) × (self.old.flash.ring.hi ≡ 2 ^ 40) }
-        ensures worn_end { (list : LogList) → AreReady self.old log.old list (S.state site.old)
-            → IsErrOf result (Stop.Worn Dev.Flash) → IsWorn self.old.flash.geometry (S.state site.new).image }
-        ensures worn_log_end { (list : LogList) → AreReady self.old log.old list (S.state site.old)
-            → IsErrOf result (Stop.Worn Dev.Log) → IsLogAtEnd self.old.flash.geometry (S.state site.new).image }
-        ensures never_past { (is_full self.old && is_pushed (cache_of self.old)) ≡ true → self.old.flash.ring.hi ≡ 2 ^ 40
-            → OnOk result ⊥ }
-        ensures device { (d : Dev) → IsErrOf result (Stop.Device d)
-            → FaultRose d (S.state site.old) (S.state site.new) }
-        ensures stops { IfErr result (λ stop. MayStop stop) }
-        ensures foreign { IfErr result (λ stop. stop ≢ Stop.Foreign) }
     {
         if !self.pool.is_full() {
             return Ok(());

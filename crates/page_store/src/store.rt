@@ -1,34 +1,25 @@
 // The pool, the queue on flash and the disk, joined under the write-ahead rule.
-ghost use Rattle.std.specs.Prelude.{nat_lt, ◌≡◌, ◌≢◌, ◌⊎◌, ◌↔◌, ◌+◌, ◌*◌, ◌^◌, ◌<◌, ◌≤◌, ℕ, List, [], length, Bool, true, false, if◌then◌else◌, IsTrue, IfOk, OnOk, OnErr, IfErr, IsErrOf, Some, None, option_copied, slice_index_or, Option};
-ghost use Rattle.std.specs.List.{All, AllPairs, AllByRecursion};
+ghost use Rattle.std.specs.Prelude.{◌≡◌, ◌≢◌, ◌⊎◌, ◌↔◌, ◌+◌, ◌*◌, ◌^◌, ◌<◌, ◌≤◌, ℕ, List, [], length, true, false, if◌then◌else◌, IsTrue, IfOk, OnOk, OnErr, IfErr, IsErrOf, Some, None, option_copied, slice_index_or, Option};
 ghost use Rattle.site.specs.declared.outside.Dev.{Dev};
 ghost use Rattle.site.specs.declared.outside.Stop.{Stop};
 ghost use Rattle.site.specs.Geometry.{HasLimits, HasLengths};
-ghost use Rattle.site.specs.State.{State, Image, reads_of, IsQuiet, snapshot_of};
+ghost use Rattle.site.specs.State.{State, Image, reads_of};
 ghost use Rattle.site.specs.Calls.{Goes, FaultRose, IsUnchanged};
 ghost use Rattle.site.specs.Faults.{WorkFaults};
-ghost use Rattle.site.specs.Moments.{LeavesOnly};
-ghost use Rattle.image_changes.specs.Changes.{Reaches};
-ghost use Rattle.image_changes.specs.Reached.{LeavesFront};
 ghost use Rattle.slotted_page.specs.Layout.{lsn_of, slots_of, content_length, IsSound, Fits as FitsPage};
 ghost use Rattle.frame_group.specs.Groups.{Frame as Stored};
-ghost use Rattle.flash_cache.specs.Held.{IsWorn, HasGroups, version_on, IsCleanOn, queue_of};
-ghost use Rattle.second_chance.specs.Machine.{touched, holds, finds, misses, wants_flush, flushed};
-ghost use Rattle.second_chance.specs.Laws.{changed_count};
+ghost use Rattle.flash_cache.specs.Held.{HasGroups, version_on, IsCleanOn, queue_of};
+ghost use Rattle.second_chance.specs.Machine.{touched, holds, finds, misses, wants_flush};
 ghost use Rattle.buffer_pool.specs.Frames.{front_of, ChangesFront};
-ghost use Rattle.log_store.specs.LogList.{LogList, sealed_if};
-ghost use Rattle.log_store.specs.Held.{has_tail, end_of, HasRoom};
+ghost use Rattle.log_store.specs.LogList.{LogList};
 ghost use Rattle.log_store.specs.declared.store.LogStore.{LogStore};
-ghost use Rattle.log_store.specs.Held as log_held;
-ghost use Rattle.checkpoint.specs.declared.master.Master.{Master};
-ghost use Rattle.image_meaning.specs.Beside.{AreRingsSoundUnder};
 ghost use Rattle.page_store.specs.Held.{IsStore, MayGoOn, Fits, current};
-ghost use Rattle.page_store.specs.Caching.{next_group, cache_of, rules, with_change, pushes};
-ghost use Rattle.page_store.specs.Ahead.{AreSealed, IsAhead, LeavesSealed, end_forced, forces, pushed_by_touch};
-ghost use Rattle.page_store.specs.Leaves.{AreReady, LeavesPages, LeavesRings, KeepsCurrent};
+ghost use Rattle.page_store.specs.Caching.{cache_of, rules, with_change, pushes};
+ghost use Rattle.page_store.specs.Ahead.{IsAhead, end_forced, forces, pushed_by_touch};
+ghost use Rattle.page_store.specs.Leaves.{AreReady};
 ghost use Rattle.page_store.specs.Flushing.{flushed_contents};
 ghost use Rattle.page_store.specs.Changing.{touch_changes, flush_changes};
-ghost use Rattle.page_store.specs.Stopping.{MayStop, IsLogAtEnd};
+ghost use Rattle.page_store.specs.Calls.{MayWork, Works, StopsAtEnd, Flushes, Keeps, Stands};
 
 use buffer_pool::{Pool, frames_of_pages};
 use byte_fields::VALUE_MAX;
@@ -183,94 +174,33 @@ impl PageStore {
         log: &mut LogStore,
         page: u32,
     ) -> Result<(), Stop>
-        requires going { MayGoOn self.old (S.state site.old) }
-        requires log_going { log_held.MayGoOn log.old (S.state site.old) }
-        requires sizes { log.old.geometry ≡ self.old.flash.geometry }
-        requires room { has_tail log.old ≡ true → HasRoom log.old }
+        requires going { MayWork log.old self.old (S.state site.old) }
         requires exists { page < self.old.flash.geometry.pages }
 
         // Of an honest site.
-        ensures any_moment { (list : LogList) → AreReady self.old log.old list (S.state site.old) → IsQuiet (S.state site.old)
-            → LeavesOnly (S.state site.old) (S.state site.new) (LeavesPages self.old.flash.geometry
-            (current self.old (S.state site.old).image) (forces log.old (pushed_by_touch self.old page)) list (S.state site.old)) }
-        ensures ahead_moment { (list : LogList) → AreReady self.old log.old list (S.state site.old) → IsQuiet (S.state site.old)
-            → IsAhead log.old self.old (S.state site.old).image
-            → LeavesOnly (S.state site.old) (S.state site.new) (LeavesSealed self.old.flash.geometry) }
-        ensures rings_moment { (newest : Option Master) (list : LogList) → AreReady self.old log.old list (S.state site.old) → IsQuiet (S.state site.old)
-            → AreRingsSoundUnder newest self.old.flash.geometry (S.state site.old).image
-            → LeavesOnly (S.state site.old) (S.state site.new) (LeavesRings newest self.old.flash.geometry) }
-        ensures front_moment { (list : LogList) → AreReady self.old log.old list (S.state site.old) → IsQuiet (S.state site.old)
-            → LeavesFront self.old.flash.geometry (touch_changes log.old list self.old page)
-            (S.state site.old) (S.state site.new) }
-        ensures reaches { (list : LogList) → AreReady self.old log.old list (S.state site.old)
-            → OnOk result (Reaches self.old.flash.geometry (touch_changes log.old list self.old page)
-            (S.state site.old).image (S.state site.new).image) }
-        ensures ready { (list : LogList) → AreReady self.old log.old list (S.state site.old)
-            → OnOk result (AreReady self.new log.new (sealed_if (forces log.old (pushed_by_touch self.old page)) list) (S.state site.new)) }
-        ensures leaves { (list : LogList) → AreReady self.old log.old list (S.state site.old)
-            → OnOk result (LeavesPages self.old.flash.geometry (current self.old (S.state site.old).image)
-            (forces log.old (pushed_by_touch self.old page)) list (S.state site.old) (snapshot_of (S.state site.new))) }
-        ensures sealed { (list : LogList) → AreReady self.old log.old list (S.state site.old)
-            → IsAhead log.old self.old (S.state site.old).image
-            → OnOk result (AreSealed self.old.flash.geometry (S.state site.new).image) }
-        ensures rings { (newest : Option Master) (list : LogList) → AreReady self.old log.old list (S.state site.old)
-            → AreRingsSoundUnder newest self.old.flash.geometry (S.state site.old).image
-            → OnOk result (AreRingsSoundUnder newest self.old.flash.geometry (S.state site.new).image) }
-        ensures stays_quiet { IsTrue (S.state site.old).honest → IsQuiet (S.state site.old)
-            → OnOk result (IsQuiet (S.state site.new)) }
-        ensures current { (list : LogList) → AreReady self.old log.old list (S.state site.old)
-            → OnOk result (KeepsCurrent self.old (S.state site.old).image self.new (S.state site.new).image) }
-        ensures ahead { (list : LogList) → AreReady self.old log.old list (S.state site.old)
-            → IsAhead log.old self.old (S.state site.old).image
-            → OnOk result (IsAhead log.new self.new (S.state site.new).image) }
-        ensures left { IsTrue (S.state site.old).honest → (S.state site.new).left ≡ (S.state site.old).left }
-        ensures quiet { (list : LogList) → AreReady self.old log.old list (S.state site.old) → IsQuiet (S.state site.old)
-            → IfErr result (λ stop. ((d : Dev) → stop ≢ Stop.Device d) → IsQuiet (S.state site.new)) }
+        ensures keeps { (list : LogList) → AreReady self.old log.old list (S.state site.old)
+            → Keeps result log.old self.old (S.state site.old) (S.state site.new) list (forces log.old (pushed_by_touch self.old page))
+            (touch_changes log.old list self.old page) }
+        ensures stands { (list : LogList) → AreReady self.old log.old list (S.state site.old)
+            → OnOk result (Stands log.old log.new self.old self.new (S.state site.old) (S.state site.new) list (forces log.old (pushed_by_touch self.old page))
+            (touch_changes log.old list self.old page)) }
 
         // Of every site.
+        ensures works { Works result log.old log.new self.old self.new (S.state site.old) (S.state site.new)
+            (forces log.old (pushed_by_touch self.old page)) }
+        ensures worn { StopsAtEnd result log.old self.old (forces log.old (pushed_by_touch self.old page)) (pushes (rules self.old) page (cache_of self.old)) }
         ensures machine { OnOk result (cache_of self.new ≡ touched (rules self.old) page false (cache_of self.old)) }
         ensures front { OnOk result ((front_of self.new.pool.frames).page ≡ page) }
         ensures there { OnOk result (0 < length self.new.pool.frames) }
         ensures held { IsTrue (holds (cache_of self.old).pool page)
             → (site.new ≡ site.old) × (log.new ≡ log.old) }
-        ensures size { self.new.pool.size ≡ self.old.pool.size }
         ensures ended { OnOk result (self.new.ended ≡ self.old.ended) }
         ensures err { OnErr result (self.new.ended ≡ true) }
-        ensures going { MayGoOn self.new (S.state site.new) }
-        ensures log_going { log_held.MayGoOn log.new (S.state site.new) }
-        ensures geometry { self.new.flash.geometry ≡ self.old.flash.geometry }
-        ensures log_geometry { log.new.geometry ≡ log.old.geometry }
-        ensures kept { log.new.kept ≡ log.old.kept }
-        ensures room { OnOk result (has_tail log.new ≡ true → HasRoom log.new) }
-        ensures grows { OnOk result (end_of log.old ≤ end_of log.new) }
-        ensures end { OnOk result (end_forced log.new ≡ end_forced log.old) }
-        ensures next { OnOk result (log.new.ring.hi ≡ (if forces log.old (pushed_by_touch self.old page)
-            then log.old.ring.hi + 1 else log.old.ring.hi)) }
-        ensures goes { Goes (S.state site.old) (S.state site.new) }
-        ensures faults { WorkFaults result (S.state site.old) (S.state site.new) }
         ensures flash_reads { (S.state site.new).flash_reads ≤ (S.state site.old).flash_reads
             + (if pushes (rules self.old) page (cache_of self.old) then 8 else 0)
             + (if finds (rules self.old) page (cache_of self.old) then 1 else 0) }
         ensures disk_reads { (S.state site.new).disk_reads ≤ (S.state site.old).disk_reads
             + (if misses (rules self.old) page (cache_of self.old) then 1 else 0) }
-        ensures log_reads { (S.state site.new).log_reads ≡ (S.state site.old).log_reads }
-
-        // When each answer comes.
-        ensures worn_log { IsErrOf result (Stop.Worn Dev.Log)
-            ↔ ((forces log.old (pushed_by_touch self.old page) ≡ true) × (log.old.ring.hi ≡ 2 ^ 40)) }
-        ensures worn_flash { IsErrOf result (Stop.Worn Dev.Flash)
-            → (pushes (rules self.old) page (cache_of self.old) ≡ true) × (self.old.flash.ring.hi ≡ 2 ^ 40) }
-        ensures worn_end { (list : LogList) → AreReady self.old log.old list (S.state site.old)
-            → IsErrOf result (Stop.Worn Dev.Flash) → IsWorn self.old.flash.geometry (S.state site.new).image }
-        ensures worn_log_end { (list : LogList) → AreReady self.old log.old list (S.state site.old)
-            → IsErrOf result (Stop.Worn Dev.Log) → IsLogAtEnd self.old.flash.geometry (S.state site.new).image }
-        ensures never_past { pushes (rules self.old) page (cache_of self.old) ≡ true
-            → self.old.flash.ring.hi ≡ 2 ^ 40 → OnOk result ⊥ }
-        ensures device { (d : Dev) → IsErrOf result (Stop.Device d)
-            → FaultRose d (S.state site.old) (S.state site.new) }
-        ensures foreign { IsErrOf result Stop.Foreign
-            → (list : LogList) → AreReady self.old log.old list (S.state site.old) → ⊥ }
-        ensures stops { IfErr result (λ stop. MayStop stop) }
     {
         frames_of_pages();
         if self.pool.page(page).is_some() {
@@ -287,93 +217,28 @@ impl PageStore {
     /// Pushes groups of changed pages, the coldest first, until no page in the pool is changed. The pages stay in the pool. Before a
     /// group is pushed the log is forced, exactly where its tail has the last change of a page of the group.
     pub fn flush_all<S: Site>(&mut self, site: &mut S, log: &mut LogStore) -> Result<(), Stop>
-        requires going { MayGoOn self.old (S.state site.old) }
-        requires log_going { log_held.MayGoOn log.old (S.state site.old) }
-        requires sizes { log.old.geometry ≡ self.old.flash.geometry }
-        requires room { has_tail log.old ≡ true → HasRoom log.old }
+        requires going { MayWork log.old self.old (S.state site.old) }
 
         // Of an honest site.
-        ensures any_moment { (list : LogList) → AreReady self.old log.old list (S.state site.old) → IsQuiet (S.state site.old)
-            → LeavesOnly (S.state site.old) (S.state site.new) (LeavesPages self.old.flash.geometry
-            (current self.old (S.state site.old).image) (forces log.old (flushed_contents self.old)) list (S.state site.old)) }
-        ensures ahead_moment { (list : LogList) → AreReady self.old log.old list (S.state site.old) → IsQuiet (S.state site.old)
-            → IsAhead log.old self.old (S.state site.old).image
-            → LeavesOnly (S.state site.old) (S.state site.new) (LeavesSealed self.old.flash.geometry) }
-        ensures rings_moment { (newest : Option Master) (list : LogList) → AreReady self.old log.old list (S.state site.old) → IsQuiet (S.state site.old)
-            → AreRingsSoundUnder newest self.old.flash.geometry (S.state site.old).image
-            → LeavesOnly (S.state site.old) (S.state site.new) (LeavesRings newest self.old.flash.geometry) }
-        ensures front_moment { (list : LogList) → AreReady self.old log.old list (S.state site.old) → IsQuiet (S.state site.old)
-            → LeavesFront self.old.flash.geometry (flush_changes log.old list self.old)
-            (S.state site.old) (S.state site.new) }
-        ensures reaches { (list : LogList) → AreReady self.old log.old list (S.state site.old) → IsQuiet (S.state site.old)
-            → OnOk result (Reaches self.old.flash.geometry (flush_changes log.old list self.old)
-            (S.state site.old).image (S.state site.new).image) }
-        ensures ready { (list : LogList) → AreReady self.old log.old list (S.state site.old)
-            → OnOk result (AreReady self.new log.new (sealed_if (forces log.old (flushed_contents self.old)) list) (S.state site.new)) }
-        ensures leaves { (list : LogList) → AreReady self.old log.old list (S.state site.old)
-            → OnOk result (LeavesPages self.old.flash.geometry (current self.old (S.state site.old).image)
-            (forces log.old (flushed_contents self.old)) list (S.state site.old) (snapshot_of (S.state site.new))) }
-        ensures sealed { (list : LogList) → AreReady self.old log.old list (S.state site.old)
-            → IsAhead log.old self.old (S.state site.old).image
-            → OnOk result (AreSealed self.old.flash.geometry (S.state site.new).image) }
-        ensures rings { (newest : Option Master) (list : LogList) → AreReady self.old log.old list (S.state site.old)
-            → AreRingsSoundUnder newest self.old.flash.geometry (S.state site.old).image
-            → OnOk result (AreRingsSoundUnder newest self.old.flash.geometry (S.state site.new).image) }
-        ensures stays_quiet { IsTrue (S.state site.old).honest → IsQuiet (S.state site.old)
-            → OnOk result (IsQuiet (S.state site.new)) }
-        ensures current { (list : LogList) → AreReady self.old log.old list (S.state site.old)
-            → OnOk result (KeepsCurrent self.old (S.state site.old).image self.new (S.state site.new).image) }
-        ensures ahead { (list : LogList) → AreReady self.old log.old list (S.state site.old)
-            → IsAhead log.old self.old (S.state site.old).image
-            → OnOk result (IsAhead log.new self.new (S.state site.new).image) }
-        ensures left { IsTrue (S.state site.old).honest → (S.state site.new).left ≡ (S.state site.old).left }
-        ensures quiet { (list : LogList) → AreReady self.old log.old list (S.state site.old) → IsQuiet (S.state site.old)
-            → IfErr result (λ stop. ((d : Dev) → stop ≢ Stop.Device d) → IsQuiet (S.state site.new)) }
+        ensures keeps { (list : LogList) → AreReady self.old log.old list (S.state site.old)
+            → Keeps result log.old self.old (S.state site.old) (S.state site.new) list (forces log.old (flushed_contents self.old))
+            (flush_changes log.old list self.old) }
+        ensures stands { (list : LogList) → AreReady self.old log.old list (S.state site.old)
+            → OnOk result (Stands log.old log.new self.old self.new (S.state site.old) (S.state site.new) list (forces log.old (flushed_contents self.old))
+            (flush_changes log.old list self.old)) }
 
         // Of every site.
-        ensures machine { OnOk result (cache_of self.new ≡ flushed (rules self.old) (cache_of self.old)) }
-        ensures size { self.new.pool.size ≡ self.old.pool.size }
+        ensures works { Works result log.old log.new self.old self.new (S.state site.old) (S.state site.new)
+            (forces log.old (flushed_contents self.old)) }
+        ensures flushes { Flushes result log.old self.old self.new (S.state site.old) (S.state site.new) }
         ensures clean { OnOk result (wants_flush (cache_of self.new) ≡ false) }
         ensures ended { OnOk result (self.new.ended ≡ self.old.ended) }
         ensures err { OnErr result (self.new.ended ≡ true) }
-        ensures rises { log.old.ring.hi ≤ log.new.ring.hi }
-        ensures going { MayGoOn self.new (S.state site.new) }
-        ensures log_going { log_held.MayGoOn log.new (S.state site.new) }
-        ensures geometry { self.new.flash.geometry ≡ self.old.flash.geometry }
-        ensures log_geometry { log.new.geometry ≡ log.old.geometry }
-        ensures kept { log.new.kept ≡ log.old.kept }
-        ensures room { OnOk result (has_tail log.new ≡ true → HasRoom log.new) }
-        ensures grows { OnOk result (end_of log.old ≤ end_of log.new) }
-        ensures end { OnOk result (end_forced log.new ≡ end_forced log.old) }
-        ensures next { OnOk result (log.new.ring.hi ≡ (if forces log.old (flushed_contents self.old)
-            then log.old.ring.hi + 1 else log.old.ring.hi)) }
-        ensures goes { Goes (S.state site.old) (S.state site.new) }
-        ensures faults { WorkFaults result (S.state site.old) (S.state site.new) }
-        ensures reads { (S.state site.new).flash_reads ≤ (S.state site.old).flash_reads
-            + 8 * changed_count (cache_of self.old).pool }
-        ensures asked { (S.state site.new).flash_reads + 8 * next_group (cache_of self.old)
-            ≤ (S.state site.old).flash_reads + 8 * next_group (flushed (rules self.old) (cache_of self.old)) }
-        ensures overflows { IsErrOf result (Stop.Worn Dev.Flash)
-            → 2 ^ 40 < next_group (flushed (rules self.old) (cache_of self.old)) }
         ensures others { (d : Dev) → d ≢ Dev.Flash
             → reads_of d (S.state site.new) ≡ reads_of d (S.state site.old) }
-
-        // When each answer comes.
-        ensures worn_log { IsErrOf result (Stop.Worn Dev.Log)
-            → (forces log.old (flushed_contents self.old) ≡ true) × (log.old.ring.hi ≡ 2 ^ 40) }
+        ensures foreign { IfErr result (λ stop. stop ≢ Stop.Foreign) }
         ensures never_past_log { forces log.old (flushed_contents self.old) ≡ true → log.old.ring.hi ≡ 2 ^ 40
             → OnOk result ⊥ }
-        ensures worn_flash { IsErrOf result (Stop.Worn Dev.Flash) → self.new.flash.ring.hi ≡ 2 ^ 40 }
-        ensures worn_end { (list : LogList) → AreReady self.old log.old list (S.state site.old)
-            → IsErrOf result (Stop.Worn Dev.Flash) → IsWorn self.old.flash.geometry (S.state site.new).image }
-        ensures worn_log_end { (list : LogList) → AreReady self.old log.old list (S.state site.old)
-            → IsErrOf result (Stop.Worn Dev.Log) → IsLogAtEnd self.old.flash.geometry (S.state site.new).image }
-        ensures never_past { wants_flush (cache_of self.old) ≡ true → self.old.flash.ring.hi ≡ 2 ^ 40
-            → OnOk result ⊥ }
-        ensures device { (d : Dev) → IsErrOf result (Stop.Device d)
-            → FaultRose d (S.state site.old) (S.state site.new) }
-        ensures stops { IfErr result (λ stop. MayStop stop) }
-        ensures foreign { IfErr result (λ stop. stop ≢ Stop.Foreign) }
     {
         flushes_save_all();
         if let Err(stop) = self.push_all_changed(site, log) {

@@ -1,4 +1,4 @@
-use Rattle.std.proofs.Common.{◌≡◌, ◌<◌, None, false, List, ◌∷◌, map, length, sym, ap, subst, ◌∙◌}
+use Rattle.std.proofs.Common.{rules, ◌≡◌, ◌<◌, None, false, List, ◌∷◌, map, length, sym, ap, subst, ◌∙◌}
 use Rattle.flash_cache.specs.Held.{version_on}
 use Rattle.buffer_pool.specs.declared.frame.Frame.{Frame}
 use Rattle.buffer_pool.specs.Frames.{State as Pool, frame_of}
@@ -6,40 +6,45 @@ use Rattle.second_chance.specs.Queue.{with_read}
 use Rattle.second_chance.specs.Machine.{Cache, in_front}
 use Rattle.page_store.specs.Held.{Fits, IsPage}
 use Rattle.page_store.specs.Caching.{pool_page, cache_of}
-use Rattle.page_store.proofs.PushLaws.{ok_then}
+use Rattle.site.proofs.Working.{ok_as}
 use Rattle.page_store.proofs.Pools.{in_front_absent}
 use Rattle.page_store.proofs.Entering.{put_fits, put_going}
 use Rattle.page_store.proofs.store.PageStore.read_in.Goals as goal
 
-pub returns-in-Ok-clause-fits : goal.returns-in-Ok-clause-fits
-returns-in-Ok-clause-fits g c fits =
+pub returns-in-Ok-clause-reads : goal.returns-in-Ok-clause-reads
+returns-in-Ok-clause-reads g c =
     let old = g.S.Site.state c.args.site.now in
     let new = g.S.Site.state c.read_version.new.site in
     let mid = c.read_version.new.self in
+    let read = c.read_version.ensures.reads in
     let frame : Frame = record { page = c.args.page; changed = false; content = c.in-Ok.content } in
-    let same = c.read_version.ensures.same fits.flash.honest in
-    let version : c.in-Ok.content ≡ version_on mid.flash.geometry new.image c.args.page =
-    c.in-Ok.ensures.read fits ∙ (λ i. version_on (sym c.read_version.ensures.geometry i) (sym same.image i) c.args.page) in
-    ok_then c.put.result _ (Fits (record mid { pool = c.put.new.self }) new)
-    (λ put. put_fits mid c.put.new.self frame new (ap (λ (p : Pool). p.frames) put) version (c.in-Ok.ensures.fits fits))
-    c.put.ensures.ok
+    let none : frame_of mid.pool.frames c.args.page ≡ None = subst (λ (p : Pool). frame_of p.frames c.args.page ≡ None) (sym c.read_version.ensures.pool) c.requires.absent in
+    let room : length mid.pool.frames < mid.pool.size = subst (λ (p : Pool). length p.frames < p.size) (sym c.read_version.ensures.pool) c.requires.room in
+    let page : IsPage mid.flash.geometry.pages frame = record { sound = c.in-Ok.ensures.sound; exists = subst (λ h. c.args.page < h.pages) (sym read.geometry) c.requires.exists } in
+    record {
+      calls = search rules;
+      same = read.same;
+      fits = λ fits.
+          let version : c.in-Ok.content ≡ version_on mid.flash.geometry new.image c.args.page =
+          c.in-Ok.ensures.read fits ∙ (λ i. version_on (sym read.geometry i) (sym (read.same fits.flash.honest).image i) c.args.page) in
+          ok_as c.put.result _ (Fits (record mid { pool = c.put.new.self }) new)
+          (λ put. put_fits mid c.put.new.self frame new (ap (λ (p : Pool). p.frames) put) version (c.in-Ok.ensures.reads.fits fits)) c.put.ensures.ok;
+      going = put_going c.put.result mid c.put.new.self frame new c.put.ensures.ok c.put.ensures.err none room page read.going;
+      geometry = read.geometry;
+      ended = read.ended;
+      flash_reads = read.flash_reads;
+      disk_reads = read.disk_reads;
+      log_reads = read.log_reads;
+      foreign = search rules;
+    }
 
 pub returns-in-Ok-clause-machine : goal.returns-in-Ok-clause-machine
 returns-in-Ok-clause-machine g c =
     let store = c.args.self.now in
     let mid = c.read_version.new.self in
     let frames = ap (λ (p : Pool). p.frames) c.read_version.ensures.pool in
-    ok_then c.put.result _ (cache_of (record mid { pool = c.put.new.self }) ≡ in_front c.args.page false (cache_of store))
+    ok_as c.put.result _ (cache_of (record mid { pool = c.put.new.self }) ≡ in_front c.args.page false (cache_of store))
     (λ put. (λ i. let k : Cache = record { pool = map pool_page (put i).frames; queue = c.in-Ok.ensures.queue i } in k)
     ∙ ap (λ (l : List Frame). let k : Cache = record { pool = record { page = c.args.page; changed = false } ∷ map pool_page l; queue = with_read c.args.page store.flash.directory } in k) frames
     ∙ in_front_absent store.pool.frames store.flash.directory c.args.page c.requires.absent)
     c.put.ensures.ok
-
-pub returns-in-Ok-clause-going : goal.returns-in-Ok-clause-going
-returns-in-Ok-clause-going g c =
-    let mid = c.read_version.new.self in
-    let frame : Frame = record { page = c.args.page; changed = false; content = c.in-Ok.content } in
-    let none : frame_of mid.pool.frames c.args.page ≡ None = subst (λ (p : Pool). frame_of p.frames c.args.page ≡ None) (sym c.read_version.ensures.pool) c.requires.absent in
-    let room : length mid.pool.frames < mid.pool.size = subst (λ (p : Pool). length p.frames < p.size) (sym c.read_version.ensures.pool) c.requires.room in
-    let page : IsPage mid.flash.geometry.pages frame = record { sound = c.in-Ok.ensures.sound; exists = subst (λ h. c.args.page < h.pages) (sym c.read_version.ensures.geometry) c.requires.exists } in
-    put_going c.put.result mid c.put.new.self frame (g.S.Site.state c.read_version.new.site) c.put.ensures.ok c.put.ensures.err none room page c.read_version.ensures.going

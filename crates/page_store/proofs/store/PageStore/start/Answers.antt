@@ -3,7 +3,8 @@ use Rattle.buffer_pool.specs.Frames.{State as Pool}
 use Rattle.second_chance.specs.Machine.{Cache}
 use Rattle.page_store.specs.declared.store.PageStore.{PageStore}
 use Rattle.page_store.specs.Caching.{pool_page}
-use Rattle.page_store.proofs.Fitting.{err_again, fits_at_start}
+use Rattle.site.proofs.Working.{err_again}
+use Rattle.page_store.proofs.Fitting.{fits_at_start}
 use Rattle.page_store.proofs.store.PageStore.start.Goals as goal
 
 pub returns-in-Err-clause-foreign : goal.returns-in-Err-clause-foreign
