@@ -1,12 +1,13 @@
 -- A run that halts, and its fault line.
 use Rattle.std.proofs.Common.{◌≡◌, ◌≢◌, ◌⊎◌, inl, inr, ⊎_elim, ℕ, ◌+◌, ◌≤◌, Bool, true, false, List, [], ◌++◌, length, take, drop, refl, sym, ◌∙◌, ap, subst, arith, append_assoc, length-append, take-append-drop}
-use Rattle.std.specs.Prelude.{Err, Ok, IsErrOf}
+use Rattle.std.specs.Prelude.{Err, Ok, Result, IsErrOf, IsTrue, flat_map}
 use Rattle.std.proofs.lemmas.List.{append-nil, take_all, take_at}
 use Rattle.site.specs.State.{State as Site, Snapshot}
-use Rattle.site.specs.Calls.{SameReads}
+use Rattle.site.specs.Calls.{Goes}
 use Rattle.site.specs.Moments.{Leaves, LeavesOnly, EachMoment}
-use Rattle.site.specs.Laws.{in_sequence, leaves_weaker, told_is, tell_leaves}
-use Rattle.site.specs.Telling.{SameDevices, TellsPart}
+use Rattle.site.specs.Laws.{in_sequence, leaves_weaker, stays_honest, told_is, tell_leaves}
+use Rattle.site.specs.Telling.{TellsPart}
+use Rattle.site.specs.declared.outside.Failed.{Failed}
 use Rattle.site.specs.declared.geometry.Geometry.{Geometry}
 use Rattle.site.specs.declared.outside.Stop.TheVariants.{Device, Memory, Worn, Foreign}
 use Rattle.record_model.specs.declared.words.CacheLine.{CacheLine}
@@ -24,7 +25,9 @@ use Rattle.redo_undo.specs.Works.{OverflowsWithMore}
 use Rattle.face.specs.Causes.{HasCause, HasCauses, NoFaultRose, HasLogRoom, EndsInTime}
 use Rattle.face.specs.Lines.{commands_of, up_to_quit, answered_of, limit}
 use Rattle.face.specs.Run.{Run, told_after, StandsFor, StandsAt, StandsNear, IsAccounted, IsBetween, Begins, HasHeard, HasTakenAll, Stops, StopsTaking, Works}
-use Rattle.face.specs.Range.{run_of, run_text, StandsAfter, IsLeft, WearsOut, NeverWears}
+use Rattle.face.specs.Range.{run_of, run_text, texts, StandsAfter, IsLeft, WearsOut, NeverWears}
+use Rattle.face.specs.Tells.{EndsBehind, Tells}
+use Rattle.face.proofs.Endings.{ends_whole, ends_with}
 use Rattle.face.proofs.Begun.{has_begun, lists_the_machine}
 use Rattle.face.proofs.Counted.{skips_no_number, skips_still}
 use Rattle.face.proofs.Pagings.{leaves_its_queue, reads_no_more, reads_still, wears_out, never_wears, wears_out_all}
@@ -32,7 +35,7 @@ use Rattle.face.specs.Headline.{IsGood, IsToldWhole, Headline}
 use Rattle.face.proofs.Fronts.{accounted, told_same, state_same, take_within, up_append, no_quits, first_commands}
 use Rattle.face.proofs.Meanings.{stands_by}
 use Rattle.face.proofs.SerialRuns.{run_is_serial, told_is_serial}
-use Rattle.face.proofs.Ranges.{IsFault, is_left, stands_after, all_among, all_text}
+use Rattle.face.proofs.Ranges.{IsFault, is_left, stands_after, all_among, all_text, texts_same}
 
 output_or_not : (h : Halt) → (h ≡ halt.Output) ⊎ (h ≢ halt.Output)
 output_or_not (halt.Stop stop) = inr (λ e. cc)
@@ -172,8 +175,24 @@ module _ (pool : ℕ) (g : Geometry) (opening : State) (listings : List (List Ca
   over_by halt.Input heard octets mid s e = absurd (omega (arith, e))
   over_by halt.Limit heard octets mid s e = (s.1, s.0.no_quit)
 
-  pub halted : {T : Type 0} → Serial → (mid new : Site) (h : Halt) → IsGood g opening old → Works {T = T} pool run old mid (Err h) → EachMoment mid new (TellsPart (fault_line h) mid) → SameDevices mid new → SameReads mid new → HasCause h old new → (status : ℕ) → status ≡ status_of h → Headline pool g opening old new status
-  halted law mid new h good works tells same_devices same_reads cause status is =
+  -- the texts before the fault line are whole
+  ends_behind : {T U : Type 0} (mid new : Site) (h : Halt) (result : Result U Failed) (works : Works {T = T} pool run old mid (Err h)) → Goes old mid → IsTrue mid.honest → Tells (fault_line h) mid new result → h ≢ halt.Output
+      → EndsBehind (texts (run_of g opening works.ended works.octets listings)) (fault_line h) old new
+  ends_behind mid new h result works goes honest tells ne =
+      let b = works.stops.0.between ne in
+      let heard = works.has_heard in
+      let lines = commands_of works.ended works.octets in
+      let own = run_of g opening works.ended works.octets listings in
+      let first : told_after run b.whole ≡ flat_map (λ (x : List ℕ). x) (take b.whole (texts own)) =
+      sym (told_same run lines works.heard heard.same b.whole b.begun) ∙ ap (λ (l : List (List ℕ)). flat_map (λ (x : List ℕ). x) (take b.whole l)) (sym (texts_same own)) in
+      (b.whole, ends_with (old.told ++ flat_map (λ (x : List ℕ). x) (take b.whole (texts own))) (fault_line h) old mid new result goes honest (b.told ∙ ap (λ (l : List ℕ). old.told ++ l) first) tells)
+
+  pub halted : {T U : Type 0} → Serial → (mid new : Site) (h : Halt) → IsGood g opening old → Works {T = T} pool run old mid (Err h) → Goes old mid → (result : Result U Failed) → Tells (fault_line h) mid new result → HasCause h old new → (status : ℕ) → status ≡ status_of h → Headline pool g opening old new status
+  halted law mid new h good works goes result told cause status is =
+      let honest = stays_honest old mid goes good.honest in
+      let tells = told.any_moment honest in
+      let same_devices = told.devices honest in
+      let same_reads = told.reads in
       let heard = works.has_heard in
       let now = tells.now.told 0 in
       let lines = commands_of works.ended works.octets in
@@ -186,6 +205,7 @@ module _ (pool : ℕ) (g : Geometry) (opening : State) (listings : List (List Ca
         end = λ e. same_devices.left ∙ heard.end e;
         fault = fault_line h;
         of_status = inr (h, is, refl, cause);
+        ends = λ ne. ends_behind mid new h result works goes honest told (λ output. ne (is ∙ ap status_of output));
         any_moment = left_by g opening listings old mid works.heard works.octets works.ended heard new (fault_line h) (inr (h, refl)) (with_fault run works.heard old mid new h works.stops.0 tells);
         quiet = λ ne. same_devices.loose ∙ works.stops.0.quiet (λ e. ne (is ∙ e));
         heard = λ zero. absurd (not_zero h (sym is ∙ zero));
@@ -215,6 +235,8 @@ module _ (pool : ℕ) (g : Geometry) (opening : State) (listings : List (List Ca
       let count = works.done.1 in
       let same = heard.same in
       let own = run_of g opening works.ended works.octets listings in
+      let all_told : new.told ≡ old.told ++ run_text own = works.done.3.told ∙ ap (λ (l : List ℕ). old.told ++ l)
+      (sym (told_same run lines works.heard same (works.heard + 1) (omega arith)) ∙ ap (λ (n : ℕ). told_after own (n + 1)) (sym count) ∙ all_text own) in
       record {
         octets = works.octets;
         ended = works.ended;
@@ -223,12 +245,12 @@ module _ (pool : ℕ) (g : Geometry) (opening : State) (listings : List (List Ca
         end = heard.end;
         fault = [];
         of_status = inl (refl, refl);
+        ends = λ ne. ends_whole (texts own) old new all_told;
         any_moment = left_by g opening listings old new works.heard works.octets works.ended heard new [] (inl refl) works.done.2;
         quiet = λ ne. works.done.3.quiet;
         heard = λ zero. works.done.0;
         done = λ zero. record {
-          told = works.done.3.told ∙ ap (λ (l : List ℕ). old.told ++ l)
-              (sym (told_same run lines works.heard same (works.heard + 1) (omega arith)) ∙ ap (λ (n : ℕ). told_after own (n + 1)) (sym count) ∙ all_text own);
+          told = all_told;
           stands = subst (λ (n : ℕ). StandsAfter own n new.image) (all_among own) (stands_after own (length (up_to_quit lines)) new.image
               (subst (λ (n : ℕ). StandsAt own n new.image) (sym count) (subst (λ (s : State). StandsFor g new.image s) (sym (state_same run lines works.heard same works.heard (omega arith))) works.done.3.stands)));
         };

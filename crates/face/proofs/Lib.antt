@@ -6,6 +6,7 @@ mod CommandLaws
 mod Counted
 mod Courses
 mod Cuts
+mod Endings
 mod Ends
 mod Faults
 mod SerialRuns

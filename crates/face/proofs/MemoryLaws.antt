@@ -1,20 +1,20 @@
 -- Where memory is wanted before anything is done.
 use Rattle.std.proofs.Common.{◌≡◌, inl, inr, ℕ, [], refl, sym, subst, arith, true}
-use Rattle.std.specs.Prelude.{Err}
+use Rattle.std.specs.Prelude.{Err, IsTrue, Result}
 use Rattle.site.specs.declared.outside.Stop.TheVariants.{Memory}
 use Rattle.site.specs.declared.geometry.Geometry.{Geometry}
 use Rattle.site.specs.State.{State as Site}
-use Rattle.site.specs.Moments.{EachMoment, Leaves, LeavesOnly}
-use Rattle.site.specs.Telling.{TellsPart, SameDevices}
+use Rattle.site.specs.Moments.{Leaves, LeavesOnly}
+use Rattle.site.specs.declared.outside.Failed.{Failed}
 use Rattle.record_model.specs.State.{State}
 use Rattle.record_model.specs.Serial.{Serial}
 use Rattle.face.specs.declared.halt.Halt.{Halt}
 use Rattle.face.specs.declared.halt.Halt.TheVariants as halt
-use Rattle.face.specs.Headline.{IsGood, Headline}
+use Rattle.face.specs.Headline.{IsGood, Headline, TellsFault}
+use Rattle.face.specs.Tells.{Tells}
 use Rattle.face.specs.Run.{ReadsUpTo, Run, Works}
 use Rattle.face.proofs.Pagings.{none_read}
 use Rattle.redo_undo.specs.Works.{NumbersRise}
-use Rattle.site.specs.Calls.{SameReads}
 use Rattle.face.specs.Causes.{HasCauses}
 use Rattle.face.specs.New.{New, NewCauses}
 use Rattle.face.specs.Words.{LacksMemory, memory_fault}
@@ -32,7 +32,7 @@ use Rattle.face.proofs.Faults.{halted}
 use Rattle.face.proofs.Meanings.{stands_by}
 use Rattle.engine.specs.Image.{Stands}
 use Rattle.engine.specs.Leaves.{LeavesTable}
-use Rattle.site.specs.Laws.{no_call, told_is, image_is}
+use Rattle.site.specs.Laws.{goes_nowhere, no_call, told_is, image_is}
 use Rattle.site.specs.State.{Image, now_of}
 
 abbrev lacks : Halt
@@ -50,25 +50,28 @@ still g opening old good =
 reads_nothing : NumbersRise → (pool : ℕ) (run : Run) (site : Site) → ReadsUpTo pool run 0 site site
 reads_nothing rise pool run site newest blocks sound = none_read _ _ _ _ site rise (let least = sound.octets.limits.groups in omega (arith, least))
 
-pub lacked_headline : Serial → NumbersRise → (pool : ℕ) (g : Geometry) (opening : State) (old new : Site) → IsGood g opening old → EachMoment old new (TellsPart memory_fault old) → SameDevices old new → SameReads old new → Headline pool g opening old new 4
-lacked_headline law rise pool g opening old new good tells same reads =
+pub lacked_headline : Serial → NumbersRise → (pool : ℕ) (g : Geometry) (opening : State) (old new : Site) → {T : Type 0} (result : Result T Failed) → IsGood g opening old → Tells memory_fault old new result → Headline pool g opening old new 4
+lacked_headline law rise pool g opening old new result good tells =
     let run = run_of g opening true old.left [] in
     let stops = not_opened run old old (still g opening old good) lacks (λ ne. good.quiet) in
     let works : Works {T = ℕ} pool run old old (Err lacks) = never_opened pool run old old lacks stops (λ e. cc, λ e. cc) refl (λ e. cc) (counts_nothing run old.image) (reads_nothing rise pool run old) in
-    halted pool g opening [] old law old new lacks good works tells same reads tt 4 refl
+    halted pool g opening [] old law old new lacks good works (goes_nowhere old) result tells tt 4 refl
 
 -- the same of a load
-pub lacked_load : NumbersRise → (load : Load) (g : Geometry) (opening : State) (old new : Site) → IsGood g opening old → EachMoment old new (TellsPart memory_fault old) → SameDevices old new → SameReads old new → LoadHeadline load g opening old new 4
-lacked_load rise load g opening old new good tells same reads =
+pub lacked_load : NumbersRise → (load : Load) (g : Geometry) (opening : State) (old new : Site) → {T : Type 0} (result : Result T Failed) → IsGood g opening old → Tells memory_fault old new result → LoadHeadline load g opening old new 4
+lacked_load rise load g opening old new result good tells =
     let run = load_run g opening load in
     let stops = not_opened (run_of g opening true old.left []) old old (still g opening old good) lacks (λ ne. good.quiet) in
     let works : LoadWorks {T = ℕ} load.pool run (summary_text run load) old old (Err lacks) =
     stopped_before load.pool run (summary_text run load) old {T = ℕ} old lacks (load_never_opened g opening load old old lacks stops (λ e. cc) (counts_nothing (run_of g opening true old.left []) old.image) (reads_nothing rise load.pool (run_of g opening true old.left []) old) refl) in
-    load_halted load g opening old good old new lacks works tells same reads tt 4 refl
+    load_halted load g opening old good old new lacks works (goes_nowhere old) result tells tt 4 refl
 
 module _ (status : ℕ) (old new : Site) (l : LacksMemory status old new) where
   abbrev is : status ≡ 4
   is = l.0
+
+  pub lacked_line : IsTrue old.honest → TellsFault status old new
+  lacked_line honest = (memory_fault, inr (lacks, is, refl, tt), old.told, l.1.ends honest)
 
   pub lacked_causes : HasCauses status old new
   lacked_causes = status_causes lacks status old new is tt
@@ -79,6 +82,7 @@ module _ (status : ℕ) (old new : Site) (l : LacksMemory status old new) where
     answer = inr (inr (inr (is, refl)));
     any_moment = l.1.any_moment;
     devices = l.1.devices;
+    ends = l.1.ends;
     ready = λ honest zero. absurd (omega (arith, zero, is));
   }
 

@@ -12,6 +12,7 @@ use Rattle.face.specs.declared.new_database.Unfit.{Unfit}
 use Rattle.face.specs.declared.new_database.Unfit.TheVariants.{Foreign, Failed, NotBlank}
 use Rattle.face.specs.New.{New, IsAnswer, IsUnfit, unfit_status}
 use Rattle.face.specs.Tells.{Tells}
+use Rattle.face.proofs.Endings.{ends_with}
 use Rattle.face.proofs.Replies.{nothing_told}
 
 part_of : (line : List ℕ) (old mid : State) → IsUnchanged old mid → (m : Moment) → TellsPart line mid m → TellsPart line old m
@@ -35,6 +36,7 @@ answered g old mid new line status result goes same tells answer ready = record 
   answer = answer;
   any_moment = λ honest. moments line old mid new (same honest) (tells.any_moment (stays_honest old mid goes honest));
   devices = λ honest. devices_in_sequence old mid new (unchanged_devices old mid (same honest)) (tells.devices (stays_honest old mid goes honest));
+  ends = λ honest. ends_with old.told line old mid new result goes (stays_honest old mid goes honest) (same honest).told tells;
   ready = λ honest done. ready honest done ∙ ap (λ (t : List ℕ). t ++ line) (same honest).told;
 }
 

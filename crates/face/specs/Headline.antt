@@ -10,6 +10,7 @@ use Rattle.face.specs.Texts.{fault_line, status_of}
 use Rattle.redo_undo.specs.Holding.{IsLogWorn}
 use Rattle.engine.specs.Image.{Opens}
 use Rattle.face.specs.Causes.{HasCause}
+use Rattle.face.specs.Tells.{EndsWith, EndsBehind}
 use Rattle.std.specs.List.{list_any}
 use Rattle.record_model.specs.Run.{Turn, is_quit}
 use Rattle.record_model.specs.Serial.{IsSerial}
@@ -27,6 +28,10 @@ pub record IsGood (g : Geometry) (opening : State) (site : Site) : Type 0 where
 -- a status, the fault line that may be told with it, and its cause
 abbrev pub IsFaultOf : ℕ → List ℕ → Site → Site → Type 0
 IsFaultOf status fault old new = ((status ≡ 0) × (fault ≡ [])) ⊎ ((halt : Halt) × (status ≡ status_of halt) × (fault ≡ fault_line halt) × HasCause halt old new)
+
+-- over every honest site: whatever was told before, the fault line of the status comes last
+abbrev pub TellsFault : ℕ → Site → Site → Type 0
+TellsFault status old new = (fault : List ℕ) × IsFaultOf status fault old new × (before : List ℕ) × EndsWith before fault old new
 
 -- all of the run is told, and the devices stand for the table after all its commits
 pub record IsWhole (run : Run) (old new : Site) : Type 0 where
@@ -62,6 +67,8 @@ pub record Headline (pool : ℕ) (g : Geometry) (opening : State) (old new : Sit
   -- the fault line of the status
   pub fault : List ℕ
   pub of_status : IsFaultOf status fault old new
+  -- with any status but 6, the fault line comes behind whole texts
+  pub ends : status ≢ 6 → EndsBehind (texts (run_of g opening ended octets listings)) fault old new
   -- each snapshot stands for the table after some number of commits in the range of what it has told
   pub any_moment : LeavesOnly old new (IsLeft (run_of g opening ended octets listings) old.told fault)
   -- with any status but 3 no range is loose

@@ -19,11 +19,12 @@ use Rattle.face.specs.declared.request.Load.{Load}
 use Rattle.face.specs.Causes.{AnswerFailsBy}
 use Rattle.face.specs.Going.{Serves}
 use Rattle.face.specs.Headline.{IsFaultOf}
+use Rattle.face.specs.Tells.{EndsBehind}
 use Rattle.face.specs.Range.{turns_of, all_commits, StandsAfter, WearsOut, NeverWears, LeavesItsQueue, SkipsNoNumber, ReadsNoMore}
 use Rattle.face.specs.Run.{Run, IsFront, StandsFor, after_lines, works_of, checkpoints_of}
 use Rattle.engine.specs.Numbers.{CountsOn}
 use Rattle.face.specs.Texts.{status_of}
-use Rattle.face.specs.Workload.{committed_in, checkpoints_in, found_in, load_run, load_turns, opening_text, summary_text}
+use Rattle.face.specs.Workload.{committed_in, checkpoints_in, found_in, load_run, load_texts, load_turns, opening_text, summary_text}
 
 -- What was told of a load, and how many of its commits the devices then have: none while the opening is told, or a fault line in
 -- its place; some of them once the opening is told, also while a fault line is told behind it; all of them while the summary is told.
@@ -57,6 +58,8 @@ pub record LoadHeadline (load : Load) (g : Geometry) (opening : State) (old new 
   -- the fault line of the status
   pub fault : List ℕ
   pub of_status : IsFaultOf status fault old new
+  -- with any status but 6, the fault line comes behind whole texts
+  pub ends : status ≢ 6 → EndsBehind (load_texts (load_run g opening load) load) fault old new
   pub any_moment : LeavesOnly old new (IsLeftOf (load_run g opening load) (summary_text (load_run g opening load) load) fault old.told)
   -- with any status but 3 no range is loose
   pub quiet : status ≢ 3 → new.loose ≡ no_loose

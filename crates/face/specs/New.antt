@@ -12,6 +12,7 @@ use Rattle.face.specs.declared.new_database.Unfit.{Unfit}
 use Rattle.face.specs.declared.new_database.Unfit.TheVariants.{Foreign, Failed, NotBlank}
 use Rattle.face.specs.Texts.{dev_name}
 use Rattle.face.specs.Causes.{NoFaultRose}
+use Rattle.face.specs.Tells.{EndsWith}
 
 -- the octets from one place to another are zero
 abbrev pub AreZero : List ℕ → ℕ → ℕ → Type 0
@@ -92,6 +93,8 @@ pub record New (g : Geometry) (old new : State) (status : ℕ) : Type 0 where
   pub answer : IsAnswer g status line old new
   pub any_moment : IsTrue old.honest → EachMoment old new (TellsPart line old)
   pub devices : IsTrue old.honest → SameDevices old new
+  -- all of it where no tell failed, and with status 0 at any rate
+  pub ends : IsTrue old.honest → EndsWith old.told line old new
   pub ready : IsTrue old.honest → status ≡ 0 → new.told ≡ old.told ++ line
 
 -- When each status of `new` comes.

@@ -12,6 +12,7 @@ use Rattle.site.specs.State.{State}
 use Rattle.site.specs.Calls.{SameReads}
 use Rattle.site.specs.Moments.{EachMoment}
 use Rattle.site.specs.Telling.{TellsPart, SameDevices}
+use Rattle.face.specs.Tells.{EndsWith}
 
 -- the octets of each word
 abbrev pub words_of : List (String Global) → List (List ℕ)
@@ -48,9 +49,11 @@ IsRight words = ((pool : ℕ) × IsRun words pool) ⊎ (((g : Geometry) × IsNew
 abbrev pub words_fault : List ℕ
 words_fault = codes "fault words\n"
 
--- nothing is read, and of an honest site nothing is touched but the output: a crash at any moment leaves some front of this line told
+-- nothing is read, and of an honest site nothing is touched but the output: a crash at any moment leaves some front of this line told,
+-- and when it is over all of it is, where no tell failed
 pub record OnlyTells (line : List ℕ) (old new : State) : Type 0 where
   pub any_moment : IsTrue old.honest → EachMoment old new (TellsPart line old)
+  pub ends : IsTrue old.honest → EndsWith old.told line old new
   pub devices : IsTrue old.honest → SameDevices old new
   pub reads : SameReads old new
 

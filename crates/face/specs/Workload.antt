@@ -74,3 +74,6 @@ opening_text run = open_text run.opening.commits
 
 abbrev pub summary_text : Run → Load → List ℕ
 summary_text run load = summary_of load.count (committed_in (load_turns run)) (checkpoints_in (load_turns run)) (found_in (load_turns run))
+
+abbrev pub load_texts : Run → Load → List (List ℕ)
+load_texts run load = opening_text run ∷ summary_text run load ∷ []

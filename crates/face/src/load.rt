@@ -1,5 +1,5 @@
 // A stated workload: its sets, the gets on the same records, and its summary.
-ghost use Rattle.std.specs.Prelude.{◌≡◌, ◌≢◌, ◌⊎◌, ◌*◌, true, false, [], ◌∷◌, IfOk, IfErr, if◌then◌else◌, OnOk};
+ghost use Rattle.std.specs.Prelude.{◌≡◌, ◌≢◌, ◌⊎◌, ◌*◌, true, false, [], ◌∷◌, IsTrue, IfOk, IfErr, if◌then◌else◌, OnOk};
 ghost use Rattle.face.specs.Causes.{SameFaults};
 ghost use Rattle.site.specs.Calls.{Goes};
 ghost use Rattle.site.specs.declared.geometry.Geometry.{Geometry};
@@ -15,7 +15,7 @@ ghost use Rattle.engine.specs.Leaves.{HasNoSizes};
 ghost use Rattle.face.specs.Causes.{HasCause, HasCauses, HasLogRoom, NoFaultRose, Halts};
 ghost use Rattle.face.specs.Run.{step};
 ghost use Rattle.face.specs.Range.{NeverWears};
-ghost use Rattle.face.specs.Headline.{IsGood};
+ghost use Rattle.face.specs.Headline.{IsGood, TellsFault};
 ghost use Rattle.face.specs.Words.{HasLoadLimits, RefusesDevices};
 ghost use Rattle.face.specs.Workload as stated;
 ghost use Rattle.face.specs.Workload.{found_in, get_lines, load_run, set_lines, summary_of, summary_text};
@@ -248,6 +248,7 @@ pub fn serve_load<S: Site>(alloc: Global, load: &Load, site: &mut S) -> u8
     ensures sizes { HasNoSizes (S.state site.old) → RefusesDevices result (S.state site.old) (S.state site.new) }
     // When each status comes; none that speaks of input does.
     ensures causes { HasCauses result (S.state site.old) (S.state site.new) }
+    ensures line { IsTrue (S.state site.old).honest → TellsFault result (S.state site.old) (S.state site.new) }
     ensures untaken { (result ≢ 5) × (result ≢ 7) }
     ensures goes { Goes (S.state site.old) (S.state site.new) }
     ensures faults { result ≡ 0 → SameFaults (S.state site.old) (S.state site.new) }

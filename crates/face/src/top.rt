@@ -1,5 +1,5 @@
 // The top call, and the work of `run`.
-ghost use Rattle.std.specs.Prelude.{◌≡◌, ◌≢◌, ◌⊎◌, ◌≤◌, ℕ, List, Option, IfErr, [], true, OnOk};
+ghost use Rattle.std.specs.Prelude.{◌≡◌, ◌≢◌, ◌⊎◌, ◌≤◌, ℕ, List, Option, IsTrue, IfErr, [], true, OnOk};
 ghost use Rattle.face.specs.Causes.{SameFaults};
 ghost use Rattle.site.specs.Calls.{Goes};
 ghost use Rattle.face.specs.declared.halt.Halt.{Halt};
@@ -11,7 +11,7 @@ ghost use Rattle.engine.specs.Leaves.{HasNoSizes};
 ghost use Rattle.face.specs.Causes.{HasCause, HasCauses, NoFaultRose, HasLogRoom, EndsInTime, Halts};
 ghost use Rattle.face.specs.Run.{Run, Begins, Works};
 ghost use Rattle.face.specs.Range.{run_of, NeverWears};
-ghost use Rattle.face.specs.Headline.{IsGood, Headline};
+ghost use Rattle.face.specs.Headline.{IsGood, Headline, TellsFault};
 ghost use Rattle.face.specs.New.{New, NewCauses};
 ghost use Rattle.face.specs.declared.request.Load.{Load};
 ghost use Rattle.face.specs.Workload.{load_run};
@@ -94,8 +94,9 @@ pub fn serve<S: Site>(alloc: Global, pool: u32, site: &mut S) -> u8
     ensures complete { (g : Geometry) (opening : State) → IsGood g opening (S.state site.old) → NoFaultRose (S.state site.old) (S.state site.new) → NeverWears pool (run_of g opening true (S.state site.old).left []) (S.state site.old).image → HasLogRoom g (S.state site.new) → EndsInTime (S.state site.old) → (result ≡ 0) ⊎ (result ≡ 4) }
     // Devices without sizes have status 9.
     ensures sizes { HasNoSizes (S.state site.old) → RefusesDevices result (S.state site.old) (S.state site.new) }
-    // When each status comes.
+    // When each status comes, and the line that is told with it.
     ensures causes { HasCauses result (S.state site.old) (S.state site.new) }
+    ensures line { IsTrue (S.state site.old).honest → TellsFault result (S.state site.old) (S.state site.new) }
     ensures goes { Goes (S.state site.old) (S.state site.new) }
     ensures faults { result ≡ 0 → SameFaults (S.state site.old) (S.state site.new) }
 {
@@ -134,6 +135,7 @@ pub fn face<S: Site>(alloc: Global, words: &[String], site: &mut S) -> u8
     ensures complete { (pool : ℕ) → IsRun (words_of words.now) pool → (g : Geometry) (opening : State) → IsGood g opening (S.state site.old) → NoFaultRose (S.state site.old) (S.state site.new) → NeverWears pool (run_of g opening true (S.state site.old).left []) (S.state site.old).image → HasLogRoom g (S.state site.new) → EndsInTime (S.state site.old) → (result ≡ 0) ⊎ (result ≡ 4) }
     ensures sizes { ((pool : ℕ) × IsRun (words_of words.now) pool) → HasNoSizes (S.state site.old) → RefusesDevices result (S.state site.old) (S.state site.new) ⊎ LacksMemory result (S.state site.old) (S.state site.new) }
     ensures causes { ((pool : ℕ) × IsRun (words_of words.now) pool) → HasCauses result (S.state site.old) (S.state site.new) }
+    ensures line { ((pool : ℕ) × IsRun (words_of words.now) pool) → IsTrue (S.state site.old).honest → TellsFault result (S.state site.old) (S.state site.new) }
     // What `new` of these sizes does, and when each of its statuses comes.
     ensures new { (g : Geometry) → IsNew (words_of words.now) g → New g (S.state site.old) (S.state site.new) result }
     ensures new_causes { (g : Geometry) → IsNew (words_of words.now) g → NewCauses g (S.state site.old) (S.state site.new) result }
@@ -142,6 +144,7 @@ pub fn face<S: Site>(alloc: Global, words: &[String], site: &mut S) -> u8
     ensures load_complete { (load : Load) → IsLoad (words_of words.now) load → (g : Geometry) (opening : State) → IsGood g opening (S.state site.old) → NoFaultRose (S.state site.old) (S.state site.new) → NeverWears load.pool (load_run g opening load) (S.state site.old).image → HasLogRoom g (S.state site.new) → (result ≡ 0) ⊎ (result ≡ 4) }
     ensures load_sizes { ((load : Load) × IsLoad (words_of words.now) load) → HasNoSizes (S.state site.old) → RefusesDevices result (S.state site.old) (S.state site.new) ⊎ LacksMemory result (S.state site.old) (S.state site.new) }
     ensures load_causes { ((load : Load) × IsLoad (words_of words.now) load) → HasCauses result (S.state site.old) (S.state site.new) × (result ≢ 5) × (result ≢ 7) }
+    ensures load_line { ((load : Load) × IsLoad (words_of words.now) load) → IsTrue (S.state site.old).honest → TellsFault result (S.state site.old) (S.state site.new) }
     // All other words are refused, or memory was wanted before anything was done.
     ensures words { (result ≡ 2) ⊎ (IsRight (words_of words.now) ⊎ LacksMemory result (S.state site.old) (S.state site.new)) }
     ensures wrong { result ≡ 2 → IsRight (words_of words.now) → ⊥ }

@@ -7,7 +7,8 @@ use Rattle.face.specs.declared.request.Load.{Load}
 use Rattle.face.specs.Loads.{LoadHeadline}
 use Rattle.face.specs.Workload.{load_run}
 use Rattle.face.specs.Words.{IsLoad, IsNew, words_of, IsRun}
-use Rattle.face.proofs.MemoryLaws.{lacked_new}
+use Rattle.face.proofs.Endings.{only_tells}
+use Rattle.face.proofs.MemoryLaws.{lacked_line, lacked_new}
 use Rattle.face.proofs.WordLaws.{one_geometry, one_load, one_pool}
 use Rattle.face.proofs.top.face.Goals as goal
 
@@ -49,3 +50,15 @@ returns-in-Ok-Load-clause-load_complete g c load is_load geometry opening good n
     let found : IsLoad (words_of c.args.words.now) c.in-Ok-Load.load = search rules in
     c.serve_load.ensures.complete geometry opening good none
     (subst (λ (l : Load). NeverWears l.pool (load_run geometry opening l) (g.S.Site.state c.args.site.now).image) (one_load (words_of c.args.words.now) load _ is_load found) room) log_room
+
+pub returns-in-Err-Words-clause-refused : goal.returns-in-Err-Words-clause-refused
+returns-in-Err-Words-clause-refused g c two = only_tells _ (g.S.Site.state c.args.site.now) (g.S.Site.state c.tell_words.new.site) c.tell_words.result c.tell_words.ensures
+
+pub returns-in-Err-Memory-clause-line : goal.returns-in-Err-Memory-clause-line
+returns-in-Err-Memory-clause-line g c is_run = lacked_line c.lack_memory.result (g.S.Site.state c.args.site.now) (g.S.Site.state c.lack_memory.new.site) c.lack_memory.ensures.lacks
+
+pub returns-in-Err-Memory-clause-load : goal.returns-in-Err-Memory-clause-load
+returns-in-Err-Memory-clause-load g c load is_load = c.lack_memory.ensures.load load
+
+pub returns-in-Err-Memory-clause-load_line : goal.returns-in-Err-Memory-clause-load_line
+returns-in-Err-Memory-clause-load_line g c is_load = lacked_line c.lack_memory.result (g.S.Site.state c.args.site.now) (g.S.Site.state c.lack_memory.new.site) c.lack_memory.ensures.lacks
