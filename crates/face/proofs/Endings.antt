@@ -1,8 +1,8 @@
 -- The line that is told last.
-use Rattle.std.proofs.Common.{◌≡◌, ◌≢◌, inl, inr, ℕ, ◌+◌, ◌≤◌, List, [], ◌++◌, length, take, refl, sym, ◌∙◌, ap, subst, arith, IsTrue}
+use Rattle.std.proofs.Common.{◌≡◌, inl, inr, ℕ, ◌+◌, List, [], ◌++◌, length, take, refl, sym, ◌∙◌, ap, subst, arith, IsTrue}
 use Rattle.std.specs.Prelude.{Err, Ok, Result, OnErr, OnOk, flat_map}
 use Rattle.std.proofs.lemmas.List.{append-nil, take_all}
-use Rattle.site.specs.State.{State, Moment}
+use Rattle.site.specs.State.{State}
 use Rattle.site.specs.Calls.{Goes, Rose}
 use Rattle.site.specs.Moments.{EachMoment}
 use Rattle.site.specs.Telling.{TellsPart}

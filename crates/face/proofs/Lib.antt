@@ -13,6 +13,7 @@ mod SerialRuns
 mod Fronts
 mod Heard
 mod Listed
+mod Lives
 mod LoadFaults
 mod Loadings
 mod Logs

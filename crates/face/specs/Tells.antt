@@ -25,4 +25,5 @@ pub record EndsWith (before line : List ℕ) (old new : State) : Type 0 where
 
 -- it comes behind some of these texts, each of them whole
 abbrev pub EndsBehind : List (List ℕ) → List ℕ → State → State → Type 0
-EndsBehind texts line old new = (whole : ℕ) × EndsWith (old.told ++ flat_map (λ text. text) (take whole texts)) line old new
+EndsBehind texts line old new =
+    (whole : ℕ) × EndsWith (old.told ++ flat_map (λ text. text) (take whole texts)) line old new
