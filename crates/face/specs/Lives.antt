@@ -9,8 +9,8 @@ use Rattle.face.specs.Headline.{Durability, IsGood, ran}
 use Rattle.face.specs.Range.{texts, turns_of}
 use Rattle.face.specs.Run.{Run}
 
--- On each honest and quiet site with these contents a run opens, with the table after some number of commits in the range of
--- what was told, and with their count.
+-- On each honest and quiet site with these contents a run opens, with the table after some number of commits in the
+-- range of what was told, and with their count.
 pub record OpensAgain (run : Run) (so_far : List ℕ) (left : Snapshot) : Type 0 where
   pub told : List ℕ
   pub told_is : left.told ≡ so_far ++ told
@@ -22,8 +22,8 @@ pub record OpensAgain (run : Run) (so_far : List ℕ) (left : Snapshot) : Type 0
   pub table : next.table ≡ after_commits run.opening.table (turns_of run) k
   pub commits : next.commits ≡ run.opening.commits + k
 
--- what a crash at any moment leaves, and what stands there when the run is over: that site itself, where it is quiet, or else
--- once its devices are synced
+-- what a crash at any moment leaves, and what stands there when the run is over: that site itself, where it is quiet,
+-- or else once its devices are synced
 pub record LivesOn (run : Run) (old new : Site) : Type 0 where
   pub any_moment : LeavesOnly old new (OpensAgain run old.told)
   pub now : OpensAgain run old.told (snapshot_of new)

@@ -68,7 +68,8 @@ fn read_first<S: Site>(
         (at + length into.old))) }
     ensures same { IsTrue (S.state site.old).honest → IsUnchanged (S.state site.old) (S.state site.new) }
     ensures goes { Goes (S.state site.old) (S.state site.new) }
-    ensures cause { IfErr result (λ failed. Rose (faults_of dev (S.state site.old)) (faults_of dev (S.state site.new))) }
+    ensures cause { IfErr result (λ failed.
+        Rose (faults_of dev (S.state site.old)) (faults_of dev (S.state site.new))) }
     ensures faults { CallFaults dev result (S.state site.old) (S.state site.new) }
 {
     site.read_at(dev, at, into)?;
@@ -86,7 +87,8 @@ fn find_nonzero<S: Site>(site: &mut S, dev: Dev) -> Result<Option<u64>, Failed>
         → IfOk result (λ found. IfNone found (IsBlankAt dev (S.state site.old).image)) }
     ensures same { IsTrue (S.state site.old).honest → IsUnchanged (S.state site.old) (S.state site.new) }
     ensures goes { Goes (S.state site.old) (S.state site.new) }
-    ensures cause { IfErr result (λ failed. Rose (faults_of dev (S.state site.old)) (faults_of dev (S.state site.new))) }
+    ensures cause { IfErr result (λ failed.
+        Rose (faults_of dev (S.state site.old)) (faults_of dev (S.state site.new))) }
     ensures faults { CallFaults dev result (S.state site.old) (S.state site.new) }
 {
     let mut buffer = [0u8; PIECE];
