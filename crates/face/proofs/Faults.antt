@@ -1,12 +1,13 @@
 -- A run that halts, and its fault line.
 use Rattle.std.proofs.Common.{◌≡◌, ◌≢◌, ◌⊎◌, inl, inr, ⊎_elim, ℕ, ◌+◌, ◌≤◌, Bool, true, false, List, [], ◌++◌, length, take, drop, refl, sym, ◌∙◌, ap, subst, arith, append_assoc, length-append, take-append-drop}
-use Rattle.std.specs.Prelude.{Err, Ok, IsErrOf}
+use Rattle.std.specs.Prelude.{Err, Ok, Result, IsErrOf, IsTrue, flat_map}
 use Rattle.std.proofs.lemmas.List.{append-nil, take_all, take_at}
 use Rattle.site.specs.State.{State as Site, Snapshot}
-use Rattle.site.specs.Calls.{SameReads}
+use Rattle.site.specs.Calls.{Goes}
 use Rattle.site.specs.Moments.{Leaves, LeavesOnly, EachMoment}
-use Rattle.site.specs.Laws.{in_sequence, leaves_weaker, told_is, tell_leaves}
-use Rattle.site.specs.Telling.{SameDevices, TellsPart}
+use Rattle.site.specs.Laws.{in_sequence, leaves_weaker, stays_honest, told_is, tell_leaves}
+use Rattle.site.specs.Telling.{TellsPart}
+use Rattle.site.specs.declared.outside.Failed.{Failed}
 use Rattle.site.specs.declared.geometry.Geometry.{Geometry}
 use Rattle.site.specs.declared.outside.Stop.TheVariants.{Device, Memory, Worn, Foreign}
 use Rattle.record_model.specs.declared.words.CacheLine.{CacheLine}
@@ -24,15 +25,18 @@ use Rattle.redo_undo.specs.Works.{OverflowsWithMore}
 use Rattle.face.specs.Causes.{HasCause, HasCauses, NoFaultRose, HasLogRoom, EndsInTime}
 use Rattle.face.specs.Lines.{commands_of, up_to_quit, answered_of, limit}
 use Rattle.face.specs.Run.{Run, told_after, StandsFor, StandsAt, StandsNear, IsAccounted, IsBetween, Begins, HasHeard, HasTakenAll, Stops, StopsTaking, Works}
-use Rattle.face.specs.Range.{run_of, run_text, StandsAfter, IsLeft, WearsOut, NeverWears}
+use Rattle.face.specs.Range.{run_of, run_text, texts, StandsAfter, IsLeft, WearsOut, NeverWears}
+use Rattle.face.specs.Tells.{EndsBehind, Tells}
+use Rattle.face.proofs.Endings.{ends_whole, ends_with}
 use Rattle.face.proofs.Begun.{has_begun, lists_the_machine}
 use Rattle.face.proofs.Counted.{skips_no_number, skips_still}
 use Rattle.face.proofs.Pagings.{leaves_its_queue, reads_no_more, reads_still, wears_out, never_wears, wears_out_all}
-use Rattle.face.specs.Headline.{IsGood, IsToldWhole, Headline}
+use Rattle.face.specs.TopCall.{RunContract}
+use Rattle.face.specs.Headline.{Durability, IsGood, IsToldWhole, Headline, TellsFault}
 use Rattle.face.proofs.Fronts.{accounted, told_same, state_same, take_within, up_append, no_quits, first_commands}
 use Rattle.face.proofs.Meanings.{stands_by}
 use Rattle.face.proofs.SerialRuns.{run_is_serial, told_is_serial}
-use Rattle.face.proofs.Ranges.{IsFault, is_left, stands_after, all_among, all_text}
+use Rattle.face.proofs.Ranges.{IsFault, is_left, stands_after, all_among, all_text, texts_same}
 
 output_or_not : (h : Halt) → (h ≡ halt.Output) ⊎ (h ≢ halt.Output)
 output_or_not (halt.Stop stop) = inr (λ e. cc)
@@ -172,40 +176,65 @@ module _ (pool : ℕ) (g : Geometry) (opening : State) (listings : List (List Ca
   over_by halt.Input heard octets mid s e = absurd (omega (arith, e))
   over_by halt.Limit heard octets mid s e = (s.1, s.0.no_quit)
 
-  pub halted : {T : Type 0} → Serial → (mid new : Site) (h : Halt) → IsGood g opening old → Works {T = T} pool run old mid (Err h) → EachMoment mid new (TellsPart (fault_line h) mid) → SameDevices mid new → SameReads mid new → HasCause h old new → (status : ℕ) → status ≡ status_of h → Headline pool g opening old new status
-  halted law mid new h good works tells same_devices same_reads cause status is =
+  -- the texts before the fault line are whole
+  ends_behind : {T U : Type 0} (mid new : Site) (h : Halt) (result : Result U Failed) (works : Works {T = T} pool run old mid (Err h)) → Goes old mid → IsTrue mid.honest → Tells (fault_line h) mid new result → h ≢ halt.Output
+      → EndsBehind (texts (run_of g opening works.ended works.octets listings)) (fault_line h) old new
+  ends_behind mid new h result works goes honest tells ne =
+      let b = works.stops.0.between ne in
+      let heard = works.has_heard in
+      let lines = commands_of works.ended works.octets in
+      let own = run_of g opening works.ended works.octets listings in
+      let first : told_after run b.whole ≡ flat_map (λ (x : List ℕ). x) (take b.whole (texts own)) =
+      sym (told_same run lines works.heard heard.same b.whole b.begun) ∙ ap (λ (l : List (List ℕ)). flat_map (λ (x : List ℕ). x) (take b.whole l)) (sym (texts_same own)) in
+      (b.whole, ends_with (old.told ++ flat_map (λ (x : List ℕ). x) (take b.whole (texts own))) (fault_line h) old mid new result goes honest (b.told ∙ ap (λ (l : List ℕ). old.told ++ l) first) tells)
+
+  pub halted : {T U : Type 0} → Serial → (mid new : Site) (h : Halt) → IsGood g opening old → Works {T = T} pool run old mid (Err h) → Goes old mid → (result : Result U Failed) → Tells (fault_line h) mid new result → HasCause h old new → (status : ℕ) → status ≡ status_of h → Headline pool g opening old new status
+  halted law mid new h good works goes result told cause status is =
+      let honest = stays_honest old mid goes good.honest in
+      let tells = told.any_moment honest in
+      let same_devices = told.devices honest in
+      let same_reads = told.reads in
       let heard = works.has_heard in
       let now = tells.now.told 0 in
       let lines = commands_of works.ended works.octets in
       let own = run_of g opening works.ended works.octets listings in
       record {
-        octets = works.octets;
-        ended = works.ended;
-        listings = listings;
-        taken = heard.taken ∙ ap (λ (l : List ℕ). works.octets ++ l) (sym same_devices.left);
-        end = λ e. same_devices.left ∙ heard.end e;
-        fault = fault_line h;
-        of_status = inr (h, is, refl, cause);
-        any_moment = left_by g opening listings old mid works.heard works.octets works.ended heard new (fault_line h) (inr (h, refl)) (with_fault run works.heard old mid new h works.stops.0 tells);
-        quiet = λ ne. same_devices.loose ∙ works.stops.0.quiet (λ e. ne (is ∙ e));
-        heard = λ zero. absurd (not_zero h (sym is ∙ zero));
-        done = λ zero. absurd (not_zero h (sym is ∙ zero));
-        taking = λ which. told_whole_lines g opening listings old mid works.heard works.octets works.ended heard new (fault_line h)
-            (taken_by h works.heard works.octets mid works.stops.1 (⊎_elim (λ e. inl (sym is ∙ e)) (λ e. inr (sym is ∙ e)) which))
-            (now.0, sym (append-nil new.told) ∙ now.1);
-        over = λ seven. over_by h works.heard works.octets mid works.stops.1 (sym is ∙ seven);
-        begun = works.heard;
-        has_begun = has_begun pool g opening listings (commands_of true old.left) lines works.heard heard.same old mid new (fault_line h) now.0 (sym (append-nil new.told) ∙ now.1) heard.enough works.begun;
-        worn = λ eight. ⊎_elim (λ flash. inl (wears_out pool g opening listings old.image works.ended works.octets run refl refl works.heard heard.same (works.worn flash))) (λ log. inr log)
-            (worn_by g opening h old new good cause (sym is ∙ eight));
-        room = λ zero. absurd (not_zero h (sym is ∙ zero));
-        frames = λ zero. absurd (not_zero h (sym is ∙ zero));
-        numbers = skips_still own works.heard old.image mid.image new.image same_devices.image
-            (skips_no_number g opening listings (commands_of true old.left) lines works.heard heard.same old.image mid.image works.numbers);
-        reads = λ newest blocks sound. reads_still _ _ _ _ mid new same_reads (reads_no_more pool g opening listings old.image works.ended works.octets run refl refl works.heard heard.same old mid refl works.reads newest blocks sound);
-        listed = lists_the_machine pool g opening listings (commands_of true old.left) lines works.heard heard.same old.image works.listed;
-        serial = run_is_serial law g opening old good works.ended works.octets listings;
-        serial_told = told_is_serial g opening old good works.ended works.octets listings;
+        durability = record {
+          octets = works.octets;
+          ended = works.ended;
+          listings = listings;
+          taken = heard.taken ∙ ap (λ (l : List ℕ). works.octets ++ l) (sym same_devices.left);
+          end = λ e. same_devices.left ∙ heard.end e;
+          fault = fault_line h;
+          of_status = inr (h, is, refl, cause);
+          ends = λ ne. ends_behind mid new h result works goes honest told (λ output. ne (is ∙ ap status_of output));
+          any_moment = left_by g opening listings old mid works.heard works.octets works.ended heard new (fault_line h) (inr (h, refl)) (with_fault run works.heard old mid new h works.stops.0 tells);
+          quiet = λ ne. same_devices.loose ∙ works.stops.0.quiet (λ e. ne (is ∙ e));
+          heard = λ zero. absurd (not_zero h (sym is ∙ zero));
+          done = λ zero. absurd (not_zero h (sym is ∙ zero));
+          taking = λ which. told_whole_lines g opening listings old mid works.heard works.octets works.ended heard new (fault_line h)
+              (taken_by h works.heard works.octets mid works.stops.1 (⊎_elim (λ e. inl (sym is ∙ e)) (λ e. inr (sym is ∙ e)) which))
+              (now.0, sym (append-nil new.told) ∙ now.1);
+          over = λ seven. over_by h works.heard works.octets mid works.stops.1 (sym is ∙ seven);
+        };
+        resources = record {
+          begun = works.heard;
+          has_begun = has_begun pool g opening listings (commands_of true old.left) lines works.heard heard.same old mid new (fault_line h) now.0 (sym (append-nil new.told) ∙ now.1) heard.enough works.begun;
+          asked = record {
+            worn = λ eight. ⊎_elim (λ flash. inl (wears_out pool g opening listings old.image works.ended works.octets run refl refl works.heard heard.same (works.worn flash))) (λ log. inr log)
+                (worn_by g opening h old new good cause (sym is ∙ eight));
+            room = λ zero. absurd (not_zero h (sym is ∙ zero));
+            frames = λ zero. absurd (not_zero h (sym is ∙ zero));
+            numbers = skips_still own works.heard old.image mid.image new.image same_devices.image
+                (skips_no_number g opening listings (commands_of true old.left) lines works.heard heard.same old.image mid.image works.numbers);
+            reads = λ newest blocks sound. reads_still _ _ _ _ mid new same_reads (reads_no_more pool g opening listings old.image works.ended works.octets run refl refl works.heard heard.same old mid refl works.reads newest blocks sound);
+          };
+          listed = lists_the_machine pool g opening listings (commands_of true old.left) lines works.heard heard.same old.image works.listed;
+        };
+        order = record {
+          serial = run_is_serial law g opening old good works.ended works.octets listings;
+          serial_told = told_is_serial g opening old good works.ended works.octets listings;
+        };
       }
 
   pub finished : {T : Type 0} → Serial → (new : Site) (x : T) → IsGood g opening old → Works pool run old new (Ok x) → Headline pool g opening old new 0
@@ -215,35 +244,45 @@ module _ (pool : ℕ) (g : Geometry) (opening : State) (listings : List (List Ca
       let count = works.done.1 in
       let same = heard.same in
       let own = run_of g opening works.ended works.octets listings in
+      let all_told : new.told ≡ old.told ++ run_text own = works.done.3.told ∙ ap (λ (l : List ℕ). old.told ++ l)
+      (sym (told_same run lines works.heard same (works.heard + 1) (omega arith)) ∙ ap (λ (n : ℕ). told_after own (n + 1)) (sym count) ∙ all_text own) in
       record {
-        octets = works.octets;
-        ended = works.ended;
-        listings = listings;
-        taken = heard.taken;
-        end = heard.end;
-        fault = [];
-        of_status = inl (refl, refl);
-        any_moment = left_by g opening listings old new works.heard works.octets works.ended heard new [] (inl refl) works.done.2;
-        quiet = λ ne. works.done.3.quiet;
-        heard = λ zero. works.done.0;
-        done = λ zero. record {
-          told = works.done.3.told ∙ ap (λ (l : List ℕ). old.told ++ l)
-              (sym (told_same run lines works.heard same (works.heard + 1) (omega arith)) ∙ ap (λ (n : ℕ). told_after own (n + 1)) (sym count) ∙ all_text own);
-          stands = subst (λ (n : ℕ). StandsAfter own n new.image) (all_among own) (stands_after own (length (up_to_quit lines)) new.image
-              (subst (λ (n : ℕ). StandsAt own n new.image) (sym count) (subst (λ (s : State). StandsFor g new.image s) (sym (state_same run lines works.heard same works.heard (omega arith))) works.done.3.stands)));
+        durability = record {
+          octets = works.octets;
+          ended = works.ended;
+          listings = listings;
+          taken = heard.taken;
+          end = heard.end;
+          fault = [];
+          of_status = inl (refl, refl);
+          ends = λ ne. ends_whole (texts own) old new all_told;
+          any_moment = left_by g opening listings old new works.heard works.octets works.ended heard new [] (inl refl) works.done.2;
+          quiet = λ ne. works.done.3.quiet;
+          heard = λ zero. works.done.0;
+          done = λ zero. record {
+            told = all_told;
+            stands = subst (λ (n : ℕ). StandsAfter own n new.image) (all_among own) (stands_after own (length (up_to_quit lines)) new.image
+                (subst (λ (n : ℕ). StandsAt own n new.image) (sym count) (subst (λ (s : State). StandsFor g new.image s) (sym (state_same run lines works.heard same works.heard (omega arith))) works.done.3.stands)));
+          };
+          taking = λ which. ⊎_elim (λ e. absurd (omega (arith, e))) (λ e. absurd (omega (arith, e))) which;
+          over = λ e. absurd (omega (arith, e));
         };
-        taking = λ which. ⊎_elim (λ e. absurd (omega (arith, e))) (λ e. absurd (omega (arith, e))) which;
-        over = λ e. absurd (omega (arith, e));
-        begun = works.heard;
-        has_begun = has_begun pool g opening listings (commands_of true old.left) lines works.heard same old new new [] 0 (sym (append-nil new.told)) heard.enough works.begun;
-        worn = λ e. absurd (omega (arith, e));
-        room = λ zero. never_wears pool g opening listings old.image works.ended works.octets run refl refl works.heard same count works.room;
-        frames = λ zero. leaves_its_queue pool g opening listings old.image works.ended works.octets run refl refl works.heard same count new.image works.queue;
-        numbers = skips_no_number g opening listings (commands_of true old.left) lines works.heard same old.image new.image works.numbers;
-        reads = reads_no_more pool g opening listings old.image works.ended works.octets run refl refl works.heard same old new refl works.reads;
-        listed = lists_the_machine pool g opening listings (commands_of true old.left) lines works.heard same old.image works.listed;
-        serial = run_is_serial law g opening old good works.ended works.octets listings;
-        serial_told = told_is_serial g opening old good works.ended works.octets listings;
+        resources = record {
+          begun = works.heard;
+          has_begun = has_begun pool g opening listings (commands_of true old.left) lines works.heard same old new new [] 0 (sym (append-nil new.told)) heard.enough works.begun;
+          asked = record {
+            worn = λ e. absurd (omega (arith, e));
+            room = λ zero. never_wears pool g opening listings old.image works.ended works.octets run refl refl works.heard same count works.room;
+            frames = λ zero. leaves_its_queue pool g opening listings old.image works.ended works.octets run refl refl works.heard same count new.image works.queue;
+            numbers = skips_no_number g opening listings (commands_of true old.left) lines works.heard same old.image new.image works.numbers;
+            reads = reads_no_more pool g opening listings old.image works.ended works.octets run refl refl works.heard same old new refl works.reads;
+          };
+          listed = lists_the_machine pool g opening listings (commands_of true old.left) lines works.heard same old.image works.listed;
+        };
+        order = record {
+          serial = run_is_serial law g opening old good works.ended works.octets listings;
+          serial_told = told_is_serial g opening old good works.ended works.octets listings;
+        };
       }
 
 true_not_false : true ≡ false → ⊥
@@ -265,20 +304,33 @@ pub complete : OverflowsWithMore → (pool : ℕ) (g : Geometry) (opening : Stat
     Headline pool g opening old new status → (status ≡ 0) ⊎ (status ≡ 4)
 complete more pool g opening old new status good none room log_room ends causes h =
     ⊎_elim (λ e. inl e) (⊎_elim (λ e. let c = causes.device e in absurd (none.devices c.0 c.1)) (⊎_elim (λ e. inr e) (⊎_elim (λ e. absurd (none.input (causes.input e)))
-    (⊎_elim (λ e. absurd (none.output (causes.output e))) (⊎_elim (λ e. absurd (in_time (h.over e)))
-    (⊎_elim (λ e. absurd (⊎_elim never log_room (h.worn e))) (λ e. absurd (causes.foreign e good.honest g opening.table opening.commits stands)))))))) causes.others
+    (⊎_elim (λ e. absurd (none.output (causes.output e))) (⊎_elim (λ e. absurd (in_time (d.over e)))
+    (⊎_elim (λ e. absurd (⊎_elim never log_room (h.resources.asked.worn e))) (λ e. absurd (causes.foreign e good.honest g opening.table opening.commits stands)))))))) causes.others
   where
+    d : Durability g opening old new status
+    d = h.durability
+
     stands : Stands g old.image opening.table opening.commits
     stands = stands_by g old.image opening good.opens
 
-    in_time : (length h.octets ≡ limit + 1) × (list_any is_quit (commands_of false (take limit h.octets)) ≡ false) → ⊥
-    in_time over = not_over limit old.left h.octets new.left h.taken ends over.0 over.1
+    in_time : (length d.octets ≡ limit + 1) × (list_any is_quit (commands_of false (take limit d.octets)) ≡ false) → ⊥
+    in_time over = not_over limit old.left d.octets new.left d.taken ends over.0 over.1
 
-    never : WearsOut pool (run_of g opening h.ended h.octets h.listings) h.begun old.image → ⊥
+    never : WearsOut pool (run_of g opening d.ended d.octets d.listings) h.resources.begun old.image → ⊥
     never over =
         let newest = good.opens.newest in
         let blocks = good.opens.blocks in
         let sound = good.opens.sound in
-        let all = wears_out_all pool g opening h.listings old.image h.ended h.octets more old.left new.left h.taken h.end h.begun over newest blocks sound in
+        let all = wears_out_all pool g opening d.listings old.image d.ended d.octets more old.left new.left d.taken d.end h.resources.begun over newest blocks sound in
         let few = room newest blocks sound in
         omega (arith, all, few)
+
+-- the contract of a run, where its line says the status
+pub run_contract : OverflowsWithMore → (pool : ℕ) (old new : Site) (status : ℕ) → ((g : Geometry) (opening : State) → IsGood g opening old → Headline pool g opening old new status) → HasCauses status old new → (IsTrue old.honest → TellsFault status old new)
+    → RunContract pool old new status
+run_contract more pool old new status headline causes line = record {
+  headline = headline;
+  complete = λ g opening good none room log_room ends. complete more pool g opening old new status good none room log_room ends causes (headline g opening good);
+  causes = causes;
+  line = line;
+}

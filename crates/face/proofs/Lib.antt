@@ -6,12 +6,14 @@ mod CommandLaws
 mod Counted
 mod Courses
 mod Cuts
+mod Endings
 mod Ends
 mod Faults
 mod SerialRuns
 mod Fronts
 mod Heard
 mod Listed
+mod Lives
 mod LoadFaults
 mod Loadings
 mod Logs

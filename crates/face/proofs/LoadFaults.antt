@@ -1,15 +1,16 @@
 -- A load that halts with its fault line, and one that is summed up.
 use Rattle.std.proofs.Common.{◌≡◌, ◌≢◌, ◌⊎◌, inl, inr, ⊎_elim, ℕ, ◌-◌, ◌≤◌, true, List, [], ◌∷◌, ◌++◌, take, drop, refl, sym, ◌∙◌, ap, subst, arith, append_assoc, take-append-drop}
-use Rattle.std.specs.Prelude.{Ok, Err, IsErrOf}
+use Rattle.std.specs.Prelude.{Ok, Err, Result, IsErrOf, IsTrue}
 use Rattle.std.proofs.lemmas.List.{append-nil, take_all}
 use Rattle.site.specs.declared.geometry.Geometry.{Geometry}
 use Rattle.site.specs.declared.outside.Dev.TheVariants.{Flash}
 use Rattle.site.specs.declared.outside.Stop.TheVariants.{Device, Memory, Worn, Foreign}
 use Rattle.site.specs.State.{State as Site, Image, Snapshot, now_of}
-use Rattle.site.specs.Calls.{SameReads}
+use Rattle.site.specs.Calls.{Goes, SameReads}
 use Rattle.site.specs.Moments.{EachMoment, Leaves, LeavesOnly}
-use Rattle.site.specs.Laws.{image_is, in_sequence, leaves_weaker, tell_leaves, told_is}
+use Rattle.site.specs.Laws.{image_is, in_sequence, leaves_weaker, stays_honest, tell_leaves, told_is}
 use Rattle.site.specs.Telling.{SameDevices, TellsPart}
+use Rattle.site.specs.declared.outside.Failed.{Failed}
 use Rattle.record_model.specs.State.{State}
 use Rattle.record_model.specs.Run.{Turn, commit_marks, commits_among}
 use Rattle.record_model.specs.Touches.{CacheWork, line_touches, run_touches}
@@ -21,12 +22,15 @@ use Rattle.face.specs.declared.halt.Halt.{Halt}
 use Rattle.face.specs.declared.halt.Halt.TheVariants as halt
 use Rattle.face.specs.declared.request.Load.{Load}
 use Rattle.face.specs.Causes.{HasCause, HasCauses, HasLogRoom, NoFaultRose}
-use Rattle.face.specs.Headline.{IsGood}
+use Rattle.face.specs.TopCall.{LoadContract}
+use Rattle.face.specs.Headline.{IsGood, TellsFault}
 use Rattle.face.specs.Loads.{Allows, HasBegunLoad, IsLeftOf, IsOpened, IsUntold, LoadHeadline, LoadStops, LoadWorks}
 use Rattle.face.specs.Range.{NeverWears, StandsAfter, WearsOut, all_commits, turns_of, works_by}
 use Rattle.face.specs.Run.{IsFront, Run}
 use Rattle.face.specs.Texts.{fault_line, status_of}
-use Rattle.face.specs.Workload.{load_run, opening_text, summary_text}
+use Rattle.face.specs.Tells.{EndsBehind, Tells}
+use Rattle.face.specs.Workload.{load_run, load_texts, opening_text, summary_text}
+use Rattle.face.proofs.Endings.{ends_whole, ends_with}
 use Rattle.face.proofs.Counted.{skips_still}
 use Rattle.face.proofs.Faults.{not_zero, worn_by}
 use Rattle.face.proofs.Pagings.{reads_still}
@@ -207,38 +211,65 @@ module _ (load : Load) (g : Geometry) (opening : State) (old : Site) (good : IsG
   abbrev summary' : List ℕ
   summary' = summary_text run' load
 
-  pub load_halted : {T : Type 0} (mid new : Site) (h : Halt) → LoadWorks {T = T} load.pool run' summary' old mid (Err h) → EachMoment mid new (TellsPart (fault_line h) mid) → SameDevices mid new → SameReads mid new → HasCause h old new → (status : ℕ) → status ≡ status_of h → LoadHeadline load g opening old new status
-  load_halted {T} mid new h works tells same read cause status is = record {
-    fault = fault_line h;
-    of_status = inr (h, is, refl, cause);
-    any_moment = with_fault run' summary' old mid new h works.stops tells;
-    quiet = λ ne. same.loose ∙ works.stops.quiet (λ e. ne (is ∙ e));
-    done = λ zero. absurd (not_zero h (sym is ∙ zero));
-    begun = works.begun;
-    has_begun = still_begun run' works.begun (fault_line h) old mid new tells works.has_begun;
-    worn = λ eight. ⊎_elim (λ flash. inl (works.worn flash)) (λ log. inr log) (worn_by {T = T} g opening h old new good cause (sym is ∙ eight));
-    room = λ zero. absurd (not_zero h (sym is ∙ zero));
-    frames = λ zero. absurd (not_zero h (sym is ∙ zero));
-    numbers = skips_still run' works.begun old.image mid.image new.image same.image works.numbers;
-    reads = λ newest blocks sound. reads_still _ _ _ _ mid new read (works.reads newest blocks sound);
-    left = same.left ∙ works.left;
-  }
+  -- the texts before the fault line are whole
+  load_ends : {U : Type 0} (mid new : Site) (h : Halt) (result : Result U Failed) → LoadStops run' summary' old mid h → Goes old mid → IsTrue mid.honest → Tells (fault_line h) mid new result → h ≢ halt.Output → EndsBehind (load_texts run' load) (fault_line h) old new
+  load_ends mid new h result stops goes honest tells ne = ⊎_elim
+      (λ u. (0, ends_with (old.told ++ []) (fault_line h) old mid new result goes honest (u.told ∙ sym (append-nil old.told)) tells))
+      (λ o. (1, ends_with (old.told ++ (opening_text run' ++ [])) (fault_line h) old mid new result goes honest (o.told ∙ ap (λ (l : List ℕ). old.told ++ l) (sym (append-nil (opening_text run')))) tells))
+      (stops.between ne)
+
+  pub load_halted : {T U : Type 0} (mid new : Site) (h : Halt) → LoadWorks {T = T} load.pool run' summary' old mid (Err h) → Goes old mid → (result : Result U Failed) → Tells (fault_line h) mid new result → HasCause h old new → (status : ℕ) → status ≡ status_of h → LoadHeadline load g opening old new status
+  load_halted {T} mid new h works goes result told cause status is =
+      let honest = stays_honest old mid goes good.honest in
+      let tells = told.any_moment honest in
+      let same = told.devices honest in
+      let read = told.reads in
+      record {
+        durability = record {
+          fault = fault_line h;
+          of_status = inr (h, is, refl, cause);
+          ends = λ ne. load_ends mid new h result works.stops goes honest told (λ output. ne (is ∙ ap status_of output));
+          any_moment = with_fault run' summary' old mid new h works.stops tells;
+          quiet = λ ne. same.loose ∙ works.stops.quiet (λ e. ne (is ∙ e));
+          done = λ zero. absurd (not_zero h (sym is ∙ zero));
+          left = same.left ∙ works.left;
+        };
+        resources = record {
+          begun = works.begun;
+          has_begun = still_begun run' works.begun (fault_line h) old mid new tells works.has_begun;
+          asked = record {
+            worn = λ eight. ⊎_elim (λ flash. inl (works.worn flash)) (λ log. inr log) (worn_by {T = T} g opening h old new good cause (sym is ∙ eight));
+            room = λ zero. absurd (not_zero h (sym is ∙ zero));
+            frames = λ zero. absurd (not_zero h (sym is ∙ zero));
+            numbers = skips_still run' works.begun old.image mid.image new.image same.image works.numbers;
+            reads = λ newest blocks sound. reads_still _ _ _ _ mid new read (works.reads newest blocks sound);
+          };
+        };
+      }
 
   pub load_done : {T : Type 0} (new : Site) (x : T) → LoadWorks {T = T} load.pool run' summary' old new (Ok x) → LoadHeadline load g opening old new 0
   load_done new x works = record {
-    fault = [];
-    of_status = inl (refl, refl);
-    any_moment = works.done.any_moment;
-    quiet = λ ne. works.done.quiet;
-    done = λ zero. works.done.whole;
-    begun = works.begun;
-    has_begun = works.has_begun;
-    worn = λ eight. absurd (omega (arith, eight));
-    room = λ zero. works.room;
-    frames = λ zero. works.frames;
-    numbers = works.numbers;
-    reads = works.reads;
-    left = works.left;
+    durability = record {
+      fault = [];
+      of_status = inl (refl, refl);
+      ends = λ ne. ends_whole (load_texts run' load) old new
+          (works.done.whole.told ∙ ap (λ (l : List ℕ). old.told ++ (opening_text run' ++ l)) (sym (append-nil summary')));
+      any_moment = works.done.any_moment;
+      quiet = λ ne. works.done.quiet;
+      done = λ zero. works.done.whole;
+      left = works.left;
+    };
+    resources = record {
+      begun = works.begun;
+      has_begun = works.has_begun;
+      asked = record {
+        worn = λ eight. absurd (omega (arith, eight));
+        room = λ zero. works.room;
+        frames = λ zero. works.frames;
+        numbers = works.numbers;
+        reads = works.reads;
+      };
+    };
   }
 
   -- where nothing fails, and no ring is too short, it is done, or memory was wanted
@@ -246,19 +277,19 @@ module _ (load : Load) (g : Geometry) (opening : State) (old : Site) (good : IsG
   load_complete more new status none room log_room untaken causes h =
       ⊎_elim (λ e. inl e) (⊎_elim (λ e. let c = causes.device e in absurd (none.devices c.0 c.1)) (⊎_elim (λ e. inr e) (⊎_elim (λ e. absurd (untaken.0 e))
       (⊎_elim (λ e. absurd (none.output (causes.output e))) (⊎_elim (λ e. absurd (untaken.1 e))
-      (⊎_elim (λ e. absurd (⊎_elim never log_room (h.worn e))) (λ e. absurd (causes.foreign e good.honest g opening.table opening.commits (stands_by g old.image opening good.opens))))))))) causes.others
+      (⊎_elim (λ e. absurd (⊎_elim never log_room (h.resources.asked.worn e))) (λ e. absurd (causes.foreign e good.honest g opening.table opening.commits (stands_by g old.image opening good.opens))))))))) causes.others
     where
-      never : WearsOut load.pool run' h.begun old.image → ⊥
+      never : WearsOut load.pool run' h.resources.begun old.image → ⊥
       never over =
           let newest = good.opens.newest in
           let blocks = good.opens.blocks in
           let sound = good.opens.sound in
           let least = sound.octets.limits.groups in
-          let front = take h.begun (turns_of run') in
-          let later = drop h.begun (turns_of run') in
+          let front = take h.resources.begun (turns_of run') in
+          let later = drop h.resources.begun (turns_of run') in
           let all : works_by run' front newest old.image blocks ++ run_touches true later ≡ works_by run' (turns_of run') newest old.image blocks =
           append_assoc (restart_works (picture_under newest g old.image blocks)) (run_touches true front) (run_touches true later)
-          ∙ ap (λ (w : List CacheWork). restart_works (picture_under newest g old.image blocks) ++ w) (sym (touches_join front later) ∙ ap (run_touches true) (take-append-drop h.begun (turns_of run'))) in
+          ∙ ap (λ (w : List CacheWork). restart_works (picture_under newest g old.image blocks) ++ w) (sym (touches_join front later) ∙ ap (run_touches true) (take-append-drop h.resources.begun (turns_of run'))) in
           let many = subst (λ (w : List CacheWork). Overflows (rules_of load.pool g.groups) w (cache_on g old.image)) all
           (more (rules_of load.pool g.groups) (works_by run' front newest old.image blocks) (run_touches true later) (cache_on g old.image) (omega (arith, least)) (over newest blocks sound)) in
           let few = room newest blocks sound in
@@ -273,3 +304,14 @@ not_taken (halt.Stop Foreign) status is ne = (λ e. omega (arith, is, e), λ e. 
 not_taken halt.Input status is ne = absurd (ne.0 refl)
 not_taken halt.Output status is ne = (λ e. omega (arith, is, e), λ e. omega (arith, is, e))
 not_taken halt.Limit status is ne = absurd (ne.1 refl)
+
+-- the contract of a load
+pub load_contract : OverflowsWithMore → (load : Load) (old new : Site) (status : ℕ) → ((g : Geometry) (opening : State) → IsGood g opening old → LoadHeadline load g opening old new status) → HasCauses status old new → (status ≢ 5) × (status ≢ 7) → (IsTrue old.honest → TellsFault status old new)
+    → LoadContract load old new status
+load_contract more load old new status headline causes untaken line = record {
+  headline = headline;
+  complete = λ g opening good none room log_room. load_complete load g opening old good more new status none room log_room untaken causes (headline g opening good);
+  causes = causes;
+  untaken = untaken;
+  line = line;
+}

@@ -1,21 +1,21 @@
 -- Where memory is wanted before anything is done.
 use Rattle.std.proofs.Common.{◌≡◌, inl, inr, ℕ, [], refl, sym, subst, arith, true}
-use Rattle.std.specs.Prelude.{Err}
+use Rattle.std.specs.Prelude.{Err, Result}
 use Rattle.site.specs.declared.outside.Stop.TheVariants.{Memory}
 use Rattle.site.specs.declared.geometry.Geometry.{Geometry}
 use Rattle.site.specs.State.{State as Site}
-use Rattle.site.specs.Moments.{EachMoment, Leaves, LeavesOnly}
-use Rattle.site.specs.Telling.{TellsPart, SameDevices}
+use Rattle.site.specs.Moments.{Leaves, LeavesOnly}
+use Rattle.site.specs.declared.outside.Failed.{Failed}
 use Rattle.record_model.specs.State.{State}
 use Rattle.record_model.specs.Serial.{Serial}
 use Rattle.face.specs.declared.halt.Halt.{Halt}
 use Rattle.face.specs.declared.halt.Halt.TheVariants as halt
+use Rattle.face.specs.TopCall.{LoadContract, NewContract, RunContract}
 use Rattle.face.specs.Headline.{IsGood, Headline}
+use Rattle.face.specs.Tells.{Tells}
 use Rattle.face.specs.Run.{ReadsUpTo, Run, Works}
 use Rattle.face.proofs.Pagings.{none_read}
-use Rattle.redo_undo.specs.Works.{NumbersRise}
-use Rattle.site.specs.Calls.{SameReads}
-use Rattle.face.specs.Causes.{HasCauses}
+use Rattle.redo_undo.specs.Works.{NumbersRise, OverflowsWithMore}
 use Rattle.face.specs.New.{New, NewCauses}
 use Rattle.face.specs.Words.{LacksMemory, memory_fault}
 use Rattle.face.specs.Range.{run_of}
@@ -23,16 +23,17 @@ use Rattle.face.specs.declared.request.Load.{Load}
 use Rattle.face.specs.Loads.{LoadHeadline, LoadWorks}
 use Rattle.face.specs.Workload.{load_run, summary_text}
 use Rattle.face.proofs.Counted.{counts_nothing}
-use Rattle.face.proofs.LoadFaults.{load_halted, stopped_before}
+use Rattle.face.proofs.Endings.{tells_fault}
+use Rattle.face.proofs.LoadFaults.{load_contract, load_halted, stopped_before}
 use Rattle.face.proofs.Loadings.{load_never_opened}
 use Rattle.face.proofs.CauseLaws.{status_causes}
 use Rattle.face.proofs.Ends.{never_opened}
 use Rattle.face.proofs.Works.{not_opened}
-use Rattle.face.proofs.Faults.{halted}
+use Rattle.face.proofs.Faults.{halted, run_contract}
 use Rattle.face.proofs.Meanings.{stands_by}
 use Rattle.engine.specs.Image.{Stands}
 use Rattle.engine.specs.Leaves.{LeavesTable}
-use Rattle.site.specs.Laws.{no_call, told_is, image_is}
+use Rattle.site.specs.Laws.{goes_nowhere, no_call, told_is, image_is}
 use Rattle.site.specs.State.{Image, now_of}
 
 abbrev lacks : Halt
@@ -50,28 +51,36 @@ still g opening old good =
 reads_nothing : NumbersRise → (pool : ℕ) (run : Run) (site : Site) → ReadsUpTo pool run 0 site site
 reads_nothing rise pool run site newest blocks sound = none_read _ _ _ _ site rise (let least = sound.octets.limits.groups in omega (arith, least))
 
-pub lacked_headline : Serial → NumbersRise → (pool : ℕ) (g : Geometry) (opening : State) (old new : Site) → IsGood g opening old → EachMoment old new (TellsPart memory_fault old) → SameDevices old new → SameReads old new → Headline pool g opening old new 4
-lacked_headline law rise pool g opening old new good tells same reads =
+pub lacked_headline : Serial → NumbersRise → (pool : ℕ) (g : Geometry) (opening : State) (old new : Site) → {T : Type 0} (result : Result T Failed) → IsGood g opening old → Tells memory_fault old new result → Headline pool g opening old new 4
+lacked_headline law rise pool g opening old new result good tells =
     let run = run_of g opening true old.left [] in
     let stops = not_opened run old old (still g opening old good) lacks (λ ne. good.quiet) in
     let works : Works {T = ℕ} pool run old old (Err lacks) = never_opened pool run old old lacks stops (λ e. cc, λ e. cc) refl (λ e. cc) (counts_nothing run old.image) (reads_nothing rise pool run old) in
-    halted pool g opening [] old law old new lacks good works tells same reads tt 4 refl
+    halted pool g opening [] old law old new lacks good works (goes_nowhere old) result tells tt 4 refl
 
 -- the same of a load
-pub lacked_load : NumbersRise → (load : Load) (g : Geometry) (opening : State) (old new : Site) → IsGood g opening old → EachMoment old new (TellsPart memory_fault old) → SameDevices old new → SameReads old new → LoadHeadline load g opening old new 4
-lacked_load rise load g opening old new good tells same reads =
+pub lacked_load : NumbersRise → (load : Load) (g : Geometry) (opening : State) (old new : Site) → {T : Type 0} (result : Result T Failed) → IsGood g opening old → Tells memory_fault old new result → LoadHeadline load g opening old new 4
+lacked_load rise load g opening old new result good tells =
     let run = load_run g opening load in
     let stops = not_opened (run_of g opening true old.left []) old old (still g opening old good) lacks (λ ne. good.quiet) in
     let works : LoadWorks {T = ℕ} load.pool run (summary_text run load) old old (Err lacks) =
     stopped_before load.pool run (summary_text run load) old {T = ℕ} old lacks (load_never_opened g opening load old old lacks stops (λ e. cc) (counts_nothing (run_of g opening true old.left []) old.image) (reads_nothing rise load.pool (run_of g opening true old.left []) old) refl) in
-    load_halted load g opening old good old new lacks works tells same reads tt 4 refl
+    load_halted load g opening old good old new lacks works (goes_nowhere old) result tells tt 4 refl
+
+-- the contracts of a run and of a load
+pub lacked_run : Serial → NumbersRise → OverflowsWithMore → (pool : ℕ) (old new : Site) → {T : Type 0} (result : Result T Failed) → Tells memory_fault old new result → RunContract pool old new 4
+lacked_run law rise more pool old new result tells = run_contract more pool old new 4
+    (λ g opening good. lacked_headline law rise pool g opening old new result good tells)
+    (status_causes lacks 4 old new refl tt) (λ honest. tells_fault lacks 4 old old new result refl tt (goes_nowhere old) honest tells)
+
+pub lacked_load_run : NumbersRise → OverflowsWithMore → (load : Load) (old new : Site) → {T : Type 0} (result : Result T Failed) → Tells memory_fault old new result → LoadContract load old new 4
+lacked_load_run rise more load old new result tells = load_contract more load old new 4
+    (λ g opening good. lacked_load rise load g opening old new result good tells)
+    (status_causes lacks 4 old new refl tt) (λ e. omega (arith, e), λ e. omega (arith, e)) (λ honest. tells_fault lacks 4 old old new result refl tt (goes_nowhere old) honest tells)
 
 module _ (status : ℕ) (old new : Site) (l : LacksMemory status old new) where
   abbrev is : status ≡ 4
   is = l.0
-
-  pub lacked_causes : HasCauses status old new
-  lacked_causes = status_causes lacks status old new is tt
 
   pub lacked_new : (g : Geometry) → New g old new status
   lacked_new g = record {
@@ -79,6 +88,8 @@ module _ (status : ℕ) (old new : Site) (l : LacksMemory status old new) where
     answer = inr (inr (inr (is, refl)));
     any_moment = l.1.any_moment;
     devices = l.1.devices;
+    unread = λ none. l.1.reads;
+    ends = l.1.ends;
     ready = λ honest zero. absurd (omega (arith, zero, is));
   }
 
@@ -93,3 +104,6 @@ module _ (status : ℕ) (old new : Site) (l : LacksMemory status old new) where
     blank = λ honest lengths not_blank. inr (inr is);
     complete = λ honest lengths blank none. inr is;
   }
+
+  pub lacked_contract : (g : Geometry) → NewContract g old new status
+  lacked_contract g = record { does = lacked_new g; causes = lacked_new_causes g }

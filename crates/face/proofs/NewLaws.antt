@@ -4,7 +4,8 @@ use Rattle.std.specs.Prelude.{Result}
 use Rattle.site.specs.declared.geometry.Geometry.{Geometry}
 use Rattle.site.specs.declared.outside.Failed.{Failed as CallFailed}
 use Rattle.site.specs.State.{State, Moment}
-use Rattle.site.specs.Calls.{Goes, IsUnchanged}
+use Rattle.site.specs.Geometry.{HasLengths}
+use Rattle.site.specs.Calls.{Goes, IsUnchanged, SameReads}
 use Rattle.site.specs.Moments.{EachMoment}
 use Rattle.site.specs.Telling.{TellsPart}
 use Rattle.site.specs.Laws.{stays_honest, no_call, in_sequence, each_weaker, unchanged_calm, unchanged_devices, devices_in_sequence}
@@ -12,6 +13,7 @@ use Rattle.face.specs.declared.new_database.Unfit.{Unfit}
 use Rattle.face.specs.declared.new_database.Unfit.TheVariants.{Foreign, Failed, NotBlank}
 use Rattle.face.specs.New.{New, IsAnswer, IsUnfit, unfit_status}
 use Rattle.face.specs.Tells.{Tells}
+use Rattle.face.proofs.Endings.{ends_with}
 use Rattle.face.proofs.Replies.{nothing_told}
 
 part_of : (line : List ℕ) (old mid : State) → IsUnchanged old mid → (m : Moment) → TellsPart line mid m → TellsPart line old m
@@ -28,13 +30,15 @@ moments line old mid new same told =
     (each_weaker mid new (TellsPart line mid) (TellsPart line old) (part_of line old mid same) told)
 
 -- after an error of telling nothing is said of all of the line
-pub answered : {T : Type 0} (g : Geometry) (old mid new : State) (line : List ℕ) (status : ℕ) (result : Result T CallFailed) → Goes old mid → (IsTrue old.honest → IsUnchanged old mid) → Tells line mid new result
+pub answered : {T : Type 0} (g : Geometry) (old mid new : State) (line : List ℕ) (status : ℕ) (result : Result T CallFailed) → Goes old mid → (IsTrue old.honest → IsUnchanged old mid) → ((HasLengths g old.image → ⊥) → SameReads old mid) → Tells line mid new result
     → IsAnswer g status line old new → (IsTrue old.honest → status ≡ 0 → new.told ≡ mid.told ++ line) → New g old new status
-answered g old mid new line status result goes same tells answer ready = record {
+answered g old mid new line status result goes same unread tells answer ready = record {
   line = line;
   answer = answer;
   any_moment = λ honest. moments line old mid new (same honest) (tells.any_moment (stays_honest old mid goes honest));
   devices = λ honest. devices_in_sequence old mid new (unchanged_devices old mid (same honest)) (tells.devices (stays_honest old mid goes honest));
+  unread = λ none dev. tells.reads dev ∙ unread none dev;
+  ends = λ honest. ends_with old.told line old mid new result goes (stays_honest old mid goes honest) (same honest).told tells;
   ready = λ honest done. ready honest done ∙ ap (λ (t : List ℕ). t ++ line) (same honest).told;
 }
 

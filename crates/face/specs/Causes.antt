@@ -24,7 +24,8 @@ use Rattle.face.specs.Lines.{limit, commands_of}
 
 -- of an honest site: the image isn't sound
 abbrev pub IsForeign : State → Type 0
-IsForeign site = IsTrue site.honest → (g : Geometry) (table : List Content) (commits : ℕ) → Stands g site.image table commits → ⊥
+IsForeign site = IsTrue site.honest → (g : Geometry) (table : List Content) (commits : ℕ) →
+    Stands g site.image table commits → ⊥
 
 -- of an honest site: more octets were taken than a run may take
 abbrev pub IsOverLimit : State → State → Type 0
@@ -39,15 +40,17 @@ IsWornAt Disk g image = ⊥
 -- of an honest site whose image at entry stands for a table: the device is worn now; of every site: it isn't the disk
 abbrev pub IsWornOut : Dev → State → State → Type 0
 IsWornOut Disk old new = ⊥
-IsWornOut dev old new = IsTrue old.honest → (g : Geometry) (table : List Content) (commits : ℕ) → Stands g old.image table commits → IsWornAt dev g new.image
+IsWornOut dev old new = IsTrue old.honest → (g : Geometry) (table : List Content) (commits : ℕ) →
+    Stands g old.image table commits → IsWornAt dev g new.image
 
--- Why a command fails. A device's fault comes only where its count rose. Over a site that the database fits a device is worn only where
--- a ring of it stands at its end, and nothing is foreign. Over no site is it the disk that is worn.
+-- Why a command fails. A device's fault comes only where its count rose. Over a site that the database fits a device is
+-- worn only where a ring of it stands at its end, and nothing is foreign. Over no site is it the disk that is worn.
 abbrev pub FailsBy : Stop → Engine → State → State → Type 0
 FailsBy (Device dev) engine old new = Rose (faults_of dev old) (faults_of dev new)
 FailsBy Memory engine old new = ⊤
 FailsBy (Worn Disk) engine old new = ⊥
-FailsBy (Worn dev) engine old new = (s : model.State) → Fits engine old s → IsWornAt dev (sizes_of engine.store) new.image
+FailsBy (Worn dev) engine old new = (s : model.State) → Fits engine old s →
+    IsWornAt dev (sizes_of engine.store) new.image
 FailsBy Foreign engine old new = (s : model.State) → Fits engine old s → ⊥
 
 -- why the answer to a line fails
@@ -75,7 +78,8 @@ pub record HasCauses (status : ℕ) (old new : State) : Type 0 where
   pub limit : status ≡ 7 → IsOverLimit old new
   pub worn : status ≡ 8 → IsWornOut Flash old new ⊎ IsWornOut Log old new
   pub foreign : status ≡ 9 → IsForeign old
-  pub others : status ≡ 0 ⊎ (status ≡ 3 ⊎ (status ≡ 4 ⊎ (status ≡ 5 ⊎ (status ≡ 6 ⊎ (status ≡ 7 ⊎ (status ≡ 8 ⊎ status ≡ 9))))))
+  pub others : status ≡ 0 ⊎ (status ≡ 3 ⊎ (status ≡ 4 ⊎ (status ≡ 5
+      ⊎ (status ≡ 6 ⊎ (status ≡ 7 ⊎ (status ≡ 8 ⊎ status ≡ 9))))))
 
 -- no call of the site failed: all counts of faults are as they were
 abbrev pub SameFaults : State → State → Type 0

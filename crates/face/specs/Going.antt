@@ -23,7 +23,8 @@ use Rattle.image_changes.specs.Rings.{log_shape}
 use Rattle.log_records.specs.Log.{Entry}
 use Rattle.log_records.specs.Unfinished.{owed}
 use Rattle.redo_undo.specs.Holding.{blocks_to}
-use Rattle.face.specs.Run.{CountsUpTo, ListsUpTo, asked_after, Run, Begins, answered, told_after, state_at, listings_left, IsAccounted}
+use Rattle.face.specs.Run.{CountsUpTo, ListsUpTo, asked_after, Run, Begins, answered, told_after, state_at}
+use Rattle.face.specs.Run.{listings_left, IsAccounted}
 
 -- so many lines of the run were answered
 pub record Going (run : Run) (entry now : Site) (engine : Engine) (lines : ℕ) : Type 0 where
@@ -36,27 +37,35 @@ pub record Going (run : Run) (entry now : Site) (engine : Engine) (lines : ℕ) 
   pub few : lines ≤ length (answered run)
   pub moments : LeavesOnly entry now (IsAccounted run lines entry.told [])
 
--- So many lines were answered, and the cache has given these listings so far, where the pool has so many pages: this holds of each run
--- whose listings begin with them, whatever comes behind.
+-- So many lines were answered, and the cache has given these listings so far, where the pool has so many pages: this
+-- holds of each run whose listings begin with them, whatever comes behind.
 pub record IsUnderWay (pool : ℕ) (entry now : Site) (engine : Engine) (lines : ℕ) : Type 0 where
   pub listings : List (List CacheLine)
-  pub left : (run : Run) (later : List (List CacheLine)) → Begins run entry → run.listings ≡ listings ++ later → listings_left run lines ≡ later
-  pub going : (run : Run) (later : List (List CacheLine)) → Begins run entry → run.listings ≡ listings ++ later → Going run entry now engine lines
-  pub listed : (run : Run) (later : List (List CacheLine)) → Begins run entry → run.listings ≡ listings ++ later → ListsUpTo pool run lines entry.image
+  pub left : (run : Run) (later : List (List CacheLine)) → Begins run entry → run.listings ≡ listings ++ later →
+      listings_left run lines ≡ later
+  pub going : (run : Run) (later : List (List CacheLine)) → Begins run entry → run.listings ≡ listings ++ later →
+      Going run entry now engine lines
+  pub listed : (run : Run) (later : List (List CacheLine)) → Begins run entry → run.listings ≡ listings ++ later →
+      ListsUpTo pool run lines entry.image
 
 -- The page cache has done what the run has asked.
-pub record IsPaged (pool : ℕ) (run : Run) (newest : Option Master) (image : Image) (blocks : List (List LogRecord)) (engine : Engine) (lines : ℕ) : Type 0 where
-  pub machine : cache_of engine.store.pages ≡ after_works (rules_of pool run.geometry.groups) (asked_after run newest image blocks lines) (cache_on run.geometry image)
+pub record IsPaged (pool : ℕ) (run : Run) (newest : Option Master) (image : Image) (blocks : List (List LogRecord))
+    (engine : Engine) (lines : ℕ) : Type 0 where
+  pub machine : cache_of engine.store.pages
+      ≡ after_works (rules_of pool run.geometry.groups) (asked_after run newest image blocks lines)
+      (cache_on run.geometry image)
   pub rules_are : rules engine.store.pages ≡ rules_of pool run.geometry.groups
 
--- The rings on the log's device have no more numbers than the run has records and checkpoints so far, over an image whose log has these
--- records.
+-- The rings on the log's device have no more numbers than the run has records and checkpoints so far, over an image
+-- whose log has these records.
 pub record IsCounted (run : Run) (records : List Entry) (old now : Image) (engine : Engine) (lines : ℕ) : Type 0 where
-  pub log : blocks_to engine.store.log ≤ hi_of (log_shape run.geometry) old.log + owed records + (state_at run lines).made
+  pub log : blocks_to engine.store.log ≤
+      hi_of (log_shape run.geometry) old.log + owed records + (state_at run lines).made
   pub numbers : CountsUpTo run records lines old now
 
 -- A line asks for this work, and no more is read than it needs.
-pub record Serves {T : Type 0} (result : Result T Halt) (works : List CacheWork) (old new : PageStore) (before now : Site) : Type 0 where
+pub record Serves {T : Type 0} (result : Result T Halt) (works : List CacheWork) (old new : PageStore)
+    (before now : Site) : Type 0 where
   pub machine : OnOk result (cache_of new ≡ after_works (rules old) works (cache_of old))
   pub worn : IsErrOf result (Stop (Worn Flash)) → Overflows (rules old) works (cache_of old)
   pub reads : ReadsFor (rules old) works (cache_of old) before now

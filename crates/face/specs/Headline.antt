@@ -1,4 +1,4 @@
--- The headline.
+-- The headline: what is durable of a run, what it asks of the devices, and the serial order of its transactions.
 use Rattle.std.specs.Prelude.{◌≡◌, ◌≢◌, ◌⊎◌, ℕ, ◌+◌, Bool, true, false, List, [], ◌∷◌, ◌++◌, length, take, IsTrue}
 use Rattle.site.specs.State.{State as Site, no_loose}
 use Rattle.site.specs.Moments.{LeavesOnly}
@@ -10,13 +10,15 @@ use Rattle.face.specs.Texts.{fault_line, status_of}
 use Rattle.redo_undo.specs.Holding.{IsLogWorn}
 use Rattle.engine.specs.Image.{Opens}
 use Rattle.face.specs.Causes.{HasCause}
+use Rattle.face.specs.Tells.{EndsWith, EndsBehind}
 use Rattle.std.specs.List.{list_any}
 use Rattle.record_model.specs.Run.{Turn, is_quit}
 use Rattle.record_model.specs.Serial.{IsSerial}
 use Rattle.shell_text.specs.Serial.{IsToldSerial}
 use Rattle.face.specs.Lines.{HeardAll, limit, commands_of}
 use Rattle.face.specs.Run.{Run, IsFront}
-use Rattle.face.specs.Range.{run_of, turns_of, texts, run_text, all_commits, StandsAfter, IsLeft, WearsOut, NeverWears, LeavesItsQueue, SkipsNoNumber, ReadsNoMore, ListsTheMachine, HasBegun}
+use Rattle.face.specs.Range.{run_of, turns_of, texts, run_text, all_commits, StandsAfter, IsLeft, WearsOut, NeverWears}
+use Rattle.face.specs.Range.{LeavesItsQueue, SkipsNoNumber, ReadsNoMore, ListsTheMachine, HasBegun}
 
 -- an honest and quiet site, whose image is sound, and over which a run opens with this state
 pub record IsGood (g : Geometry) (opening : State) (site : Site) : Type 0 where
@@ -26,7 +28,14 @@ pub record IsGood (g : Geometry) (opening : State) (site : Site) : Type 0 where
 
 -- a status, the fault line that may be told with it, and its cause
 abbrev pub IsFaultOf : ℕ → List ℕ → Site → Site → Type 0
-IsFaultOf status fault old new = ((status ≡ 0) × (fault ≡ [])) ⊎ ((halt : Halt) × (status ≡ status_of halt) × (fault ≡ fault_line halt) × HasCause halt old new)
+IsFaultOf status fault old new =
+    ((status ≡ 0) × (fault ≡ []))
+    ⊎ ((halt : Halt) × (status ≡ status_of halt) × (fault ≡ fault_line halt) × HasCause halt old new)
+
+-- over every honest site: whatever was told before, the fault line of the status comes last
+abbrev pub TellsFault : ℕ → Site → Site → Type 0
+TellsFault status old new =
+    (fault : List ℕ) × IsFaultOf status fault old new × (before : List ℕ) × EndsWith before fault old new
 
 -- all of the run is told, and the devices stand for the table after all its commits
 pub record IsWhole (run : Run) (old new : Site) : Type 0 where
@@ -39,10 +48,12 @@ pub record IsToldWhole (run : Run) (fault : List ℕ) (old new : Site) : Type 0 
   pub told : new.told ≡ old.told ++ (run_text run ++ rest)
   pub front : IsFront rest fault
 
--- each transaction of the run answers as if it had run alone, on the table of the commits before its own, and leaves that of its
--- commit, and each get answers what the table has
+-- each transaction of the run answers as if it had run alone, on the table of the commits before its own, and leaves
+-- that of its commit, and each get answers what the table has
 abbrev pub IsSerialRun : Run → Type 0
-IsSerialRun run = (earlier later : List Turn) (t : Turn) → turns_of run ≡ earlier ++ t ∷ later → IsSerial true run.opening.table run.opening.commits earlier later t
+IsSerialRun run =
+    (earlier later : List Turn) (t : Turn) → turns_of run ≡ earlier ++ t ∷ later →
+    IsSerial true run.opening.table run.opening.commits earlier later t
 
 -- and the lines of each are told what a run of them alone would tell
 abbrev pub IsSerialTold : Run → Type 0
@@ -50,8 +61,8 @@ IsSerialTold run =
     (earlier later : List Turn) (t : Turn) → turns_of run ≡ earlier ++ t ∷ later →
     IsToldSerial true run.opening (texts run) earlier later t
 
--- What a run with a pool of so many pages leaves that opens with this state, and what a crash at any moment of it leaves.
-pub record Headline (pool : ℕ) (g : Geometry) (opening : State) (old new : Site) (status : ℕ) : Type 0 where
+-- What a run leaves that opens with this state, and what a crash at any moment of it leaves.
+pub record Durability (g : Geometry) (opening : State) (old new : Site) (status : ℕ) : Type 0 where
   -- the octets that were taken, and whether a take has answered that the input ended
   pub octets : List ℕ
   pub ended : Bool
@@ -62,6 +73,8 @@ pub record Headline (pool : ℕ) (g : Geometry) (opening : State) (old new : Sit
   -- the fault line of the status
   pub fault : List ℕ
   pub of_status : IsFaultOf status fault old new
+  -- with any status but 6, the fault line comes behind whole texts
+  pub ends : status ≢ 6 → EndsBehind (texts (run_of g opening ended octets listings)) fault old new
   -- each snapshot stands for the table after some number of commits in the range of what it has told
   pub any_moment : LeavesOnly old new (IsLeft (run_of g opening ended octets listings) old.told fault)
   -- with any status but 3 no range is loose
@@ -70,24 +83,46 @@ pub record Headline (pool : ℕ) (g : Geometry) (opening : State) (old new : Sit
   pub heard : status ≡ 0 → HeardAll ended octets
   pub done : status ≡ 0 → IsWhole (run_of g opening ended octets listings) old new
   -- with 5 and 7 all lines were answered whose newline is among the first 2 ^ 40 octets
-  pub taking : (status ≡ 5) ⊎ (status ≡ 7) → IsToldWhole (run_of g opening false (take limit octets) listings) fault old new
+  pub taking : (status ≡ 5) ⊎ (status ≡ 7) →
+      IsToldWhole (run_of g opening false (take limit octets) listings) fault old new
   -- and with 7 there was no quit among these, and one octet more was taken
-  pub over : status ≡ 7 → (length octets ≡ limit + 1) × (list_any is_quit (commands_of false (take limit octets)) ≡ false)
+  pub over : status ≡ 7 →
+      (length octets ≡ limit + 1) × (list_any is_quit (commands_of false (take limit octets)) ≡ false)
+
+-- the run over the octets that were taken
+abbrev pub ran : {g : Geometry} {opening : State} {old new : Site} {status : ℕ} → Durability g opening old new status →
+    Run
+ran {g} {opening} d = run_of g opening d.ended d.octets d.listings
+
+-- What a run with a pool of so many pages asks of the devices, of which so many lines were begun.
+pub record Resources (pool : ℕ) (run : Run) (begun : ℕ) (old new : Site) (status : ℕ) : Type 0 where
+  -- with 8 these append to a ring of groups that stands at its end, or a ring on the log's device stands there; with 0
+  -- no group is appended there
+  pub worn : status ≡ 8 → WearsOut pool run begun old.image ⊎ IsLogWorn run.geometry new.image
+  pub room : status ≡ 0 → NeverWears pool run old.image
+  -- with 0 the frames on flash are those that the cache machine has in its queue
+  pub frames : status ≡ 0 → LeavesItsQueue pool run old.image new.image
+  -- whatever the status, with these lines no ring number is skipped on the log's device
+  pub numbers : SkipsNoNumber run begun old.image new.image
+  -- no more pages are read than they ask for
+  pub reads : ReadsNoMore pool run begun old new
+
+-- the same with the number of these lines, and with what they are told of the cache
+pub record RunResources (pool : ℕ) (run : Run) (fault : List ℕ) (old new : Site) (status : ℕ) : Type 0 where
   -- how many lines were begun, the one under way with them
   pub begun : ℕ
-  pub has_begun : HasBegun (run_of g opening ended octets listings) begun fault old new
-  -- with 8 these append to a ring of groups that stands at its end, or a ring on the log's device stands there; with 0 no group is appended
-  -- there
-  pub worn : status ≡ 8 → WearsOut pool (run_of g opening ended octets listings) begun old.image ⊎ IsLogWorn g new.image
-  pub room : status ≡ 0 → NeverWears pool (run_of g opening ended octets listings) old.image
-  -- with 0 the frames on flash are those that the cache machine has in its queue
-  pub frames : status ≡ 0 → LeavesItsQueue pool (run_of g opening ended octets listings) old.image new.image
-  -- whatever the status, with these lines no ring number is skipped on the log's device
-  pub numbers : SkipsNoNumber (run_of g opening ended octets listings) begun old.image new.image
-  -- no more pages are read than they ask for
-  pub reads : ReadsNoMore pool (run_of g opening ended octets listings) begun old new
-  -- and what they are told of the cache is what the machine lists
-  pub listed : ListsTheMachine pool (run_of g opening ended octets listings) begun old.image
-  -- its transactions are in serial order, and so is what it tells of them
-  pub serial : IsSerialRun (run_of g opening ended octets listings)
-  pub serial_told : IsSerialTold (run_of g opening ended octets listings)
+  pub has_begun : HasBegun run begun fault old new
+  pub asked : Resources pool run begun old new status
+  -- what they are told of the cache is what the machine lists
+  pub listed : ListsTheMachine pool run begun old.image
+
+-- its transactions are in serial order, and so is what it tells of them
+pub record SerialOrder (run : Run) : Type 0 where
+  pub serial : IsSerialRun run
+  pub serial_told : IsSerialTold run
+
+-- What comes of a run with a pool of so many pages that opens with this state.
+pub record Headline (pool : ℕ) (g : Geometry) (opening : State) (old new : Site) (status : ℕ) : Type 0 where
+  pub durability : Durability g opening old new status
+  pub resources : RunResources pool (ran durability) durability.fault old new status
+  pub order : SerialOrder (ran durability)

@@ -26,4 +26,5 @@ blank_table g = replicate (32 * g.pages) None
 
 -- a run over blank devices opens with the table without values, and no commit
 abbrev pub BlankLaw : Type 0
-BlankLaw = (g : Geometry) → HasLimits g → Stands g (blank_image g) (blank_table g) 0 × Opens g (blank_image g) (opened (blank_table g) 0 0 (g.blocks - 1))
+BlankLaw = (g : Geometry) → HasLimits g → Stands g (blank_image g) (blank_table g) 0
+    × Opens g (blank_image g) (opened (blank_table g) 0 0 (g.blocks - 1))

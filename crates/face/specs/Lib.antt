@@ -1,8 +1,10 @@
 pub mod Causes
+pub mod TopCall
 pub mod Going
 pub mod Headline
 pub mod Image
 pub mod Lines
+pub mod Lives
 pub mod Loads
 pub mod New
 pub mod Program

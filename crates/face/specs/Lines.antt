@@ -1,5 +1,6 @@
 -- How the input is cut into lines.
-use Rattle.std.specs.Prelude.{◌≡◌, ◌≢◌, ◌⊎◌, ℕ, ◌+◌, ◌-◌, ◌^◌, ◌≤◌, Bool, true, false, List, [], ◌∷◌, ◌++◌, length, take, drop, map, Option, Some, None, if◌then◌else◌, ⊤}
+use Rattle.std.specs.Prelude.{◌≡◌, ◌≢◌, ◌⊎◌, ℕ, ◌+◌, ◌-◌, ◌^◌, ◌≤◌, Bool, true, false, List, [], ◌∷◌, ◌++◌, length}
+use Rattle.std.specs.Prelude.{take, drop, map, Option, Some, None, if◌then◌else◌, ⊤}
 use Rattle.std.specs.List.{AllByRecursion, list_any}
 use Rattle.site.specs.State.{State}
 use Rattle.site.specs.Calls.{SameReads}
@@ -67,7 +68,8 @@ pub record HearsOnly (old new : State) : Type 0 where
 
 -- these octets are so many lines, whatever comes behind them; where the input has ended nothing comes
 abbrev pub AreLines : List ℕ → List Line → Bool → Type 0
-AreLines octets lines ended = (more : List ℕ) (e : Bool) → (ended ≡ true → (more ≡ []) × (e ≡ true)) → commands_of e (octets ++ more) ≡ lines ++ commands_of e more
+AreLines octets lines ended = (more : List ℕ) (e : Bool) → (ended ≡ true → (more ≡ []) × (e ≡ true)) →
+    commands_of e (octets ++ more) ≡ lines ++ commands_of e more
 
 -- a line was heard, or the end of the input
 pub record HearsLine (line : Line) (was ended : Bool) (before after : List ℕ) : Type 0 where

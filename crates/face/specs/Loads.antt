@@ -1,5 +1,6 @@
 -- What a load does, and what a crash at any moment leaves of it.
-use Rattle.std.specs.Prelude.{◌≡◌, ◌≢◌, ◌⊎◌, ℕ, ◌+◌, ◌-◌, ◌≤◌, List, [], ◌++◌, length, take, IsTrue, Result, IfErr, OnOk, IsErrOf}
+use Rattle.std.specs.Prelude.{◌≡◌, ◌≢◌, ◌⊎◌, ℕ, ◌+◌, ◌-◌, ◌≤◌, List, [], ◌++◌, length, take, IsTrue, Result, IfErr}
+use Rattle.std.specs.Prelude.{OnOk, IsErrOf}
 use Rattle.site.specs.State.{State as Site, Snapshot, MayLeave, now_of, IsQuiet, no_loose}
 use Rattle.site.specs.Calls.{Goes}
 use Rattle.site.specs.Moments.{LeavesOnly}
@@ -9,7 +10,6 @@ use Rattle.site.specs.declared.outside.Dev.TheVariants.{Flash}
 use Rattle.site.specs.declared.outside.Stop.TheVariants.{Device, Worn}
 use Rattle.record_model.specs.State.{State}
 use Rattle.record_model.specs.Run.{Line, Turn, commit_marks, commits_among}
-use Rattle.redo_undo.specs.Holding.{IsLogWorn}
 use Rattle.engine.specs.declared.engine.Engine.{Engine}
 use Rattle.engine.specs.Fits.{Fits}
 use Rattle.engine.specs.Going.{MayGoOn, sizes_of}
@@ -18,15 +18,19 @@ use Rattle.face.specs.declared.halt.Halt.TheVariants.{Stop, Output}
 use Rattle.face.specs.declared.request.Load.{Load}
 use Rattle.face.specs.Causes.{AnswerFailsBy}
 use Rattle.face.specs.Going.{Serves}
-use Rattle.face.specs.Headline.{IsFaultOf}
-use Rattle.face.specs.Range.{turns_of, all_commits, StandsAfter, WearsOut, NeverWears, LeavesItsQueue, SkipsNoNumber, ReadsNoMore}
+use Rattle.face.specs.Headline.{IsFaultOf, Resources}
+use Rattle.face.specs.Tells.{EndsBehind}
+use Rattle.face.specs.Range.{turns_of, all_commits, StandsAfter, WearsOut, NeverWears, LeavesItsQueue, SkipsNoNumber}
+use Rattle.face.specs.Range.{ReadsNoMore}
 use Rattle.face.specs.Run.{Run, IsFront, StandsFor, after_lines, works_of, checkpoints_of}
 use Rattle.engine.specs.Numbers.{CountsOn}
 use Rattle.face.specs.Texts.{status_of}
-use Rattle.face.specs.Workload.{committed_in, checkpoints_in, found_in, load_run, load_turns, opening_text, summary_text}
+use Rattle.face.specs.Workload.{committed_in, checkpoints_in, found_in, load_run, load_texts, load_turns, opening_text}
+use Rattle.face.specs.Workload.{summary_text}
 
--- What was told of a load, and how many of its commits the devices then have: none while the opening is told, or a fault line in
--- its place; some of them once the opening is told, also while a fault line is told behind it; all of them while the summary is told.
+-- What was told of a load, and how many of its commits the devices then have: none while the opening is told, or a
+-- fault line in its place; some of them once the opening is told, also while a fault line is told behind it; all of
+-- them while the summary is told.
 abbrev pub Allows : Run → List ℕ → List ℕ → List ℕ → ℕ → Type 0
 Allows run summary fault told k =
     ((IsFront told (opening_text run) ⊎ IsFront told fault) × (k ≡ 0))
@@ -50,33 +54,37 @@ pub record IsLoaded (run : Run) (summary : List ℕ) (old new : Site) : Type 0 w
 pub record HasBegunLoad (run : Run) (begun : ℕ) (old now : Site) : Type 0 where
   pub few : begun ≤ length (turns_of run)
   pub opened : 1 ≤ begun → (rest : List ℕ) × (now.told ≡ old.told ++ (opening_text run ++ rest))
-  pub stands : (s : Snapshot) → MayLeave (now_of now) s → (k : ℕ) × (commits_among (begun - 1) (commit_marks (turns_of run)) ≤ k) × StandsAfter run k s.image
+  pub stands : (s : Snapshot) → MayLeave (now_of now) s →
+      (k : ℕ) × (commits_among (begun - 1) (commit_marks (turns_of run)) ≤ k) × StandsAfter run k s.image
 
 -- What a load leaves that opens with this state, and what a crash at any moment of it leaves.
-pub record LoadHeadline (load : Load) (g : Geometry) (opening : State) (old new : Site) (status : ℕ) : Type 0 where
+pub record LoadDurability (load : Load) (g : Geometry) (opening : State) (old new : Site) (status : ℕ) : Type 0 where
   -- the fault line of the status
   pub fault : List ℕ
   pub of_status : IsFaultOf status fault old new
-  pub any_moment : LeavesOnly old new (IsLeftOf (load_run g opening load) (summary_text (load_run g opening load) load) fault old.told)
+  -- with any status but 6, the fault line comes behind whole texts
+  pub ends : status ≢ 6 → EndsBehind (load_texts (load_run g opening load) load) fault old new
+  pub any_moment : LeavesOnly old new
+      (IsLeftOf (load_run g opening load) (summary_text (load_run g opening load) load) fault old.told)
   -- with any status but 3 no range is loose
   pub quiet : status ≢ 3 → new.loose ≡ no_loose
   -- with status 0 all is told and done
-  pub done : status ≡ 0 → IsLoaded (load_run g opening load) (summary_text (load_run g opening load) load) old new
-  -- how many lines were begun, the one under way with them
-  pub begun : ℕ
-  pub has_begun : HasBegunLoad (load_run g opening load) begun old new
-  -- with 8 these append to a ring of groups that stands at its end, or a ring on the log's device stands there; with 0 no group is appended
-  -- there
-  pub worn : status ≡ 8 → WearsOut load.pool (load_run g opening load) begun old.image ⊎ IsLogWorn g new.image
-  pub room : status ≡ 0 → NeverWears load.pool (load_run g opening load) old.image
-  -- with 0 the frames on flash are those that the cache machine has in its queue
-  pub frames : status ≡ 0 → LeavesItsQueue load.pool (load_run g opening load) old.image new.image
-  -- whatever the status, with these lines no ring number is skipped on the log's device
-  pub numbers : SkipsNoNumber (load_run g opening load) begun old.image new.image
-  -- and no more pages are read than they ask for
-  pub reads : ReadsNoMore load.pool (load_run g opening load) begun old new
+  pub done : status ≡ 0 →
+      IsLoaded (load_run g opening load) (summary_text (load_run g opening load) load) old new
   -- no input is taken
   pub left : new.left ≡ old.left
+
+-- what it asks of the devices
+pub record LoadResources (pool : ℕ) (run : Run) (old new : Site) (status : ℕ) : Type 0 where
+  -- how many lines were begun, the one under way with them
+  pub begun : ℕ
+  pub has_begun : HasBegunLoad run begun old new
+  pub asked : Resources pool run begun old new status
+
+-- What comes of a load that opens with this state.
+pub record LoadHeadline (load : Load) (g : Geometry) (opening : State) (old new : Site) (status : ℕ) : Type 0 where
+  pub durability : LoadDurability load g opening old new status
+  pub resources : LoadResources load.pool (load_run g opening load) old new status
 
 -- What comes of a load before its fault line. The summary is the empty text as long as it isn't to be told.
 
@@ -100,7 +108,8 @@ pub record LoadDone (run : Run) (summary : List ℕ) (old new : Site) : Type 0 w
   pub whole : IsLoaded run summary old new
   pub quiet : new.loose ≡ no_loose
 
-pub record LoadWorks {T : Type 0} (pool : ℕ) (run : Run) (summary : List ℕ) (old new : Site) (result : Result T Halt) : Type 0 where
+pub record LoadWorks {T : Type 0} (pool : ℕ) (run : Run) (summary : List ℕ) (old new : Site) (result : Result T Halt)
+    : Type 0 where
   pub stops : IfErr result (LoadStops run summary old new)
   pub done : OnOk result (LoadDone run summary old new)
   pub begun : ℕ
@@ -127,23 +136,31 @@ pub record HasMade (run : List Turn) (committed checkpoints : ℕ) : Type 0 wher
 -- Lines that are carried out, one after the other, while nothing is told.
 
 -- a crash meanwhile leaves the table after some of them
-pub record LeavesSome (g : Geometry) (s : State) (lines : List Line) (so_far : List ℕ) (snapshot : Snapshot) : Type 0 where
+pub record LeavesSome (g : Geometry) (s : State) (lines : List Line) (so_far : List ℕ) (snapshot : Snapshot)
+    : Type 0 where
   pub done : ℕ
   pub few : done ≤ length lines
   pub stands : StandsFor g snapshot.image (after_lines s (take done lines) [])
   pub told : snapshot.told ≡ so_far
 
 -- The lines are carried out, or where it fails all but the last of them, and perhaps that one.
-pub record CarriesOut {T : Type 0} (result : Result T Halt) (lines : List Line) (before after : Engine) (old new : Site) : Type 0 where
+pub record CarriesOut {T : Type 0} (result : Result T Halt) (lines : List Line) (before after : Engine) (old new : Site)
+    : Type 0 where
   -- of an honest site that the database fits
-  pub any_moment : (s : State) → Fits before old s → IsQuiet old → LeavesOnly old new (LeavesSome (sizes_of before.store) s lines old.told)
-  pub last : (s : State) → Fits before old s → IsQuiet old → (snapshot : Snapshot) → MayLeave (now_of new) snapshot → (done : ℕ) × (length lines ≤ done + 1) × StandsFor (sizes_of before.store) snapshot.image (after_lines s (take done lines) [])
+  pub any_moment : (s : State) → Fits before old s → IsQuiet old →
+      LeavesOnly old new (LeavesSome (sizes_of before.store) s lines old.told)
+  pub last : (s : State) → Fits before old s → IsQuiet old → (snapshot : Snapshot) → MayLeave (now_of new) snapshot →
+      (done : ℕ) × (length lines ≤ done + 1)
+      × StandsFor (sizes_of before.store) snapshot.image (after_lines s (take done lines) [])
   pub fits : (s : State) → Fits before old s → OnOk result (Fits after new (after_lines s lines []))
-  pub serves : (s : State) → Fits before old s → Serves result (works_of s lines) before.store.pages after.store.pages old new
-  pub numbers : (s : State) → Fits before old s → IsQuiet old → CountsOn result before after old new s (after_lines s lines []) (checkpoints_of s lines)
+  pub serves : (s : State) → Fits before old s →
+      Serves result (works_of s lines) before.store.pages after.store.pages old new
+  pub numbers : (s : State) → Fits before old s → IsQuiet old →
+      CountsOn result before after old new s (after_lines s lines []) (checkpoints_of s lines)
   pub left : IsTrue old.honest → new.left ≡ old.left
   pub stays_quiet : IsTrue old.honest → IsQuiet old → OnOk result (IsQuiet new)
-  pub quiet : (s : State) → Fits before old s → IsQuiet old → IfErr result (λ halt. ((d : Dev) → halt ≢ Stop (Device d)) → IsQuiet new)
+  pub quiet : (s : State) → Fits before old s → IsQuiet old →
+      IfErr result (λ halt. ((d : Dev) → halt ≢ Stop (Device d)) → IsQuiet new)
   -- of every site
   pub going : OnOk result (MayGoOn after new)
   pub cause : IfErr result (λ halt. AnswerFailsBy halt before old new)
@@ -151,7 +168,8 @@ pub record CarriesOut {T : Type 0} (result : Result T Halt) (lines : List Line) 
   pub sizes : sizes_of after.store ≡ sizes_of before.store
 
 -- All of the lines are carried out, or where it fails the first ones.
-pub record CarriesFirst {T : Type 0} (result : Result T Halt) (lines : List Line) (before after : Engine) (old new : Site) : Type 0 where
+pub record CarriesFirst {T : Type 0} (result : Result T Halt) (lines : List Line) (before after : Engine)
+    (old new : Site) : Type 0 where
   pub begun : ℕ
   pub few : begun ≤ length lines
   pub all : OnOk result (begun ≡ length lines)

@@ -5,13 +5,14 @@ use Rattle.site.specs.declared.outside.Dev.TheVariants.{Log, Flash, Disk}
 use Rattle.site.specs.declared.geometry.Geometry.{Geometry}
 use Rattle.site.specs.Geometry.{HasLengths}
 use Rattle.site.specs.State.{State, Image, content_of, faults_of}
-use Rattle.site.specs.Calls.{Rose}
+use Rattle.site.specs.Calls.{Rose, SameReads}
 use Rattle.site.specs.Moments.{EachMoment}
 use Rattle.site.specs.Telling.{TellsPart, SameDevices}
 use Rattle.face.specs.declared.new_database.Unfit.{Unfit}
 use Rattle.face.specs.declared.new_database.Unfit.TheVariants.{Foreign, Failed, NotBlank}
 use Rattle.face.specs.Texts.{dev_name}
 use Rattle.face.specs.Causes.{NoFaultRose}
+use Rattle.face.specs.Tells.{EndsWith}
 
 -- the octets from one place to another are zero
 abbrev pub AreZero : List ℕ → ℕ → ℕ → Type 0
@@ -70,7 +71,8 @@ unfit_status (Failed dev) = 3
 unfit_status (NotBlank dev place) = 10
 
 abbrev pub ready_line : Geometry → List ℕ
-ready_line g = codes "ready " ++ decimal g.pages ++ codes " " ++ decimal g.groups ++ codes " " ++ decimal g.blocks ++ codes "\n"
+ready_line g =
+    codes "ready " ++ decimal g.pages ++ codes " " ++ decimal g.groups ++ codes " " ++ decimal g.blocks ++ codes "\n"
 
 -- the devices have the lengths, and all octets of an honest site are zero
 pub record IsFit (g : Geometry) (site : State) : Type 0 where
@@ -92,6 +94,10 @@ pub record New (g : Geometry) (old new : State) (status : ℕ) : Type 0 where
   pub answer : IsAnswer g status line old new
   pub any_moment : IsTrue old.honest → EachMoment old new (TellsPart line old)
   pub devices : IsTrue old.honest → SameDevices old new
+  -- where the lengths aren't those of the words nothing is read
+  pub unread : (HasLengths g old.image → ⊥) → SameReads old new
+  -- all of it where no tell failed, and with status 0 at any rate
+  pub ends : IsTrue old.honest → EndsWith old.told line old new
   pub ready : IsTrue old.honest → status ≡ 0 → new.told ≡ old.told ++ line
 
 -- When each status of `new` comes.
@@ -104,6 +110,8 @@ pub record NewCauses (g : Geometry) (old new : State) (status : ℕ) : Type 0 wh
   pub lengths : (HasLengths g old.image → ⊥) → (status ≡ 9) ⊎ (status ≡ 4)
   -- 10 over an honest site exactly where they are and an octet isn't zero, unless 3 or 4 came first
   pub notblank : IsTrue old.honest → status ≡ 10 → HasLengths g old.image × ¬ (IsBlank old.image)
-  pub blank : IsTrue old.honest → HasLengths g old.image → ¬ (IsBlank old.image) → (status ≡ 10) ⊎ ((status ≡ 3) ⊎ (status ≡ 4))
+  pub blank : IsTrue old.honest → HasLengths g old.image → ¬ (IsBlank old.image) →
+      (status ≡ 10) ⊎ ((status ≡ 3) ⊎ (status ≡ 4))
   -- where nothing fails a right `new` on blank devices is done, or memory was wanted
-  pub complete : IsTrue old.honest → HasLengths g old.image → IsBlank old.image → NoFaultRose old new → (status ≡ 0) ⊎ (status ≡ 4)
+  pub complete : IsTrue old.honest → HasLengths g old.image → IsBlank old.image → NoFaultRose old new →
+      (status ≡ 0) ⊎ (status ≡ 4)

@@ -1,7 +1,8 @@
 -- The command line of the program, as `clap` sees it.
 use Rattle.std.specs.Prelude.{◌≡◌, ◌≤◌, true, false, codes, decimal, List, [], ℕ, Some}
 use Rattle.std.specs.List.{list_any}
-use Rattle.clap.specs.Words.{App, Rule, app_of, fault_of, first_value, new_app, new_rule, subcommand_of, subcommand_rows_of, with_rule, with_subcommand}
+use Rattle.clap.specs.Words.{App, Rule, app_of, fault_of, first_value, new_app, new_rule, subcommand_of}
+use Rattle.clap.specs.Words.{subcommand_rows_of, with_rule, with_subcommand}
 use Rattle.clap.specs.Simple.{on_top}
 use Rattle.clap.specs.declared.builder.command.Command.{Command}
 use Rattle.clap.specs.declared.parser.matches.ArgMatches.{ArgMatches}
@@ -17,13 +18,15 @@ abbrev pub text : Rule → Rule
 text rule = record rule { required = true }
 
 abbrev pub new_words : App
-new_words = with_rule (with_rule (with_rule (new_app (codes "new")) (text (new_rule (codes "pages")))) (text (new_rule (codes "groups")))) (text (new_rule (codes "blocks")))
+new_words = with_rule (with_rule (with_rule (new_app (codes "new")) (text (new_rule (codes "pages"))))
+    (text (new_rule (codes "groups")))) (text (new_rule (codes "blocks")))
 
 abbrev pub run_words : App
 run_words = with_rule (new_app (codes "run")) (text (new_rule (codes "pool")))
 
 abbrev pub load_words : App
-load_words = with_rule (with_rule (with_rule (new_app (codes "load")) (text (new_rule (codes "count")))) (text (new_rule (codes "seed")))) (text (new_rule (codes "pool")))
+load_words = with_rule (with_rule (with_rule (new_app (codes "load")) (text (new_rule (codes "count"))))
+    (text (new_rule (codes "seed")))) (text (new_rule (codes "pool")))
 
 abbrev pub bare : App
 bare = on_top (λ s. record s {

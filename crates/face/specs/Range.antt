@@ -1,5 +1,6 @@
 -- What a run may tell and leave: its commits, the numbers that it gives, and its work on the page cache.
-use Rattle.std.specs.Prelude.{◌≡◌, ◌⊎◌, ℕ, ◌+◌, ◌≤◌, Bool, true, List, [], ◌∷◌, ◌++◌, ◌^◌, length, take, slice_index_or, flat_map, count_by, Option}
+use Rattle.std.specs.Prelude.{◌≡◌, ◌⊎◌, ℕ, ◌+◌, ◌≤◌, Bool, true, List, [], ◌∷◌, ◌++◌, ◌^◌, length, take, slice_index_or}
+use Rattle.std.specs.Prelude.{flat_map, count_by, Option}
 use Rattle.site.specs.State.{State as Site, Snapshot, Image}
 use Rattle.site.specs.declared.geometry.Geometry.{Geometry}
 use Rattle.record_model.specs.declared.words.CacheLine.{CacheLine}
@@ -25,7 +26,13 @@ use Rattle.face.specs.Run.{Run, IsFront, ReadsFew}
 
 -- the run that opens with this state, over the lines of these octets, with these listings of the cache
 abbrev pub run_of : Geometry → State → Bool → List ℕ → List (List CacheLine) → Run
-run_of g opening ended octets listings = record { geometry = g; opening = opening; lines = commands_of ended octets; listings = listings }
+run_of g opening ended octets listings = record {
+  geometry = g;
+  opening = opening;
+  lines =
+      commands_of ended octets;
+  listings = listings;
+}
 
 -- its turns, by the record model
 abbrev pub turns_of : Run → List Turn
@@ -48,13 +55,18 @@ all_commits run = count_by (λ mark. mark) (commit_marks (turns_of run))
 
 -- the devices stand for the table when the run has made its first k commits
 abbrev pub StandsAfter : Run → ℕ → Image → Type 0
-StandsAfter run k image = Stands run.geometry image (after_commits run.opening.table (turns_of run) k) (run.opening.commits + k)
+StandsAfter run k image = Stands run.geometry image (after_commits run.opening.table (turns_of run) k)
+    (run.opening.commits + k)
 
 -- a front of the run's text, or some of its texts whole and then a front of the fault line
 abbrev pub IsToldOf : Run → List ℕ → List ℕ → Type 0
-IsToldOf run fault told = IsFront told (run_text run) ⊎ ((whole : ℕ) × (whole ≤ length (texts run)) × (rest : List ℕ) × (told ≡ first_texts run whole ++ rest) × IsFront rest fault)
+IsToldOf run fault told =
+    IsFront told (run_text run)
+    ⊎ ((whole : ℕ) × (whole ≤ length (texts run)) × (rest : List ℕ)
+    × (told ≡ first_texts run whole ++ rest) × IsFront rest fault)
 
--- What a crash may leave, where `so_far` was told before the run: the table after some number of commits in the range of what the run has told.
+-- What a crash may leave, where `so_far` was told before the run: the table after some number of commits in the range
+-- of what the run has told.
 pub record IsLeft (run : Run) (so_far fault : List ℕ) (snapshot : Snapshot) : Type 0 where
   pub told : List ℕ
   pub told_is : snapshot.told ≡ so_far ++ told
@@ -67,58 +79,68 @@ pub record IsLeft (run : Run) (so_far fault : List ℕ) (snapshot : Snapshot) : 
 abbrev pub made_by : Run → ℕ → ℕ
 made_by run lines = (state_at (turns_of run) run.opening lines).made
 
--- Over an image whose log has these records the run gives, with so many lines, the ring of the log's blocks at most one number more for
--- each record that the restart and the lines make, and the ring of the master units at most one for each checkpoint, the restart's with
--- them.
+-- Over an image whose log has these records the run gives, with so many lines, the ring of the log's blocks at most one
+-- number more for each record that the restart and the lines make, and the ring of the master units at most one for
+-- each checkpoint, the restart's with them.
 pub record GivesNumbers (run : Run) (lines : ℕ) (records : List Entry) (old now : Image) : Type 0 where
-  pub blocks : hi_of (log_shape run.geometry) now.log ≤ hi_of (log_shape run.geometry) old.log + owed records + made_by run lines
+  pub blocks : hi_of (log_shape run.geometry) now.log ≤
+      hi_of (log_shape run.geometry) old.log + owed records + made_by run lines
   pub masters : hi_of master_shape now.log ≤ hi_of master_shape old.log + 1 + checkpoints_in (take lines (turns_of run))
 
 -- so it skips no number of the rings on the log's device
 abbrev pub SkipsNoNumber : Run → ℕ → Image → Image → Type 0
-SkipsNoNumber run lines old now = (newest : Option Master) (blocks : List (List LogRecord)) → IsSound newest run.geometry old blocks → GivesNumbers run lines (log_under newest blocks) old now
+SkipsNoNumber run lines old now = (newest : Option Master) (blocks : List (List LogRecord)) →
+    IsSound newest run.geometry old blocks → GivesNumbers run lines (log_under newest blocks) old now
 
 -- what the run asks of the page cache over this image: the restart's work, then that of these turns
 abbrev pub works_by : Run → List Turn → Option Master → Image → List (List LogRecord) → List CacheWork
-works_by run done newest image blocks = restart_works (picture_under newest run.geometry image blocks) ++ run_touches true done
+works_by run done newest image blocks =
+    restart_works (picture_under newest run.geometry image blocks) ++ run_touches true done
 
 -- where the pool has so many pages the cache machine comes to this by it
 abbrev pub cache_by : ℕ → Run → List Turn → Option Master → Image → List (List LogRecord) → Cache
-cache_by pool run done newest image blocks = after_works (rules_of pool run.geometry.groups) (works_by run done newest image blocks) (cache_on run.geometry image)
+cache_by pool run done newest image blocks =
+    after_works (rules_of pool run.geometry.groups) (works_by run done newest image blocks)
+    (cache_on run.geometry image)
 
 -- with so many lines the run appends to a ring of groups that stands at its end
 abbrev pub WearsOut : ℕ → Run → ℕ → Image → Type 0
 WearsOut pool run lines image =
     (newest : Option Master) (blocks : List (List LogRecord)) → IsSound newest run.geometry image blocks
-    → Overflows (rules_of pool run.geometry.groups) (works_by run (take lines (turns_of run)) newest image blocks) (cache_on run.geometry image)
+    → Overflows (rules_of pool run.geometry.groups) (works_by run (take lines (turns_of run)) newest image blocks)
+    (cache_on run.geometry image)
 
 -- no ring that all of the run appends to stands there
 abbrev pub NeverWears : ℕ → Run → Image → Type 0
-NeverWears pool run image = (newest : Option Master) (blocks : List (List LogRecord)) → IsSound newest run.geometry image blocks → next_group (cache_by pool run (turns_of run) newest image blocks) ≤ 2 ^ 40
+NeverWears pool run image = (newest : Option Master) (blocks : List (List LogRecord)) →
+    IsSound newest run.geometry image blocks →
+    next_group (cache_by pool run (turns_of run) newest image blocks) ≤ 2 ^ 40
 
--- when all of the run is over the frames on flash are those of the machine's queue, in its groups and with its dirty marks, as a restart
--- would find it
+-- when all of the run is over the frames on flash are those of the machine's queue, in its groups and with its dirty
+-- marks, as a restart would find it
 abbrev pub LeavesItsQueue : ℕ → Run → Image → Image → Type 0
-LeavesItsQueue pool run old now = (newest : Option Master) (blocks : List (List LogRecord)) → IsSound newest run.geometry old blocks → cache_on run.geometry now ≡ opened (cache_by pool run (turns_of run) newest old blocks).queue
+LeavesItsQueue pool run old now = (newest : Option Master) (blocks : List (List LogRecord)) →
+    IsSound newest run.geometry old blocks → cache_on run.geometry now
+    ≡ opened (cache_by pool run (turns_of run) newest old blocks).queue
 
--- each of the first lines that asks for the listing of the cache is replied what the cache machine lists after the restart's work and
--- that of the lines before it
+-- each of the first lines that asks for the listing of the cache is replied what the cache machine lists after the
+-- restart's work and that of the lines before it
 abbrev pub ListsTheMachine : ℕ → Run → ℕ → Image → Type 0
 ListsTheMachine pool run lines image =
     (newest : Option Master) (blocks : List (List LogRecord)) → IsSound newest run.geometry image blocks
     → (before later : List Turn) (t : Turn) → take lines (turns_of run) ≡ before ++ t ∷ later → is_cache t.line ≡ true
     → t.reply ≡ Listing (listing (cache_by pool run before newest image blocks))
 
--- with so many lines no more pages are read than the run asks for: of flash at most one for each touch that finds its page there, eight
--- for each group that is appended, and twice as many as there are groups; of the disk at most one for each touch that misses its page on
--- flash
+-- with so many lines no more pages are read than the run asks for: of flash at most one for each touch that finds its
+-- page there, eight for each group that is appended, and twice as many as there are groups; of the disk at most one for
+-- each touch that misses its page on flash
 abbrev pub ReadsNoMore : ℕ → Run → ℕ → Site → Site → Type 0
 ReadsNoMore pool run lines old now =
     (newest : Option Master) (blocks : List (List LogRecord)) → IsSound newest run.geometry old.image blocks
     → ReadsFew pool run.geometry (works_by run (take lines (turns_of run)) newest old.image blocks) old now
 
--- So many lines were begun: what the run tells before the last of them is told, the opening's text and the replies of the others, then a
--- front of the last one's reply, or all of it, and of a fault line a front.
+-- So many lines were begun: what the run tells before the last of them is told, the opening's text and the replies of
+-- the others, then a front of the last one's reply, or all of it, and of a fault line a front.
 pub record HasBegun (run : Run) (begun : ℕ) (fault : List ℕ) (old now : Site) : Type 0 where
   pub few : begun ≤ length (turns_of run)
   pub reply : List ℕ

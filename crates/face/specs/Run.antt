@@ -1,5 +1,7 @@
 -- A run: its texts, and what a crash may leave of it.
-use Rattle.std.specs.Prelude.{◌≡◌, ◌⊎◌, ℕ, ◌+◌, ◌*◌, ◌-◌, ◌<◌, List, [], ◌∷◌, ◌++◌, ◌≤◌, length, take, flat_map, slice_index_or, IsTrue, Result, IfErr, OnOk, IsErrOf, ◌≢◌, ◌^◌, Bool, true, false, Option, Some, None, ⊤}
+use Rattle.std.specs.Prelude.{◌≡◌, ◌⊎◌, ℕ, ◌+◌, ◌*◌, ◌-◌, ◌<◌, List, [], ◌∷◌, ◌++◌, ◌≤◌, length, take, flat_map}
+use Rattle.std.specs.Prelude.{slice_index_or, IsTrue, Result, IfErr, OnOk, IsErrOf, ◌≢◌, ◌^◌, Bool, true, false, Option}
+use Rattle.std.specs.Prelude.{Some, None, ⊤}
 use Rattle.site.specs.State.{State as Site, Snapshot, Image, MayLeave, now_of, no_loose}
 use Rattle.site.specs.Moments.{LeavesOnly}
 use Rattle.site.specs.declared.geometry.Geometry.{Geometry}
@@ -33,7 +35,8 @@ use Rattle.face.specs.Lines.{commands_of, up_to_quit, answered_of, HeardAll, lim
 abbrev pub step : State → Line → List CacheLine → Outcome
 step s line listing = line_step true s line listing
 
--- a run opens with a state, has these lines to answer, and the cache has these listings, one after the other, at its cache commands
+-- a run opens with a state, has these lines to answer, and the cache has these listings, one after the other, at its
+-- cache commands
 pub record Run : Type 0 where
   pub geometry : Geometry
   pub opening : State
@@ -42,7 +45,8 @@ pub record Run : Type 0 where
 
 abbrev pub after_lines : State → List Line → List (List CacheLine) → State
 after_lines s [] listings = s
-after_lines s (line ∷ lines) listings = after_lines (step s line (next_listing listings)).after lines (later_listings line listings)
+after_lines s (line ∷ lines) listings =
+    after_lines (step s line (next_listing listings)).after lines (later_listings line listings)
 
 abbrev pub reply_texts : State → List Line → List (List CacheLine) → List (List ℕ)
 reply_texts s [] listings = []
@@ -87,32 +91,40 @@ works_of s (line ∷ lines) = line_touches true s line ++ works_of (step s line 
 
 -- what a run over this image has asked once it has answered so many lines: the restart's work, then theirs
 abbrev pub asked_after : Run → Option Master → Image → List (List LogRecord) → ℕ → List CacheWork
-asked_after run newest image blocks lines = restart_works (picture_under newest run.geometry image blocks) ++ works_of run.opening (take lines (answered run))
+asked_after run newest image blocks lines =
+    restart_works (picture_under newest run.geometry image blocks) ++ works_of run.opening (take lines (answered run))
 
 -- with so many lines the run appends to a ring of groups that stands at its end
 abbrev pub Outgrows : ℕ → Run → Image → ℕ → Type 0
 Outgrows pool run image lines =
-    (newest : Option Master) (blocks : List (List LogRecord)) → IsSound newest run.geometry image blocks → Overflows (rules_of pool run.geometry.groups) (asked_after run newest image blocks lines) (cache_on run.geometry image)
+    (newest : Option Master) (blocks : List (List LogRecord)) → IsSound newest run.geometry image blocks →
+    Overflows (rules_of pool run.geometry.groups) (asked_after run newest image blocks lines)
+    (cache_on run.geometry image)
 
 -- it doesn't
 abbrev pub HasGroupsFor : ℕ → Run → Image → ℕ → Type 0
 HasGroupsFor pool run image lines =
-    (newest : Option Master) (blocks : List (List LogRecord)) → IsSound newest run.geometry image blocks → next_group (after_works (rules_of pool run.geometry.groups) (asked_after run newest image blocks lines) (cache_on run.geometry image)) ≤ 2 ^ 40
+    (newest : Option Master) (blocks : List (List LogRecord)) → IsSound newest run.geometry image blocks →
+    next_group (after_works (rules_of pool run.geometry.groups) (asked_after run newest image blocks lines)
+    (cache_on run.geometry image)) ≤ 2 ^ 40
 
 -- each of the first lines that asks for the listing of the cache is given the cache machine's
 abbrev pub ListsUpTo : ℕ → Run → ℕ → Image → Type 0
 ListsUpTo pool run lines image =
     (newest : Option Master) (blocks : List (List LogRecord)) → IsSound newest run.geometry image blocks
     → (i : ℕ) → i < lines → is_cache (slice_index_or (answered run) i None) ≡ true
-    → listing_at run i ≡ listing (after_works (rules_of pool run.geometry.groups) (asked_after run newest image blocks i) (cache_on run.geometry image))
+    → listing_at run i ≡ listing (after_works (rules_of pool run.geometry.groups)
+    (asked_after run newest image blocks i) (cache_on run.geometry image))
 
 -- since the run opened on this site no more is read than this work needs, and of flash twice as often as it has groups
 abbrev pub ReadsFew : ℕ → Geometry → List CacheWork → Site → Site → Type 0
-ReadsFew pool g works old now = ReadsFor (rules_of pool g.groups) works (cache_on g old.image) (record old { flash_reads = old.flash_reads + 2 * g.groups }) now
+ReadsFew pool g works old now = ReadsFor (rules_of pool g.groups) works (cache_on g old.image)
+    (record old { flash_reads = old.flash_reads + 2 * g.groups }) now
 
 abbrev pub ReadsUpTo : ℕ → Run → ℕ → Site → Site → Type 0
 ReadsUpTo pool run lines old now =
-    (newest : Option Master) (blocks : List (List LogRecord)) → IsSound newest run.geometry old.image blocks → ReadsFew pool run.geometry (asked_after run newest old.image blocks lines) old now
+    (newest : Option Master) (blocks : List (List LogRecord)) → IsSound newest run.geometry old.image blocks →
+    ReadsFew pool run.geometry (asked_after run newest old.image blocks lines) old now
 
 -- how many checkpoints a line makes, and how many lines make, whatever the cache lists
 abbrev pub line_checkpoints : State → Line → ℕ
@@ -123,20 +135,25 @@ abbrev pub checkpoints_of : State → List Line → ℕ
 checkpoints_of s [] = 0
 checkpoints_of s (line ∷ lines) = line_checkpoints s line + checkpoints_of (step s line []).after lines
 
--- With so many lines, over an image whose log has these records, the ring of the log's blocks has at most one number more for each record
--- that the restart and the lines make, and the ring of the master units at most one for each checkpoint, the restart's with them.
+-- With so many lines, over an image whose log has these records, the ring of the log's blocks has at most one number
+-- more for each record that the restart and the lines make, and the ring of the master units at most one for each
+-- checkpoint, the restart's with them.
 pub record CountsUpTo (run : Run) (records : List Entry) (lines : ℕ) (old now : Image) : Type 0 where
-  pub blocks : hi_of (log_shape run.geometry) now.log ≤ hi_of (log_shape run.geometry) old.log + owed records + (state_at run lines).made
-  pub masters : hi_of master_shape now.log ≤ hi_of master_shape old.log + 1 + checkpoints_of run.opening (take lines (answered run))
+  pub blocks : hi_of (log_shape run.geometry) now.log ≤
+      hi_of (log_shape run.geometry) old.log + owed records + (state_at run lines).made
+  pub masters : hi_of master_shape now.log ≤
+      hi_of master_shape old.log + 1 + checkpoints_of run.opening (take lines (answered run))
 
 abbrev pub SkipsNoneUpTo : Run → ℕ → Image → Image → Type 0
-SkipsNoneUpTo run lines old now = (newest : Option Master) (blocks : List (List LogRecord)) → IsSound newest run.geometry old blocks → CountsUpTo run (log_under newest blocks) lines old now
+SkipsNoneUpTo run lines old now = (newest : Option Master) (blocks : List (List LogRecord)) →
+    IsSound newest run.geometry old blocks → CountsUpTo run (log_under newest blocks) lines old now
 
 -- with so many lines the frames on flash are those of the cache machine's queue, as a restart would find it
 abbrev pub HasQueueAt : ℕ → Run → ℕ → Image → Image → Type 0
 HasQueueAt pool run lines old now =
     (newest : Option Master) (blocks : List (List LogRecord)) → IsSound newest run.geometry old blocks
-    → cache_on run.geometry now ≡ opened (after_works (rules_of pool run.geometry.groups) (asked_after run newest old blocks lines) (cache_on run.geometry old)).queue
+    → cache_on run.geometry now ≡ opened (after_works (rules_of pool run.geometry.groups)
+    (asked_after run newest old blocks lines) (cache_on run.geometry old)).queue
 
 -- the devices stand for the table and the count of a state
 abbrev pub StandsFor : Geometry → Image → State → Type 0
@@ -169,15 +186,18 @@ pub record IsAccounted (run : Run) (heard : ℕ) (so_far fault : List ℕ) (snap
   pub part : ((whole ≤ heard) × IsPart rest (text_at run whole)) ⊎ IsFront rest fault
   pub stands : StandsNear run heard whole snapshot.image
 
--- the run of an honest and quiet site whose image is sound: it opens with the state of the image, and all octets that are left are heard
+-- the run of an honest and quiet site whose image is sound: it opens with the state of the image, and all octets that
+-- are left are heard
 pub record Begins (run : Run) (site : Site) : Type 0 where
   pub honest : IsTrue site.honest
   pub quiet : site.loose ≡ no_loose
   pub opens : Opens run.geometry site.image run.opening
   pub lines : run.lines ≡ commands_of true site.left
 
--- What a crash may leave of the answer to one line: some front of the text is told, and none of it while the line isn't done
-pub record LeavesAnswer (g : Geometry) (before after : State) (text so_far : List ℕ) (snapshot : Snapshot) : Type 0 where
+-- What a crash may leave of the answer to one line: some front of the text is told, and none of it while the line isn't
+-- done
+pub record LeavesAnswer (g : Geometry) (before after : State) (text so_far : List ℕ) (snapshot : Snapshot)
+    : Type 0 where
   pub front : (k : ℕ) × (snapshot.told ≡ so_far ++ take k text)
   pub stands : (StandsFor g snapshot.image before × (snapshot.told ≡ so_far)) ⊎ StandsFor g snapshot.image after
 
@@ -188,7 +208,8 @@ pub record IsBetween (run : Run) (heard : ℕ) (old now : Site) : Type 0 where
   pub told : now.told ≡ old.told ++ told_after run whole
   pub stands : (s : Snapshot) → MayLeave (now_of now) s → StandsNear run heard whole s.image
 
--- These octets were taken. `ended` is whether a take has answered that the input ended. So many of their lines were heard, which are the first ones of all lines.
+-- These octets were taken. `ended` is whether a take has answered that the input ended. So many of their lines were
+-- heard, which are the first ones of all lines.
 pub record HasHeard (heard : ℕ) (octets : List ℕ) (ended : Bool) (old now : Site) : Type 0 where
   pub taken : old.left ≡ octets ++ now.left
   pub end : ended ≡ true → now.left ≡ []
@@ -221,7 +242,8 @@ pub record Stops (run : Run) (heard : ℕ) (old new : Site) (halt : Halt) : Type
 
 -- what the run tells before the last of so many lines was told, and a front of the reply to that one, or all of it
 abbrev pub HasToldUpTo : Run → ℕ → Site → Site → Type 0
-HasToldUpTo run lines old now = (part : ℕ) × (now.told ≡ old.told ++ (told_after run lines ++ take part (text_at run lines)))
+HasToldUpTo run lines old now =
+    (part : ℕ) × (now.told ≡ old.told ++ (told_after run lines ++ take part (text_at run lines)))
 
 -- what comes of a run before its fault line
 pub record Works {T : Type 0} (pool : ℕ) (run : Run) (old new : Site) (result : Result T Halt) : Type 0 where
@@ -231,7 +253,8 @@ pub record Works {T : Type 0} (pool : ℕ) (run : Run) (old new : Site) (result 
   pub has_heard : HasHeard heard octets ended old new
   pub stops : IfErr result (λ halt. Stops run heard old new halt × StopsTaking halt run heard octets old new)
   pub begun : HasToldUpTo run heard old new
-  pub done : OnOk result (HeardAll ended octets × (length (answered_of ended octets) ≡ heard) × LeavesOnly old new (IsAccounted run heard old.told []) × IsDone run heard old new)
+  pub done : OnOk result (HeardAll ended octets × (length (answered_of ended octets) ≡ heard)
+      × LeavesOnly old new (IsAccounted run heard old.told []) × IsDone run heard old new)
   -- flash is worn only where the lines that were heard ask for more groups than the ring can have
   pub worn : IsErrOf result (Stop (Worn Flash)) → Outgrows pool run old.image heard
   pub room : OnOk result (HasGroupsFor pool run old.image heard)

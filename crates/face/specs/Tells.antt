@@ -1,5 +1,5 @@
 -- What telling a line does.
-use Rattle.std.specs.Prelude.{◌≡◌, List, ℕ, ◌++◌, IsTrue, Result, OnOk, OnErr}
+use Rattle.std.specs.Prelude.{◌≡◌, List, ℕ, ◌++◌, take, flat_map, IsTrue, Result, OnOk, OnErr}
 use Rattle.site.specs.State.{State}
 use Rattle.site.specs.Calls.{Goes, SameReads, Rose}
 use Rattle.site.specs.Faults.{TellFaults}
@@ -16,3 +16,14 @@ pub record Tells {T : Type 0} (line : List ℕ) (old new : State) (result : Resu
   pub reads : SameReads old new
   pub goes : Goes old new
   pub faults : TellFaults result old new
+
+-- Behind what was told before, this line comes last: all of it where no tell has failed, and else a front of it.
+pub record EndsWith (before line : List ℕ) (old new : State) : Type 0 where
+  pub part : ℕ
+  pub told : new.told ≡ before ++ take part line
+  pub whole : ¬ (Rose old.output_faults new.output_faults) → take part line ≡ line
+
+-- it comes behind some of these texts, each of them whole
+abbrev pub EndsBehind : List (List ℕ) → List ℕ → State → State → Type 0
+EndsBehind texts line old new =
+    (whole : ℕ) × EndsWith (old.told ++ flat_map (λ text. text) (take whole texts)) line old new

@@ -1,5 +1,6 @@
 -- The words that the program is called with.
-use Rattle.std.specs.Prelude.{◌≡◌, ◌⊎◌, ℕ, ◌≤◌, ◌<◌, ◌^◌, List, [], ◌∷◌, map, codes, decimal, IsTrue, string_bytes, Bool, true, false, ◌==◌}
+use Rattle.std.specs.Prelude.{◌≡◌, ◌⊎◌, ℕ, ◌≤◌, ◌<◌, ◌^◌, List, [], ◌∷◌, map, codes, decimal, IsTrue, string_bytes}
+use Rattle.std.specs.Prelude.{Bool, true, false, ◌==◌}
 use Rattle.std.specs.List.{list_any}
 use Rattle.std.specs.declared.string.String.{String}
 use Rattle.std.specs.declared.alloc.Global.{Global}
@@ -12,6 +13,7 @@ use Rattle.site.specs.State.{State}
 use Rattle.site.specs.Calls.{SameReads}
 use Rattle.site.specs.Moments.{EachMoment}
 use Rattle.site.specs.Telling.{TellsPart, SameDevices}
+use Rattle.face.specs.Tells.{EndsWith}
 
 -- the octets of each word
 abbrev pub words_of : List (String Global) → List (List ℕ)
@@ -43,14 +45,17 @@ pub record IsLoad (words : List (List ℕ)) (load : Workload) : Type 0 where
 
 -- the words are in the table
 abbrev pub IsRight : List (List ℕ) → Type 0
-IsRight words = ((pool : ℕ) × IsRun words pool) ⊎ (((g : Geometry) × IsNew words g) ⊎ ((load : Workload) × IsLoad words load))
+IsRight words =
+    ((pool : ℕ) × IsRun words pool) ⊎ (((g : Geometry) × IsNew words g) ⊎ ((load : Workload) × IsLoad words load))
 
 abbrev pub words_fault : List ℕ
 words_fault = codes "fault words\n"
 
--- nothing is read, and of an honest site nothing is touched but the output: a crash at any moment leaves some front of this line told
+-- nothing is read, and of an honest site nothing is touched but the output: a crash at any moment leaves some front of
+-- this line told, and when it is over all of it is, where no tell failed
 pub record OnlyTells (line : List ℕ) (old new : State) : Type 0 where
   pub any_moment : IsTrue old.honest → EachMoment old new (TellsPart line old)
+  pub ends : IsTrue old.honest → EndsWith old.told line old new
   pub devices : IsTrue old.honest → SameDevices old new
   pub reads : SameReads old new
 

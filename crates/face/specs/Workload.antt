@@ -1,5 +1,6 @@
 -- A stated workload: its commands, what is counted of them, and its summary.
-use Rattle.std.specs.Prelude.{ℕ, zero, suc, ◌*◌, Bool, true, false, List, [], ◌∷◌, ◌++◌, map, count_by, codes, decimal, Some, None}
+use Rattle.std.specs.Prelude.{ℕ, zero, suc, ◌*◌, Bool, true, false, List, [], ◌∷◌, ◌++◌, map, count_by, codes, decimal}
+use Rattle.std.specs.Prelude.{Some, None}
 use Rattle.site.specs.declared.geometry.Geometry.{Geometry}
 use Rattle.record_model.specs.declared.words.Command.TheVariants.{Get, Set}
 use Rattle.record_model.specs.declared.words.Reply.{Reply}
@@ -37,7 +38,12 @@ load_lines records load = set_lines records load.seed load.count ++ get_lines re
 
 -- the run of a load that opens with this state
 abbrev pub load_run : Geometry → State → Load → Run
-load_run g opening load = record { geometry = g; opening = opening; lines = load_lines (32 * g.pages) load; listings = [] }
+load_run g opening load = record {
+  geometry = g;
+  opening = opening;
+  lines = load_lines (32 * g.pages) load;
+  listings = [];
+}
 
 -- Counts over the turns of the record model.
 
@@ -73,4 +79,8 @@ abbrev pub opening_text : Run → List ℕ
 opening_text run = open_text run.opening.commits
 
 abbrev pub summary_text : Run → Load → List ℕ
-summary_text run load = summary_of load.count (committed_in (load_turns run)) (checkpoints_in (load_turns run)) (found_in (load_turns run))
+summary_text run load = summary_of load.count (committed_in (load_turns run)) (checkpoints_in (load_turns run))
+    (found_in (load_turns run))
+
+abbrev pub load_texts : Run → Load → List (List ℕ)
+load_texts run load = opening_text run ∷ summary_text run load ∷ []

@@ -35,7 +35,8 @@ pub fn answer<S: Site>(engine: &mut Engine, site: &mut S, line: Option<Command>)
         → Fits engine.old (S.state site.old) s
         → IsQuiet (S.state site.old)
         → LeavesOnly (S.state site.old) (S.state site.new)
-        (LeavesAnswer (sizes_of engine.old.store) s (step s line listing).after (reply_text (step s line listing).reply) (S.state site.old).told) }
+        (LeavesAnswer (sizes_of engine.old.store) s (step s line listing).after
+        (reply_text (step s line listing).reply) (S.state site.old).told) }
     ensures fits { (s : State) (listing : List CacheLine) → IsAsked line (listing_of engine.old) listing
         → Fits engine.old (S.state site.old) s
         → OnOk result (Fits engine.new (S.state site.new) (step s line listing).after) }
@@ -51,7 +52,8 @@ pub fn answer<S: Site>(engine: &mut Engine, site: &mut S, line: Option<Command>)
         (S.state site.old) (S.state site.new) }
     ensures numbers { (s : State) → Fits engine.old (S.state site.old) s
         → IsQuiet (S.state site.old)
-        → CountsOn result engine.old engine.new (S.state site.old) (S.state site.new) s (step s line []).after (line_checkpoints s line) }
+        → CountsOn result engine.old engine.new (S.state site.old) (S.state site.new)
+        s (step s line []).after (line_checkpoints s line) }
     ensures left { IsTrue (S.state site.old).honest → (S.state site.new).left ≡ (S.state site.old).left }
     ensures stays_quiet { IsTrue (S.state site.old).honest → IsQuiet (S.state site.old)
         → OnOk result (IsQuiet (S.state site.new)) }

@@ -46,7 +46,8 @@ fn carry_out_plain<S: Site>(
         (S.state site.old) (S.state site.new) }
     ensures numbers { (s : State) → Fits engine.old (S.state site.old) s
         → IsQuiet (S.state site.old)
-        → CountsOn result engine.old engine.new (S.state site.old) (S.state site.new) s (step s line []).after (line_checkpoints s line) }
+        → CountsOn result engine.old engine.new (S.state site.old) (S.state site.new)
+        s (step s line []).after (line_checkpoints s line) }
     ensures left { IsTrue (S.state site.old).honest
         → (S.state site.new).left ≡ (S.state site.old).left }
     ensures stays_quiet { IsTrue (S.state site.old).honest → IsQuiet (S.state site.old)
@@ -124,7 +125,8 @@ pub fn carry_out<S: Site>(
         (S.state site.old) (S.state site.new) }
     ensures numbers { (s : State) → Fits engine.old (S.state site.old) s
         → IsQuiet (S.state site.old)
-        → CountsOn result engine.old engine.new (S.state site.old) (S.state site.new) s (step s line []).after (line_checkpoints s line) }
+        → CountsOn result engine.old engine.new (S.state site.old) (S.state site.new)
+        s (step s line []).after (line_checkpoints s line) }
     ensures left { IsTrue (S.state site.old).honest
         → (S.state site.new).left ≡ (S.state site.old).left }
     ensures stays_quiet { IsTrue (S.state site.old).honest → IsQuiet (S.state site.old)

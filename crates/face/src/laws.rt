@@ -1,5 +1,6 @@
 // Laws on what an image stands for; their lemmas stand in proofs/.
 ghost use Rattle.face.specs.Image.{OneMeaning, OneOpening, OpensWhereItStands, BlankLaw};
+ghost use Rattle.face.specs.Lives.{LawOfLives};
 
 /// Law: an image stands for one table and one number of commits only.
 pub fn one_meaning()
@@ -26,3 +27,9 @@ pub fn blank_stands()
 {
     image_meaning::blank_stands();
 }
+
+/// Law: what a run leaves opens again, with the table after some commits in the range of what was told: what a crash at
+/// any moment of it leaves, on any honest and quiet site, and the site itself, once nothing of it is loose.
+pub fn what_is_left_opens()
+    ensures { LawOfLives }
+{}

@@ -1,5 +1,5 @@
 // A stated workload: its sets, the gets on the same records, and its summary.
-ghost use Rattle.std.specs.Prelude.{◌≡◌, ◌≢◌, ◌⊎◌, ◌*◌, true, false, [], ◌∷◌, IfOk, IfErr, if◌then◌else◌, OnOk};
+ghost use Rattle.std.specs.Prelude.{◌≡◌, ◌≢◌, ◌*◌, true, false, [], ◌∷◌, IfOk, IfErr, if◌then◌else◌, OnOk};
 ghost use Rattle.face.specs.Causes.{SameFaults};
 ghost use Rattle.site.specs.Calls.{Goes};
 ghost use Rattle.site.specs.declared.geometry.Geometry.{Geometry};
@@ -12,14 +12,14 @@ ghost use Rattle.record_model.specs.Run.{is_cache};
 ghost use Rattle.engine.specs.Fits.{Fits};
 ghost use Rattle.engine.specs.Going.{MayGoOn, sizes_of};
 ghost use Rattle.engine.specs.Leaves.{HasNoSizes};
-ghost use Rattle.face.specs.Causes.{HasCause, HasCauses, HasLogRoom, NoFaultRose, Halts};
+ghost use Rattle.face.specs.Causes.{HasCause, Halts};
+ghost use Rattle.face.specs.TopCall.{LoadContract};
 ghost use Rattle.face.specs.Run.{step};
-ghost use Rattle.face.specs.Range.{NeverWears};
 ghost use Rattle.face.specs.Headline.{IsGood};
 ghost use Rattle.face.specs.Words.{HasLoadLimits, RefusesDevices};
 ghost use Rattle.face.specs.Workload as stated;
 ghost use Rattle.face.specs.Workload.{found_in, get_lines, load_run, set_lines, summary_of, summary_text};
-ghost use Rattle.face.specs.Loads.{CarriesFirst, CarriesOut, HasCounted, HasMade, LoadHeadline, LoadWorks};
+ghost use Rattle.face.specs.Loads.{CarriesFirst, CarriesOut, HasCounted, HasMade, LoadWorks};
 
 use crate::commands::carry_out;
 use crate::fault_lines::tell_halt;
@@ -92,7 +92,8 @@ fn carry_on<S: Site>(
     requires going { MayGoOn engine.old (S.state site.old) }
     requires plain { is_cache line ≡ false }
     ensures course { CarriesOut result (line ∷ []) engine.old engine.new (S.state site.old) (S.state site.new) }
-    ensures reply { (s : State) → Fits engine.old (S.state site.old) s → IfOk result (λ reply. reply ≡ (step s line []).reply) }
+    ensures reply { (s : State) → Fits engine.old (S.state site.old) s
+        → IfOk result (λ reply. reply ≡ (step s line []).reply) }
     ensures faults { OnOk result (SameFaults (S.state site.old) (S.state site.new)) }
 {
     match carry_out(engine, site, line) {
@@ -101,7 +102,8 @@ fn carry_on<S: Site>(
     }
 }
 
-// Makes the sets of a load, or the first of them, and counts those that were committed, and the checkpoints that they made.
+// Makes the sets of a load, or the first of them, and counts those that were committed, and the checkpoints that they
+// made.
 fn make_sets<S: Site>(
     engine: &mut Engine,
     site: &mut S,
@@ -110,8 +112,11 @@ fn make_sets<S: Site>(
 ) -> Result<Made, Halt>
     requires going { MayGoOn engine.old (S.state site.old) }
     requires pages { pages ≢ 0 }
-    ensures course { CarriesFirst result (set_lines (32 * pages) load.now.seed load.now.count) engine.old engine.new (S.state site.old) (S.state site.new) }
-    ensures made { (s : State) → Fits engine.old (S.state site.old) s → IfOk result (λ made. HasMade (model.turns true s (set_lines (32 * pages) load.now.seed load.now.count) []) made.committed made.checkpoints) }
+    ensures course { CarriesFirst result (set_lines (32 * pages) load.now.seed load.now.count)
+        engine.old engine.new (S.state site.old) (S.state site.new) }
+    ensures made { (s : State) → Fits engine.old (S.state site.old) s → IfOk result (λ made.
+        HasMade (model.turns true s (set_lines (32 * pages) load.now.seed load.now.count) [])
+        made.committed made.checkpoints) }
     ensures faults { OnOk result (SameFaults (S.state site.old) (S.state site.new)) }
 {
     works_add_up();
@@ -145,8 +150,10 @@ fn make_gets<S: Site>(
 ) -> Result<u32, Halt>
     requires going { MayGoOn engine.old (S.state site.old) }
     requires pages { pages ≢ 0 }
-    ensures course { CarriesFirst result (get_lines (32 * pages) load.now.seed load.now.count) engine.old engine.new (S.state site.old) (S.state site.new) }
-    ensures count { (s : State) → Fits engine.old (S.state site.old) s → IfOk result (λ count. count ≡ found_in (model.turns true s (get_lines (32 * pages) load.now.seed load.now.count) [])) }
+    ensures course { CarriesFirst result (get_lines (32 * pages) load.now.seed load.now.count)
+        engine.old engine.new (S.state site.old) (S.state site.new) }
+    ensures count { (s : State) → Fits engine.old (S.state site.old) s → IfOk result (λ count.
+        count ≡ found_in (model.turns true s (get_lines (32 * pages) load.now.seed load.now.count) [])) }
     ensures faults { OnOk result (SameFaults (S.state site.old) (S.state site.new)) }
 {
     works_add_up();
@@ -184,8 +191,10 @@ fn summary_line(load: &Load, counts: Counts) -> Line
 // All of a load but its summary.
 fn work<S: Site>(alloc: Global, load: &Load, site: &mut S) -> Result<Counts, Halt>
     requires limits { HasLoadLimits load.now }
-    ensures works { (g : Geometry) (opening : State) → IsGood g opening (S.state site.old) → LoadWorks load.now.pool (load_run g opening load.now) [] (S.state site.old) (S.state site.new) result }
-    ensures counts { (g : Geometry) (opening : State) → IsGood g opening (S.state site.old) → IfOk result (λ counts. HasCounted (load_run g opening load.now) counts.committed counts.checkpoints counts.found) }
+    ensures works { (g : Geometry) (opening : State) → IsGood g opening (S.state site.old)
+        → LoadWorks load.now.pool (load_run g opening load.now) [] (S.state site.old) (S.state site.new) result }
+    ensures counts { (g : Geometry) (opening : State) → IsGood g opening (S.state site.old) → IfOk result (λ counts.
+        HasCounted (load_run g opening load.now) counts.committed counts.checkpoints counts.found) }
     ensures halts { IfErr result (λ halt. (halt ≢ Halt.Input) × (halt ≢ Halt.Limit)) }
     ensures cause { IfErr result (λ halt. HasCause halt (S.state site.old) (S.state site.new)) }
     ensures refuses { HasNoSizes (S.state site.old) → Halts result (S.state site.old) (S.state site.new) }
@@ -216,7 +225,9 @@ fn work<S: Site>(alloc: Global, load: &Load, site: &mut S) -> Result<Counts, Hal
 // A load with its summary, but without a fault line.
 fn load_and_tell<S: Site>(alloc: Global, load: &Load, site: &mut S) -> Result<(), Halt>
     requires limits { HasLoadLimits load.now }
-    ensures works { (g : Geometry) (opening : State) → IsGood g opening (S.state site.old) → LoadWorks load.now.pool (load_run g opening load.now) (summary_text (load_run g opening load.now) load.now) (S.state site.old) (S.state site.new) result }
+    ensures works { (g : Geometry) (opening : State) → IsGood g opening (S.state site.old)
+        → LoadWorks load.now.pool (load_run g opening load.now) (summary_text (load_run g opening load.now) load.now)
+        (S.state site.old) (S.state site.new) result }
     ensures halts { IfErr result (λ halt. (halt ≢ Halt.Input) × (halt ≢ Halt.Limit)) }
     ensures cause { IfErr result (λ halt. HasCause halt (S.state site.old) (S.state site.new)) }
     ensures refuses { HasNoSizes (S.state site.old) → Halts result (S.state site.old) (S.state site.new) }
@@ -233,22 +244,17 @@ fn load_and_tell<S: Site>(alloc: Global, load: &Load, site: &mut S) -> Result<()
     }
 }
 
-/// The work of `load`: restart, then a set for each number that the generator makes of the seed, then a get on each of the
-/// same records, and a line that says how many sets were committed, how many checkpoints they made, and how many gets
-/// found a value. The replies aren't told, and no input is taken. The statuses are those of a run.
+/// The work of `load`: restart, then a set for each number that the generator makes of the seed, then a get on each of
+/// the same records, and a line that says how many sets were committed, how many checkpoints they made, and how many
+/// gets found a value. The replies aren't told, and no input is taken. The statuses are those of a run.
 pub fn serve_load<S: Site>(alloc: Global, load: &Load, site: &mut S) -> u8
     requires limits { HasLoadLimits load.now }
 
-    // What is told, and what a crash at any moment leaves.
-    ensures headline { (g : Geometry) (opening : State) → IsGood g opening (S.state site.old) → LoadHeadline load.now g opening (S.state site.old) (S.state site.new) result }
-    // Where nothing fails, no group is to be appended to a ring that stands at its end, and no ring on the log's device stands there, the
-    // status is 0, or memory was wanted.
-    ensures complete { (g : Geometry) (opening : State) → IsGood g opening (S.state site.old) → NoFaultRose (S.state site.old) (S.state site.new) → NeverWears load.now.pool (load_run g opening load.now) (S.state site.old).image → HasLogRoom g (S.state site.new) → (result ≡ 0) ⊎ (result ≡ 4) }
+    // What is told, what a crash at any moment leaves, and when each status comes.
+    ensures load { LoadContract load.now (S.state site.old) (S.state site.new) result }
     // Devices without sizes have status 9.
-    ensures sizes { HasNoSizes (S.state site.old) → RefusesDevices result (S.state site.old) (S.state site.new) }
-    // When each status comes; none that speaks of input does.
-    ensures causes { HasCauses result (S.state site.old) (S.state site.new) }
-    ensures untaken { (result ≢ 5) × (result ≢ 7) }
+    ensures sizes { HasNoSizes (S.state site.old)
+        → RefusesDevices result (S.state site.old) (S.state site.new) }
     ensures goes { Goes (S.state site.old) (S.state site.new) }
     ensures faults { result ≡ 0 → SameFaults (S.state site.old) (S.state site.new) }
 {

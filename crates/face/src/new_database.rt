@@ -4,8 +4,9 @@ ghost use Rattle.site.specs.Faults.{CallFaults};
 ghost use Rattle.face.specs.Causes.{SameFaults};
 ghost use Rattle.site.specs.Geometry.{HasLengths};
 ghost use Rattle.site.specs.State.{content_of, faults_of};
-ghost use Rattle.site.specs.Calls.{Goes, Rose, IsUnchanged};
-ghost use Rattle.face.specs.New.{AreZero, IsFirst, IsBlankAt, IsFirstAt, IsBlank, IsUnfitAt, IsNotBlank, IsUnfit, IsFit, New, NewCauses, unfit_status};
+ghost use Rattle.site.specs.Calls.{Goes, Rose, IsUnchanged, SameReads};
+ghost use Rattle.face.specs.New.{AreZero, IsFirst, IsBlankAt, IsFirstAt, IsBlank, IsUnfitAt, IsNotBlank, IsUnfit};
+ghost use Rattle.face.specs.New.{IsFit, New, NewCauses, unfit_status};
 
 use crate::fault_lines::{tell_ready, tell_unfit};
 use site::{Dev, Failed, Geometry, Site};
@@ -59,11 +60,16 @@ fn read_first<S: Site>(
 ) -> Result<Option<u64>, Failed>
     requires small { at + length into.old < 2 ^ 64 }
     requires inside { at + length into.old ≤ length (content_of dev (S.state site.old).image) }
-    ensures some { IsTrue (S.state site.old).honest → IfOk result (λ found. IfSome found (IsFirst (content_of dev (S.state site.old).image) at (at + length into.old))) }
-    ensures none { IsTrue (S.state site.old).honest → IfOk result (λ found. IfNone found (AreZero (content_of dev (S.state site.old).image) at (at + length into.old))) }
+    ensures some { IsTrue (S.state site.old).honest
+        → IfOk result (λ found. IfSome found (IsFirst (content_of dev (S.state site.old).image) at
+        (at + length into.old))) }
+    ensures none { IsTrue (S.state site.old).honest
+        → IfOk result (λ found. IfNone found (AreZero (content_of dev (S.state site.old).image) at
+        (at + length into.old))) }
     ensures same { IsTrue (S.state site.old).honest → IsUnchanged (S.state site.old) (S.state site.new) }
     ensures goes { Goes (S.state site.old) (S.state site.new) }
-    ensures cause { IfErr result (λ failed. Rose (faults_of dev (S.state site.old)) (faults_of dev (S.state site.new))) }
+    ensures cause { IfErr result (λ failed.
+        Rose (faults_of dev (S.state site.old)) (faults_of dev (S.state site.new))) }
     ensures faults { CallFaults dev result (S.state site.old) (S.state site.new) }
 {
     site.read_at(dev, at, into)?;
@@ -75,11 +81,14 @@ fn read_first<S: Site>(
 
 // The place of the device's first octet that isn't zero. Nothing changes.
 fn find_nonzero<S: Site>(site: &mut S, dev: Dev) -> Result<Option<u64>, Failed>
-    ensures some { IsTrue (S.state site.old).honest → IfOk result (λ found. IfSome found (λ place. IsFirstAt dev place (S.state site.old).image)) }
-    ensures none { IsTrue (S.state site.old).honest → IfOk result (λ found. IfNone found (IsBlankAt dev (S.state site.old).image)) }
+    ensures some { IsTrue (S.state site.old).honest
+        → IfOk result (λ found. IfSome found (λ place. IsFirstAt dev place (S.state site.old).image)) }
+    ensures none { IsTrue (S.state site.old).honest
+        → IfOk result (λ found. IfNone found (IsBlankAt dev (S.state site.old).image)) }
     ensures same { IsTrue (S.state site.old).honest → IsUnchanged (S.state site.old) (S.state site.new) }
     ensures goes { Goes (S.state site.old) (S.state site.new) }
-    ensures cause { IfErr result (λ failed. Rose (faults_of dev (S.state site.old)) (faults_of dev (S.state site.new))) }
+    ensures cause { IfErr result (λ failed.
+        Rose (faults_of dev (S.state site.old)) (faults_of dev (S.state site.new))) }
     ensures faults { CallFaults dev result (S.state site.old) (S.state site.new) }
 {
     let mut buffer = [0u8; PIECE];
@@ -140,6 +149,8 @@ fn has_lengths<S: Site>(site: &S, geometry: &Geometry) -> bool
 fn test_fit<S: Site>(site: &mut S, geometry: &Geometry) -> Result<(), Unfit>
     ensures fit { OnOk result (IsFit geometry.now (S.state site.old)) }
     ensures unfit { IfErr result (λ unfit. IsUnfit unfit geometry.now (S.state site.old) (S.state site.new)) }
+    ensures unread { (HasLengths geometry.now (S.state site.old).image → ⊥)
+        → SameReads (S.state site.old) (S.state site.new) }
     ensures same { IsTrue (S.state site.old).honest → IsUnchanged (S.state site.old) (S.state site.new) }
     ensures goes { Goes (S.state site.old) (S.state site.new) }
     ensures faults { OnOk result (SameFaults (S.state site.old) (S.state site.new)) }
@@ -150,9 +161,9 @@ fn test_fit<S: Site>(site: &mut S, geometry: &Geometry) -> Result<(), Unfit>
     test_all(site)
 }
 
-/// The work of `new`: tells `ready` with the sizes where the devices have these lengths and are blank. The answer is the
-/// status: 0, 3 where a device failed, 6 where telling failed, 9 where the devices don't have the lengths, 10 where they
-/// aren't blank.
+/// The work of `new`: tells `ready` with the sizes where the devices have these lengths and are blank. The answer is
+/// the status: 0, 3 where a device failed, 6 where telling failed, 9 where the devices don't have the lengths, 10 where
+/// they aren't blank.
 pub fn make_new<S: Site>(geometry: &Geometry, site: &mut S) -> u8
     ensures new { New geometry.now (S.state site.old) (S.state site.new) result }
     ensures causes { NewCauses geometry.now (S.state site.old) (S.state site.new) result }

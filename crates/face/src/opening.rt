@@ -26,17 +26,31 @@ use std::alloc::Global;
 /// Restart, and the line that opens the run. No input is taken.
 pub fn open<S: Site>(alloc: Global, pool: u32, site: &mut S) -> Result<Engine, Halt>
     requires pool { (1 ≤ pool) × (pool ≤ 4096) }
-    ensures going { (run : Run) → Begins run (S.state site.old) → IfOk result (λ engine. Going run (S.state site.old) (S.state site.new) engine 0) }
+    ensures going { (run : Run) → Begins run (S.state site.old)
+        → IfOk result (λ engine. Going run (S.state site.old) (S.state site.new) engine 0) }
     // The same, whatever is loose at entry.
-    ensures fits { IsTrue (S.state site.old).honest → (g : Geometry) (table : List Content) (commits : ℕ) → Stands g (S.state site.old).image table commits → IfOk result (λ engine. ((s : State) × Fits engine (S.state site.new) s) × (sizes_of engine.store ≡ g)) }
-    ensures stops { (run : Run) → Begins run (S.state site.old) → IfErr result (λ halt. Stops run 0 (S.state site.old) (S.state site.new) halt) }
+    ensures fits { IsTrue (S.state site.old).honest → (g : Geometry) (table : List Content) (commits : ℕ)
+        → Stands g (S.state site.old).image table commits → IfOk result (λ engine. ((s : State)
+        × Fits engine (S.state site.new) s) × (sizes_of engine.store ≡ g)) }
+    ensures stops { (run : Run) → Begins run (S.state site.old)
+        → IfErr result (λ halt. Stops run 0 (S.state site.old) (S.state site.new) halt) }
     // The page cache has done the restart's work.
-    ensures paged { (run : Run) → Begins run (S.state site.old) → (newest : Option Master) (blocks : List (List LogRecord)) → IsSound newest run.geometry (S.state site.old).image blocks → IfOk result (λ engine. IsPaged pool run newest (S.state site.old).image blocks engine 0) }
-    ensures worn { (run : Run) → Begins run (S.state site.old) → IsErrOf result (Halt.Stop (Stop.Worn Dev.Flash)) → Outgrows pool run (S.state site.old).image 0 }
-    ensures reads { (run : Run) → Begins run (S.state site.old) → ReadsUpTo pool run 0 (S.state site.old) (S.state site.new) }
+    ensures paged { (run : Run) → Begins run (S.state site.old)
+        → (newest : Option Master) (blocks : List (List LogRecord))
+        → IsSound newest run.geometry (S.state site.old).image blocks
+        → IfOk result (λ engine. IsPaged pool run newest (S.state site.old).image blocks engine 0) }
+    ensures worn { (run : Run) → Begins run (S.state site.old) → IsErrOf result (Halt.Stop (Stop.Worn Dev.Flash))
+        → Outgrows pool run (S.state site.old).image 0 }
+    ensures reads { (run : Run) → Begins run (S.state site.old)
+        → ReadsUpTo pool run 0 (S.state site.old) (S.state site.new) }
     // No ring number is skipped.
-    ensures counted { (run : Run) → Begins run (S.state site.old) → (newest : Option Master) (blocks : List (List LogRecord)) → IsSound newest run.geometry (S.state site.old).image blocks → IfOk result (λ engine. IsCounted run (log_under newest blocks) (S.state site.old).image (S.state site.new).image engine 0) }
-    ensures numbers { (run : Run) → Begins run (S.state site.old) → SkipsNoneUpTo run 0 (S.state site.old).image (S.state site.new).image }
+    ensures counted { (run : Run) → Begins run (S.state site.old)
+        → (newest : Option Master) (blocks : List (List LogRecord))
+        → IsSound newest run.geometry (S.state site.old).image blocks
+        → IfOk result (λ engine. IsCounted run (log_under newest blocks) (S.state site.old).image
+        (S.state site.new).image engine 0) }
+    ensures numbers { (run : Run) → Begins run (S.state site.old)
+        → SkipsNoneUpTo run 0 (S.state site.old).image (S.state site.new).image }
     ensures left { IsTrue (S.state site.old).honest → (S.state site.new).left ≡ (S.state site.old).left }
     ensures goes_on { IfOk result (λ engine. MayGoOn engine (S.state site.new)) }
     ensures halts { IfErr result (λ halt. (halt ≢ Halt.Input) × (halt ≢ Halt.Limit)) }

@@ -1,4 +1,5 @@
-// Random lines in a log of the least size, over several lives. What is told is compared, by its hash, with what another program told.
+// Random lines in a log of the least size, over several lives. What is told is compared, by its hash, with what another
+// program told.
 use crate::top::face;
 use site::{Geometry, MemSite};
 use std::alloc::{AllocError, Global};

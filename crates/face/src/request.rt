@@ -3,7 +3,8 @@ ghost use Rattle.std.specs.Prelude.{◌≡◌, ◌↔◌, IfSome, IfNone, IfOk, 
 ghost use Rattle.std.specs.List.{list_any};
 ghost use Rattle.clap.specs.Words.{found_of, kind_of, new_rule, rule_of};
 ghost use Rattle.clap.specs.declared.error.kind.ErrorKind.TheVariants.{OutOfMemory};
-ghost use Rattle.face.specs.Program.{AreSizes, IsLike, IsLoadOf, IsPool, IsReadFrom, bare, load_words, new_words, program, run_words, text};
+ghost use Rattle.face.specs.Program.{AreSizes, IsLike, IsLoadOf, IsPool, IsReadFrom, bare, load_words, new_words};
+ghost use Rattle.face.specs.Program.{program, run_words, text};
 ghost use Rattle.face.specs.Words.{IsRight, IsRequest, HasDash, HasLoadLimits, is_dashed, words_of};
 ghost use Rattle.face.specs.declared.request.Load.{Load};
 ghost use Rattle.face.specs.declared.request.Unread.{Unread};
@@ -155,8 +156,10 @@ fn sizes_in(new: &ArgMatches<'_>) -> Option<Geometry>
 
 // The workload that three texts state, if its numbers are within the limits.
 fn load_of(count: &str, seed: &str, pool: &str) -> Option<Load>
-    ensures load { IfSome result (λ l. HasLoadLimits l × (count.now ≡ decimal l.count) × (seed.now ≡ decimal l.seed) × (pool.now ≡ decimal l.pool)) }
-    ensures none { IfNone result ((l : Load) → HasLoadLimits l → count.now ≡ decimal l.count → seed.now ≡ decimal l.seed → pool.now ≡ decimal l.pool → ⊥) }
+    ensures load { IfSome result (λ l. HasLoadLimits l × (count.now ≡ decimal l.count) × (seed.now ≡ decimal l.seed)
+        × (pool.now ≡ decimal l.pool)) }
+    ensures none { IfNone result ((l : Load) → HasLoadLimits l → count.now ≡ decimal l.count → seed.now ≡ decimal l.seed
+        → pool.now ≡ decimal l.pool → ⊥) }
 {
     let Some(count) = number_within(count.as_bytes(), 1, COUNT_MAX) else {
         return None;
@@ -198,7 +201,8 @@ fn unread_by(kind: ErrorKind) -> Unread
 
 // What words ask for that `clap` has read.
 fn request_in(matches: &ArgMatches<'_>) -> Option<Request>
-    ensures some { (words : List (List ℕ)) → IsReadFrom words matches.now → IfSome result (λ request. IsRequest request words) }
+    ensures some { (words : List (List ℕ)) → IsReadFrom words matches.now
+        → IfSome result (λ request. IsRequest request words) }
     ensures none { (words : List (List ℕ)) → IsReadFrom words matches.now → IfNone result (IsRight words → ⊥) }
 {
     if let Some(run) = matches.subcommand_matches("run") {

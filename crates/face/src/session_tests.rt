@@ -140,8 +140,8 @@ fn feed_long_set(site: &mut MemSite, record: &[u8]) -> Result<(), Fail> {
     Ok(())
 }
 
-// The devices after a crash that leaves two sessions unfinished: one has written the records 0 to 3 over long values, and
-// record 0 once more, the other one record 64. Record 7 was committed behind them.
+// The devices after a crash that leaves two sessions unfinished: one has written the records 0 to 3 over long values,
+// and record 0 once more, the other one record 64. Record 7 was committed behind them.
 fn unfinished(alloc: Global) -> Result<MemSite, Fail> {
     let mut site = MemSite::new(alloc, &STANDARD)?;
     for record in [b"0".as_slice(), b"1", b"2", b"3"] {
@@ -188,7 +188,8 @@ fn is_long_value(line: &[u8]) -> bool {
             .all(|octet| octet == b"5a".as_slice()))
 }
 
-// The status of a restart by the change at which it is stopped: it makes so many changes of the devices, and tells one line.
+// The status of a restart by the change at which it is stopped: it makes so many changes of the devices, and tells one
+// line.
 fn status_at(changes: u64, made: u64) -> u8 {
     if changes < made {
         3

@@ -1,5 +1,6 @@
 // The lines of the input.
-ghost use Rattle.std.specs.Prelude.{◌≡◌, ◌⊎◌, ◌+◌, ◌^◌, ◌≤◌, ◌<◌, ◌≢◌, IsTrue, IfOk, IfErr, OnOk, OnErr, Err, None, false, true, [], ◌∷◌, length, take, nat_lt, min, slice_set, if◌then◌else◌};
+ghost use Rattle.std.specs.Prelude.{◌≡◌, ◌⊎◌, ◌+◌, ◌^◌, ◌≤◌, ◌<◌, ◌≢◌, IsTrue, IfOk, IfErr, OnOk, OnErr, Err, None};
+ghost use Rattle.std.specs.Prelude.{false, true, [], ◌∷◌, length, take, nat_lt, min, slice_set, if◌then◌else◌};
 ghost use Rattle.face.specs.Causes.{SameFaults};
 ghost use Rattle.site.specs.Calls.{Goes, Rose};
 ghost use Rattle.face.specs.Lines.{to_hear, total, IsSource, HasEnded, HearsOnly, HearsOctet, Hears, CutsOff, IsCutOff};
@@ -23,7 +24,8 @@ pub enum Heard {
     End,
 }
 
-/// Octets that were taken and not yet cut into lines. Once a take has answered that the input ended, none is made any more.
+/// Octets that were taken and not yet cut into lines. Once a take has answered that the input ended, none is made any
+/// more.
 #[derive(Drop)]
 pub struct Source {
     pub buffer: [u8; PIECE],
@@ -57,11 +59,14 @@ impl Source {
         requires full { 2 ^ 40 ≤ self.old.taken }
         ensures source { IsSource self.new }
         ensures none { IfOk result (λ some. (some ≡ false) × (self.new.ended ≡ true)) }
-        ensures end { IsTrue (S.state site.old).honest → OnOk result (((S.state site.old).left ≡ []) × ((S.state site.new).left ≡ [])) }
+        ensures end { IsTrue (S.state site.old).honest → OnOk result (((S.state site.old).left ≡ [])
+            × ((S.state site.new).left ≡ [])) }
         ensures empty { self.new.from ≡ self.new.to }
         ensures taken { self.new.taken ≡ self.old.taken }
         ensures same { IsTrue (S.state site.old).honest → HearsOnly (S.state site.old) (S.state site.new) }
-        ensures cut_off { IsTrue (S.state site.old).honest → IfErr result (λ halt. CutsOff halt (total self.old (S.state site.old)) (S.state site.old).left (S.state site.new).left) }
+        ensures cut_off { IsTrue (S.state site.old).honest
+            → IfErr result (λ halt. CutsOff halt (total self.old (S.state site.old)) (S.state site.old).left
+            (S.state site.new).left) }
         ensures halts { IfErr result (λ halt. (halt ≡ Halt.Input) ⊎ (halt ≡ Halt.Limit)) }
         ensures goes { Goes (S.state site.old) (S.state site.new) }
         ensures input { result ≡ Err Halt.Input → Rose (S.state site.old).input_faults (S.state site.new).input_faults }
@@ -81,12 +86,18 @@ impl Source {
     fn fill<S: Site>(&mut self, site: &mut S) -> Result<bool, Halt>
         requires { IsSource self.old }
         ensures source { IsSource self.new }
-        ensures some { IfOk result (λ some. some ≡ true → (self.new.from < self.new.to) × (self.old.ended ≡ false) × (self.new.ended ≡ false)) }
+        ensures some { IfOk result (λ some. some ≡ true → (self.new.from < self.new.to) × (self.old.ended ≡ false)
+            × (self.new.ended ≡ false)) }
         ensures none { IfOk result (λ some. some ≡ false → (self.new.from ≡ self.new.to) × (self.new.ended ≡ true)) }
-        ensures all { IsTrue (S.state site.old).honest → OnOk result (to_hear self.new (S.state site.new) ≡ to_hear self.old (S.state site.old)) }
-        ensures end { IsTrue (S.state site.old).honest → HasEnded self.old (S.state site.old) → IfOk result (λ some. some ≡ false → (S.state site.new).left ≡ []) }
-        ensures count { IsTrue (S.state site.old).honest → OnOk result (total self.new (S.state site.new) ≡ total self.old (S.state site.old)) }
-        ensures cut_off { IsTrue (S.state site.old).honest → IfErr result (λ halt. CutsOff halt (total self.old (S.state site.old)) (to_hear self.old (S.state site.old)) (S.state site.new).left) }
+        ensures all { IsTrue (S.state site.old).honest
+            → OnOk result (to_hear self.new (S.state site.new) ≡ to_hear self.old (S.state site.old)) }
+        ensures end { IsTrue (S.state site.old).honest → HasEnded self.old (S.state site.old)
+            → IfOk result (λ some. some ≡ false → (S.state site.new).left ≡ []) }
+        ensures count { IsTrue (S.state site.old).honest
+            → OnOk result (total self.new (S.state site.new) ≡ total self.old (S.state site.old)) }
+        ensures cut_off { IsTrue (S.state site.old).honest
+            → IfErr result (λ halt. CutsOff halt (total self.old (S.state site.old))
+            (to_hear self.old (S.state site.old)) (S.state site.new).left) }
         ensures going { OnErr result (self.old.ended ≡ false) }
         ensures same { IsTrue (S.state site.old).honest → HearsOnly (S.state site.old) (S.state site.new) }
         ensures halts { IfErr result (λ halt. (halt ≡ Halt.Input) ⊎ (halt ≡ Halt.Limit)) }
@@ -118,10 +129,16 @@ impl Source {
     fn next_octet<S: Site>(&mut self, site: &mut S) -> Result<Option<u8>, Halt>
         requires { IsSource self.old }
         ensures source { IsSource self.new }
-        ensures octet { IsTrue (S.state site.old).honest → HasEnded self.old (S.state site.old) → IfOk result (λ octet. HearsOctet octet self.old.ended self.new.ended (to_hear self.old (S.state site.old)) (to_hear self.new (S.state site.new))) }
-        ensures ended { IsTrue (S.state site.old).honest → HasEnded self.old (S.state site.old) → OnOk result (HasEnded self.new (S.state site.new)) }
-        ensures count { IsTrue (S.state site.old).honest → OnOk result (total self.new (S.state site.new) ≡ total self.old (S.state site.old)) }
-        ensures cut_off { IsTrue (S.state site.old).honest → IfErr result (λ halt. CutsOff halt (total self.old (S.state site.old)) (to_hear self.old (S.state site.old)) (S.state site.new).left) }
+        ensures octet { IsTrue (S.state site.old).honest → HasEnded self.old (S.state site.old)
+            → IfOk result (λ octet. HearsOctet octet self.old.ended self.new.ended (to_hear self.old (S.state site.old))
+            (to_hear self.new (S.state site.new))) }
+        ensures ended { IsTrue (S.state site.old).honest → HasEnded self.old (S.state site.old)
+            → OnOk result (HasEnded self.new (S.state site.new)) }
+        ensures count { IsTrue (S.state site.old).honest
+            → OnOk result (total self.new (S.state site.new) ≡ total self.old (S.state site.old)) }
+        ensures cut_off { IsTrue (S.state site.old).honest
+            → IfErr result (λ halt. CutsOff halt (total self.old (S.state site.old))
+            (to_hear self.old (S.state site.old)) (S.state site.new).left) }
         ensures going { OnErr result (self.old.ended ≡ false) }
         ensures same { IsTrue (S.state site.old).honest → HearsOnly (S.state site.old) (S.state site.new) }
         ensures halts { IfErr result (λ halt. (halt ≡ Halt.Input) ⊎ (halt ≡ Halt.Limit)) }
@@ -140,14 +157,21 @@ impl Source {
         }
     }
 
-    /// The next line. Nothing changes but the input. Where taking fails, or goes past the limit, the octets of an unfinished line are lost.
+    /// The next line. Nothing changes but the input. Where taking fails, or goes past the limit, the octets of an
+    /// unfinished line are lost.
     pub fn next<S: Site>(&mut self, site: &mut S) -> Result<Heard, Halt>
         requires { IsSource self.old }
         ensures source { IsSource self.new }
-        ensures heard { IsTrue (S.state site.old).honest → HasEnded self.old (S.state site.old) → IfOk result (λ heard. Hears heard self.old.ended self.new.ended (to_hear self.old (S.state site.old)) (to_hear self.new (S.state site.new))) }
-        ensures ended { IsTrue (S.state site.old).honest → HasEnded self.old (S.state site.old) → OnOk result (HasEnded self.new (S.state site.new)) }
-        ensures count { IsTrue (S.state site.old).honest → OnOk result (total self.new (S.state site.new) ≡ total self.old (S.state site.old)) }
-        ensures cut_off { IsTrue (S.state site.old).honest → HasEnded self.old (S.state site.old) → IfErr result (λ halt. IsCutOff halt self.old.ended (total self.old (S.state site.old)) (to_hear self.old (S.state site.old)) (S.state site.new).left) }
+        ensures heard { IsTrue (S.state site.old).honest → HasEnded self.old (S.state site.old)
+            → IfOk result (λ heard. Hears heard self.old.ended self.new.ended (to_hear self.old (S.state site.old))
+            (to_hear self.new (S.state site.new))) }
+        ensures ended { IsTrue (S.state site.old).honest → HasEnded self.old (S.state site.old)
+            → OnOk result (HasEnded self.new (S.state site.new)) }
+        ensures count { IsTrue (S.state site.old).honest
+            → OnOk result (total self.new (S.state site.new) ≡ total self.old (S.state site.old)) }
+        ensures cut_off { IsTrue (S.state site.old).honest → HasEnded self.old (S.state site.old)
+            → IfErr result (λ halt. IsCutOff halt self.old.ended (total self.old (S.state site.old))
+            (to_hear self.old (S.state site.old)) (S.state site.new).left) }
         ensures same { IsTrue (S.state site.old).honest → HearsOnly (S.state site.old) (S.state site.new) }
         ensures halts { IfErr result (λ halt. (halt ≡ Halt.Input) ⊎ (halt ≡ Halt.Limit)) }
         ensures goes { Goes (S.state site.old) (S.state site.new) }

@@ -156,7 +156,8 @@ fn a_set_fills_the_first_slot(rt: HostRuntime) -> Result<(), Fail> {
     let log = site.content(Dev::Log);
     let slot = log.get(1_536..1_600);
     assert!(rt; slot.is_some_and(|slot| slot == FIRST_SLOT.as_slice()));
-    // The restart's master unit, which says nothing: the log keeps the blocks from the first one on, and no transaction is unfinished.
+    // The restart's master unit, which says nothing: the log keeps the blocks from the first one on, and no transaction
+    // is unfinished.
     assert!(rt; log.get(0) == Some(&0xA5));
     assert!(rt; log.iter().take(1_536).skip(1).all(|octet| *octet == 0));
     assert!(rt; log.iter().skip(1_600).all(|octet| *octet == 0));

@@ -10,11 +10,13 @@ use record_model::Reply;
 use shell_text::{line_count, reply_line};
 use site::{Failed, Site, tell_all};
 
-/// Tells the lines of a reply, each as one piece with its newline. A crash at any moment leaves the devices as they were,
-/// and some front of the reply's text told.
+/// Tells the lines of a reply, each as one piece with its newline. A crash at any moment leaves the devices as they
+/// were, and some front of the reply's text told.
 pub fn tell_reply<S: Site>(site: &mut S, reply: &Reply) -> Result<(), Failed>
-    ensures any_moment { IsTrue (S.state site.old).honest → EachMoment (S.state site.old) (S.state site.new) (TellsPart (reply_text reply.now) (S.state site.old)) }
-    ensures told { IsTrue (S.state site.old).honest → OnOk result ((S.state site.new).told ≡ (S.state site.old).told ++ reply_text reply.now) }
+    ensures any_moment { IsTrue (S.state site.old).honest
+        → EachMoment (S.state site.old) (S.state site.new) (TellsPart (reply_text reply.now) (S.state site.old)) }
+    ensures told { IsTrue (S.state site.old).honest
+        → OnOk result ((S.state site.new).told ≡ (S.state site.old).told ++ reply_text reply.now) }
     ensures same { IsTrue (S.state site.old).honest → SameDevices (S.state site.old) (S.state site.new) }
     ensures reads { SameReads (S.state site.old) (S.state site.new) }
     ensures goes { Goes (S.state site.old) (S.state site.new) }

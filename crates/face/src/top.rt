@@ -1,22 +1,18 @@
 // The top call, and the work of `run`.
-ghost use Rattle.std.specs.Prelude.{◌≡◌, ◌≢◌, ◌⊎◌, ◌≤◌, ℕ, List, Option, IfErr, [], true, OnOk};
+ghost use Rattle.std.specs.Prelude.{◌≡◌, ◌⊎◌, ◌≤◌, ℕ, List, Option, IfErr, OnOk};
 ghost use Rattle.face.specs.Causes.{SameFaults};
 ghost use Rattle.site.specs.Calls.{Goes};
 ghost use Rattle.face.specs.declared.halt.Halt.{Halt};
 ghost use Rattle.site.specs.declared.geometry.Geometry.{Geometry};
 ghost use Rattle.record_model.specs.declared.words.CacheLine.{CacheLine};
-ghost use Rattle.record_model.specs.State.{State};
 ghost use Rattle.record_model.specs.Run.{is_quit};
 ghost use Rattle.engine.specs.Leaves.{HasNoSizes};
-ghost use Rattle.face.specs.Causes.{HasCause, HasCauses, NoFaultRose, HasLogRoom, EndsInTime, Halts};
+ghost use Rattle.face.specs.Causes.{HasCause, Halts};
+ghost use Rattle.face.specs.TopCall.{LoadContract, NewContract, RunContract};
 ghost use Rattle.face.specs.Run.{Run, Begins, Works};
-ghost use Rattle.face.specs.Range.{run_of, NeverWears};
-ghost use Rattle.face.specs.Headline.{IsGood, Headline};
-ghost use Rattle.face.specs.New.{New, NewCauses};
 ghost use Rattle.face.specs.declared.request.Load.{Load};
-ghost use Rattle.face.specs.Workload.{load_run};
-ghost use Rattle.face.specs.Loads.{LoadHeadline};
-ghost use Rattle.face.specs.Words.{IsRun, IsNew, IsLoad, IsRight, HasDash, RefusesWords, RefusesDevices, LacksMemory, words_of};
+ghost use Rattle.face.specs.Words.{IsRun, IsNew, IsLoad, IsRight, HasDash, words_of};
+ghost use Rattle.face.specs.Words.{RefusesWords, RefusesDevices, LacksMemory};
 
 use crate::answer::answer;
 use crate::fault_lines::{tell_halt, tell_memory, tell_words};
@@ -45,7 +41,9 @@ fn quits(line: &Option<Command>) -> bool
 // All of a run but its fault line.
 fn work<S: Site>(alloc: Global, pool: u32, site: &mut S) -> Result<(), Halt>
     requires pool { (1 ≤ pool) × (pool ≤ 4096) }
-    ensures works { (listings : List (List CacheLine)) × ((run : Run) → Begins run (S.state site.old) → run.listings ≡ listings → Works pool run (S.state site.old) (S.state site.new) result) }
+    ensures works { (listings : List (List CacheLine))
+        × ((run : Run) → Begins run (S.state site.old) → run.listings ≡ listings
+        → Works pool run (S.state site.old) (S.state site.new) result) }
     ensures cause { IfErr result (λ halt. HasCause halt (S.state site.old) (S.state site.new)) }
     ensures refuses { HasNoSizes (S.state site.old) → Halts result (S.state site.old) (S.state site.new) }
     ensures goes { Goes (S.state site.old) (S.state site.new) }
@@ -79,23 +77,20 @@ fn work<S: Site>(alloc: Global, pool: u32, site: &mut S) -> Result<(), Halt>
     Err(Halt::Limit)
 }
 
-/// The work of `run`: restart, then the lines of the input. The answer is the status: 0 where the input was heard to its
-/// end, 3 where a device failed, 4 for want of memory, 5 where taking input failed, 6 where telling failed, 7 where the
-/// input is longer than 2^40 octets, 8 where the ring of groups on flash or a ring on the log's device stands at its end, 9 where the
-/// devices aren't sound. Memory may be wanted at any time; tests show that it isn't where there is enough.
+/// The work of `run`: restart, then the lines of the input. The answer is the status: 0 where the input was heard to
+/// its end, 3 where a device failed, 4 for want of memory, 5 where taking input failed, 6 where telling failed, 7 where
+/// the input is longer than 2^40 octets, 8 where the ring of groups on flash or a ring on the log's device stands at
+/// its end, 9 where the devices aren't sound. Memory may be wanted at any time; tests show that it isn't where there is
+/// enough.
 pub fn serve<S: Site>(alloc: Global, pool: u32, site: &mut S) -> u8
     requires from { 1 ≤ pool }
     requires to { pool ≤ 4096 }
 
-    // What is told, and what a crash at any moment leaves.
-    ensures headline { (g : Geometry) (opening : State) → IsGood g opening (S.state site.old) → Headline pool g opening (S.state site.old) (S.state site.new) result }
-    // Where nothing fails, no group is to be appended to a ring that stands at its end, no ring on the log's device stands there, and the
-    // input ends in time, the status is 0, or memory was wanted.
-    ensures complete { (g : Geometry) (opening : State) → IsGood g opening (S.state site.old) → NoFaultRose (S.state site.old) (S.state site.new) → NeverWears pool (run_of g opening true (S.state site.old).left []) (S.state site.old).image → HasLogRoom g (S.state site.new) → EndsInTime (S.state site.old) → (result ≡ 0) ⊎ (result ≡ 4) }
+    // What is told, what a crash at any moment leaves, and when each status comes.
+    ensures run { RunContract pool (S.state site.old) (S.state site.new) result }
     // Devices without sizes have status 9.
-    ensures sizes { HasNoSizes (S.state site.old) → RefusesDevices result (S.state site.old) (S.state site.new) }
-    // When each status comes.
-    ensures causes { HasCauses result (S.state site.old) (S.state site.new) }
+    ensures sizes { HasNoSizes (S.state site.old)
+        → RefusesDevices result (S.state site.old) (S.state site.new) }
     ensures goes { Goes (S.state site.old) (S.state site.new) }
     ensures faults { result ≡ 0 → SameFaults (S.state site.old) (S.state site.new) }
 {
@@ -112,8 +107,9 @@ pub fn serve<S: Site>(alloc: Global, pool: u32, site: &mut S) -> u8
 
 // Memory was wanted before anything was done: the line is told, and the status is 4.
 fn lack_memory<S: Site>(site: &mut S) -> u8
-    ensures headline { (pool : ℕ) (g : Geometry) (opening : State) → IsGood g opening (S.state site.old) → Headline pool g opening (S.state site.old) (S.state site.new) result }
-    ensures load { (load : Load) (g : Geometry) (opening : State) → IsGood g opening (S.state site.old) → LoadHeadline load g opening (S.state site.old) (S.state site.new) result }
+    ensures run { (pool : ℕ) → RunContract pool (S.state site.old) (S.state site.new) result }
+    ensures load { (load : Load) → LoadContract load (S.state site.old) (S.state site.new) result }
+    ensures new { (g : Geometry) → NewContract g (S.state site.old) (S.state site.new) result }
     ensures lacks { LacksMemory result (S.state site.old) (S.state site.new) }
     ensures goes { Goes (S.state site.old) (S.state site.new) }
 {
@@ -123,27 +119,29 @@ fn lack_memory<S: Site>(site: &mut S) -> u8
     4
 }
 
-/// The top call: the program's words, without its own name, and the site that it works on. The answer is the status with
-/// which the program ends. The words `run POOL`, with POOL from 1 to 4,096, are the work of `serve`. The words `new PAGES
-/// GROUPS BLOCKS` test that the devices have these sizes and are blank. The words `load COUNT SEED POOL`, with COUNT from 1 to
-/// 100,000 and SEED below 2^64, are the work of `serve_load`. All other words have status 2. Reading the words
-/// may want memory, which has status 4; then nothing is read or changed.
+/// The top call: the program's words, without its own name, and the site that it works on. The answer is the status
+/// with which the program ends. The words `run POOL`, with POOL from 1 to 4,096, are the work of `serve`. The words
+/// `new PAGES GROUPS BLOCKS` test that the devices have these sizes and are blank. The words `load COUNT SEED POOL`,
+/// with COUNT from 1 to 100,000 and SEED below 2^64, are the work of `serve_load`. All other words have status 2.
+/// Reading the words may want memory, which has status 4; then nothing is read or changed.
 pub fn face<S: Site>(alloc: Global, words: &[String], site: &mut S) -> u8
-    // `run POOL` is the work of `serve`.
-    ensures headline { (pool : ℕ) → IsRun (words_of words.now) pool → (g : Geometry) (opening : State) → IsGood g opening (S.state site.old) → Headline pool g opening (S.state site.old) (S.state site.new) result }
-    ensures complete { (pool : ℕ) → IsRun (words_of words.now) pool → (g : Geometry) (opening : State) → IsGood g opening (S.state site.old) → NoFaultRose (S.state site.old) (S.state site.new) → NeverWears pool (run_of g opening true (S.state site.old).left []) (S.state site.old).image → HasLogRoom g (S.state site.new) → EndsInTime (S.state site.old) → (result ≡ 0) ⊎ (result ≡ 4) }
-    ensures sizes { ((pool : ℕ) × IsRun (words_of words.now) pool) → HasNoSizes (S.state site.old) → RefusesDevices result (S.state site.old) (S.state site.new) ⊎ LacksMemory result (S.state site.old) (S.state site.new) }
-    ensures causes { ((pool : ℕ) × IsRun (words_of words.now) pool) → HasCauses result (S.state site.old) (S.state site.new) }
-    // What `new` of these sizes does, and when each of its statuses comes.
-    ensures new { (g : Geometry) → IsNew (words_of words.now) g → New g (S.state site.old) (S.state site.new) result }
-    ensures new_causes { (g : Geometry) → IsNew (words_of words.now) g → NewCauses g (S.state site.old) (S.state site.new) result }
-    // `load COUNT SEED POOL` is the work of `serve_load`.
-    ensures load { (load : Load) → IsLoad (words_of words.now) load → (g : Geometry) (opening : State) → IsGood g opening (S.state site.old) → LoadHeadline load g opening (S.state site.old) (S.state site.new) result }
-    ensures load_complete { (load : Load) → IsLoad (words_of words.now) load → (g : Geometry) (opening : State) → IsGood g opening (S.state site.old) → NoFaultRose (S.state site.old) (S.state site.new) → NeverWears load.pool (load_run g opening load) (S.state site.old).image → HasLogRoom g (S.state site.new) → (result ≡ 0) ⊎ (result ≡ 4) }
-    ensures load_sizes { ((load : Load) × IsLoad (words_of words.now) load) → HasNoSizes (S.state site.old) → RefusesDevices result (S.state site.old) (S.state site.new) ⊎ LacksMemory result (S.state site.old) (S.state site.new) }
-    ensures load_causes { ((load : Load) × IsLoad (words_of words.now) load) → HasCauses result (S.state site.old) (S.state site.new) × (result ≢ 5) × (result ≢ 7) }
+    // What each command does, and when each of its statuses comes.
+    ensures run { (pool : ℕ) → IsRun (words_of words.now) pool
+        → RunContract pool (S.state site.old) (S.state site.new) result }
+    ensures load { (load : Load) → IsLoad (words_of words.now) load
+        → LoadContract load (S.state site.old) (S.state site.new) result }
+    ensures new { (g : Geometry) → IsNew (words_of words.now) g
+        → NewContract g (S.state site.old) (S.state site.new) result }
+    // Devices without sizes have status 9, or memory was wanted before anything was done.
+    ensures sizes { ((pool : ℕ) × IsRun (words_of words.now) pool) → HasNoSizes (S.state site.old)
+        → RefusesDevices result (S.state site.old) (S.state site.new)
+        ⊎ LacksMemory result (S.state site.old) (S.state site.new) }
+    ensures load_sizes { ((load : Load) × IsLoad (words_of words.now) load) → HasNoSizes (S.state site.old)
+        → RefusesDevices result (S.state site.old) (S.state site.new)
+        ⊎ LacksMemory result (S.state site.old) (S.state site.new) }
     // All other words are refused, or memory was wanted before anything was done.
-    ensures words { (result ≡ 2) ⊎ (IsRight (words_of words.now) ⊎ LacksMemory result (S.state site.old) (S.state site.new)) }
+    ensures words { (result ≡ 2)
+        ⊎ (IsRight (words_of words.now) ⊎ LacksMemory result (S.state site.old) (S.state site.new)) }
     ensures wrong { result ≡ 2 → IsRight (words_of words.now) → ⊥ }
     ensures refused { result ≡ 2 → RefusesWords (S.state site.old) (S.state site.new) }
     // Words of which one begins with a dash want no memory.

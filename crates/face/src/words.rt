@@ -69,8 +69,10 @@ pub fn number_in(word: &str) -> Option<u64>
 
 /// The sizes that three words write, if they are within the limits.
 pub fn geometry_of(pages: &[u8], groups: &[u8], blocks: &[u8]) -> Option<Geometry>
-    ensures sizes { IfSome result (λ g. HasLimits g × (pages.now ≡ decimal g.pages) × (groups.now ≡ decimal g.groups) × (blocks.now ≡ decimal g.blocks)) }
-    ensures none { IfNone result ((g : Geometry) → HasLimits g → pages.now ≡ decimal g.pages → groups.now ≡ decimal g.groups → blocks.now ≡ decimal g.blocks → ⊥) }
+    ensures sizes { IfSome result (λ g. HasLimits g × (pages.now ≡ decimal g.pages) × (groups.now ≡ decimal g.groups)
+        × (blocks.now ≡ decimal g.blocks)) }
+    ensures none { IfNone result ((g : Geometry) → HasLimits g → pages.now ≡ decimal g.pages
+        → groups.now ≡ decimal g.groups → blocks.now ≡ decimal g.blocks → ⊥) }
 {
     let Some(pages) = number_within(pages, 1, PAGES_MAX) else {
         return None;

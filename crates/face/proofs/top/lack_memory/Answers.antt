@@ -1,11 +1,18 @@
-use Rattle.std.proofs.Common.{rules}
-use Rattle.face.proofs.MemoryLaws.{lacked_headline, lacked_load}
+use Rattle.std.proofs.Common.{refl, rules}
+use Rattle.face.specs.Words.{LacksMemory}
+use Rattle.face.proofs.Endings.{only_tells}
+use Rattle.face.proofs.MemoryLaws.{lacked_contract, lacked_load_run, lacked_run}
 use Rattle.face.proofs.top.lack_memory.Goals as goal
 
 pub returns : goal.returns
-returns g c = record {
-  headline = λ pool geometry opening good. lacked_headline c.serial_order.ensures c.works_add_up.ensures.rise pool geometry opening (g.S.Site.state c.args.site.now) (g.S.Site.state c.tell_memory.new.site) good (c.tell_memory.ensures.any_moment good.honest) (c.tell_memory.ensures.devices good.honest) c.tell_memory.ensures.reads;
-  load = λ load geometry opening good. lacked_load c.works_add_up.ensures.rise load geometry opening (g.S.Site.state c.args.site.now) (g.S.Site.state c.tell_memory.new.site) good (c.tell_memory.ensures.any_moment good.honest) (c.tell_memory.ensures.devices good.honest) c.tell_memory.ensures.reads;
-  lacks = search rules;
-  goes = search rules;
-}
+returns g c =
+    let old = g.S.Site.state c.args.site.now in
+    let new = g.S.Site.state c.tell_memory.new.site in
+    let lacks : LacksMemory 4 old new = (refl, only_tells _ old new c.tell_memory.result c.tell_memory.ensures) in
+    record {
+      run = λ pool. lacked_run c.serial_order.ensures c.works_add_up.ensures.rise c.works_add_up.ensures.overflow pool old new c.tell_memory.result c.tell_memory.ensures;
+      load = λ load. lacked_load_run c.works_add_up.ensures.rise c.works_add_up.ensures.overflow load old new c.tell_memory.result c.tell_memory.ensures;
+      new = λ geometry. lacked_contract 4 old new lacks geometry;
+      lacks = lacks;
+      goes = search rules;
+    }
