@@ -1,18 +1,17 @@
 -- A push, by the plan for it.
-use Rattle.std.proofs.Common.{◌≡◌, ℕ, zero, suc, ◌+◌, ◌-◌, ◌<◌, ◌≤◌, Bool, true, false, not, ◌&&◌, cond, List, [], ◌∷◌, ◌++◌, length, get_or, nat_lt, take, drop, map, filter, slice_get, Option, Some, None, arith, refl, sym, ap, ◌∙◌, length-append}
+use Rattle.std.proofs.Common.{◌≡◌, ℕ, zero, suc, ◌+◌, ◌-◌, ◌<◌, ◌≤◌, Bool, true, false, ◌&&◌, cond, List, [], ◌∷◌, ◌++◌, length, get_or, nat_lt, take, drop, map, filter, slice_get, Option, Some, None, arith, refl, sym, ap, ◌∙◌, length-append}
 use Rattle.std.specs.Prelude.{filter_map, option_map}
 use Rattle.std.specs.List.{enumerate_from, cons_option}
 use Rattle.std.proofs.lemmas.Bool.{ltb-true, ltb-false}
 use Rattle.std.proofs.lemmas.Option.{slice_get_read}
 use Rattle.std.proofs.lemmas.List.{length-map, length-take, length-drop}
 use Rattle.std.proofs.lemmas.List.Elements.{filter_map-append}
-use Rattle.std.proofs.lemmas.List.FromFn.{length-enumerate_from}
 use Rattle.byte_fields.specs.declared.frame_head.Mark.{Mark}
 use Rattle.second_chance.specs.declared.frame.Frame.{Frame}
 use Rattle.second_chance.specs.declared.plan.Plan.{Plan}
 use Rattle.second_chance.specs.declared.plan.PoolMark.{PoolMark}
 use Rattle.second_chance.specs.Queue.{Queue, frame_of, pushed}
-use Rattle.second_chance.specs.Plans.{Placed, is_among, chances_of, staged_of, pulled_at_eviction, eviction_plan}
+use Rattle.second_chance.specs.Plans.{Placed, chances_of, staged_of, pulled_at_eviction, eviction_plan}
 use Rattle.second_chance.specs.Machine.{Rules, PoolPage, Cache, is_changed, without, unread, is_full, leaving, pool_marks, push_evicted, staged_in_push}
 use Rattle.second_chance.specs.Laws.{AreApart, EvictionIsPlanned, names, given_again, eviction_done, plan_for_eviction}
 use Rattle.policy_sim.specs.Pools.{is_movable, pulled_frames, group_of}
@@ -147,23 +146,6 @@ staged_count rules cache front plan front_is plan_is =
     ∙ length-map (staged_of rules.chances front) (λ (f : Placed). f.0)
     ∙ ap (λ marks. length (staged_of rules.chances marks)) front_is
     ∙ sym (length-map (staged_of rules.chances (leaving rules cache.queue)) _)
-
-few_staged : (keep : Placed → Bool) (front : List Placed) → length (filter keep front) ≤ length front
-few_staged keep [] = omega arith
-few_staged keep (f ∷ front) = by (keep f) (few_staged keep front)
-  where
-    by : (b : Bool) → length (filter keep front) ≤ length front → length (cond b (f ∷ filter keep front) (filter keep front)) ≤ length (f ∷ front)
-    by true rest = omega (arith, rest)
-    by false rest = omega (arith, rest)
-
-pub plan_stages_few : (pulls given : Bool) (front : List Mark) (pool : List PoolMark) → length front ≤ 8 → length (eviction_plan pulls given front pool).staged ≤ 8
-plan_stages_few pulls given front pool few = omega (
-  arith,
-  few,
-  length-map (staged_of given front) (λ (f : Placed). f.0),
-  few_staged (λ (f : Placed). (f.1.valid && f.1.dirty) && not (is_among (chances_of given front) f.0)) (enumerate_from 0 front),
-  length-enumerate_from 0 front,
-)
 
 pub next_after : (full : Bool) (group : List Frame) (queue : Queue) → (full ≡ true → 0 < length queue.groups)
     → (pushed full group queue).first + length (pushed full group queue).groups ≤ queue.first + length queue.groups + 1

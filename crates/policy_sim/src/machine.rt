@@ -112,7 +112,6 @@ impl Machine {
         requires { length front.now ≤ 8 }
         ensures plan { result ≡ eviction_plan self.now.taking.pulls self.now.taking.chances front.now (pool_marks (cache_of self.now)) }
         ensures fits { length result.chances + length result.pulled ≤ 7 }
-        ensures few { length result.staged ≤ 8 }
     {
         let mut pool = [NO_PAGE; 7];
         let count = self.candidates(&mut pool);

@@ -20,20 +20,12 @@ impl Policy {
         ensures chances { result.chances ≡ (rules_of_policy self 0 0).chances }
         ensures pulls { result.pulls ≡ (rules_of_policy self 0 0).pulls }
     {
-        match self {
-            Policy::Fifo => Taking {
-                chances: false,
-                pulls: false,
-            },
-            Policy::Group => Taking {
-                chances: false,
-                pulls: true,
-            },
-            Policy::Chance => Taking {
-                chances: true,
-                pulls: true,
-            },
-        }
+        let (chances, pulls) = match self {
+            Policy::Fifo => (false, false),
+            Policy::Group => (false, true),
+            Policy::Chance => (true, true),
+        };
+        Taking { chances, pulls }
     }
 
     /// How many groups the queue holds on a flash of so many groups.
