@@ -1,0 +1,165 @@
+-- A push, by the plan for it.
+use Rattle.std.proofs.Common.{◌≡◌, ℕ, zero, suc, ◌+◌, ◌-◌, ◌<◌, ◌≤◌, Bool, true, false, ◌&&◌, cond, List, [], ◌∷◌, ◌++◌, length, get_or, nat_lt, take, drop, map, filter, slice_get, Option, Some, None, arith, refl, sym, ap, ◌∙◌, length-append}
+use Rattle.std.specs.Prelude.{filter_map, option_map}
+use Rattle.std.specs.List.{enumerate_from, cons_option}
+use Rattle.std.proofs.lemmas.Bool.{ltb-true, ltb-false}
+use Rattle.std.proofs.lemmas.Option.{slice_get_read}
+use Rattle.std.proofs.lemmas.List.{length-map, length-take, length-drop}
+use Rattle.std.proofs.lemmas.List.Elements.{filter_map-append}
+use Rattle.byte_fields.specs.declared.frame_head.Mark.{Mark}
+use Rattle.second_chance.specs.declared.frame.Frame.{Frame}
+use Rattle.second_chance.specs.declared.plan.Plan.{Plan}
+use Rattle.second_chance.specs.declared.plan.PoolMark.{PoolMark}
+use Rattle.second_chance.specs.Queue.{Queue, frame_of, pushed}
+use Rattle.second_chance.specs.Plans.{Placed, chances_of, staged_of, pulled_at_eviction, eviction_plan}
+use Rattle.second_chance.specs.Machine.{Rules, PoolPage, Cache, is_changed, without, unread, is_full, leaving, pool_marks, push_evicted, staged_in_push}
+use Rattle.second_chance.specs.Laws.{AreApart, EvictionIsPlanned, names, given_again, eviction_done, plan_for_eviction}
+use Rattle.policy_sim.specs.Pools.{is_movable, pulled_frames, group_of}
+
+-- The first seven candidates are enough for a plan.
+
+filter_taken : (n : ℕ) (xs : List PoolMark) → filter is_movable (take n (filter is_movable xs)) ≡ take n (filter is_movable xs)
+filter_taken zero xs = refl
+filter_taken (suc n) [] = refl
+filter_taken (suc n) (x ∷ xs) = by (is_movable x) refl (filter_taken n xs) (filter_taken (suc n) xs)
+  where
+    by : (b : Bool) → is_movable x ≡ b → filter is_movable (take n (filter is_movable xs)) ≡ take n (filter is_movable xs)
+        → filter is_movable (take (suc n) (filter is_movable xs)) ≡ take (suc n) (filter is_movable xs)
+        → filter is_movable (take (suc n) (cond b (x ∷ filter is_movable xs) (filter is_movable xs))) ≡ take (suc n) (cond b (x ∷ filter is_movable xs) (filter is_movable xs))
+    by true is fewer all =
+        ap (λ b. cond b (x ∷ filter is_movable (take n (filter is_movable xs))) (filter is_movable (take n (filter is_movable xs)))) is
+        ∙ ap (λ (l : List PoolMark). x ∷ l) fewer
+    by false is fewer all = all
+
+take_taken : {X : Type 0} (n m : ℕ) (xs : List X) → n ≤ m → take n (take m xs) ≡ take n xs
+take_taken zero m xs less = refl
+take_taken (suc n) zero xs less = absurd (omega (arith, less))
+take_taken (suc n) (suc m) [] less = refl
+take_taken (suc n) (suc m) (x ∷ xs) less = ap (λ l. x ∷ l) (take_taken n m xs (omega (arith, less)))
+
+abbrev plan_with : Bool → List Mark → List PoolMark → Plan
+plan_with given front pulled = record {
+  chances = map (λ f. f.0) (chances_of given front);
+  staged = map (λ f. f.0) (staged_of given front);
+  pulled = map (λ p. p.page) pulled;
+}
+
+pub seven_are_enough : (pulls given : Bool) (front : List Mark) (pool : List PoolMark)
+    → eviction_plan pulls given front (take 7 (filter is_movable pool)) ≡ eviction_plan pulls given front pool
+seven_are_enough false given front pool = refl
+seven_are_enough true given front pool =
+    let room : ℕ = 8 - 1 - length (chances_of given front) in
+    ap (λ (l : List PoolMark). plan_with given front (take room l)) (filter_taken 7 pool)
+    ∙ ap (plan_with given front) (take_taken room 7 (filter is_movable pool) (omega arith))
+
+-- where nothing is pulled the pool doesn't matter
+pub none_are_enough : (pulls given : Bool) (front : List Mark) (some pool : List PoolMark) → pulls ≡ false
+    → eviction_plan pulls given front some ≡ eviction_plan pulls given front pool
+none_are_enough true given front some pool is = absurd cc
+none_are_enough false given front some pool is = refl
+
+-- What a plan takes fits a group, beside the evicted page.
+
+few_chances : (given : Bool) (front : List Mark) → length (chances_of given front) ≤ 7
+few_chances true front = omega (arith, length-take 7 (filter (λ (f : Placed). f.1.valid && f.1.referenced) (enumerate_from 0 front)))
+few_chances false front = omega arith
+
+few_pulled : (pulls given : Bool) (front : List Mark) (pool : List PoolMark) → length (pulled_at_eviction pulls given front pool) ≤ 7 - length (chances_of given front)
+few_pulled true given front pool = omega (arith, length-take (8 - 1 - length (chances_of given front)) (filter is_movable pool))
+few_pulled false given front pool = omega arith
+
+pub plan_fits : (pulls given : Bool) (front : List Mark) (pool : List PoolMark)
+    → length (eviction_plan pulls given front pool).chances + length (eviction_plan pulls given front pool).pulled ≤ 7
+plan_fits pulls given front pool = omega (
+  arith,
+  few_chances given front,
+  few_pulled pulls given front pool,
+  length-map (chances_of given front) (λ (f : Placed). f.0),
+  length-map (pulled_at_eviction pulls given front pool) (λ (p : PoolMark). p.page),
+)
+
+-- The frames of the new group, one by one.
+
+abbrev again : List Mark → ℕ → Option Frame
+again front place = option_map (λ mark. frame_of mark.page mark.dirty) (slice_get front place)
+
+pub given_more : (front : List Mark) (places : List ℕ) (place : ℕ) (mark : Mark) → slice_get front place ≡ Some mark
+    → given_again front (places ++ place ∷ []) ≡ given_again front places ++ frame_of mark.page mark.dirty ∷ []
+given_more front places place mark is = filter_map-append (again front) places (place ∷ [])
+    ∙ ap (λ o. given_again front places ++ one o) is
+  where
+    one : Option Mark → List Frame
+    one o = filter_map (λ (o : Option Mark). option_map (λ (mark : Mark). frame_of mark.page mark.dirty) o) (o ∷ [])
+
+pub given_none : (front : List Mark) (places : List ℕ) (place : ℕ) → slice_get front place ≡ None → given_again front (places ++ place ∷ []) ≡ given_again front places ++ []
+given_none front places place is = filter_map-append (again front) places (place ∷ [])
+    ∙ ap (λ o. given_again front places ++ one o) is
+  where
+    one : Option Mark → List Frame
+    one o = filter_map (λ (o : Option Mark). option_map (λ (mark : Mark). frame_of mark.page mark.dirty) o) (o ∷ [])
+
+unread_given : (front : List Mark) (places : List ℕ) (behind : List Frame) → map unread (given_again front places ++ behind) ≡ given_again front places ++ map unread behind
+unread_given front [] behind = refl
+unread_given front (place ∷ places) behind = by (slice_get front place) (unread_given front places behind)
+  where
+    by : (o : Option Mark) → map unread (given_again front places ++ behind) ≡ given_again front places ++ map unread behind
+        → map unread (cons_option (option_map (λ (mark : Mark). frame_of mark.page mark.dirty) o) (given_again front places) ++ behind)
+        ≡ cons_option (option_map (λ (mark : Mark). frame_of mark.page mark.dirty) o) (given_again front places) ++ map unread behind
+    by None rest = rest
+    by (Some mark) rest = ap (λ (l : List Frame). frame_of mark.page mark.dirty ∷ l) rest
+
+unread_pulled : (pool : List PoolPage) (pages : List ℕ) → map unread (pulled_frames pool pages) ≡ pulled_frames pool pages
+unread_pulled pool [] = refl
+unread_pulled pool (page ∷ pages) = ap (λ (l : List Frame). frame_of page (is_changed pool page) ∷ l) (unread_pulled pool pages)
+
+pub unread_group : (front : List Mark) (plan : Plan) (own : PoolPage) (pool : List PoolPage) → map unread (group_of front plan own pool) ≡ group_of front plan own pool
+unread_group front plan own pool =
+    unread_given front plan.chances (frame_of own.page own.changed ∷ pulled_frames pool plan.pulled)
+    ∙ ap (λ (l : List Frame). given_again front plan.chances ++ frame_of own.page own.changed ∷ l) (unread_pulled pool plan.pulled)
+
+-- What a push did is the machine's push.
+pub record IsPlanned (rules : Rules) (own : PoolPage) (cache : Cache) (front : List Mark) (plan : Plan) (frames : List Frame) (full : Bool) : Type 0 where
+  pub full_is : full ≡ is_full rules cache.queue
+  pub front_is : front ≡ leaving rules cache.queue
+  pub plan_is : plan ≡ eviction_plan rules.pulls rules.chances front (pool_marks cache)
+  pub frames_are : frames ≡ group_of front plan own cache.pool
+  pub apart : AreApart cache.pool
+
+pub push_is : (rules : Rules) (own : PoolPage) (cache : Cache) (front : List Mark) (plan : Plan) (frames : List Frame) (full : Bool)
+    → EvictionIsPlanned → IsPlanned rules own cache front plan frames full
+    → record { pool = without (names plan.pulled) cache.pool; queue = pushed full (map unread frames) cache.queue } ≡ push_evicted rules own cache
+push_is rules own cache front plan frames full law p =
+    let all_same : map unread frames ≡ group_of front plan own cache.pool = ap (map unread) p.frames_are ∙ unread_group front plan own cache.pool in
+    let same_plan : plan ≡ plan_for_eviction rules cache =
+    p.plan_is ∙ ap (λ marks. eviction_plan rules.pulls rules.chances marks (pool_marks cache)) p.front_is in
+    ap (λ l. record { pool = without (names plan.pulled) cache.pool; queue = pushed full l cache.queue }) all_same
+    ∙ ap (λ b. record { pool = without (names plan.pulled) cache.pool; queue = pushed b (group_of front plan own cache.pool) cache.queue }) p.full_is
+    ∙ ap (λ marks. record { pool = without (names plan.pulled) cache.pool; queue = pushed (is_full rules cache.queue) (group_of marks plan own cache.pool) cache.queue }) p.front_is
+    ∙ ap (λ (q : Plan). eviction_done rules own q cache) same_plan
+    ∙ sym (law rules own cache p.apart)
+
+-- the frames that it stages, counted
+pub staged_count : (rules : Rules) (cache : Cache) (front : List Mark) (plan : Plan) → front ≡ leaving rules cache.queue
+    → plan ≡ eviction_plan rules.pulls rules.chances front (pool_marks cache) → length plan.staged ≡ length (staged_in_push rules cache.queue)
+staged_count rules cache front plan front_is plan_is =
+    ap (λ (q : Plan). length q.staged) plan_is
+    ∙ length-map (staged_of rules.chances front) (λ (f : Placed). f.0)
+    ∙ ap (λ marks. length (staged_of rules.chances marks)) front_is
+    ∙ sym (length-map (staged_of rules.chances (leaving rules cache.queue)) _)
+
+pub next_after : (full : Bool) (group : List Frame) (queue : Queue) → (full ≡ true → 0 < length queue.groups)
+    → (pushed full group queue).first + length (pushed full group queue).groups ≤ queue.first + length queue.groups + 1
+next_after true group queue some = omega (arith, some refl, length-append (drop 1 queue.groups) (group ∷ []), length-drop 1 queue.groups)
+next_after false group queue some = omega (arith, length-append queue.groups (group ∷ []))
+
+-- A frame of the front group that is there, and one that isn't.
+pub there : (front : List Mark) (place : ℕ) (mark : Mark) → true ≡ nat_lt place (length front) → mark ≡ get_or front place mark → slice_get front place ≡ Some mark
+there front place mark less is = slice_get_read front (length front) place mark refl (ltb-true place (length front) (sym less)) is
+
+pub not_there : (front : List Mark) (place : ℕ) → false ≡ nat_lt place (length front) → slice_get front place ≡ None
+not_there front place more = past front place (ltb-false place (length front) (sym more))
+  where
+    past : (front : List Mark) (place : ℕ) → length front ≤ place → slice_get front place ≡ None
+    past [] place less = refl
+    past (m ∷ front) zero less = absurd (omega (arith, less))
+    past (m ∷ front) (suc place) less = past front place (omega (arith, less))

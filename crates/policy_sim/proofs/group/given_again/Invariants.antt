@@ -1,0 +1,9 @@
+use Rattle.std.proofs.Common.{◌≡◌, ◌≤◌, take, length}
+use Rattle.second_chance.specs.Laws.{given_again}
+use Rattle.policy_sim.proofs.group.given_again.Given as goal
+
+abbrev pub invariant-loop-place : goal.invariant-loop-place
+invariant-loop-place l = record {
+  frames : l.frames.items ≡ given_again l.front (take l.place l.chances);
+  few : length l.frames.items ≤ l.place;
+}

@@ -1,0 +1,43 @@
+use Rattle.std.proofs.Common.{◌≡◌, ◌+◌, Bool, List, take, length, map, refl, arith, ap, ◌∙◌, if◌then◌else◌, []}
+use Rattle.byte_fields.specs.declared.frame_head.Mark.{Mark}
+use Rattle.second_chance.specs.declared.frame.Frame.{Frame}
+use Rattle.second_chance.specs.Queue.{Queue, front_marks, pushed}
+use Rattle.second_chance.specs.Machine.{Cache, PoolPage, without, leaving, unread}
+use Rattle.second_chance.specs.Laws.{names}
+use Rattle.policy_sim.specs.Pools.{page_of}
+use Rattle.policy_sim.specs.Steps.{cache_of, rules_in}
+use Rattle.policy_sim.proofs.Pushed.{push_is, staged_count, next_after}
+use Rattle.policy_sim.proofs.machine.Machine.push.Goals as goal
+
+cache_with : List PoolPage → Queue → Cache
+cache_with pool queue = record { pool = pool; queue = queue }
+
+pub returns-clause-ok : goal.returns-clause-ok
+unfolding cache_with
+returns-clause-ok c =
+    let old = c.args.self.now in
+    let front : List Mark = take c.marks_of_front-count.result c.marks_of_front-count.new.into in
+    let full : Bool = c.is_full-full.result in
+    let frames : List Frame = c.new_group-frames.result.items in
+    let front_is : front ≡ leaving (rules_in old) old.queue =
+    c.marks_of_front-count.ensures.marks ∙ ap (λ b. if b then front_marks old.queue.groups else []) c.is_full-full.ensures.full in
+    let queue : c.push_group.new.self ≡ pushed full (map unread frames) old.queue =
+    c.in_ok-push_group.ensures.ok ∙ ap (λ l. pushed full l old.queue) (c.heads_of.ensures.frames ∙ ap (map unread) c.deref.ensures.0) in
+    record {
+      cache = ap (λ pool. cache_with pool c.push_group.new.self) c.remove_all.ensures
+          ∙ ap (cache_with (without (names c.plan-plan.result.pulled) old.pool)) queue
+          ∙ push_is (rules_in old) (page_of c.args.own.now) (cache_of old) front c.plan-plan.result frames full c.plans_are_pushes.ensures.eviction (record {
+            full_is = c.is_full-full.ensures.full;
+            front_is = front_is;
+            plan_is = c.plan-plan.ensures.plan;
+            frames_are = c.new_group-frames.ensures.frames;
+            apart = c.len-len.ensures.apart;
+          });
+      staged_are = c.len.ensures.len ∙ staged_count (rules_in old) (cache_of old) front c.plan-plan.result front_is c.plan-plan.ensures.plan;
+      few = c.len.ensures.few;
+      stays = record {
+        rules = refl;
+        groups = refl;
+        number = omega (arith, ap (λ (q : Queue). q.first + length q.groups) queue, next_after full (map unread frames) old.queue c.is_full-full.ensures.some);
+      };
+    }

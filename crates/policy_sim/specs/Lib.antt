@@ -1,0 +1,6 @@
+pub mod Machines
+pub mod Rows
+pub mod Bounds
+pub mod Pools
+pub mod Steps
+pub mod Sims

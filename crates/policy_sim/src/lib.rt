@@ -1,0 +1,18 @@
+//! Three page caches over one list of touches, and what each of them counts.
+#![tactic(auto)]
+
+mod counts;
+mod entry;
+mod group;
+mod machine;
+mod policy;
+mod pool;
+mod rows;
+mod sim;
+#[cfg(test)]
+mod tests;
+
+pub use counts::Counts;
+pub use policy::Policy;
+pub use rows::{rows_of_one_read, rows_of_two_reads};
+pub use sim::Sim;
