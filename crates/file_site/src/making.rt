@@ -143,8 +143,8 @@ where
     }
 }
 
-// Whether the first octets of the file, this many, can be read and are zeros.
-fn is_blank<F: FileExt>(file: &F, len: u64) -> bool {
+// Whether the first octets of the file, this many, are zeros.
+fn is_blank<F: FileExt>(file: &F, len: u64) -> io::Result<bool> {
     let mut buffer = [0u8; PIECE];
     let mut left = len;
     for _piece in 0..len {
@@ -153,30 +153,39 @@ fn is_blank<F: FileExt>(file: &F, len: u64) -> bool {
         }
         let count = left.min(PIECE as u64);
         let piece = &mut buffer[..count as usize];
-        if file.read_exact_at(piece, len.saturating_sub(left)).is_err() {
-            return false;
-        }
+        file.read_exact_at(piece, len.saturating_sub(left))?;
         if piece.iter().any(|octet| *octet != 0) {
-            return false;
+            return Ok(false);
         }
         left -= count;
     }
-    true
+    Ok(true)
 }
 
 // Whether the device has this length and is blank.
-fn is_fit<F: FileExt>(device: &Device<F>, len: u64) -> bool {
+fn is_fit<F: FileExt>(device: &Device<F>, len: u64) -> io::Result<bool> {
     match device {
-        Device::File(file, found) => *found == len && is_blank(file, len),
-        Device::Blank(_) => true,
-        Device::Closed(_) => false,
+        Device::File(file, found) => {
+            if *found != len {
+                return Ok(false);
+            }
+            is_blank(file, len)
+        }
+        Device::Blank(_) => Ok(true),
+        Device::Closed(_) => Ok(false),
     }
 }
 
-// Whether all devices have their lengths and are blank.
-fn are_fit<F: FileExt>(found: &Devices<F>, lengths: &Lengths) -> bool {
-    DEVS.iter()
-        .all(|dev| is_fit(found.of(*dev), lengths.of(*dev)))
+// Whether all devices have their lengths and are blank. The error is that one of them can't be read.
+fn are_fit<F: FileExt>(found: &Devices<F>, lengths: &Lengths) -> Result<bool, Absence> {
+    for dev in DEVS {
+        match is_fit(found.of(dev), lengths.of(dev)) {
+            Ok(true) => {}
+            Ok(false) => return Ok(false),
+            Err(error) => return Err(Absence::Unopened(path(dev), error)),
+        }
+    }
+    Ok(true)
 }
 
 // Writes this many zeros, in pieces, and makes them and the length of the file stable.
@@ -332,8 +341,8 @@ where
 }
 
 /// The devices of a new database of these lengths. The files that are missing are made where all that are there have their
-/// length and are blank; else a missing file reads as a blank one, and nothing is made. No device is there where another
-/// program makes files in the folder, or one of them can't be made, or the folder's names can't be made stable. What takes
+/// length and are blank; else a missing file reads as a blank one, and nothing is made. No device is there where a file can't be
+/// read, or another program makes files in the folder, or one of them can't be made, or the folder's names can't be made stable. What takes
 /// long says on standard error how far it has come.
 pub fn fresh<R: Files + Clock + Eprint>(rt: &R, lengths: &Lengths, zeros: &[u8]) -> Devices<R::File>
 where
@@ -341,8 +350,10 @@ where
 {
     let folder = hold_folder(rt);
     let found = look_for_all(rt, lengths);
-    if !are_fit(&found, lengths) {
-        return found;
+    match are_fit(&found, lengths) {
+        Ok(true) => {}
+        Ok(false) => return found,
+        Err(absence) => return Devices::closed(absence),
     }
     match folder {
         Ok(folder) => make(rt, &folder, found, zeros),

@@ -145,6 +145,26 @@ fn a_refused_new_makes_nothing(rt: HostRuntime) -> Result<(), Fail> {
     Ok(())
 }
 
+// Where a file that is there can't be read, no device is there: else the missing ones would read as blank and not be made.
+#[test]
+fn a_file_that_cannot_be_read_is_not_fit(rt: HostRuntime) -> Result<(), Fail> {
+    remove_all(&rt);
+    fs::write(&rt, "face.disk", [0u8; 30].as_slice())?;
+    let world = World::new(rt.alloc());
+    world.fail("read", "face.disk", ErrorKind::Other, 1);
+    let fake = Fake {
+        rt: &rt,
+        world: &world,
+    };
+    let site = FileSite::fresh(fake, rt.alloc(), 10, 20, 30)?;
+    assert_eq!(rt; site.len(Dev::Log), 0);
+    assert_eq!(rt; site.len(Dev::Disk), 0);
+    drop(site);
+    assert_eq!(rt; lengths(&rt), [NONE, NONE, 30, NONE, NONE, NONE]);
+    remove_all(&rt);
+    Ok(())
+}
+
 // Each file is filled and synced under the name of a draft, and then renamed; the folder is synced last, also where nothing
 // was to be made.
 #[test]
