@@ -5,6 +5,7 @@ ghost use Rattle.face.specs.declared.halt.Halt.{Halt};
 ghost use Rattle.face.specs.Texts.{status_of};
 
 use crate::halt::Halt;
+use crate::notices::{say, see};
 use crate::request::{Unread, read_words};
 use crate::top::face;
 use crate::words::sizes;
@@ -12,7 +13,7 @@ use file_site::{FileSite, LockFile, tell_line};
 use site::Stop;
 use std::alloc::AllocError;
 use std::env;
-use std::io::ErrorKind;
+use std::io::{Eprint, ErrorKind};
 use std::os::unix::fs::FileExt;
 use std::rt::{Clock, Env, Files};
 
@@ -37,7 +38,7 @@ fn words<R: Env + AllocGlobal>(rt: &R) -> Result<Vec<String>, AllocError> {
 // The site that these words work on: for a new database its files are made where they are missing, and wrong words open none.
 fn site<'a, R>(rt: &'a R, words: &[String]) -> Result<FileSite<&'a R>, Stop>
 where
-    R: Files + Input + Print + Clock + AllocGlobal,
+    R: Files + Input + Print + Eprint + Clock + AllocGlobal,
     R::File: FileExt + LockFile,
 {
     if let Some(geometry) = sizes(words) {
@@ -51,15 +52,17 @@ where
     }
 }
 
-// Runs the program over the files, and answers its status.
+// Runs the program over the files, says why it ends as it does, and answers its status.
 fn run_over_files<R>(rt: &R) -> Result<u8, Stop>
 where
-    R: Env + Files + Input + Print + Clock + AllocGlobal,
+    R: Env + Files + Input + Print + Eprint + Clock + AllocGlobal,
     R::File: FileExt + LockFile,
 {
     let words = words(rt)?;
     let mut site = site(rt, words.as_slice())?;
-    Ok(face(rt.alloc(), words.as_slice(), &mut site))
+    let status = face(rt.alloc(), words.as_slice(), &mut site);
+    say(rt, status, words.as_slice(), &see(&site));
+    Ok(status)
 }
 
 /// Tells why the program stops before it has a site, and answers its status.
@@ -74,7 +77,7 @@ pub fn stopped<R: Print + Clock>(rt: &R, stop: Stop) -> u8
 /// Runs the program over the files of the current folder, and answers its status.
 pub fn run<R>(rt: &R) -> u8
 where
-    R: Env + Files + Input + Print + Clock + AllocGlobal,
+    R: Env + Files + Input + Print + Eprint + Clock + AllocGlobal,
     R::File: FileExt + LockFile,
 {
     match run_over_files(rt) {

@@ -1,5 +1,6 @@
 // The program around the top call, over files of the current folder and standard streams that are kept.
 use crate::host::{run, stopped};
+use crate::notices::{Number, Wrong, find_wrong};
 use site::Stop;
 use std::alloc::{Alloc, Allocator, Global};
 use std::cell::{Cell, RefCell};
@@ -7,7 +8,8 @@ use std::env::FillError;
 use std::fmt::Display;
 use std::fs;
 use std::fs::{File, Files, Metadata, OpenOptions};
-use std::io::{self, BufRead, ErrorKind, Input, Lines, Print};
+use std::io::{self, BufRead, Eprint, ErrorKind, Input, Lines, Print};
+use std::os::unix::fs::FileExt;
 use std::rt::{Clock, Env};
 use std::test::Fail;
 use std::time::Duration;
@@ -21,6 +23,8 @@ struct Caller<'a> {
     input: &'static [u8],
     opened: Cell<u64>,
     told: RefCell<Vec<u8>>,
+    said: RefCell<String>,
+    mute: Cell<bool>,
     ready: Cell<bool>,
 }
 
@@ -31,6 +35,8 @@ fn make_caller<'a>(rt: &'a HostRuntime, words: &'a [&'a [u8]], input: &'static [
         input,
         opened: Cell::new(0),
         told: RefCell::new(Vec::new(rt.alloc())),
+        said: RefCell::new(String::new(rt.alloc())),
+        mute: Cell::new(false),
         ready: Cell::new(false),
     }
 }
@@ -40,6 +46,13 @@ impl<'a> Caller<'a> {
         match self.told.try_replace(Vec::new(self.rt.alloc())) {
             Ok(told) => told,
             Err(_) => Vec::new(self.rt.alloc()),
+        }
+    }
+
+    fn said(&self) -> String {
+        match self.said.try_replace(String::new(self.rt.alloc())) {
+            Ok(said) => said,
+            Err(_) => String::new(self.rt.alloc()),
         }
     }
 }
@@ -177,6 +190,23 @@ impl<'a> Print for Caller<'a> {
     }
 }
 
+impl<'a> Eprint for Caller<'a> {
+    fn eprint<D: Display + Drop>(&self, value: D) -> io::Result<()> {
+        if self.mute.get() {
+            return Err(io::Error::from(ErrorKind::BrokenPipe));
+        }
+        if let Ok(mut said) = self.said.try_borrow_mut() {
+            write!(said, "{value}")?;
+        }
+        Ok(())
+    }
+
+    fn eprintln<D: Display + Drop>(&self, value: D) -> io::Result<()> {
+        self.eprint(value)?;
+        self.eprint("\n")
+    }
+}
+
 // Each list of words has its status, its text, and so many files that it opens: the three of a database and, for a new one,
 // the drafts of those that are missing.
 #[test]
@@ -236,9 +266,11 @@ fn words_open_their_files(rt: HostRuntime) -> Result<(), Fail> {
     }
     for (words, input, status, told, opened) in rows {
         let caller = make_caller(&rt, words, input);
+        caller.mute.set(opened == 3);
         assert_eq!(rt; run(&caller), status);
         assert!(rt; caller.told().as_slice() == told);
         assert_eq!(rt; caller.opened.get(), opened);
+        assert_eq!(rt; caller.said().is_empty(), status == 0 || opened == 3);
     }
     for path in ["face.log", "face.flash", "face.disk"] {
         let _ = fs::remove_file(&rt, path);
@@ -252,5 +284,205 @@ fn a_stop_has_its_line_and_its_status(rt: HostRuntime) -> Result<(), Fail> {
     let caller = make_caller(&rt, &[], b"");
     assert_eq!(rt; stopped(&caller, Stop::Memory), 4);
     assert!(rt; caller.told().as_slice() == b"fault memory\n".as_slice());
+    Ok(())
+}
+
+fn remove_all(rt: &HostRuntime) {
+    for path in ["face.log", "face.flash", "face.disk"] {
+        let _ = fs::remove_file(rt, path);
+        let _ = fs::remove_dir(rt, path);
+    }
+}
+
+// The program ends so and says this on standard error.
+fn says(rt: &HostRuntime, words: &[&[u8]], status: u8, said: &str) -> Result<(), Fail> {
+    let caller = make_caller(rt, words, b"");
+    let ended = run(&caller);
+    let text = caller.said();
+    if ended != status || !text.as_str().starts_with(said) {
+        return Err(Fail::new(format!(in rt.alloc(); "status {ended}: {text}")?));
+    }
+    Ok(())
+}
+
+const NEW: [&[u8]; 5] = [b"face", b"new", b"16", b"8", b"64"];
+
+const RUN: [&[u8]; 3] = [b"face", b"run", b"1"];
+
+// Wrong words are said by their place and what they aren't; the usage behind them takes eight lines.
+#[test]
+fn wrong_words_are_said(rt: HostRuntime) -> Result<(), Fail> {
+    says(
+        &rt,
+        &[b"face"],
+        2,
+        "face: there are no words, or one of them isn't UTF-8 text\nusage: face new",
+    )?;
+    says(
+        &rt,
+        &[b"face", b"help"],
+        2,
+        "face: word 1 is \"help\", and not new, run or load\nusage: face new",
+    )?;
+    says(
+        &rt,
+        &[b"face", b"--help"],
+        2,
+        "face: word 1 is \"--help\", and not new, run or load\n",
+    )?;
+    says(
+        &rt,
+        &[b"face", b"run\n"],
+        2,
+        "face: word 1 is \"run\\n\", and not new, run or load\n",
+    )?;
+    says(&rt, &[b"face", b"run"], 2, "face: POOL is missing\n")?;
+    says(
+        &rt,
+        &[b"face", b"new", b"16", b"10"],
+        2,
+        "face: word 3 is \"10\", which is no GROUPS\n",
+    )?;
+    says(
+        &rt,
+        &[b"face", b"run", b"1", b"2"],
+        2,
+        "face: word 3 is \"2\", which is one too many\n",
+    )?;
+    let caller = make_caller(&rt, &[b"face"], b"");
+    assert_eq!(rt; run(&caller), 2);
+    assert_eq!(rt;
+        caller
+            .said()
+            .as_bytes()
+            .iter()
+            .filter(|octet| **octet == b'\n')
+            .count(),
+        9
+    );
+    Ok(())
+}
+
+// The words, without the program's own name, and what is wrong with them.
+#[test]
+fn the_first_wrong_word_is_found(rt: HostRuntime) -> Result<(), Fail> {
+    let rows: [(&str, Option<Wrong>); 24] = [
+        ("new 1 8 16", None),
+        ("new 65536 16384 1048576", None),
+        ("run 1", None),
+        ("run 4096", None),
+        ("load 1 0 1", None),
+        ("load 100000 18446744073709551615 4096", None),
+        ("new 0 8 16", Some(Wrong::Unfit(2, Number::Pages))),
+        ("new 65537 8 16", Some(Wrong::Unfit(2, Number::Pages))),
+        ("new 1 4 16", Some(Wrong::Unfit(3, Number::Groups))),
+        ("new 1 9 16", Some(Wrong::Unfit(3, Number::Groups))),
+        ("new 1 16388 16", Some(Wrong::Unfit(3, Number::Groups))),
+        ("new 1 8 15", Some(Wrong::Unfit(4, Number::Blocks))),
+        ("new 1 8 1048577", Some(Wrong::Unfit(4, Number::Blocks))),
+        ("new 1 8", Some(Wrong::Lacks(Number::Blocks))),
+        ("new", Some(Wrong::Lacks(Number::Pages))),
+        ("run 0", Some(Wrong::Unfit(2, Number::Pool))),
+        ("run 4097", Some(Wrong::Unfit(2, Number::Pool))),
+        ("run -- 1", Some(Wrong::Unfit(2, Number::Pool))),
+        ("run 01 2 3", Some(Wrong::Unfit(2, Number::Pool))),
+        ("run 1 2 3", Some(Wrong::TooMany(3))),
+        ("load 100001 0 1", Some(Wrong::Unfit(2, Number::Count))),
+        (
+            "load 1 18446744073709551616 1",
+            Some(Wrong::Unfit(3, Number::Seed)),
+        ),
+        ("load 1 1", Some(Wrong::Lacks(Number::Pool))),
+        ("RUN 1", Some(Wrong::Unknown)),
+    ];
+    for (line, wrong) in rows {
+        let mut words: Vec<String> = Vec::new(rt.alloc());
+        for word in line.split(' ') {
+            words.push(String::from_str(rt.alloc(), word)?)?;
+        }
+        assert_eq!(rt; find_wrong(words.as_slice()), wrong, "{line}");
+    }
+    assert_eq!(rt; find_wrong(&[]), Some(Wrong::Nothing));
+    Ok(())
+}
+
+// Status 9 has each of its reasons, and status 10 its comfort.
+#[test]
+fn why_there_is_no_database_is_said(rt: HostRuntime) -> Result<(), Fail> {
+    remove_all(&rt);
+    says(
+        &rt,
+        &RUN,
+        9,
+        "face: this folder has no database: face.log, face.flash and face.disk are missing.",
+    )?;
+    says(&rt, &NEW, 0, "")?;
+    says(
+        &rt,
+        &[b"face", b"new", b"16", b"8", b"65"],
+        9,
+        "face: face.log has 34304 octets, and these sizes ask for 34816: nothing was made.",
+    )?;
+    fs::rename(&rt, "face.flash", "kept")?;
+    says(
+        &rt,
+        &RUN,
+        9,
+        "face: face.flash is missing beside the others:",
+    )?;
+    fs::write(&rt, "face.flash", [0u8; 1_000].as_slice())?;
+    says(
+        &rt,
+        &RUN,
+        9,
+        "face: face.flash has 1000 octets, as in no database:",
+    )?;
+    fs::remove_file(&rt, "face.flash")?;
+    fs::create_dir(&rt, "face.flash")?;
+    says(
+        &rt,
+        &RUN,
+        9,
+        "face: face.flash can't be opened to be read and written: Is a directory (os error 21);",
+    )?;
+    says(
+        &rt,
+        &NEW,
+        9,
+        "face: face.flash can't be opened to be read and written: Is a directory (os error 21);",
+    )?;
+    fs::remove_dir(&rt, "face.flash")?;
+    fs::rename(&rt, "kept", "face.flash")?;
+    let log = File::open(&rt, "face.log")?;
+    assert!(rt; log.try_lock().is_ok());
+    says(
+        &rt,
+        &RUN,
+        9,
+        "face: another program is at work on face.log:",
+    )?;
+    drop(log);
+    // The first master says that nine transactions are active.
+    OpenOptions::new()
+        .write(true)
+        .open(&rt, "face.log")?
+        .write_all_at(&[9], 33)?;
+    OpenOptions::new()
+        .write(true)
+        .open(&rt, "face.log")?
+        .write_all_at(&[0xa5], 0)?;
+    says(
+        &rt,
+        &RUN,
+        9,
+        "face: what face.log, face.flash and face.disk hold isn't sound,",
+    )?;
+    says(
+        &rt,
+        &NEW,
+        10,
+        "face: the files aren't blank, and nothing was written over.",
+    )?;
+    remove_all(&rt);
     Ok(())
 }

@@ -12,6 +12,7 @@ mod host_tests;
 mod laws;
 mod load;
 mod new_database;
+mod notices;
 mod opening;
 #[cfg(test)]
 mod random_tests;

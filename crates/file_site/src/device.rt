@@ -1,6 +1,8 @@
 // What stands for the three devices: files, or what is read where there is none.
+use crate::trouble::Absence;
 use site::Dev;
 use std::fs::OpenFile;
+use std::io::{self, ErrorKind};
 use std::os::unix::fs::FileExt;
 
 /// The devices, in the order in which they are tested and made.
@@ -13,8 +15,8 @@ pub enum Device<F> {
     File(F, u64),
     /// No file yet, in a folder where a new database is tested for: it reads as this many zeros.
     Blank(u64),
-    /// A file that can't be used: the device has no octets.
-    Closed,
+    /// No file that can be used: the device has no octets.
+    Closed(Absence),
 }
 
 /// What stands for each device.
@@ -31,7 +33,16 @@ impl<F> Device<F> {
         match self {
             Device::File(_, len) => *len,
             Device::Blank(len) => *len,
-            Device::Closed => 0,
+            Device::Closed(_) => 0,
+        }
+    }
+
+    /// Why no file stands for the device, if none does.
+    pub fn absence(&self) -> Option<Absence> {
+        match self {
+            Device::File(_, _) => None,
+            Device::Blank(_) => Some(Absence::Missing),
+            Device::Closed(absence) => Some(*absence),
         }
     }
 
@@ -41,45 +52,54 @@ impl<F> Device<F> {
     }
 }
 
+// The answer of a call where there is no file: it passes only for a range without octets.
+fn without_file(is_empty: bool) -> io::Result<()> {
+    if is_empty {
+        Ok(())
+    } else {
+        Err(io::Error::from(ErrorKind::NotFound))
+    }
+}
+
 impl<F: FileExt> Device<F> {
-    /// Whether the device gave the whole range. Of one without octets only an empty range is there.
-    pub fn reads(&self, at: u64, into: &mut [u8]) -> bool {
+    /// Reads the whole range. Of a device without octets only an empty range is there.
+    pub fn read(&self, at: u64, into: &mut [u8]) -> io::Result<()> {
         match self {
-            Device::File(file, _) => file.read_exact_at(into, at).is_ok(),
+            Device::File(file, _) => file.read_exact_at(into, at),
             Device::Blank(_) => {
                 into.fill(0);
-                true
+                Ok(())
             }
-            Device::Closed => into.is_empty(),
+            Device::Closed(_) => without_file(into.is_empty()),
         }
     }
 
-    /// Whether the device took all the bytes.
-    pub fn writes(&self, at: u64, bytes: &[u8]) -> bool {
+    /// Writes all the bytes.
+    pub fn write(&self, at: u64, bytes: &[u8]) -> io::Result<()> {
         match self {
-            Device::File(file, _) => file.write_all_at(bytes, at).is_ok(),
-            Device::Blank(_) | Device::Closed => bytes.is_empty(),
+            Device::File(file, _) => file.write_all_at(bytes, at),
+            Device::Blank(_) | Device::Closed(_) => without_file(bytes.is_empty()),
         }
     }
 }
 
 impl<F: OpenFile> Device<F> {
-    /// Whether what was written to the device is stable.
-    pub fn syncs(&self) -> bool {
+    /// Makes stable what was written to the device.
+    pub fn sync(&self) -> io::Result<()> {
         match self {
-            Device::File(file, _) => file.sync_data().is_ok(),
-            Device::Blank(_) | Device::Closed => true,
+            Device::File(file, _) => file.sync_data(),
+            Device::Blank(_) | Device::Closed(_) => Ok(()),
         }
     }
 }
 
 impl<F> Devices<F> {
-    /// Three devices without octets.
-    pub fn closed() -> Devices<F> {
+    /// Three devices without octets, for one reason.
+    pub fn closed(absence: Absence) -> Devices<F> {
         Devices {
-            log: Device::Closed,
-            flash: Device::Closed,
-            disk: Device::Closed,
+            log: Device::Closed(absence),
+            flash: Device::Closed(absence),
+            disk: Device::Closed(absence),
         }
     }
 

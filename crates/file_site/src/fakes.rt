@@ -6,7 +6,7 @@ use std::alloc::{AllocError, Allocator, Global};
 use std::cell::{Cell, RefCell};
 use std::fmt::Display;
 use std::fs::{File, Files, Metadata, OpenFile, OpenOptions, TryLockError};
-use std::io::{self, BufRead, ErrorKind, Input, Lines, Print, Read, Seek, SeekFrom, Write};
+use std::io::{self, BufRead, Eprint, ErrorKind, Input, Lines, Print, Read, Seek, SeekFrom, Write};
 use std::os::unix::fs::FileExt;
 use std::rt::Clock;
 use std::time::Duration;
@@ -26,6 +26,8 @@ pub struct World {
     calls: RefCell<String>,
     fault: Cell<Option<Fault>>,
     told: RefCell<Vec<u8>>,
+    said: RefCell<String>,
+    passed: Cell<u64>,
     at_once: Cell<usize>,
     input: Cell<&'static [u8]>,
     slept: Cell<u64>,
@@ -37,6 +39,8 @@ impl World {
             calls: RefCell::new(String::new(alloc)),
             fault: Cell::new(None),
             told: RefCell::new(Vec::new(alloc)),
+            said: RefCell::new(String::new(alloc)),
+            passed: Cell::new(0),
             at_once: Cell::new(usize::MAX),
             input: Cell::new(b""),
             slept: Cell::new(0),
@@ -80,6 +84,19 @@ impl World {
             Ok(told) => told,
             Err(_) => Vec::new(alloc),
         }
+    }
+
+    /// What was said on standard error since this was last asked.
+    pub fn said(&self, alloc: Global) -> String {
+        match self.said.try_replace(String::new(alloc)) {
+            Ok(said) => said,
+            Err(_) => String::new(alloc),
+        }
+    }
+
+    /// Lets so many milliseconds pass at each look at the clock.
+    pub fn let_pass(&self, millis: u64) {
+        self.passed.set(millis);
     }
 
     fn write_down(&self, call: &str, path: &str) -> Result<(), AllocError> {
@@ -260,7 +277,13 @@ impl<'a> FileExt for FakeFile<'a> {
 
 impl<'a> Clock for Fake<'a> {
     fn monotonic(&self) -> io::Result<Duration> {
-        Ok(Duration::from_millis(self.world.slept.get()))
+        let now = self
+            .world
+            .slept
+            .get()
+            .saturating_add(self.world.passed.get());
+        self.world.slept.set(now);
+        Ok(Duration::from_millis(now))
     }
 
     fn since_1970(&self) -> io::Result<Duration> {
@@ -294,6 +317,21 @@ impl<'a> Print for Fake<'a> {
         let count = bytes.len().min(self.world.at_once.get());
         self.world.keep(&bytes[..count])?;
         Ok(count)
+    }
+}
+
+impl<'a> Eprint for Fake<'a> {
+    fn eprint<D: Display + Drop>(&self, value: D) -> io::Result<()> {
+        self.world.pass("say", "")?;
+        if let Ok(mut said) = self.world.said.try_borrow_mut() {
+            write!(said, "{value}")?;
+        }
+        Ok(())
+    }
+
+    fn eprintln<D: Display + Drop>(&self, value: D) -> io::Result<()> {
+        self.eprint(value)?;
+        self.eprint("\n")
     }
 }
 

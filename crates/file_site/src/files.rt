@@ -11,9 +11,10 @@ use crate::lock::LockFile;
 use crate::making::{Lengths, fresh};
 use crate::opening::{existing, hold_streams};
 use crate::outlet::tells;
+use crate::trouble::{Absence, Call, Failure, Failures};
 use site::{Dev, Failed, Site, Stop};
 use std::alloc::Global;
-use std::io::{Input, Print};
+use std::io::{Eprint, Input, Print};
 use std::os::unix::fs::FileExt;
 use std::rt::{Clock, Files};
 
@@ -30,6 +31,7 @@ pub struct FileSite<R: Files + Input + Print + Clock> {
     devices: Devices<R::File>,
     input: Intake<R::Reader>,
     book: Book,
+    failures: Failures,
 }
 
 // The files that are there, if files may be opened at all.
@@ -38,19 +40,23 @@ where
     R::File: LockFile,
 {
     match hold_streams(rt) {
-        Some(_streams) => existing(rt),
-        None => Devices::closed(),
+        Ok(_streams) => existing(rt),
+        Err(error) => Devices::closed(Absence::Unopened("/dev/null", error)),
     }
 }
 
 // The files of a new database, if files may be opened at all.
-fn open_fresh<R: Files>(rt: &R, lengths: &Lengths, zeros: &[u8]) -> Devices<R::File>
+fn open_fresh<R: Files + Clock + Eprint>(
+    rt: &R,
+    lengths: &Lengths,
+    zeros: &[u8],
+) -> Devices<R::File>
 where
     R::File: FileExt + LockFile,
 {
     match hold_streams(rt) {
-        Some(_streams) => fresh(rt, lengths, zeros),
-        None => Devices::closed(),
+        Ok(_streams) => fresh(rt, lengths, zeros),
+        Err(error) => Devices::closed(Absence::Unopened("/dev/null", error)),
     }
 }
 
@@ -69,18 +75,6 @@ where
         Ok(FileSite::over(rt, devices, buffer))
     }
 
-    /// The files of a new database of these lengths. Each missing file is made of this many zeros, stable, where all that
-    /// are there have their length and are blank; else it reads as a blank one, and nothing is made. Where one can't be
-    /// made, none of them is there then. All else is as of `existing`. Want of memory comes before a file is made.
-    pub fn fresh(rt: R, alloc: Global, log: u64, flash: u64, disk: u64) -> Result<FileSite<R>, Stop>
-        ensures fresh { IfOk result (λ site. IsFresh (state_of site.book)) }
-        ensures memory { IfErr result (λ stop. stop ≡ Stop.Memory) }
-    {
-        let buffer = vec![in alloc; 0u8; PIECE]?;
-        let devices = open_fresh(&rt, &Lengths { log, flash, disk }, &buffer);
-        Ok(FileSite::over(rt, devices, buffer))
-    }
-
     /// Three devices of length 0; no file is opened. The one error is want of memory.
     pub fn bare(rt: R, alloc: Global) -> Result<FileSite<R>, Stop>
         ensures fresh { IfOk result (λ site. IsFresh (state_of site.book)) }
@@ -90,9 +84,10 @@ where
         let reader = rt.reader();
         Ok(FileSite {
             rt,
-            devices: Devices::closed(),
+            devices: Devices::closed(Absence::Missing),
             input: Intake::new(reader, vec![in alloc; 0u8; PIECE]?),
             book: Book::new(0, 0, 0),
+            failures: Failures::new(),
         })
     }
 
@@ -107,7 +102,18 @@ where
             devices,
             input: Intake::new(reader, buffer),
             book,
+            failures: Failures::new(),
         }
+    }
+
+    /// Why no file stands for this device, if none does.
+    pub fn absence(&self, dev: Dev) -> Option<Absence> {
+        self.devices.of(dev).absence()
+    }
+
+    /// The first call that failed.
+    pub fn failure(&self) -> Option<Failure> {
+        self.failures.first()
     }
 
     ghost use Rattle.site.specs.Calls.{Goes};
@@ -127,6 +133,23 @@ where
             return Err(Failed);
         }
         Ok(())
+    }
+}
+
+impl<R: Files + Input + Print + Clock + Eprint + Drop> FileSite<R>
+where
+    R::File: FileExt + LockFile,
+{
+    /// The files of a new database of these lengths. Each missing file is made of this many zeros, stable, where all that
+    /// are there have their length and are blank; else it reads as a blank one, and nothing is made. Where one can't be
+    /// made, none of them is there then. All else is as of `existing`. Want of memory comes before a file is made.
+    pub fn fresh(rt: R, alloc: Global, log: u64, flash: u64, disk: u64) -> Result<FileSite<R>, Stop>
+        ensures fresh { IfOk result (λ site. IsFresh (state_of site.book)) }
+        ensures memory { IfErr result (λ stop. stop ≡ Stop.Memory) }
+    {
+        let buffer = vec![in alloc; 0u8; PIECE]?;
+        let devices = open_fresh(&rt, &Lengths { log, flash, disk }, &buffer);
+        Ok(FileSite::over(rt, devices, buffer))
     }
 }
 
@@ -154,7 +177,8 @@ where
         ensures counted { reads_of dev (state_of self.new.book) ≡ reads_after (length into.old) (reads_of dev (state_of self.old.book)) }
     {
         self.book.read(dev, into.len());
-        let done = self.devices.of(dev).reads(at, into);
+        let done = self.devices.of(dev).read(at, into);
+        let done = self.failures.passes(Call::Read(dev), done);
         self.answer(dev, done)
     }
 
@@ -166,7 +190,8 @@ where
         ensures cause { OnErr result (Rose (faults_of dev (state_of self.old.book)) (faults_of dev (state_of self.new.book))) }
         ensures faults { CallFaults dev result (state_of self.old.book) (state_of self.new.book) }
     {
-        let done = self.devices.of(dev).writes(at, bytes);
+        let done = self.devices.of(dev).write(at, bytes);
+        let done = self.failures.passes(Call::Write(dev), done);
         self.answer(dev, done)
     }
 
@@ -177,7 +202,8 @@ where
         ensures cause { OnErr result (Rose (faults_of dev (state_of self.old.book)) (faults_of dev (state_of self.new.book))) }
         ensures faults { CallFaults dev result (state_of self.old.book) (state_of self.new.book) }
     {
-        let done = self.devices.of(dev).syncs();
+        let done = self.devices.of(dev).sync();
+        let done = self.failures.passes(Call::Sync(dev), done);
         self.answer(dev, done)
     }
 
@@ -192,9 +218,10 @@ where
     {
         match self.input.take(&self.rt, into) {
             Ok(count) => Ok(count),
-            Err(e) => {
+            Err(error) => {
+                self.failures.keep(Call::Take, error);
                 self.book.input_fault();
-                Err(e)
+                Err(Failed)
             }
         }
     }
@@ -210,8 +237,9 @@ where
         ensures faults { TellFaults result (state_of self.old.book) (state_of self.new.book) }
     {
         match tells(&self.rt, piece) {
-            Some(count) => Ok(count),
-            None => {
+            Ok(count) => Ok(count),
+            Err(error) => {
+                self.failures.keep(Call::Tell, error);
                 self.book.output_fault();
                 Err(Failed)
             }

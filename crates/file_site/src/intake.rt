@@ -2,8 +2,7 @@
 ghost use Rattle.std.specs.Prelude.{◌≡◌, ◌≤◌, ◌<◌, ◌+◌, length, IfOk, OnOk};
 
 use crate::outlet::may_try_again;
-use site::Failed;
-use std::io::Read;
+use std::io::{self, ErrorKind, Read};
 use std::rt::Clock;
 
 /// A reader and the octets that were read and not yet taken.
@@ -18,7 +17,7 @@ pub struct Intake<I> {
 }
 
 // Reads once. A read that is interrupted or finds an input that isn't ready is tried again, for as long as it takes.
-fn read_some<I: Read, C: Clock>(reader: &mut I, clock: &C, into: &mut [u8]) -> Result<usize, Failed>
+fn read_some<I: Read, C: Clock>(reader: &mut I, clock: &C, into: &mut [u8]) -> io::Result<usize>
     ensures { IfOk result (λ n. n ≤ length into.old) }
 {
     for _try in 0..u64::MAX {
@@ -26,12 +25,12 @@ fn read_some<I: Read, C: Clock>(reader: &mut I, clock: &C, into: &mut [u8]) -> R
             Ok(count) => return Ok(count),
             Err(error) => {
                 if !may_try_again(clock, error.kind()) {
-                    return Err(Failed);
+                    return Err(error);
                 }
             }
         }
     }
-    Err(Failed)
+    Err(io::Error::from(ErrorKind::TimedOut))
 }
 
 impl<I: Read + Drop> Intake<I> {
@@ -47,7 +46,7 @@ impl<I: Read + Drop> Intake<I> {
 
     /// Moves the next octets into the front of `into`, and answers how many. 0 means the end of input where `into` and
     /// the buffer have room for an octet. After an error nothing was moved.
-    pub fn take<C: Clock>(&mut self, clock: &C, into: &mut [u8]) -> Result<usize, Failed>
+    pub fn take<C: Clock>(&mut self, clock: &C, into: &mut [u8]) -> io::Result<usize>
         ensures at_most { IfOk result (λ n. n ≤ length into.old) }
     {
         if self.start == self.end {

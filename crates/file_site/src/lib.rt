@@ -11,9 +11,13 @@ mod lock;
 mod making;
 mod opening;
 mod outlet;
+mod progress;
 #[cfg(test)]
 mod tests;
+mod trouble;
 
 pub use files::FileSite;
 pub use lock::LockFile;
+pub use opening::path;
 pub use outlet::tell_line;
+pub use trouble::{Absence, Call, Failure};

@@ -3,15 +3,20 @@
 
 use crate::device::{DEVS, Device, Devices};
 use crate::lock::{LockFile, hold};
-use crate::opening::{claim, open, path};
+use crate::opening::{is_busy, open, path};
+use crate::progress::Progress;
+use crate::trouble::Absence;
 use site::Dev;
 use std::fs::{OpenFile, OpenOptions};
-use std::io::{self, ErrorKind, Write};
-use std::os::unix::fs::FileExt;
-use std::rt::Files;
+use std::io::{self, Eprint, ErrorKind, Write};
+use std::os::unix::fs::{FileExt, OpenOptionsExt};
+use std::rt::{Clock, Files};
 
 // So many octets are read at once.
 const PIECE: usize = 4_096;
+
+// Who may do what with a file that is made: its owner alone, reading and writing.
+const OWNER_ALONE: u32 = 0o600;
 
 /// The lengths of the devices of a new database, in octets.
 #[derive(Clone, Copy, Debug, PartialEq, Eq, Drop)]
@@ -83,13 +88,21 @@ fn draft_path(dev: Dev) -> &'static str {
     }
 }
 
-// The current folder, locked so that no other program makes files in it. None where it can't be read or another does.
-fn hold_folder<R: Files>(rt: &R) -> Option<R::File>
+// The current folder, locked so that no other program makes files in it.
+fn hold_folder<R: Files>(rt: &R) -> Result<R::File, Absence>
 where
     R::File: LockFile,
 {
-    let folder = OpenOptions::new().read(true).open(rt, ".").ok()?;
-    if hold(&folder) { Some(folder) } else { None }
+    match OpenOptions::new().read(true).open(rt, ".") {
+        Ok(folder) => {
+            if hold(&folder) {
+                Ok(folder)
+            } else {
+                Err(Absence::Busy("."))
+            }
+        }
+        Err(error) => Err(Absence::Unopened(".", error)),
+    }
 }
 
 // Whether nothing has this name, not even a link that leads nowhere.
@@ -107,13 +120,14 @@ where
 {
     match open(rt, dev) {
         Ok(device) => device,
-        Err(error) => {
-            if error.kind() == ErrorKind::NotFound && is_free(rt, path(dev)) {
-                Device::Blank(len)
-            } else {
-                Device::Closed
+        Err(Absence::Missing) => {
+            if is_free(rt, path(dev)) {
+                return Device::Blank(len);
             }
+            let error = io::Error::from(ErrorKind::NotFound);
+            Device::Closed(Absence::Unopened(path(dev), error))
         }
+        Err(absence) => Device::Closed(absence),
     }
 }
 
@@ -129,8 +143,8 @@ where
     }
 }
 
-// Whether the first octets of the file, this many, can be read and are zeros.
-fn is_blank<F: FileExt>(file: &F, len: u64) -> bool {
+// Whether the first octets of the file, this many, are zeros.
+fn is_blank<F: FileExt>(file: &F, len: u64) -> io::Result<bool> {
     let mut buffer = [0u8; PIECE];
     let mut left = len;
     for _piece in 0..len {
@@ -139,34 +153,48 @@ fn is_blank<F: FileExt>(file: &F, len: u64) -> bool {
         }
         let count = left.min(PIECE as u64);
         let piece = &mut buffer[..count as usize];
-        if file.read_exact_at(piece, len.saturating_sub(left)).is_err() {
-            return false;
-        }
+        file.read_exact_at(piece, len.saturating_sub(left))?;
         if piece.iter().any(|octet| *octet != 0) {
-            return false;
+            return Ok(false);
         }
         left -= count;
     }
-    true
+    Ok(true)
 }
 
 // Whether the device has this length and is blank.
-fn is_fit<F: FileExt>(device: &Device<F>, len: u64) -> bool {
+fn is_fit<F: FileExt>(device: &Device<F>, len: u64) -> io::Result<bool> {
     match device {
-        Device::File(file, found) => *found == len && is_blank(file, len),
-        Device::Blank(_) => true,
-        Device::Closed => false,
+        Device::File(file, found) => {
+            if *found != len {
+                return Ok(false);
+            }
+            is_blank(file, len)
+        }
+        Device::Blank(_) => Ok(true),
+        Device::Closed(_) => Ok(false),
     }
 }
 
-// Whether all devices have their lengths and are blank.
-fn are_fit<F: FileExt>(found: &Devices<F>, lengths: &Lengths) -> bool {
-    DEVS.iter()
-        .all(|dev| is_fit(found.of(*dev), lengths.of(*dev)))
+// Whether all devices have their lengths and are blank. The error is that one of them can't be read.
+fn are_fit<F: FileExt>(found: &Devices<F>, lengths: &Lengths) -> Result<bool, Absence> {
+    for dev in DEVS {
+        match is_fit(found.of(dev), lengths.of(dev)) {
+            Ok(true) => {}
+            Ok(false) => return Ok(false),
+            Err(error) => return Err(Absence::Unopened(path(dev), error)),
+        }
+    }
+    Ok(true)
 }
 
 // Writes this many zeros, in pieces, and makes them and the length of the file stable.
-fn fill<F: Write + OpenFile>(file: &mut F, len: u64, zeros: &[u8]) -> io::Result<()> {
+fn fill<F: Write + OpenFile, R: Clock + Eprint>(
+    file: &mut F,
+    len: u64,
+    zeros: &[u8],
+    progress: &mut Progress<'_, R>,
+) -> io::Result<()> {
     let mut left = len;
     for _piece in 0..len {
         if left == 0 {
@@ -174,35 +202,56 @@ fn fill<F: Write + OpenFile>(file: &mut F, len: u64, zeros: &[u8]) -> io::Result
         }
         let count = left.min(zeros.len() as u64);
         file.write_all(&zeros[..count as usize])?;
+        progress.add(count);
         left -= count;
     }
     file.sync_all()
 }
 
-// A file of this many zeros, whole and stable, under the name of a draft; the log's is locked. What an earlier program left
-// under that name is replaced.
-fn draft<R: Files>(rt: &R, dev: Dev, len: u64, zeros: &[u8]) -> io::Result<Device<R::File>>
-where
-    R::File: LockFile,
-{
-    let _ = rt.remove_file(draft_path(dev));
-    let mut file = OpenOptions::new()
+// A new file of this name, for its owner alone, to be read and written.
+fn create<R: Files>(rt: &R, path: &str) -> io::Result<R::File> {
+    OpenOptions::new()
         .read(true)
         .write(true)
         .create_new(true)
-        .open(rt, draft_path(dev))?;
-    claim(dev, &file)?;
-    fill(&mut file, len, zeros)?;
-    Ok(Device::File(file, len))
+        .mode(OWNER_ALONE)
+        .open(rt, path)
+}
+
+// A file of this many zeros, whole and stable, under the name of a draft; the log's is locked. What an earlier program left
+// under that name is replaced.
+fn draft<R: Files + Clock + Eprint>(
+    rt: &R,
+    dev: Dev,
+    len: u64,
+    zeros: &[u8],
+) -> Result<Device<R::File>, Absence>
+where
+    R::File: LockFile,
+{
+    let path = draft_path(dev);
+    let _ = rt.remove_file(path);
+    let mut file = match create(rt, path) {
+        Ok(file) => file,
+        Err(error) => return Err(Absence::Unmade(path, error)),
+    };
+    if is_busy(dev, &file) {
+        return Err(Absence::Busy(path));
+    }
+    let mut progress = Progress::new(rt, path, len);
+    match fill(&mut file, len, zeros, &mut progress) {
+        Ok(()) => Ok(Device::File(file, len)),
+        Err(error) => Err(Absence::Unmade(path, error)),
+    }
 }
 
 // What was found for the device, or the draft of its file where it is missing.
-fn found_or_draft<R: Files>(
+fn found_or_draft<R: Files + Clock + Eprint>(
     rt: &R,
     dev: Dev,
     found: Device<R::File>,
     zeros: &[u8],
-) -> io::Result<Device<R::File>>
+) -> Result<Device<R::File>, Absence>
 where
     R::File: LockFile,
 {
@@ -213,10 +262,12 @@ where
 }
 
 // Gives the drafts of these devices their names, and notes each that has it.
-fn name_drafts<R: Files>(rt: &R, missing: &Which, named: &mut Which) -> io::Result<()> {
+fn name_drafts<R: Files>(rt: &R, missing: &Which, named: &mut Which) -> Result<(), Absence> {
     for dev in DEVS {
         if missing.has(dev) {
-            rt.rename(draft_path(dev), path(dev))?;
+            if let Err(error) = rt.rename(draft_path(dev), path(dev)) {
+                return Err(Absence::Unmade(path(dev), error));
+            }
             named.add(dev);
         }
     }
@@ -225,24 +276,24 @@ fn name_drafts<R: Files>(rt: &R, missing: &Which, named: &mut Which) -> io::Resu
 
 // Makes the folder's names stable, also those of an earlier program. A file system that has no sync of folders is taken to
 // keep them.
-fn sync_folder<F: OpenFile>(folder: &F) -> io::Result<()> {
+fn sync_folder<F: OpenFile>(folder: &F) -> Result<(), Absence> {
     match folder.sync_all() {
         Ok(()) => Ok(()),
         Err(error) => match error.kind() {
             ErrorKind::InvalidInput | ErrorKind::Unsupported => Ok(()),
-            _ => Err(error),
+            _ => Err(Absence::Unmade(".", error)),
         },
     }
 }
 
 // Makes the files that are missing, and notes each that has its name.
-fn make_missing<R: Files>(
+fn make_missing<R: Files + Clock + Eprint>(
     rt: &R,
     folder: &R::File,
     found: Devices<R::File>,
     zeros: &[u8],
     named: &mut Which,
-) -> io::Result<Devices<R::File>>
+) -> Result<Devices<R::File>, Absence>
 where
     R::File: LockFile,
 {
@@ -269,7 +320,7 @@ fn remove_made<R: Files>(rt: &R, missing: &Which, named: &Which) {
 }
 
 // Makes the files that are missing and the folder's names stable. Where that fails nothing is there, and nothing is made.
-fn make<R: Files>(
+fn make<R: Files + Clock + Eprint>(
     rt: &R,
     folder: &R::File,
     found: Devices<R::File>,
@@ -282,27 +333,30 @@ where
     let mut named = Which::none();
     match make_missing(rt, folder, found, zeros, &mut named) {
         Ok(devices) => devices,
-        Err(_) => {
+        Err(absence) => {
             remove_made(rt, &missing, &named);
-            Devices::closed()
+            Devices::closed(absence)
         }
     }
 }
 
 /// The devices of a new database of these lengths. The files that are missing are made where all that are there have their
-/// length and are blank; else a missing file reads as a blank one, and nothing is made. No device is there where another
-/// program makes files in the folder, or one of them can't be made, or the folder's names can't be made stable.
-pub fn fresh<R: Files>(rt: &R, lengths: &Lengths, zeros: &[u8]) -> Devices<R::File>
+/// length and are blank; else a missing file reads as a blank one, and nothing is made. No device is there where a file can't be
+/// read, or another program makes files in the folder, or one of them can't be made, or the folder's names can't be made stable. What takes
+/// long says on standard error how far it has come.
+pub fn fresh<R: Files + Clock + Eprint>(rt: &R, lengths: &Lengths, zeros: &[u8]) -> Devices<R::File>
 where
     R::File: FileExt + LockFile,
 {
     let folder = hold_folder(rt);
     let found = look_for_all(rt, lengths);
-    if !are_fit(&found, lengths) {
-        return found;
+    match are_fit(&found, lengths) {
+        Ok(true) => {}
+        Ok(false) => return found,
+        Err(absence) => return Devices::closed(absence),
     }
     match folder {
-        Some(folder) => make(rt, &folder, found, zeros),
-        None => Devices::closed(),
+        Ok(folder) => make(rt, &folder, found, zeros),
+        Err(absence) => Devices::closed(absence),
     }
 }

@@ -2,6 +2,7 @@
 
 use crate::device::{Device, Devices};
 use crate::lock::{LockFile, hold};
+use crate::trouble::Absence;
 use site::Dev;
 use std::fs::{OpenFile, OpenOptions};
 use std::io::{self, ErrorKind};
@@ -16,28 +17,45 @@ pub fn path(dev: Dev) -> &'static str {
     }
 }
 
-/// Locks the file of this device, if it is the log's. The error is that another program holds it.
-pub fn claim<F: LockFile>(dev: Dev, file: &F) -> io::Result<()> {
-    if dev == Dev::Log && !hold(file) {
-        return Err(io::Error::from(ErrorKind::ResourceBusy));
+/// Whether this is the file of a device on which another program is at work: the log's, and locked.
+pub fn is_busy<F: LockFile>(dev: Dev, file: &F) -> bool {
+    dev == Dev::Log && !hold(file)
+}
+
+// The length of a file. What an earlier program wrote to it and didn't sync is synced.
+fn settle<F: OpenFile>(file: &F) -> io::Result<u64> {
+    let len = file.metadata()?.len();
+    file.sync_data()?;
+    Ok(len)
+}
+
+// Why a file that couldn't be opened doesn't stand for its device.
+fn unopened(path: &'static str, error: io::Error) -> Absence {
+    match error.kind() {
+        ErrorKind::NotFound => Absence::Missing,
+        _ => Absence::Unopened(path, error),
     }
-    Ok(())
 }
 
 /// The device's file with its length, to be read and written, and the log's locked before it is read. What an earlier
 /// program wrote and didn't sync is synced first. An error is that of the first of these calls that fails.
-pub fn open<R: Files>(rt: &R, dev: Dev) -> io::Result<Device<R::File>>
+pub fn open<R: Files>(rt: &R, dev: Dev) -> Result<Device<R::File>, Absence>
 where
     R::File: LockFile,
 {
-    let file = OpenOptions::new()
-        .read(true)
-        .write(true)
-        .open(rt, path(dev))?;
-    claim(dev, &file)?;
-    let len = file.metadata()?.len();
-    file.sync_data()?;
-    Ok(Device::File(file, len))
+    let path = path(dev);
+    let opened = OpenOptions::new().read(true).write(true).open(rt, path);
+    let file = match opened {
+        Ok(file) => file,
+        Err(error) => return Err(unopened(path, error)),
+    };
+    if is_busy(dev, &file) {
+        return Err(Absence::Busy(path));
+    }
+    match settle(&file) {
+        Ok(len) => Ok(Device::File(file, len)),
+        Err(error) => Err(Absence::Unopened(path, error)),
+    }
 }
 
 // The file of a device, if it can be opened.
@@ -47,7 +65,7 @@ where
 {
     match open(rt, dev) {
         Ok(device) => device,
-        Err(_) => Device::Closed,
+        Err(absence) => Device::Closed(absence),
     }
 }
 
@@ -73,6 +91,6 @@ fn open_any<R: Files>(rt: &R) -> io::Result<R::File> {
 
 /// Three descriptors, to be held while files are opened: where a standard stream is closed its number would else be given
 /// to a file, and the next reply be written over it.
-pub fn hold_streams<R: Files>(rt: &R) -> Option<(R::File, R::File, R::File)> {
-    Some((open_any(rt).ok()?, open_any(rt).ok()?, open_any(rt).ok()?))
+pub fn hold_streams<R: Files>(rt: &R) -> io::Result<(R::File, R::File, R::File)> {
+    Ok((open_any(rt)?, open_any(rt)?, open_any(rt)?))
 }

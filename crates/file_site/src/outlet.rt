@@ -1,7 +1,7 @@
 // Standard output, and what is tried again on standard streams.
-ghost use Rattle.std.specs.Prelude.{◌≤◌, length, IfSome};
+ghost use Rattle.std.specs.Prelude.{◌≤◌, length, IfOk};
 
-use std::io::{ErrorKind, Print};
+use std::io::{self, ErrorKind, Print};
 use std::rt::Clock;
 use std::thread;
 use std::time::Duration;
@@ -22,25 +22,28 @@ pub fn may_try_again<C: Clock>(clock: &C, kind: ErrorKind) -> bool {
     }
 }
 
-/// Writes once to standard output, and answers how many octets it took. None where that fails or none is taken. An output
-/// that isn't ready is tried again for as long as it takes, as one that blocks would wait.
-pub fn tells<P: Print + Clock>(rt: &P, piece: &[u8]) -> Option<usize>
-    ensures at_least { IfSome result (λ n. 1 ≤ n) }
-    ensures at_most { IfSome result (λ n. n ≤ length piece.now) }
+/// Writes once to standard output, and answers how many octets it took; that none is taken is an error. An output that
+/// isn't ready is tried again for as long as it takes, as one that blocks would wait.
+pub fn tells<P: Print + Clock>(rt: &P, piece: &[u8]) -> io::Result<usize>
+    ensures at_least { IfOk result (λ n. 1 ≤ n) }
+    ensures at_most { IfOk result (λ n. n ≤ length piece.now) }
 {
     for _try in 0..u64::MAX {
         match rt.write_some(piece) {
             Ok(count) => {
-                return if count == 0 { None } else { Some(count) };
+                if count == 0 {
+                    return Err(io::Error::from(ErrorKind::WriteZero));
+                }
+                return Ok(count);
             }
             Err(error) => {
                 if !may_try_again(rt, error.kind()) {
-                    return None;
+                    return Err(error);
                 }
             }
         }
     }
-    None
+    Err(io::Error::from(ErrorKind::TimedOut))
 }
 
 /// Writes a line to standard output, where there is no site for want of memory, and answers whether all of it was taken.
@@ -51,8 +54,8 @@ pub fn tell_line<P: Print + Clock>(rt: &P, line: &[u8]) -> bool {
             break;
         }
         match tells(rt, rest) {
-            Some(count) => rest = &rest[count..],
-            None => return false,
+            Ok(count) => rest = &rest[count..],
+            Err(_) => return false,
         }
     }
     rest.is_empty()

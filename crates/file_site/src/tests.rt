@@ -1,12 +1,12 @@
 // What no clause says: which files are read, written, synced, made and locked, and what the standard streams give and take.
 use crate::fakes::{Fake, FakeReader, World};
 use crate::intake::Intake;
-use crate::{FileSite, tell_line};
+use crate::{Absence, Call, FileSite, tell_line};
 use site::{Dev, Failed, Site};
 use std::fs;
 use std::fs::{File, OpenOptions};
 use std::io::ErrorKind;
-use std::os::unix::fs::{FileExt, symlink};
+use std::os::unix::fs::{FileExt, PermissionsExt, symlink};
 use std::rt::Files;
 use std::test::Fail;
 
@@ -141,6 +141,26 @@ fn a_refused_new_makes_nothing(rt: HostRuntime) -> Result<(), Fail> {
     assert_eq!(rt; made.len(Dev::Disk), 30);
     drop(made);
     assert_eq!(rt; lengths(&rt), [9_000, 20, 30, NONE, NONE, NONE]);
+    remove_all(&rt);
+    Ok(())
+}
+
+// Where a file that is there can't be read, no device is there: else the missing ones would read as blank and not be made.
+#[test]
+fn a_file_that_cannot_be_read_is_not_fit(rt: HostRuntime) -> Result<(), Fail> {
+    remove_all(&rt);
+    fs::write(&rt, "face.disk", [0u8; 30].as_slice())?;
+    let world = World::new(rt.alloc());
+    world.fail("read", "face.disk", ErrorKind::Other, 1);
+    let fake = Fake {
+        rt: &rt,
+        world: &world,
+    };
+    let site = FileSite::fresh(fake, rt.alloc(), 10, 20, 30)?;
+    assert_eq!(rt; site.len(Dev::Log), 0);
+    assert_eq!(rt; site.len(Dev::Disk), 0);
+    drop(site);
+    assert_eq!(rt; lengths(&rt), [NONE, NONE, 30, NONE, NONE, NONE]);
     remove_all(&rt);
     Ok(())
 }
@@ -374,9 +394,9 @@ fn all_input_is_taken(rt: HostRuntime) -> Result<(), Fail> {
         world.feed(b"the octets of an input");
         let mut intake = Intake::new(FakeReader::new(&world), vec![in rt.alloc(); 0u8; 4]?);
         let mut three = [0; 3];
-        assert_eq!(rt; intake.take(&fake, &mut three), Ok(3));
+        assert_eq!(rt; intake.take(&fake, &mut three)?, 3);
         assert_eq!(rt; three, *b"the");
-        assert_eq!(rt; intake.take(&fake, &mut three), Ok(1));
+        assert_eq!(rt; intake.take(&fake, &mut three)?, 1);
         world.fail("take", "", kind, times);
         assert_eq!(rt; intake.take(&fake, &mut three).is_ok(), passes);
         assert_eq!(rt; world.slept(), pauses);
@@ -392,7 +412,7 @@ fn all_input_is_taken(rt: HostRuntime) -> Result<(), Fail> {
             b"octets of an input"
         };
         assert!(rt; taken.as_slice() == rest);
-        assert_eq!(rt; intake.take(&fake, &mut three), Ok(0));
+        assert_eq!(rt; intake.take(&fake, &mut three)?, 0);
     }
     let world = World::new(rt.alloc());
     world.feed(b"input");
@@ -405,5 +425,202 @@ fn all_input_is_taken(rt: HostRuntime) -> Result<(), Fail> {
     assert_eq!(rt; site.take(&mut five), Ok(5));
     assert_eq!(rt; five, *b"input");
     assert_eq!(rt; site.take(&mut five), Ok(0));
+    Ok(())
+}
+
+// What stands for a device, as a word; a name and the kind of an error behind it.
+fn word_of(rt: &HostRuntime, absence: Option<Absence>) -> Result<String, Fail> {
+    let word = match absence {
+        None => format!(in rt.alloc(); "file")?,
+        Some(Absence::Missing) => format!(in rt.alloc(); "missing")?,
+        Some(Absence::Busy(name)) => format!(in rt.alloc(); "busy {name}")?,
+        Some(Absence::Unopened(name, error)) => {
+            format!(in rt.alloc(); "unopened {name}: {error}")?
+        }
+        Some(Absence::Unmade(name, error)) => format!(in rt.alloc(); "unmade {name}: {error}")?,
+    };
+    Ok(word)
+}
+
+// Why no file stands for a device is kept, with the system's words.
+#[test]
+fn an_absence_has_its_reason(rt: HostRuntime) -> Result<(), Fail> {
+    remove_all(&rt);
+    let none = FileSite::existing(&rt, rt.alloc())?;
+    for dev in [Dev::Log, Dev::Flash, Dev::Disk] {
+        assert_eq!(rt; word_of(&rt, none.absence(dev))?.as_str(), "missing");
+    }
+    drop(none);
+    let first = FileSite::fresh(&rt, rt.alloc(), 10, 20, 30)?;
+    let second = FileSite::existing(&rt, rt.alloc())?;
+    assert_eq!(rt; word_of(&rt, first.absence(Dev::Log))?.as_str(), "file");
+    assert_eq!(rt;
+        word_of(&rt, second.absence(Dev::Log))?.as_str(),
+        "busy face.log"
+    );
+    assert_eq!(rt; word_of(&rt, second.absence(Dev::Disk))?.as_str(), "file");
+    drop(first);
+    drop(second);
+    let rows = [
+        (
+            "open",
+            "face.flash",
+            ErrorKind::PermissionDenied,
+            "unopened face.flash: permission denied",
+        ),
+        (
+            "sync",
+            "face.flash",
+            ErrorKind::Other,
+            "unopened face.flash: other error",
+        ),
+        ("open", "/dev/null", ErrorKind::NotFound, "file"),
+        ("open", "face.flash", ErrorKind::NotFound, "missing"),
+    ];
+    let world = World::new(rt.alloc());
+    let fake = Fake {
+        rt: &rt,
+        world: &world,
+    };
+    for (call, path, kind, word) in rows {
+        world.fail(call, path, kind, 1);
+        let site = FileSite::existing(fake, rt.alloc())?;
+        assert_eq!(rt; word_of(&rt, site.absence(Dev::Flash))?.as_str(), word);
+        assert_eq!(rt; word_of(&rt, site.absence(Dev::Disk))?.as_str(), "file");
+    }
+    remove_all(&rt);
+    Ok(())
+}
+
+// What couldn't be made is kept, with the system's words; it is the reason of all three devices.
+#[test]
+fn what_cannot_be_made_has_its_reason(rt: HostRuntime) -> Result<(), Fail> {
+    let rows = [
+        (
+            "make",
+            "face.flash.new",
+            "unmade face.flash.new: no storage space",
+        ),
+        (
+            "fill",
+            "face.disk.new",
+            "unmade face.disk.new: no storage space",
+        ),
+        (
+            "sync all",
+            "face.log.new",
+            "unmade face.log.new: no storage space",
+        ),
+        (
+            "rename",
+            "face.flash.new",
+            "unmade face.flash: no storage space",
+        ),
+        ("sync all", ".", "unmade .: no storage space"),
+        ("open", ".", "unopened .: no storage space"),
+    ];
+    for (call, path, word) in rows {
+        remove_all(&rt);
+        let world = World::new(rt.alloc());
+        world.fail(call, path, ErrorKind::StorageFull, 1);
+        let fake = Fake {
+            rt: &rt,
+            world: &world,
+        };
+        let site = FileSite::fresh(fake, rt.alloc(), 10, 20, 30)?;
+        for dev in [Dev::Log, Dev::Flash, Dev::Disk] {
+            assert_eq!(rt; word_of(&rt, site.absence(dev))?.as_str(), word, "{call}");
+        }
+    }
+    remove_all(&rt);
+    let folder = File::open(&rt, ".")?;
+    assert!(rt; folder.try_lock().is_ok());
+    let site = FileSite::fresh(&rt, rt.alloc(), 10, 20, 30)?;
+    assert_eq!(rt; word_of(&rt, site.absence(Dev::Log))?.as_str(), "busy .");
+    drop(site);
+    drop(folder);
+    symlink(&rt, "nowhere", "face.disk")?;
+    let linked = FileSite::fresh(&rt, rt.alloc(), 10, 20, 30)?;
+    let word = word_of(&rt, linked.absence(Dev::Disk))?;
+    assert_eq!(rt; word.as_str(), "unopened face.disk: entity not found");
+    assert_eq!(rt; word_of(&rt, linked.absence(Dev::Log))?.as_str(), "missing");
+    remove_all(&rt);
+    Ok(())
+}
+
+// The first call that failed is kept with its error, whatever fails behind it.
+#[test]
+fn the_first_failure_is_kept(rt: HostRuntime) -> Result<(), Fail> {
+    remove_all(&rt);
+    let rows = [
+        ("write", "face.disk", Call::Write(Dev::Disk)),
+        ("sync", "face.flash", Call::Sync(Dev::Flash)),
+        ("read", "face.log", Call::Read(Dev::Log)),
+        ("tell", "", Call::Tell),
+    ];
+    drop(FileSite::fresh(&rt, rt.alloc(), 10, 20, 30)?);
+    for (call, path, failed) in rows {
+        let world = World::new(rt.alloc());
+        let fake = Fake {
+            rt: &rt,
+            world: &world,
+        };
+        let mut site = FileSite::existing(fake, rt.alloc())?;
+        assert!(rt; site.failure().is_none());
+        for kind in [ErrorKind::StorageFull, ErrorKind::BrokenPipe] {
+            world.fail(call, path, kind, 1);
+            for dev in [Dev::Log, Dev::Flash, Dev::Disk] {
+                assert!(rt; site.len(dev) >= 10);
+                let _ = site.write_at(dev, 0, b"a");
+                let _ = site.sync(dev);
+                assert!(rt; site.len(dev) >= 10);
+                let _ = site.read_at(dev, 0, &mut [0; 1]);
+            }
+            let _ = site.tell(b"told");
+        }
+        let Some(failure) = site.failure() else {
+            return Err(Fail::new("no failure was kept"));
+        };
+        assert_eq!(rt; failure.call, failed);
+        assert_eq!(rt; failure.error.kind(), ErrorKind::StorageFull);
+    }
+    remove_all(&rt);
+    Ok(())
+}
+
+// What takes long is said on standard error, and what can't be said is not.
+#[test]
+fn making_large_files_is_told_of(rt: HostRuntime) -> Result<(), Fail> {
+    let said =
+        "face.log.new: 1 of 2 MiB are written\nface.log.new: 2 of 2 MiB are written, and being synced\n";
+    for (millis, call, words) in [(125, "", said), (125, "say", ""), (50, "", "")] {
+        remove_all(&rt);
+        let world = World::new(rt.alloc());
+        world.let_pass(millis);
+        world.fail(call, "", ErrorKind::BrokenPipe, 100);
+        let fake = Fake {
+            rt: &rt,
+            world: &world,
+        };
+        let site = FileSite::fresh(fake, rt.alloc(), 2_097_152, 20, 30)?;
+        assert_eq!(rt; site.len(Dev::Log), 2_097_152);
+        assert_eq!(rt; world.said(rt.alloc()).as_str(), words);
+    }
+    remove_all(&rt);
+    Ok(())
+}
+
+// A file that is made is its owner's alone, and one that is there keeps its rights.
+#[test]
+fn files_are_their_owners_alone(rt: HostRuntime) -> Result<(), Fail> {
+    remove_all(&rt);
+    fs::write(&rt, "face.disk", [0u8; 30].as_slice())?;
+    let before = rt.metadata("face.disk")?.permissions().mode();
+    drop(FileSite::fresh(&rt, rt.alloc(), 10, 20, 30)?);
+    for path in ["face.log", "face.flash"] {
+        assert_eq!(rt; rt.metadata(path)?.permissions().mode() & 0o777, 0o600);
+    }
+    assert_eq!(rt; rt.metadata("face.disk")?.permissions().mode(), before);
+    remove_all(&rt);
     Ok(())
 }

@@ -1,0 +1,345 @@
+// What is said on standard error where the words are wrong or the work can't be done. No line that is told and no status
+// depends on it, and what can't be said is left unsaid.
+
+use crate::words::{COUNT_MAX, POOL_MAX, geometry_of, number_in, number_within, sizes};
+use file_site::{Absence, Call, Failure, FileSite, LockFile, path};
+use site::{Dev, Geometry, Site};
+use std::io::{Eprint, Input, Print};
+use std::os::unix::fs::FileExt;
+use std::rt::{Clock, Files};
+
+const USAGE: &str = "\
+usage: face new PAGES GROUPS BLOCKS   makes a database in the current folder
+       face run POOL                  serves the lines of standard input
+       face load COUNT SEED POOL      makes COUNT sets of the numbers that SEED gives, and gets them again
+PAGES  1 to 65536, each of 32 records and 4096 octets of face.disk
+GROUPS a multiple of 4 from 8 to 16384, each of 33536 octets of face.flash
+BLOCKS 16 to 1048576, each of 512 octets of face.log
+POOL   1 to 4096, the pages that memory holds
+COUNT  1 to 100000; SEED 0 to 18446744073709551615; numbers are decimal, with no leading zero";
+
+const DEVS: [Dev; 3] = [Dev::Log, Dev::Flash, Dev::Disk];
+
+/// A number that the words give.
+#[derive(Clone, Copy, Debug, PartialEq, Eq, Drop)]
+pub enum Number {
+    Pages,
+    Groups,
+    Blocks,
+    Pool,
+    Count,
+    Seed,
+}
+
+impl Number {
+    fn name(self) -> &'static str {
+        match self {
+            Number::Pages => "PAGES",
+            Number::Groups => "GROUPS",
+            Number::Blocks => "BLOCKS",
+            Number::Pool => "POOL",
+            Number::Count => "COUNT",
+            Number::Seed => "SEED",
+        }
+    }
+
+    // Whether a word is such a number, as the program reads it.
+    fn takes(self, word: &str) -> bool {
+        let text = word.as_bytes();
+        match self {
+            Number::Pages => geometry_of(text, b"8", b"16").is_some(),
+            Number::Groups => geometry_of(b"1", text, b"16").is_some(),
+            Number::Blocks => geometry_of(b"1", b"8", text).is_some(),
+            Number::Pool => number_within(text, 1, POOL_MAX).is_some(),
+            Number::Count => number_within(text, 1, COUNT_MAX).is_some(),
+            Number::Seed => number_in(word).is_some(),
+        }
+    }
+}
+
+/// Why words are refused. A word has its place, the first one 1.
+#[derive(Clone, Copy, Debug, PartialEq, Eq, Drop)]
+pub enum Wrong {
+    /// There are none, or one isn't text.
+    Nothing,
+    /// The first isn't one of `new`, `run` and `load`.
+    Unknown,
+    /// The word of this place isn't this number.
+    Unfit(usize, Number),
+    /// This number is missing.
+    Lacks(Number),
+    /// There is one in this place.
+    TooMany(usize),
+}
+
+// The number that stands in this place behind the first word, if one does.
+fn number_at(first: &str, place: usize) -> Option<Number> {
+    match (first, place) {
+        ("new", 2) => Some(Number::Pages),
+        ("new", 3) => Some(Number::Groups),
+        ("new", 4) => Some(Number::Blocks),
+        ("run", 2) => Some(Number::Pool),
+        ("load", 2) => Some(Number::Count),
+        ("load", 3) => Some(Number::Seed),
+        ("load", 4) => Some(Number::Pool),
+        _ => None,
+    }
+}
+
+/// The first thing that is wrong with the words, if anything is.
+pub fn find_wrong(words: &[String]) -> Option<Wrong> {
+    let Some(first) = words.first() else {
+        return Some(Wrong::Nothing);
+    };
+    if number_at(first.as_str(), 2).is_none() {
+        return Some(Wrong::Unknown);
+    }
+    for (before, word) in words.iter().enumerate().skip(1) {
+        match number_at(first.as_str(), before + 1) {
+            None => return Some(Wrong::TooMany(before + 1)),
+            Some(number) => {
+                if !number.takes(word.as_str()) {
+                    return Some(Wrong::Unfit(before + 1, number));
+                }
+            }
+        }
+    }
+    number_at(first.as_str(), words.len() + 1).map(Wrong::Lacks)
+}
+
+fn word_at(words: &[String], place: usize) -> &str {
+    match words.get(place.saturating_sub(1)) {
+        Some(word) => word.as_str(),
+        None => "",
+    }
+}
+
+// Says which word is wrong, and how the program is called.
+fn say_words<R: Eprint>(rt: &R, words: &[String]) {
+    let _ = match find_wrong(words) {
+        None | Some(Wrong::Nothing) => {
+            eprintln!(rt; "face: there are no words, or one of them isn't UTF-8 text")
+        }
+        Some(Wrong::Unknown) => {
+            let word = word_at(words, 1);
+            eprintln!(rt; "face: word 1 is {word:?}, and not new, run or load")
+        }
+        Some(Wrong::Unfit(place, number)) => {
+            let word = word_at(words, place);
+            let name = number.name();
+            eprintln!(rt; "face: word {place} is {word:?}, which is no {name}")
+        }
+        Some(Wrong::Lacks(number)) => {
+            let name = number.name();
+            eprintln!(rt; "face: {name} is missing")
+        }
+        Some(Wrong::TooMany(place)) => {
+            let word = word_at(words, place);
+            eprintln!(rt; "face: word {place} is {word:?}, which is one too many")
+        }
+    };
+    let _ = rt.eprintln(USAGE);
+}
+
+// Says which call failed, with the system's words.
+fn say_failure<R: Eprint>(rt: &R, failure: Failure) {
+    let (name, done) = match failure.call {
+        Call::Read(dev) => (path(dev), "read"),
+        Call::Write(dev) => (path(dev), "written"),
+        Call::Sync(dev) => (path(dev), "synced"),
+        Call::Take => ("standard input", "read"),
+        Call::Tell => ("standard output", "written"),
+    };
+    let error = failure.error;
+    let _ = eprintln!(rt; "face: {name} couldn't be {done}: {error}");
+}
+
+// How a file of the current folder, or the folder, is called.
+fn called(name: &'static str) -> &'static str {
+    if name == "." { "this folder" } else { name }
+}
+
+// Says why no file stands for a device, and what to do.
+fn say_absence<R: Eprint>(rt: &R, dev: Dev, absence: Absence) {
+    let _ = match absence {
+        Absence::Missing => {
+            let name = path(dev);
+            eprintln!(rt;
+                "face: {name} is missing beside the others: bring it back, or all three files of one copy"
+            )
+        }
+        Absence::Busy(name) => {
+            let name = called(name);
+            eprintln!(rt; "face: another program is at work on {name}: wait until it has ended")
+        }
+        Absence::Unopened(name, error) => {
+            let name = called(name);
+            eprintln!(rt;
+                "face: {name} can't be opened to be read and written: {error}; see to its owner and its rights"
+            )
+        }
+        Absence::Unmade(name, error) => {
+            let name = called(name);
+            eprintln!(rt;
+                "face: {name} can't be made: {error}; what was made is removed. See to room and rights, then try again"
+            )
+        }
+    };
+}
+
+// Whether a device of a database may have this length.
+fn is_length_of(dev: Dev, len: u64) -> bool {
+    let least = Geometry {
+        pages: 1,
+        groups: 8,
+        blocks: 16,
+    };
+    let (log, flash, disk) = least.lengths();
+    let sizes = match dev {
+        Dev::Log => Geometry::of_lengths(len, flash, disk),
+        Dev::Flash => Geometry::of_lengths(log, len, disk),
+        Dev::Disk => Geometry::of_lengths(log, flash, len),
+    };
+    sizes.is_some()
+}
+
+/// What is known of a site when the program ends: for each device, in their order, why it has no file, if it has none, and its
+/// length; and the first call that failed.
+#[derive(Clone, Copy)]
+pub struct Seen {
+    absences: [Option<Absence>; 3],
+    lengths: [u64; 3],
+    failure: Option<Failure>,
+}
+
+/// What is known of this site.
+pub fn see<R>(site: &FileSite<R>) -> Seen
+where
+    R: Files + Input + Print + Clock + Drop,
+    R::File: FileExt + LockFile,
+{
+    Seen {
+        absences: [
+            site.absence(Dev::Log),
+            site.absence(Dev::Flash),
+            site.absence(Dev::Disk),
+        ],
+        lengths: [
+            site.len(Dev::Log),
+            site.len(Dev::Flash),
+            site.len(Dev::Disk),
+        ],
+        failure: site.failure(),
+    }
+}
+
+impl Seen {
+    // The first device that has no file, and why.
+    fn first_absence(&self) -> Option<(Dev, Absence)> {
+        for (dev, absence) in DEVS.iter().zip(self.absences) {
+            if let Some(absence) = absence {
+                return Some((*dev, absence));
+            }
+        }
+        None
+    }
+
+    // The first device that has no file though one is there or was to be made, and why.
+    fn first_hindrance(&self) -> Option<(Dev, Absence)> {
+        for (dev, absence) in DEVS.iter().zip(self.absences) {
+            match absence {
+                None | Some(Absence::Missing) => {}
+                Some(absence) => return Some((*dev, absence)),
+            }
+        }
+        None
+    }
+
+    // Whether no file of a database is there.
+    fn is_bare(&self) -> bool {
+        self.absences
+            .iter()
+            .all(|absence| matches!(absence, Some(Absence::Missing)))
+    }
+
+    // The first device whose length isn't that of these, with its length and that of these.
+    fn first_unlike(&self, wanted: [u64; 3]) -> Option<(Dev, u64, u64)> {
+        for ((dev, len), wanted) in DEVS.iter().zip(self.lengths).zip(wanted) {
+            if len != wanted {
+                return Some((*dev, len, wanted));
+            }
+        }
+        None
+    }
+
+    // The first device whose length is that of no database, with its length.
+    fn first_odd(&self) -> Option<(Dev, u64)> {
+        for (dev, len) in DEVS.iter().zip(self.lengths) {
+            if !is_length_of(*dev, len) {
+                return Some((*dev, len));
+            }
+        }
+        None
+    }
+}
+
+// Says why a run or a load has no database to work on, and what to do.
+fn say_no_database<R: Eprint>(rt: &R, seen: &Seen) {
+    if seen.is_bare() {
+        let _ = eprintln!(rt;
+            "face: this folder has no database: face.log, face.flash and face.disk are missing. To make one: face new PAGES GROUPS BLOCKS"
+        );
+        return;
+    }
+    if let Some((dev, absence)) = seen.first_absence() {
+        say_absence(rt, dev, absence);
+        return;
+    }
+    if let Some((dev, len)) = seen.first_odd() {
+        let name = path(dev);
+        let _ = eprintln!(rt;
+            "face: {name} has {len} octets, as in no database: bring back all three files of one copy"
+        );
+        return;
+    }
+    let _ = eprintln!(rt;
+        "face: what face.log, face.flash and face.disk hold isn't sound, isn't of one database, or is an older version's: bring back all three files of one copy"
+    );
+}
+
+// Says why no database of these sizes is made, and what to do.
+fn say_not_made<R: Eprint>(rt: &R, seen: &Seen, geometry: Geometry) {
+    if let Some((dev, absence)) = seen.first_hindrance() {
+        say_absence(rt, dev, absence);
+        return;
+    }
+    let (log, flash, disk) = geometry.lengths();
+    if let Some((dev, len, wanted)) = seen.first_unlike([log, flash, disk]) {
+        let name = path(dev);
+        let _ = eprintln!(rt;
+            "face: {name} has {len} octets, and these sizes ask for {wanted}: nothing was made. Give its own sizes, or go to another folder"
+        );
+    }
+}
+
+/// Says on standard error why the program ends with this status, where there is something to say.
+pub fn say<R: Eprint>(rt: &R, status: u8, words: &[String], seen: &Seen) {
+    match status {
+        2 => say_words(rt, words),
+        3 | 5 | 6 => {
+            if let Some(failure) = seen.failure {
+                say_failure(rt, failure);
+            }
+        }
+        9 => match sizes(words) {
+            Some(geometry) => say_not_made(rt, seen, geometry),
+            None => say_no_database(rt, seen),
+        },
+        10 => {
+            let _ = eprintln!(rt;
+                "face: the files aren't blank, and nothing was written over. To make a new database move them away, or go to another folder"
+            );
+        }
+        _ => {}
+    }
+}

@@ -1,0 +1,74 @@
+// What went wrong at the system, kept for the words that are said of it.
+ghost use Rattle.std.specs.Prelude.{◌≡◌, IsTrue, false, OnOk, OnErr};
+
+use site::Dev;
+use std::io;
+
+/// Why no file stands for a device. A name is that of a file in the current folder, or `.` for the folder.
+#[derive(Clone, Copy)]
+pub enum Absence {
+    /// No file has the device's name.
+    Missing,
+    /// Another program holds what has this name.
+    Busy(&'static str),
+    /// What has this name can't be opened to be read and written, or not synced.
+    Unopened(&'static str, io::Error),
+    /// A new database can't be made: this file of it.
+    Unmade(&'static str, io::Error),
+}
+
+/// A call on a device or a standard stream.
+#[derive(Clone, Copy, Debug, PartialEq, Eq, Drop)]
+pub enum Call {
+    Read(Dev),
+    Write(Dev),
+    Sync(Dev),
+    Take,
+    Tell,
+}
+
+/// A call that failed, and the system's error.
+#[derive(Clone, Copy)]
+pub struct Failure {
+    pub call: Call,
+    pub error: io::Error,
+}
+
+/// The failed calls of a site, of which the first is kept: it decides how a run ends.
+#[derive(Clone, Copy)]
+pub struct Failures {
+    first: Option<Failure>,
+}
+
+impl Failures {
+    /// No call has failed yet.
+    pub fn new() -> Failures {
+        Failures { first: None }
+    }
+
+    /// The first call that failed.
+    pub fn first(&self) -> Option<Failure> {
+        self.first
+    }
+
+    /// Keeps a failed call, unless one failed before.
+    pub fn keep(&mut self, call: Call, error: io::Error) {
+        if self.first.is_none() {
+            self.first = Some(Failure { call, error });
+        }
+    }
+
+    /// Whether the call has passed; one that hasn't is kept.
+    pub fn passes(&mut self, call: Call, done: io::Result<()>) -> bool
+        ensures passed { OnOk done (IsTrue result) }
+        ensures failed { OnErr done (result ≡ false) }
+    {
+        match done {
+            Ok(()) => true,
+            Err(error) => {
+                self.keep(call, error);
+                false
+            }
+        }
+    }
+}
