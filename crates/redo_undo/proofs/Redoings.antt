@@ -185,10 +185,6 @@ module _ (laws : PageLaws) (redo : RedoLaws) (o : Opening) (log : LogStore) (pag
         kept_so : (number : ℕ) → number < o.sizes.pages → current pages' new.image number ≡ current pages site.image number
         kept_so = subst (λ (k : Geometry). (number : ℕ) → number < k.pages → current pages' new.image number ≡ current pages site.image number) h.geometry kept.each
 
-pub ok_five_of : {A E : Type 0} (r : Result A E) (P Q R S T Z : Type 0) → (P → Q → R → S → T → Z) → OnOk r P → OnOk r Q → OnOk r R → OnOk r S → OnOk r T → OnOk r Z
-ok_five_of (Ok x) P Q R S T Z f p q r s t = f p q r s t
-ok_five_of (Err e) P Q R S T Z f p q r s t = tt
-
 -- Nothing was redone yet.
 
 logged_number : (n end : ℕ) → IsTrue ((n == 0) || nat_lt n end) → 0 < n → n < end

@@ -167,6 +167,6 @@ module _ (logs : LogLaws) (laws : PageLaws) (log : LogStore) (pages : PageStore)
 
 -- results
 
-pub ok_seven : {A E : Type 0} (r : Result A E) (P Q R S T U V Z : Type 0) → (P → Q → R → S → T → U → V → Z) → OnOk r P → OnOk r Q → OnOk r R → OnOk r S → OnOk r T → OnOk r U → OnOk r V → OnOk r Z
-ok_seven (Ok x) P Q R S T U V Z f p q r s t u v = f p q r s t u v
-ok_seven (Err e) P Q R S T U V Z f p q r s t u v = tt
+pub ok_both : {A E : Type 0} (r : Result A E) (P Q Z : Type 0) → (P → Q → Z) → OnOk r P → OnOk r Q → OnOk r Z
+ok_both (Ok x) P Q Z f p q = f p q
+ok_both (Err e) P Q Z f p q = tt

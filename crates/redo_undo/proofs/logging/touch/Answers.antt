@@ -3,7 +3,7 @@ use Rattle.std.specs.Prelude.{◌≡◌}
 use Rattle.page_store.specs.Ahead.{forces, pushed_by_touch}
 use Rattle.log_store.specs.LogList.{LogList}
 use Rattle.redo_undo.specs.Redoing.{IsRedoing}
-use Rattle.redo_undo.proofs.Redoings.{never_forced, rings_given, rings_of, touch_leaves, touched, ok_five_of}
+use Rattle.redo_undo.proofs.Redoings.{never_forced, rings_given, rings_of, touch_leaves, touched}
 use Rattle.second_chance.specs.Machine.{rules_of}
 use Rattle.page_store.specs.Caching.{cache_of, rules}
 use Rattle.redo_undo.proofs.Asking.{touch_overflows, touch_reads}
@@ -14,7 +14,7 @@ use Rattle.site.proofs.Working.{ok_as}
 use Rattle.std.proofs.Common.{sym, subst}
 use Rattle.site.specs.declared.geometry.Geometry.{Geometry}
 use Rattle.redo_undo.specs.Holding.{HoldsIn, Holds}
-use Rattle.redo_undo.proofs.Touched.{forced_tail, leaves_table, touched_holds, ok_seven}
+use Rattle.redo_undo.proofs.Touched.{forced_tail, leaves_table, touched_holds, ok_both}
 use Rattle.page_store.specs.Held.{current}
 use Rattle.redo_undo.proofs.LeftNumbers.{pages_skip, ready_next}
 use Rattle.redo_undo.proofs.logging.touch.Goals as goal
@@ -29,12 +29,11 @@ returns-clause-holds g c newest records table commits h =
     let list : LogList = record { first = kept_by newest; blocks = h.log_holds.blocks; tail = h.log_holds.tail } in
     let sealing : Bool = forces log (pushed_by_touch pages c.args.page) in
     let k = pages.flash.geometry in
-    ok_seven c.touch.result _ _ _ _ _ _ _ (Holds c.touch.new.log c.touch.new.self new newest records table commits)
-    (λ ready' kept are_ahead end are_sealed rings leaves. subst (λ (x : Geometry). HoldsIn x c.touch.new.log c.touch.new.self new newest records table commits) (sym c.touch.ensures.geometry)
-    (touched_holds c.log_laws.ensures c.page_laws.ensures log pages site newest records table commits h c.touch.new.log c.touch.new.self new (c.touch.ensures.log_geometry ∙ c.requires.going.sizes) c.touch.ensures.kept kept are_ahead end
-    are_sealed rings c.requires.going.log_going.high sealing (forced_tail log (pushed_by_touch pages c.args.page)) ready' leaves))
-    (c.touch.ensures.ready list ready) (c.touch.ensures.current list ready) (c.touch.ensures.ahead list ready h.log_holds.ahead) c.touch.ensures.end
-    (c.touch.ensures.sealed list ready h.log_holds.ahead) (c.touch.ensures.rings newest list ready h.log_holds.rings) (c.touch.ensures.leaves list ready)
+    ok_both c.touch.result _ _ (Holds c.touch.new.log c.touch.new.self new newest records table commits)
+    (λ stands end. subst (λ (x : Geometry). HoldsIn x c.touch.new.log c.touch.new.self new newest records table commits) (sym c.touch.ensures.works.geometry)
+    (touched_holds c.log_laws.ensures c.page_laws.ensures log pages site newest records table commits h c.touch.new.log c.touch.new.self new (c.touch.ensures.works.forces.geometry ∙ c.requires.going.sizes) c.touch.ensures.works.forces.kept stands.current (stands.ahead h.log_holds.ahead) end
+    (stands.sealed h.log_holds.ahead) (stands.rings newest h.log_holds.rings) c.requires.going.log_going.high sealing (forced_tail log (pushed_by_touch pages c.args.page)) stands.ready stands.leaves))
+    (c.touch.ensures.stands list ready) c.touch.ensures.works.forces.end
 
 pub returns-clause-asks : goal.returns-clause-asks
 returns-clause-asks g c =
@@ -43,9 +42,9 @@ returns-clause-asks g c =
     let some : 1 ≤ (rules pages).groups = omega (arith, c.requires.going.pages_going.flash.limits.groups) in
     record {
       machine = c.touch.ensures.machine;
-      worn = λ is. (let full = c.touch.ensures.worn_flash is in touch_overflows (rules pages) c.args.page (cache_of pages) some full.0 (c.requires.going.pages_going.flash.next ∙ full.1));
+      worn = λ is. (let full = c.touch.ensures.worn.worn_flash is in touch_overflows (rules pages) c.args.page (cache_of pages) some full.0 (c.requires.going.pages_going.flash.next ∙ full.1));
       reads = touch_reads (rules pages) c.args.page (cache_of pages) (g.S.Site.state c.args.site.now) (g.S.Site.state c.touch.new.site) some c.touch.ensures.flash_reads c.touch.ensures.disk_reads;
-      rules_are = (λ i. rules_of (c.touch.ensures.size i) (c.touch.ensures.geometry i).groups);
+      rules_are = (λ i. rules_of (c.touch.ensures.works.size i) (c.touch.ensures.works.geometry i).groups);
     }
 
 pub returns-clause-keeps : goal.returns-clause-keeps
@@ -60,13 +59,13 @@ returns-clause-keeps g c newest records table commits h =
     let tail = forced_tail log (pushed_by_touch pages c.args.page) in
     record {
       any_moment = λ quiet. leaves_table c.log_laws.ensures c.page_laws.ensures log pages site newest records table commits h c.requires.going.pages_going.own sealing tail new
-          (c.touch.ensures.any_moment list ready quiet) (c.touch.ensures.ahead_moment list ready quiet h.log_holds.ahead) (c.touch.ensures.rings_moment newest list ready quiet h.log_holds.rings);
-      numbers = λ quiet. pages_skip c.touch.result pages.flash.geometry (current pages site.image) log c.touch.new.log list sealing site new (ready_next pages log list site ready) tail (c.touch.ensures.any_moment list ready quiet) c.touch.ensures.end;
-      quiet = c.touch.ensures.quiet list ready;
-      worn_log = λ worn. inl (c.touch.ensures.worn_log_end list ready worn);
-      worn = c.touch.ensures.worn_end list ready;
-      masters = λ none. ok_as c.touch.result _ (KeepsUnits master_shape site.image new.image) (λ leaves. leaves.rings Masters (λ same. cc) (λ same. cc)) (c.touch.ensures.leaves list ready);
-      readable = λ is. c.touch.ensures.foreign is list ready;
+          ((c.touch.ensures.keeps list ready).any_moment quiet) ((c.touch.ensures.keeps list ready).ahead_moment quiet h.log_holds.ahead) ((c.touch.ensures.keeps list ready).rings_moment newest quiet h.log_holds.rings);
+      numbers = λ quiet. pages_skip c.touch.result pages.flash.geometry (current pages site.image) log c.touch.new.log list sealing site new (ready_next pages log list site ready) tail ((c.touch.ensures.keeps list ready).any_moment quiet) c.touch.ensures.works.forces.end;
+      quiet = (c.touch.ensures.keeps list ready).quiet;
+      worn_log = λ worn. inl ((c.touch.ensures.keeps list ready).worn_log worn);
+      worn = (c.touch.ensures.keeps list ready).worn;
+      masters = λ none. ok_as c.touch.result _ (KeepsUnits master_shape site.image new.image) (λ stands. stands.leaves.rings Masters (λ same. cc) (λ same. cc)) (c.touch.ensures.stands list ready);
+      readable = λ is. (c.touch.ensures.keeps list ready).readable is;
     }
 
 pub returns-clause-redoing : goal.returns-clause-redoing
@@ -78,11 +77,10 @@ returns-clause-redoing g c o front h =
     let list : LogList = record { first = kept_by o.newest; blocks = o.blocks; tail = [] } in
     let sealing : Bool = forces log (pushed_by_touch pages c.args.page) in
     let never : sealing ≡ false = never_forced log (pushed_by_touch pages c.args.page) h.ready.records.tail.end in
-    ok_five_of c.touch.result _ _ _ _ _ (IsRedoing o c.touch.new.log c.touch.new.self new front)
-    (λ ready kept are_ahead leaves rings. touched c.page_laws.ensures c.redo_laws.ensures o log pages site front h sealing never new
-    c.touch.new.log c.touch.new.self c.touch.ensures.geometry c.touch.ensures.kept ready kept are_ahead leaves rings)
-    (c.touch.ensures.ready list h.ready) (c.touch.ensures.current list h.ready) (c.touch.ensures.ahead list h.ready h.ahead)
-    (c.touch.ensures.leaves list h.ready) (c.touch.ensures.rings o.newest list h.ready (rings_given o log pages site front h))
+    ok_as c.touch.result _ (IsRedoing o c.touch.new.log c.touch.new.self new front)
+    (λ stands. touched c.page_laws.ensures c.redo_laws.ensures o log pages site front h sealing never new
+    c.touch.new.log c.touch.new.self c.touch.ensures.works.geometry c.touch.ensures.works.forces.kept stands.ready stands.current (stands.ahead h.ahead) stands.leaves (stands.rings o.newest (rings_given o log pages site front h)))
+    (c.touch.ensures.stands list h.ready)
 
 pub returns-clause-keeps_opened : goal.returns-clause-keeps_opened
 returns-clause-keeps_opened g c o front h =
@@ -94,12 +92,12 @@ returns-clause-keeps_opened g c o front h =
     let sealing : Bool = forces log (pushed_by_touch pages c.args.page) in
     let never : sealing ≡ false = never_forced log (pushed_by_touch pages c.args.page) h.ready.records.tail.end in
     record {
-      any_moment = λ quiet. touch_leaves c.page_laws.ensures c.redo_laws.ensures o log pages site front h sealing never new (c.touch.ensures.any_moment list h.ready quiet)
-          (rings_of o log pages site front h new (c.touch.ensures.rings_moment o.newest list h.ready quiet (rings_given o log pages site front h))) c.requires.going.pages_going.own;
-      numbers = λ quiet. skips_touch c.page_laws.ensures c.redo_laws.ensures o log pages site front h sealing never new c.touch.result c.touch.new.log c.touch.new.self (c.touch.ensures.any_moment list h.ready quiet) (returns-clause-redoing g c o front h);
-      quiet = c.touch.ensures.quiet list h.ready;
-      worn_log = λ worn. inl (c.touch.ensures.worn_log_end list h.ready worn);
-      worn = c.touch.ensures.worn_end list h.ready;
-      readable = λ is. c.touch.ensures.foreign is list h.ready;
-      masters = λ none. ok_as c.touch.result _ (KeepsUnits master_shape site.image new.image) (λ leaves. leaves.rings Masters (λ same. cc) (λ same. cc)) (c.touch.ensures.leaves list h.ready);
+      any_moment = λ quiet. touch_leaves c.page_laws.ensures c.redo_laws.ensures o log pages site front h sealing never new ((c.touch.ensures.keeps list h.ready).any_moment quiet)
+          (rings_of o log pages site front h new ((c.touch.ensures.keeps list h.ready).rings_moment o.newest quiet (rings_given o log pages site front h))) c.requires.going.pages_going.own;
+      numbers = λ quiet. skips_touch c.page_laws.ensures c.redo_laws.ensures o log pages site front h sealing never new c.touch.result c.touch.new.log c.touch.new.self ((c.touch.ensures.keeps list h.ready).any_moment quiet) (returns-clause-redoing g c o front h);
+      quiet = (c.touch.ensures.keeps list h.ready).quiet;
+      worn_log = λ worn. inl ((c.touch.ensures.keeps list h.ready).worn_log worn);
+      worn = (c.touch.ensures.keeps list h.ready).worn;
+      readable = λ is. (c.touch.ensures.keeps list h.ready).readable is;
+      masters = λ none. ok_as c.touch.result _ (KeepsUnits master_shape site.image new.image) (λ stands. stands.leaves.rings Masters (λ same. cc) (λ same. cc)) (c.touch.ensures.stands list h.ready);
     }
