@@ -12,8 +12,8 @@ use Rattle.record_model.specs.Touches.{CacheWork, read_touch}
 use Rattle.engine.proofs.Scans.{range_more, range_at}
 use Rattle.second_chance.specs.Machine.{Rules, Cache}
 use Rattle.page_store.specs.declared.store.PageStore.{PageStore}
-use Rattle.page_store.specs.Caching.{cache_of, rules}
-use Rattle.redo_undo.specs.Works.{one_touch, Asks, NumbersRise}
+use Rattle.page_store.specs.Caching.{cache_of, rules, with_change}
+use Rattle.redo_undo.specs.Works.{one_touch, Asks, NumbersRise, one_change}
 use Rattle.redo_undo.specs.declared.store.Store.{Store}
 use Rattle.engine.specs.declared.engine.Engine.{Engine}
 use Rattle.engine.specs.Going.{MayGoOn}
@@ -21,6 +21,13 @@ use Rattle.engine.specs.Paging.{AsksFrom}
 use Rattle.site.proofs.Working.{err_again, no_error}
 use Rattle.redo_undo.specs.Stores.{MayWork}
 use Rattle.redo_undo.proofs.Asking.{asks_then, asks_stopped, asks_same, stop_is}
+use Rattle.redo_undo.proofs.AskingUndo.{change_made}
+use Rattle.page_store.specs.Laws.{TouchThenChange}
+
+-- A page that is touched, and then changed.
+pub change_ok : {A B : Type 0} (a : A) (b : B) (page : ℕ) (old mid new : PageStore) (before between now : Site) → 1 ≤ (rules old).groups → TouchThenChange → Asks {T = A} (Ok a) (one_touch page) old mid before between →
+    cache_of new ≡ with_change (cache_of mid) → rules new ≡ rules mid → SameReads between now → Asks {T = B} (Ok b) (one_change page) old new before now
+change_ok {A} {B} a b page old mid new before between now some law asks changed same read = change_made a (Ok b) page old mid new before between now some law asks changed same read (no_error {T = B} {x = b} {e = Worn Flash})
 
 -- What is asked of each call.
 

@@ -39,7 +39,7 @@ use Rattle.engine.proofs.Firsts.{step_where, touches_where}
 use Rattle.site.proofs.Working.{err_again, no_error, calls_nothing, calls_then, calls_failed, calls_answered, calls_refused}
 use Rattle.site.specs.Work.{Calls}
 use Rattle.redo_undo.specs.StoreCalls.{Works, Keeps}
-use Rattle.redo_undo.proofs.StoreCalling.{stop_is}
+use Rattle.redo_undo.proofs.Asking.{stop_is}
 use Rattle.redo_undo.proofs.Asking.{asks_nothing, asks_same, asks_then, asks_stopped}
 
 -- On every site.

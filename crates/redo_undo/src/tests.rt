@@ -9,7 +9,7 @@ ghost use Rattle.log_store.specs.Held.{end_of};
 ghost use Rattle.image_meaning.specs.Flushed.{first_block};
 ghost use Rattle.redo_undo.specs.Checkpointing.{begins_of};
 ghost use Rattle.redo_undo.specs.Holding.{MayGoOn, IsOnPage, blocks_to};
-ghost use Rattle.redo_undo.specs.Stores.{MayWork, MayLog};
+ghost use Rattle.redo_undo.specs.Stores.{MayWork, MayLog, sizes_of};
 
 use crate::logging::{log_change, log_record, touch};
 use crate::{Redone, Store, redo, undo_one};
@@ -133,11 +133,12 @@ fn crashed(site: MemSite) -> MemSite
 // Log and pages with the ring of master units, where all records count that the log has room for.
 fn stored(site: &mut MemSite, log: LogStore, pages: PageStore) -> Result<Store, Stop>
     requires going { MayGoOn log pages (state_of site.old) }
-    requires room { blocks_to log + 1 < log.kept + log.geometry.blocks }
+    requires room { blocks_to log + 3 < log.kept + log.geometry.blocks }
     requires sizes { log.geometry ≡ record { pages = 1; groups = 8; blocks = 16 } }
     ensures may { IfOk result (λ store. MayLog store (state_of site.new)) }
-    ensures log { IfOk result (λ store. store.log ≡ log) }
+    ensures room { IfOk result (λ store. blocks_to store.log + 3 < store.log.kept + (sizes_of store).blocks) }
     ensures made { IfOk result (λ store. store.made ≡ 16) }
+    ensures sizes { IfOk result (λ store. sizes_of store ≡ record { pages = 1; groups = 8; blocks = 16 }) }
 {
     let (masters, _blank) = newest(site)?;
     Ok(Store {

@@ -5,4 +5,5 @@ use Rattle.site.specs.MemState.{image_of}
 use Rattle.redo_undo.proofs.tests.a_commit_outlives_a_crash.Goals as goal
 
 pub crashed-site-requires : goal.crashed-site-requires
-crashed-site-requires g c = subst (λ (k : Geometry). HasLengths k (image_of c.commit.new.site)) (c.commit.ensures.works.geometry ∙ c.in_ok-log.ensures.geometry) c.commit.ensures.works.log_going.lengths
+crashed-site-requires g c =
+    subst (λ (k : Geometry). HasLengths k (image_of c.commit.new.site)) (c.commit.ensures.works.sizes ∙ c.in_ok-store.ensures.sizes) c.in_ok.ensures.works.going.both.pages_going.flash.lengths

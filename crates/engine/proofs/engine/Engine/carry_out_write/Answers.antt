@@ -1,5 +1,5 @@
-use Rattle.site.specs.declared.outside.Stop.TheVariants.{Memory}
-use Rattle.engine.proofs.Asking.{has_group}
+use Rattle.site.specs.declared.outside.Stop.TheVariants.{Memory, Worn}
+use Rattle.engine.proofs.Asking.{has_group, change_ok, memory_only}
 use Rattle.std.proofs.Common.{◌≡◌, ◌+◌, ◌*◌, ◌<◌, ◌≤◌, ⊎_elim, refl, sym, ap, subst, ◌∙◌, arith, ◌/◌}
 use Rattle.std.proofs.lemmas.Option.{same_Some}
 use Rattle.std.proofs.lemmas.Bool.{cases_eq}
@@ -20,6 +20,8 @@ use Rattle.engine.proofs.Calling.{does_of, serves_of}
 use Rattle.redo_undo.proofs.StoreCalling.{works_then, works_failed, works_answered, works_no_memory, keeps_failed, keeps_answered, keeps_both, keeps_no_memory}
 use Rattle.std.specs.Prelude.{Err}
 use Rattle.redo_undo.proofs.AskingUndo.{change_stopped, change_made, never_worn}
+use Rattle.site.specs.declared.outside.Dev.TheVariants.{Flash}
+use Rattle.redo_undo.proofs.Asking.{stop_is}
 use Rattle.engine.proofs.engine.Engine.carry_out_write.Goals as goal
 
 pub add-requires : goal.add-requires
@@ -127,7 +129,7 @@ returns-in-Err-clause-asks g c = change_stopped c.in-Err.stop (c.args.number / 3
 
 pub returns-in-Err-add-clause-asks : goal.returns-in-Err-add-clause-asks
 returns-in-Err-add-clause-asks g c =
-    change_made c.in-Ok.field-0 (Err Memory) (c.args.number / 32) _ _ _ _ _ _ (has_group c.requires.going) c.touch_then_change.ensures c.in-Ok.ensures.asks tt refl (λ dev. refl) (λ is. cc)
+    change_made c.in-Ok.field-0 (Err Memory) (c.args.number / 32) _ _ _ _ _ _ (has_group c.requires.going) c.touch_then_change.ensures c.in-Ok.ensures.asks tt refl (λ dev. refl) (λ is. memory_only Memory refl (stop_is Memory (Worn Flash) is))
 
 pub returns-in-Err-update-clause-asks : goal.returns-in-Err-update-clause-asks
 returns-in-Err-update-clause-asks g c =
@@ -135,4 +137,4 @@ returns-in-Err-update-clause-asks g c =
 
 pub returns-in-Ok-update-clause-asks : goal.returns-in-Ok-update-clause-asks
 returns-in-Ok-update-clause-asks g c =
-    change_made c.in-Ok.field-0 _ (c.args.number / 32) _ _ _ _ _ _ (has_group c.requires.going) c.touch_then_change.ensures c.in-Ok.ensures.asks c.in-Ok-update.ensures.machine c.update.ensures.rules_stay c.update.ensures.reads (λ is. cc)
+    change_ok c.in-Ok.field-0 _ (c.args.number / 32) _ _ _ _ _ _ (has_group c.requires.going) c.touch_then_change.ensures c.in-Ok.ensures.asks c.in-Ok-update.ensures.machine c.update.ensures.rules_stay c.update.ensures.reads

@@ -1,5 +1,5 @@
 use Rattle.redo_undo.specs.Works.{one_change}
-use Rattle.engine.proofs.Asking.{has_group, store_has_group}
+use Rattle.engine.proofs.Asking.{has_group, store_has_group, change_ok}
 use Rattle.std.proofs.Common.{◌++◌, ◌∷◌, [], ◌∙◌, arith, ◌/◌}
 use Rattle.record_model.specs.State.{Content}
 use Rattle.redo_undo.specs.Stores.{shown_in}
@@ -105,4 +105,4 @@ returns-in-Err-update-clause-asks g c =
 pub returns-in-Ok-update-clause-asks : goal.returns-in-Ok-update-clause-asks
 returns-in-Ok-update-clause-asks g c =
     asks_then c.in-Ok.txn _ [] (one_change (c.args.number / 32)) _ _ _ _ _ _ c.in-Ok.ensures.asks
-    (change_made c.in-Ok-touch.field-0 _ (c.args.number / 32) _ _ _ _ _ _ (store_has_group c.in-Ok.ensures.works.going) c.touch_then_change.ensures c.in-Ok-touch.ensures.asks c.in-Ok-update.ensures.machine c.update.ensures.rules_stay c.update.ensures.reads (λ is. cc))
+    (change_ok c.in-Ok-touch.field-0 _ (c.args.number / 32) _ _ _ _ _ _ (store_has_group c.in-Ok.ensures.works.going) c.touch_then_change.ensures c.in-Ok-touch.ensures.asks c.in-Ok-update.ensures.machine c.update.ensures.rules_stay c.update.ensures.reads)
