@@ -8,7 +8,8 @@ use Rattle.page_store.specs.Ahead.{forces}
 use Rattle.page_store.specs.Flushing.{flushed_contents}
 use Rattle.image_meaning.specs.Meaning.{kept_by}
 use Rattle.redo_undo.specs.Holding.{HoldsIn, Holds}
-use Rattle.redo_undo.proofs.Touched.{forced_tail, leaves_table, touched_holds, ok_seven}
+use Rattle.redo_undo.proofs.Touched.{forced_tail, leaves_table, touched_holds}
+use Rattle.page_store.proofs.Bringing.{ok_two}
 use Rattle.redo_undo.proofs.Redoings.{ok_one_of}
 use Rattle.page_store.specs.Held.{current}
 use Rattle.redo_undo.proofs.LeftNumbers.{pages_skip, ready_next}
@@ -25,22 +26,21 @@ returns-clause-holds g c newest records table commits h =
     let ready = h.log_holds.ready in
     let list : LogList = record { first = kept_by newest; blocks = h.log_holds.blocks; tail = h.log_holds.tail } in
     let sealing : Bool = forces log (flushed_contents pages) in
-    ok_seven c.flush_all.result _ _ _ _ _ _ _ (Holds c.flush_all.new.log c.flush_all.new.self new newest records table commits)
-    (λ ready' kept are_ahead end are_sealed rings leaves. subst (λ (x : Geometry). HoldsIn x c.flush_all.new.log c.flush_all.new.self new newest records table commits) (sym c.flush_all.ensures.geometry)
-    (touched_holds c.log_laws.ensures c.page_laws.ensures log pages site newest records table commits h c.flush_all.new.log c.flush_all.new.self new (c.flush_all.ensures.log_geometry ∙ c.requires.going.sizes)
-    c.flush_all.ensures.kept kept are_ahead end are_sealed rings c.requires.going.log_going.high sealing (forced_tail log (flushed_contents pages)) ready' leaves))
-    (c.flush_all.ensures.ready list ready) (c.flush_all.ensures.current list ready) (c.flush_all.ensures.ahead list ready h.log_holds.ahead) c.flush_all.ensures.end
-    (c.flush_all.ensures.sealed list ready h.log_holds.ahead) (c.flush_all.ensures.rings newest list ready h.log_holds.rings) (c.flush_all.ensures.leaves list ready)
+    ok_two c.flush_all.result _ _ (Holds c.flush_all.new.log c.flush_all.new.self new newest records table commits)
+    (λ stands end. subst (λ (x : Geometry). HoldsIn x c.flush_all.new.log c.flush_all.new.self new newest records table commits) (sym c.flush_all.ensures.works.geometry)
+    (touched_holds c.log_laws.ensures c.page_laws.ensures log pages site newest records table commits h c.flush_all.new.log c.flush_all.new.self new (c.flush_all.ensures.works.forces.geometry ∙ c.requires.going.sizes)
+    c.flush_all.ensures.works.forces.kept stands.current (stands.ahead h.log_holds.ahead) end (stands.sealed h.log_holds.ahead) (stands.rings newest h.log_holds.rings) c.requires.going.log_going.high sealing (forced_tail log (flushed_contents pages)) stands.ready stands.leaves))
+    (c.flush_all.ensures.stands list ready) c.flush_all.ensures.works.forces.end
 
 pub returns-clause-asks : goal.returns-clause-asks
 returns-clause-asks g c =
-    let asked = c.flush_all.ensures.asked in
+    let asked = c.flush_all.ensures.flushes.asked in
     let other = c.flush_all.ensures.others Disk (λ same. cc) in
     record {
-      machine = c.flush_all.ensures.machine;
-      worn = c.flush_all.ensures.overflows;
+      machine = c.flush_all.ensures.flushes.machine;
+      worn = c.flush_all.ensures.flushes.overflows;
       reads = record { flash = omega (arith, asked); disk = omega (arith, other) };
-      rules_are = (λ i. rules_of (c.flush_all.ensures.size i) (c.flush_all.ensures.geometry i).groups);
+      rules_are = (λ i. rules_of (c.flush_all.ensures.works.size i) (c.flush_all.ensures.works.geometry i).groups);
     }
 
 pub returns-clause-keeps : goal.returns-clause-keeps
@@ -55,11 +55,11 @@ returns-clause-keeps g c newest records table commits h =
     let tail = forced_tail log (flushed_contents pages) in
     record {
       any_moment = λ quiet. leaves_table c.log_laws.ensures c.page_laws.ensures log pages site newest records table commits h c.requires.going.pages_going.own sealing tail new
-          (c.flush_all.ensures.any_moment list ready quiet) (c.flush_all.ensures.ahead_moment list ready quiet h.log_holds.ahead) (c.flush_all.ensures.rings_moment newest list ready quiet h.log_holds.rings);
-      numbers = λ quiet. pages_skip c.flush_all.result pages.flash.geometry (current pages site.image) log c.flush_all.new.log list sealing site new (ready_next pages log list site ready) tail (c.flush_all.ensures.any_moment list ready quiet) c.flush_all.ensures.end;
-      quiet = c.flush_all.ensures.quiet list ready;
-      worn_log = λ worn. inl (c.flush_all.ensures.worn_log_end list ready worn);
-      worn = c.flush_all.ensures.worn_end list ready;
+          ((c.flush_all.ensures.keeps list ready).any_moment quiet) ((c.flush_all.ensures.keeps list ready).ahead_moment quiet h.log_holds.ahead) ((c.flush_all.ensures.keeps list ready).rings_moment newest quiet h.log_holds.rings);
+      numbers = λ quiet. pages_skip c.flush_all.result pages.flash.geometry (current pages site.image) log c.flush_all.new.log list sealing site new (ready_next pages log list site ready) tail ((c.flush_all.ensures.keeps list ready).any_moment quiet) c.flush_all.ensures.works.forces.end;
+      quiet = (c.flush_all.ensures.keeps list ready).quiet;
+      worn_log = λ worn. inl ((c.flush_all.ensures.keeps list ready).worn_log worn);
+      worn = (c.flush_all.ensures.keeps list ready).worn;
       readable = λ is. of_error c.flush_all.result (λ stop. stop ≢ Foreign) Foreign c.flush_all.ensures.foreign is refl;
-      masters = λ none. ok_one_of c.flush_all.result _ (KeepsUnits master_shape site.image new.image) (λ leaves. leaves.rings Masters (λ same. cc) (λ same. cc)) (c.flush_all.ensures.leaves list ready);
+      masters = λ none. ok_one_of c.flush_all.result _ (KeepsUnits master_shape site.image new.image) (λ stands. stands.leaves.rings Masters (λ same. cc) (λ same. cc)) (c.flush_all.ensures.stands list ready);
     }

@@ -4,7 +4,8 @@ use Rattle.page_store.specs.Ahead.{forces, pushed_by_touch}
 use Rattle.log_store.specs.LogList.{LogList}
 use Rattle.image_meaning.specs.Meaning.{kept_by}
 use Rattle.redo_undo.specs.Holding.{HoldsIn, Holds}
-use Rattle.redo_undo.proofs.Touched.{forced_tail, leaves_table, touched_holds, ok_seven}
+use Rattle.redo_undo.proofs.Touched.{forced_tail, leaves_table, touched_holds}
+use Rattle.page_store.proofs.Bringing.{ok_two}
 use Rattle.second_chance.specs.Machine.{rules_of}
 use Rattle.page_store.specs.Caching.{cache_of, rules}
 use Rattle.redo_undo.proofs.Asking.{touch_overflows, touch_reads}
@@ -24,12 +25,11 @@ returns-clause-holds g c newest records table commits h =
     let list : LogList = record { first = kept_by newest; blocks = h.log_holds.blocks; tail = h.log_holds.tail } in
     let sealing : Bool = forces log (pushed_by_touch pages c.args.page) in
     let k = pages.flash.geometry in
-    ok_seven c.touch.result _ _ _ _ _ _ _ (Holds c.touch.new.log c.touch.new.self new newest records table commits)
-    (λ ready' kept are_ahead end are_sealed rings leaves. subst (λ (x : Geometry). HoldsIn x c.touch.new.log c.touch.new.self new newest records table commits) (sym c.touch.ensures.geometry)
-    (touched_holds c.log_laws.ensures c.page_laws.ensures log pages site newest records table commits h c.touch.new.log c.touch.new.self new (c.touch.ensures.log_geometry ∙ c.requires.going.sizes) c.touch.ensures.kept kept are_ahead end
-    are_sealed rings c.requires.going.log_going.high sealing (forced_tail log (pushed_by_touch pages c.args.page)) ready' leaves))
-    (c.touch.ensures.ready list ready) (c.touch.ensures.current list ready) (c.touch.ensures.ahead list ready h.log_holds.ahead) c.touch.ensures.end
-    (c.touch.ensures.sealed list ready h.log_holds.ahead) (c.touch.ensures.rings newest list ready h.log_holds.rings) (c.touch.ensures.leaves list ready)
+    ok_two c.touch.result _ _ (Holds c.touch.new.log c.touch.new.self new newest records table commits)
+    (λ stands end. subst (λ (x : Geometry). HoldsIn x c.touch.new.log c.touch.new.self new newest records table commits) (sym c.touch.ensures.works.geometry)
+    (touched_holds c.log_laws.ensures c.page_laws.ensures log pages site newest records table commits h c.touch.new.log c.touch.new.self new (c.touch.ensures.works.forces.geometry ∙ c.requires.going.sizes) c.touch.ensures.works.forces.kept stands.current (stands.ahead h.log_holds.ahead) end
+    (stands.sealed h.log_holds.ahead) (stands.rings newest h.log_holds.rings) c.requires.going.log_going.high sealing (forced_tail log (pushed_by_touch pages c.args.page)) stands.ready stands.leaves))
+    (c.touch.ensures.stands list ready) c.touch.ensures.works.forces.end
 
 pub returns-clause-asks : goal.returns-clause-asks
 returns-clause-asks g c =
@@ -38,9 +38,9 @@ returns-clause-asks g c =
     let some : 1 ≤ (rules pages).groups = omega (arith, c.requires.going.pages_going.flash.limits.groups) in
     record {
       machine = c.touch.ensures.machine;
-      worn = λ is. (let full = c.touch.ensures.worn_flash is in touch_overflows (rules pages) c.args.page (cache_of pages) some full.0 (c.requires.going.pages_going.flash.next ∙ full.1));
+      worn = λ is. (let full = c.touch.ensures.worn.worn_flash is in touch_overflows (rules pages) c.args.page (cache_of pages) some full.0 (c.requires.going.pages_going.flash.next ∙ full.1));
       reads = touch_reads (rules pages) c.args.page (cache_of pages) (g.S.Site.state c.args.site.now) (g.S.Site.state c.touch.new.site) some c.touch.ensures.flash_reads c.touch.ensures.disk_reads;
-      rules_are = (λ i. rules_of (c.touch.ensures.size i) (c.touch.ensures.geometry i).groups);
+      rules_are = (λ i. rules_of (c.touch.ensures.works.size i) (c.touch.ensures.works.geometry i).groups);
     }
 
 pub returns-clause-keeps : goal.returns-clause-keeps
@@ -55,11 +55,11 @@ returns-clause-keeps g c newest records table commits h =
     let tail = forced_tail log (pushed_by_touch pages c.args.page) in
     record {
       any_moment = λ quiet. leaves_table c.log_laws.ensures c.page_laws.ensures log pages site newest records table commits h c.requires.going.pages_going.own sealing tail new
-          (c.touch.ensures.any_moment list ready quiet) (c.touch.ensures.ahead_moment list ready quiet h.log_holds.ahead) (c.touch.ensures.rings_moment newest list ready quiet h.log_holds.rings);
-      numbers = λ quiet. pages_skip c.touch.result pages.flash.geometry (current pages site.image) log c.touch.new.log list sealing site new (ready_next pages log list site ready) tail (c.touch.ensures.any_moment list ready quiet) c.touch.ensures.end;
-      quiet = c.touch.ensures.quiet list ready;
-      worn_log = λ worn. inl (c.touch.ensures.worn_log_end list ready worn);
-      worn = c.touch.ensures.worn_end list ready;
-      masters = λ none. ok_one_of c.touch.result _ (KeepsUnits master_shape site.image new.image) (λ leaves. leaves.rings Masters (λ same. cc) (λ same. cc)) (c.touch.ensures.leaves list ready);
-      readable = λ is. c.touch.ensures.foreign is list ready;
+          ((c.touch.ensures.keeps list ready).any_moment quiet) ((c.touch.ensures.keeps list ready).ahead_moment quiet h.log_holds.ahead) ((c.touch.ensures.keeps list ready).rings_moment newest quiet h.log_holds.rings);
+      numbers = λ quiet. pages_skip c.touch.result pages.flash.geometry (current pages site.image) log c.touch.new.log list sealing site new (ready_next pages log list site ready) tail ((c.touch.ensures.keeps list ready).any_moment quiet) c.touch.ensures.works.forces.end;
+      quiet = (c.touch.ensures.keeps list ready).quiet;
+      worn_log = λ worn. inl ((c.touch.ensures.keeps list ready).worn_log worn);
+      worn = (c.touch.ensures.keeps list ready).worn;
+      masters = λ none. ok_one_of c.touch.result _ (KeepsUnits master_shape site.image new.image) (λ stands. stands.leaves.rings Masters (λ same. cc) (λ same. cc)) (c.touch.ensures.stands list ready);
+      readable = λ is. (c.touch.ensures.keeps list ready).readable is;
     }

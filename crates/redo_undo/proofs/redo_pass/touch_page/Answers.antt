@@ -3,7 +3,7 @@ use Rattle.std.specs.Prelude.{◌≡◌}
 use Rattle.page_store.specs.Ahead.{forces, pushed_by_touch}
 use Rattle.log_store.specs.LogList.{LogList}
 use Rattle.redo_undo.specs.Redoing.{IsRedoing}
-use Rattle.redo_undo.proofs.Redoings.{never_forced, rings_given, rings_of, touch_leaves, touched, ok_five_of, ok_one_of}
+use Rattle.redo_undo.proofs.Redoings.{never_forced, rings_given, rings_of, touch_leaves, touched, ok_one_of}
 use Rattle.second_chance.specs.Machine.{rules_of}
 use Rattle.page_store.specs.Caching.{cache_of, rules}
 use Rattle.redo_undo.proofs.Asking.{touch_overflows, touch_reads}
@@ -21,11 +21,10 @@ returns-clause-redoing g c o front h =
     let list : LogList = record { first = kept_by o.newest; blocks = o.blocks; tail = [] } in
     let sealing : Bool = forces log (pushed_by_touch pages c.args.page) in
     let never : sealing ≡ false = never_forced log (pushed_by_touch pages c.args.page) h.ready.records.tail.end in
-    ok_five_of c.touch.result _ _ _ _ _ (IsRedoing o c.touch.new.log c.touch.new.self new front)
-    (λ ready kept are_ahead leaves rings. touched c.page_laws.ensures c.redo_laws.ensures o log pages site front h sealing never new
-    c.touch.new.log c.touch.new.self c.touch.ensures.geometry c.touch.ensures.kept ready kept are_ahead leaves rings)
-    (c.touch.ensures.ready list h.ready) (c.touch.ensures.current list h.ready) (c.touch.ensures.ahead list h.ready h.ahead)
-    (c.touch.ensures.leaves list h.ready) (c.touch.ensures.rings o.newest list h.ready (rings_given o log pages site front h))
+    ok_one_of c.touch.result _ (IsRedoing o c.touch.new.log c.touch.new.self new front)
+    (λ stands. touched c.page_laws.ensures c.redo_laws.ensures o log pages site front h sealing never new
+    c.touch.new.log c.touch.new.self c.touch.ensures.works.geometry c.touch.ensures.works.forces.kept stands.ready stands.current (stands.ahead h.ahead) stands.leaves (stands.rings o.newest (rings_given o log pages site front h)))
+    (c.touch.ensures.stands list h.ready)
 
 pub returns-clause-asks : goal.returns-clause-asks
 returns-clause-asks g c =
@@ -33,9 +32,9 @@ returns-clause-asks g c =
     let some : 1 ≤ (rules pages).groups = omega (arith, c.requires.going.pages_going.flash.limits.groups) in
     record {
       machine = c.touch.ensures.machine;
-      worn = λ is. (let full = c.touch.ensures.worn_flash is in touch_overflows (rules pages) c.args.page (cache_of pages) some full.0 (c.requires.going.pages_going.flash.next ∙ full.1));
+      worn = λ is. (let full = c.touch.ensures.worn.worn_flash is in touch_overflows (rules pages) c.args.page (cache_of pages) some full.0 (c.requires.going.pages_going.flash.next ∙ full.1));
       reads = touch_reads (rules pages) c.args.page (cache_of pages) (g.S.Site.state c.args.site.now) (g.S.Site.state c.touch.new.site) some c.touch.ensures.flash_reads c.touch.ensures.disk_reads;
-      rules_are = (λ i. rules_of (c.touch.ensures.size i) (c.touch.ensures.geometry i).groups);
+      rules_are = (λ i. rules_of (c.touch.ensures.works.size i) (c.touch.ensures.works.geometry i).groups);
     }
 
 pub returns-clause-keeps : goal.returns-clause-keeps
@@ -48,12 +47,12 @@ returns-clause-keeps g c o front h =
     let sealing : Bool = forces log (pushed_by_touch pages c.args.page) in
     let never : sealing ≡ false = never_forced log (pushed_by_touch pages c.args.page) h.ready.records.tail.end in
     record {
-      any_moment = λ quiet. touch_leaves c.page_laws.ensures c.redo_laws.ensures o log pages site front h sealing never new (c.touch.ensures.any_moment list h.ready quiet)
-          (rings_of o log pages site front h new (c.touch.ensures.rings_moment o.newest list h.ready quiet (rings_given o log pages site front h))) c.requires.going.pages_going.own;
-      numbers = λ quiet. skips_touch c.page_laws.ensures c.redo_laws.ensures o log pages site front h sealing never new c.touch.result c.touch.new.log c.touch.new.self (c.touch.ensures.any_moment list h.ready quiet) (returns-clause-redoing g c o front h);
-      quiet = c.touch.ensures.quiet list h.ready;
-      worn_log = λ worn. inl (c.touch.ensures.worn_log_end list h.ready worn);
-      worn = c.touch.ensures.worn_end list h.ready;
-      readable = λ is. c.touch.ensures.foreign is list h.ready;
-      masters = λ none. ok_one_of c.touch.result _ (KeepsUnits master_shape site.image new.image) (λ leaves. leaves.rings Masters (λ same. cc) (λ same. cc)) (c.touch.ensures.leaves list h.ready);
+      any_moment = λ quiet. touch_leaves c.page_laws.ensures c.redo_laws.ensures o log pages site front h sealing never new ((c.touch.ensures.keeps list h.ready).any_moment quiet)
+          (rings_of o log pages site front h new ((c.touch.ensures.keeps list h.ready).rings_moment o.newest quiet (rings_given o log pages site front h))) c.requires.going.pages_going.own;
+      numbers = λ quiet. skips_touch c.page_laws.ensures c.redo_laws.ensures o log pages site front h sealing never new c.touch.result c.touch.new.log c.touch.new.self ((c.touch.ensures.keeps list h.ready).any_moment quiet) (returns-clause-redoing g c o front h);
+      quiet = (c.touch.ensures.keeps list h.ready).quiet;
+      worn_log = λ worn. inl ((c.touch.ensures.keeps list h.ready).worn_log worn);
+      worn = (c.touch.ensures.keeps list h.ready).worn;
+      readable = λ is. (c.touch.ensures.keeps list h.ready).readable is;
+      masters = λ none. ok_one_of c.touch.result _ (KeepsUnits master_shape site.image new.image) (λ stands. stands.leaves.rings Masters (λ same. cc) (λ same. cc)) (c.touch.ensures.stands list h.ready);
     }
