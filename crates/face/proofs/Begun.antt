@@ -13,10 +13,11 @@ use Rattle.second_chance.specs.Machine.{after_works, listing, rules_of}
 use Rattle.engine.specs.Paging.{cache_on, restart_works}
 use Rattle.face.specs.Lines.{up_to_quit}
 use Rattle.face.specs.Range.{HasBegun, ListsTheMachine, first_texts}
-use Rattle.face.specs.Run.{HasToldUpTo, ListsUpTo, Run, after_lines, answered, listing_at, state_at, step, text_at, told_after, works_of}
+use Rattle.face.specs.Run.{HasToldUpTo, Run, after_lines, answered, listing_at, state_at, step, text_at, told_after, works_of}
+use Rattle.face.specs.Working.{ListsUpTo}
 use Rattle.face.proofs.Fronts.{get_within, take_within, text_same, told_same}
 use Rattle.face.proofs.Listed.{cache_line}
-use Rattle.face.proofs.Pagings.{after_same}
+use Rattle.face.proofs.Pagings.{after_same, asked_is}
 use Rattle.face.proofs.Ranges.{texts_same}
 use Rattle.face.proofs.Turns.{none_of_none, turns_count}
 
@@ -111,5 +112,6 @@ module _ (pool : ℕ) (g : Geometry) (opening : State) (listings : List (List Ca
       ∙ cache_reply (state_at taken i) t.line (listing_at taken i) asks
       ∙ ap (λ (l : List Line). Listing (next_listing (listings_after l listings))) first
       ∙ ap Listing given
+      ∙ ap (λ (w : List CacheWork). Listing (listing (after_works (rules_of pool g.groups) w (cache_on g image)))) (asked_is all newest image blocks i)
       ∙ ap (λ (w : List CacheWork). Listing (listing (after_works (rules_of pool g.groups) (restart_works (picture_under newest g image blocks) ++ w) (cache_on g image))))
       (ap (works_of opening) (sym first) ∙ sym at.works)

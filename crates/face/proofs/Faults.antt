@@ -24,7 +24,8 @@ use Rattle.redo_undo.specs.Holding.{IsLogWorn}
 use Rattle.redo_undo.specs.Works.{OverflowsWithMore}
 use Rattle.face.specs.Causes.{HasCause, HasCauses, NoFaultRose, HasLogRoom, EndsInTime}
 use Rattle.face.specs.Lines.{commands_of, up_to_quit, answered_of, limit}
-use Rattle.face.specs.Run.{Run, told_after, StandsFor, StandsAt, StandsNear, IsAccounted, IsBetween, Begins, HasHeard, HasTakenAll, Stops, StopsTaking, Works}
+use Rattle.face.specs.Run.{Run, told_after, StandsFor, StandsAt, StandsNear, IsAccounted, IsBetween, Begins, HasHeard, HasTakenAll, Stops, StopsTaking}
+use Rattle.face.specs.Working.{Works}
 use Rattle.face.specs.Range.{run_of, run_text, texts, StandsAfter, IsLeft, WearsOut, NeverWears}
 use Rattle.face.specs.Tells.{EndsBehind, Tells}
 use Rattle.face.proofs.Endings.{ends_whole, ends_with}

@@ -20,7 +20,8 @@ use Rattle.checkpoint.specs.declared.master.Master.{Master}
 use Rattle.log_records.specs.declared.log_record.LogRecord.{LogRecord}
 use Rattle.second_chance.specs.Machine.{after_works, listing, rules_of}
 use Rattle.face.specs.Causes.{FailsBy}
-use Rattle.face.specs.Run.{Run, Begins, IsAsked, ListsUpTo, step, answered, asked_after, listings_left, listing_at}
+use Rattle.face.specs.Run.{Run, Begins, IsAsked, step, answered, listings_left, listing_at}
+use Rattle.face.specs.Working.{ListsUpTo, asked_after}
 use Rattle.face.specs.Going.{Going, IsPaged, IsUnderWay}
 use Rattle.face.proofs.Runs.{left_next}
 

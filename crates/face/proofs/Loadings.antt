@@ -31,7 +31,8 @@ use Rattle.face.specs.Going.{Going, IsCounted, IsPaged}
 use Rattle.face.specs.Lines.{commands_of}
 use Rattle.face.specs.Loads.{CarriesFirst, CarriesOut, HasBegunLoad, IsLeftOf, IsOpened, IsUntold, LeavesSome, LoadStops, LoadWorks}
 use Rattle.face.specs.Range.{ReadsNoMore, SkipsNoNumber, StandsAfter, WearsOut, all_commits, cache_by, run_of, turns_of, works_by}
-use Rattle.face.specs.Run.{IsAccounted, IsFront, IsPart, Outgrows, ReadsFew, ReadsUpTo, Run, SkipsNoneUpTo, StandsFor, StandsNear, Stops, after_lines, answered, asked_after, checkpoints_of, text_at, told_after, works_of}
+use Rattle.face.specs.Run.{IsAccounted, IsFront, IsPart, ReadsFew, Run, SkipsNoneUpTo, StandsFor, StandsNear, Stops, after_lines, answered, checkpoints_of, text_at, told_after, works_of}
+use Rattle.face.specs.Working.{asked_after}
 use Rattle.face.specs.Texts.{status_of}
 use Rattle.face.specs.Workload.{get_line, load_run, numbers_of, opening_text, set_line, set_lines, get_lines}
 use Rattle.face.proofs.Counted.{skips_course, skips_no_number}
@@ -149,7 +150,7 @@ module _ (g : Geometry) (opening : State) (load : Load) where
       stands = λ s left. let a = stops.any_moment.now s left in let begun = a.begun in (0, omega arith, stands_first s.image (opens_at a.whole s.image (omega (arith, begun)) a.stands));
     }
 
-    pub load_never_opened : {T : Type 0} (new : Site) (h : Halt) → Stops opening_run 0 old new h → (h ≡ halt.Stop (Worn Flash) → Outgrows load.pool opening_run old.image 0) → SkipsNoneUpTo opening_run 0 old.image new.image → ReadsUpTo load.pool opening_run 0 old new → new.left ≡ old.left →
+    pub load_never_opened : {T : Type 0} (new : Site) (h : Halt) → Stops opening_run 0 old new h → (h ≡ halt.Stop (Worn Flash) → WearsOut load.pool opening_run 0 old.image) → SkipsNoneUpTo opening_run 0 old.image new.image → ReadsNoMore load.pool opening_run 0 old new → new.left ≡ old.left →
         LoadWorks {T = T} load.pool run [] old new (Err h)
     load_never_opened {T} new h stops worn numbers reads left = record {
       stops = never_opened new h stops;
@@ -171,7 +172,7 @@ module _ (g : Geometry) (opening : State) (load : Load) where
     module _ (add : WorksAddUp) (reads_add : ReadsAddUp) (mid new : Site) (before after : Engine) (going : Going opening_run old mid before 0)
         (paged : (newest : Option Master) (blocks : List (List LogRecord)) → IsSound newest g old.image blocks → IsPaged load.pool opening_run newest old.image blocks before 0)
         (counted : (newest : Option Master) (blocks : List (List LogRecord)) → IsSound newest g old.image blocks → IsCounted opening_run (log_under newest blocks) old.image mid.image before 0)
-        (read : ReadsUpTo load.pool opening_run 0 old mid)
+        (read : ReadsNoMore load.pool opening_run 0 old mid)
         (left : mid.left ≡ old.left) where
       told_mid : mid.told ≡ old.told ++ opening_text run
       told_mid = going.told ∙ ap (λ (l : List ℕ). old.told ++ l) (append-nil (opening_text run))

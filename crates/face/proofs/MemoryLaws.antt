@@ -13,12 +13,13 @@ use Rattle.face.specs.declared.halt.Halt.TheVariants as halt
 use Rattle.face.specs.TopCall.{LoadContract, NewContract, RunContract}
 use Rattle.face.specs.Headline.{IsGood, Headline}
 use Rattle.face.specs.Tells.{Tells}
-use Rattle.face.specs.Run.{ReadsUpTo, Run, Works}
+use Rattle.face.specs.Run.{Run}
+use Rattle.face.specs.Working.{Works}
 use Rattle.face.proofs.Pagings.{none_read}
 use Rattle.redo_undo.specs.Works.{NumbersRise, OverflowsWithMore}
 use Rattle.face.specs.New.{New, NewCauses}
 use Rattle.face.specs.Words.{LacksMemory, memory_fault}
-use Rattle.face.specs.Range.{run_of}
+use Rattle.face.specs.Range.{ReadsNoMore, run_of}
 use Rattle.face.specs.declared.request.Load.{Load}
 use Rattle.face.specs.Loads.{LoadHeadline, LoadWorks}
 use Rattle.face.specs.Workload.{load_run, summary_text}
@@ -48,7 +49,7 @@ still g opening old good =
     })
 
 -- nothing was read
-reads_nothing : NumbersRise → (pool : ℕ) (run : Run) (site : Site) → ReadsUpTo pool run 0 site site
+reads_nothing : NumbersRise → (pool : ℕ) (run : Run) (site : Site) → ReadsNoMore pool run 0 site site
 reads_nothing rise pool run site newest blocks sound = none_read _ _ _ _ site rise (let least = sound.octets.limits.groups in omega (arith, least))
 
 pub lacked_headline : Serial → NumbersRise → (pool : ℕ) (g : Geometry) (opening : State) (old new : Site) → {T : Type 0} (result : Result T Failed) → IsGood g opening old → Tells memory_fault old new result → Headline pool g opening old new 4

@@ -34,7 +34,8 @@ use Rattle.face.proofs.Turns.{first_answered, first_turns, turns_count}
 use Rattle.site.specs.declared.geometry.Geometry.{Geometry}
 use Rattle.face.specs.Going.{IsPaged, Serves}
 use Rattle.face.specs.Range.{run_of, turns_of, works_by, cache_by, LeavesItsQueue, ReadsNoMore, WearsOut, NeverWears}
-use Rattle.face.specs.Run.{Run, answered, step, after_lines, state_at, works_of, asked_after, Outgrows, HasGroupsFor, HasQueueAt, ReadsFew, ReadsUpTo}
+use Rattle.face.specs.Run.{Run, answered, step, after_lines, state_at, works_of, ReadsFew}
+use Rattle.face.specs.Working.{asked_after, HasGroupsFor, HasQueueAt}
 
 -- Lines. What they ask doesn't depend on what the cache lists.
 
@@ -76,13 +77,6 @@ works_more s (x ∷ lines) (suc i) line rest is =
     ap (λ (w : List CacheWork). line_touches true s x ++ w) (works_more (step s x []).after lines i line rest is)
     ∙ sym (append_assoc (line_touches true s x) (works_of (step s x []).after (take i lines)) (line_touches true (plain_after (step s x []).after (take i lines)) line))
 
-pub asked_next : (run : Run) (newest : Option Master) (image : Image) (blocks : List (List LogRecord)) (i : ℕ) (line : Line) (rest : List Line) → drop i (answered run) ≡ line ∷ rest →
-    asked_after run newest image blocks (suc i) ≡ asked_after run newest image blocks i ++ line_touches true (state_at run i) line
-asked_next run newest image blocks i line rest is =
-    let restart = restart_works (picture_under newest run.geometry image blocks) in
-    ap (λ (w : List CacheWork). restart ++ w) (works_more run.opening (answered run) i line rest is ∙ ap (λ (s : State). works_of run.opening (take i (answered run)) ++ line_touches true s line) (plain_is run.opening (take i (answered run)) run.listings))
-    ∙ sym (append_assoc restart (works_of run.opening (take i (answered run))) (line_touches true (state_at run i) line))
-
 -- the work of more lines goes on from that of the first ones
 works_join : (s : State) (first later : List Line) → works_of s (first ++ later) ≡ works_of s first ++ works_of (plain_after s first) later
 unfolding plain_after
@@ -105,6 +99,23 @@ turns_ask s (line ∷ lines) listings =
 -- and its first turns for what its first lines do
 pub first_ask : (n : ℕ) (s : State) (lines : List Line) (listings : List (List CacheLine)) → run_touches true (take n (turns true s lines listings)) ≡ works_of s (take n (up_to_quit lines))
 first_ask n s lines listings = ap (run_touches true) (first_turns n s lines listings) ∙ turns_ask s (take n (up_to_quit lines)) listings ∙ ap (works_of s) (first_answered n lines)
+
+-- by lines
+pub asked_is : (run : Run) (newest : Option Master) (image : Image) (blocks : List (List LogRecord)) (n : ℕ) → asked_after run newest image blocks n ≡ restart_works (picture_under newest run.geometry image blocks) ++ works_of run.opening (take n (answered run))
+asked_is run newest image blocks n = ap (λ (w : List CacheWork). restart_works (picture_under newest run.geometry image blocks) ++ w) (first_ask n run.opening run.lines run.listings)
+
+-- whatever the cache lists
+pub asked_with : (run : Run) (listings : List (List CacheLine)) (newest : Option Master) (image : Image) (blocks : List (List LogRecord)) (n : ℕ) → asked_after (record run { listings = listings }) newest image blocks n ≡ asked_after run newest image blocks n
+asked_with run listings newest image blocks n = asked_is (record run { listings = listings }) newest image blocks n ∙ sym (asked_is run newest image blocks n)
+
+pub asked_next : (run : Run) (newest : Option Master) (image : Image) (blocks : List (List LogRecord)) (i : ℕ) (line : Line) (rest : List Line) → drop i (answered run) ≡ line ∷ rest →
+    asked_after run newest image blocks (suc i) ≡ asked_after run newest image blocks i ++ line_touches true (state_at run i) line
+asked_next run newest image blocks i line rest is =
+    let restart = restart_works (picture_under newest run.geometry image blocks) in
+    asked_is run newest image blocks (suc i)
+    ∙ ap (λ (w : List CacheWork). restart ++ w) (works_more run.opening (answered run) i line rest is ∙ ap (λ (s : State). works_of run.opening (take i (answered run)) ++ line_touches true s line) (plain_is run.opening (take i (answered run)) run.listings))
+    ∙ sym (append_assoc restart (works_of run.opening (take i (answered run))) (line_touches true (state_at run i) line))
+    ∙ ap (λ (w : List CacheWork). w ++ line_touches true (state_at run i) line) (sym (asked_is run newest image blocks i))
 
 -- Reads.
 
@@ -272,7 +283,8 @@ module _ (pool : ℕ) (g : Geometry) (opening : State) (listings : List (List Ca
     -- the first lines of all ask for the same
     same_asked : (newest : Option Master) (blocks : List (List LogRecord)) → asked_after all newest image blocks heard ≡ works_by taken (take heard (turns_of taken)) newest image blocks
     same_asked newest blocks =
-        (λ i. restart_works (picture_under newest (same_sizes i) image blocks) ++ works_of (same_opening i) (sym same i)) ∙ sym (asked_first heard newest blocks)
+        asked_is all newest image blocks heard
+        ∙ (λ i. restart_works (picture_under newest (same_sizes i) image blocks) ++ works_of (same_opening i) (sym same i)) ∙ sym (asked_first heard newest blocks)
 
     same_sound : (newest : Option Master) (blocks : List (List LogRecord)) → IsSound newest g image blocks → IsSound newest all.geometry image blocks
     same_sound newest blocks sound = subst (λ (x : Geometry). IsSound newest x image blocks) (sym same_sizes) sound
@@ -286,7 +298,7 @@ module _ (pool : ℕ) (g : Geometry) (opening : State) (listings : List (List Ca
         (subst (λ (x : Geometry). cache_on x now ≡ opened (after_works (rules_of pool x.groups) (asked_after all newest image blocks heard) (cache_on x image)).queue) same_sizes (queue newest blocks (same_sound newest blocks sound)))
 
     -- no more is read than they ask for
-    pub reads_no_more : (old new : Site) → old.image ≡ image → ReadsUpTo pool all heard old new → ReadsNoMore pool taken heard old new
+    pub reads_no_more : (old new : Site) → old.image ≡ image → ReadsNoMore pool all heard old new → ReadsNoMore pool taken heard old new
     reads_no_more old new at few newest blocks sound =
         let own = subst (λ (x : Image). IsSound newest g x blocks) at sound in
         subst (λ (x : Image). ReadsFew pool g (works_by taken (take heard (turns_of taken)) newest x blocks) old new) (sym at)
@@ -295,7 +307,7 @@ module _ (pool : ℕ) (g : Geometry) (opening : State) (listings : List (List Ca
         (subst (λ (x : Image). ReadsFew pool all.geometry (asked_after all newest x blocks heard) old new) at
         (few newest blocks (subst (λ (x : Image). IsSound newest all.geometry x blocks) (sym at) (same_sound newest blocks own))))))
 
-    pub wears_out : Outgrows pool all image heard → WearsOut pool taken heard image
+    pub wears_out : WearsOut pool all heard image → WearsOut pool taken heard image
     wears_out over newest blocks sound =
         subst (λ (w : List CacheWork). Overflows (rules_of pool g.groups) w (cache_on g image)) (same_asked newest blocks)
         (subst (λ (x : Geometry). Overflows (rules_of pool x.groups) (asked_after all newest image blocks heard) (cache_on x image)) same_sizes (over newest blocks (same_sound newest blocks sound)))

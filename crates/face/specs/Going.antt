@@ -23,8 +23,8 @@ use Rattle.image_changes.specs.Rings.{log_shape}
 use Rattle.log_records.specs.Log.{Entry}
 use Rattle.log_records.specs.Unfinished.{owed}
 use Rattle.redo_undo.specs.Holding.{blocks_to}
-use Rattle.face.specs.Run.{CountsUpTo, ListsUpTo, asked_after, Run, Begins, answered, told_after, state_at}
-use Rattle.face.specs.Run.{listings_left, IsAccounted}
+use Rattle.face.specs.Run.{CountsUpTo, Run, Begins, answered, told_after, state_at, listings_left, IsAccounted}
+use Rattle.face.specs.Working.{ListsUpTo, asked_after}
 
 -- so many lines of the run were answered
 pub record Going (run : Run) (entry now : Site) (engine : Engine) (lines : ℕ) : Type 0 where

@@ -1,5 +1,4 @@
 pub mod Causes
-pub mod TopCall
 pub mod Going
 pub mod Headline
 pub mod Image
@@ -12,5 +11,7 @@ pub mod Range
 pub mod Run
 pub mod Tells
 pub mod Texts
+pub mod TopCall
 pub mod Words
+pub mod Working
 pub mod Workload

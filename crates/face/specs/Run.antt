@@ -1,6 +1,6 @@
 -- A run: its texts, and what a crash may leave of it.
 use Rattle.std.specs.Prelude.{◌≡◌, ◌⊎◌, ℕ, ◌+◌, ◌*◌, ◌-◌, ◌<◌, List, [], ◌∷◌, ◌++◌, ◌≤◌, length, take, flat_map}
-use Rattle.std.specs.Prelude.{slice_index_or, IsTrue, Result, IfErr, OnOk, IsErrOf, ◌≢◌, ◌^◌, Bool, true, false, Option}
+use Rattle.std.specs.Prelude.{slice_index_or, IsTrue, ◌≢◌, Bool, true, false, Option}
 use Rattle.std.specs.Prelude.{Some, None, ⊤}
 use Rattle.site.specs.State.{State as Site, Snapshot, Image, MayLeave, now_of, no_loose}
 use Rattle.site.specs.Moments.{LeavesOnly}
@@ -11,16 +11,13 @@ use Rattle.std.specs.List.{list_any}
 use Rattle.record_model.specs.declared.words.CacheLine.{CacheLine}
 use Rattle.record_model.specs.Run.{Line, line_step, is_quit, is_cache, next_listing, later_listings, listings_after}
 use Rattle.face.specs.declared.halt.Halt.{Halt}
-use Rattle.face.specs.declared.halt.Halt.TheVariants.{Stop, Output, Input, Limit}
-use Rattle.site.specs.declared.outside.Dev.TheVariants.{Flash}
-use Rattle.site.specs.declared.outside.Stop.TheVariants.{Worn}
+use Rattle.face.specs.declared.halt.Halt.TheVariants.{Output, Input, Limit}
 use Rattle.record_model.specs.Touches.{CacheWork, line_touches}
 use Rattle.log_records.specs.declared.log_record.LogRecord.{LogRecord}
 use Rattle.checkpoint.specs.declared.master.Master.{Master}
-use Rattle.image_meaning.specs.Meaning.{picture_under}
-use Rattle.second_chance.specs.Machine.{rules_of, after_works, listing, opened}
-use Rattle.redo_undo.specs.Works.{next_group, Overflows, ReadsFor}
-use Rattle.engine.specs.Paging.{restart_works, cache_on}
+use Rattle.second_chance.specs.Machine.{rules_of}
+use Rattle.redo_undo.specs.Works.{ReadsFor}
+use Rattle.engine.specs.Paging.{cache_on}
 use Rattle.shell_text.specs.Texts.{open_text, reply_text}
 use Rattle.face.specs.Texts.{status_of}
 use Rattle.engine.specs.Image.{IsSound, Stands, Opens, log_under}
@@ -29,7 +26,7 @@ use Rattle.sealed_ring.specs.Ring.{hi_of}
 use Rattle.image_changes.specs.Rings.{log_shape, master_shape}
 use Rattle.log_records.specs.Log.{Entry}
 use Rattle.log_records.specs.Unfinished.{owed}
-use Rattle.face.specs.Lines.{commands_of, up_to_quit, answered_of, HeardAll, limit}
+use Rattle.face.specs.Lines.{commands_of, up_to_quit, answered_of, limit}
 
 -- what a line is answered, and the state that it leaves, where the cache has this listing
 abbrev pub step : State → Line → List CacheLine → Outcome
@@ -89,42 +86,10 @@ abbrev pub works_of : State → List Line → List CacheWork
 works_of s [] = []
 works_of s (line ∷ lines) = line_touches true s line ++ works_of (step s line []).after lines
 
--- what a run over this image has asked once it has answered so many lines: the restart's work, then theirs
-abbrev pub asked_after : Run → Option Master → Image → List (List LogRecord) → ℕ → List CacheWork
-asked_after run newest image blocks lines =
-    restart_works (picture_under newest run.geometry image blocks) ++ works_of run.opening (take lines (answered run))
-
--- with so many lines the run appends to a ring of groups that stands at its end
-abbrev pub Outgrows : ℕ → Run → Image → ℕ → Type 0
-Outgrows pool run image lines =
-    (newest : Option Master) (blocks : List (List LogRecord)) → IsSound newest run.geometry image blocks →
-    Overflows (rules_of pool run.geometry.groups) (asked_after run newest image blocks lines)
-    (cache_on run.geometry image)
-
--- it doesn't
-abbrev pub HasGroupsFor : ℕ → Run → Image → ℕ → Type 0
-HasGroupsFor pool run image lines =
-    (newest : Option Master) (blocks : List (List LogRecord)) → IsSound newest run.geometry image blocks →
-    next_group (after_works (rules_of pool run.geometry.groups) (asked_after run newest image blocks lines)
-    (cache_on run.geometry image)) ≤ 2 ^ 40
-
--- each of the first lines that asks for the listing of the cache is given the cache machine's
-abbrev pub ListsUpTo : ℕ → Run → ℕ → Image → Type 0
-ListsUpTo pool run lines image =
-    (newest : Option Master) (blocks : List (List LogRecord)) → IsSound newest run.geometry image blocks
-    → (i : ℕ) → i < lines → is_cache (slice_index_or (answered run) i None) ≡ true
-    → listing_at run i ≡ listing (after_works (rules_of pool run.geometry.groups)
-    (asked_after run newest image blocks i) (cache_on run.geometry image))
-
 -- since the run opened on this site no more is read than this work needs, and of flash twice as often as it has groups
 abbrev pub ReadsFew : ℕ → Geometry → List CacheWork → Site → Site → Type 0
 ReadsFew pool g works old now = ReadsFor (rules_of pool g.groups) works (cache_on g old.image)
     (record old { flash_reads = old.flash_reads + 2 * g.groups }) now
-
-abbrev pub ReadsUpTo : ℕ → Run → ℕ → Site → Site → Type 0
-ReadsUpTo pool run lines old now =
-    (newest : Option Master) (blocks : List (List LogRecord)) → IsSound newest run.geometry old.image blocks →
-    ReadsFew pool run.geometry (asked_after run newest old.image blocks lines) old now
 
 -- how many checkpoints a line makes, and how many lines make, whatever the cache lists
 abbrev pub line_checkpoints : State → Line → ℕ
@@ -147,13 +112,6 @@ pub record CountsUpTo (run : Run) (records : List Entry) (lines : ℕ) (old now 
 abbrev pub SkipsNoneUpTo : Run → ℕ → Image → Image → Type 0
 SkipsNoneUpTo run lines old now = (newest : Option Master) (blocks : List (List LogRecord)) →
     IsSound newest run.geometry old blocks → CountsUpTo run (log_under newest blocks) lines old now
-
--- with so many lines the frames on flash are those of the cache machine's queue, as a restart would find it
-abbrev pub HasQueueAt : ℕ → Run → ℕ → Image → Image → Type 0
-HasQueueAt pool run lines old now =
-    (newest : Option Master) (blocks : List (List LogRecord)) → IsSound newest run.geometry old blocks
-    → cache_on run.geometry now ≡ opened (after_works (rules_of pool run.geometry.groups)
-    (asked_after run newest old blocks lines) (cache_on run.geometry old)).queue
 
 -- the devices stand for the table and the count of a state
 abbrev pub StandsFor : Geometry → Image → State → Type 0
@@ -244,22 +202,3 @@ pub record Stops (run : Run) (heard : ℕ) (old new : Site) (halt : Halt) : Type
 abbrev pub HasToldUpTo : Run → ℕ → Site → Site → Type 0
 HasToldUpTo run lines old now =
     (part : ℕ) × (now.told ≡ old.told ++ (told_after run lines ++ take part (text_at run lines)))
-
--- what comes of a run before its fault line
-pub record Works {T : Type 0} (pool : ℕ) (run : Run) (old new : Site) (result : Result T Halt) : Type 0 where
-  pub heard : ℕ
-  pub octets : List ℕ
-  pub ended : Bool
-  pub has_heard : HasHeard heard octets ended old new
-  pub stops : IfErr result (λ halt. Stops run heard old new halt × StopsTaking halt run heard octets old new)
-  pub begun : HasToldUpTo run heard old new
-  pub done : OnOk result (HeardAll ended octets × (length (answered_of ended octets) ≡ heard)
-      × LeavesOnly old new (IsAccounted run heard old.told []) × IsDone run heard old new)
-  -- flash is worn only where the lines that were heard ask for more groups than the ring can have
-  pub worn : IsErrOf result (Stop (Worn Flash)) → Outgrows pool run old.image heard
-  pub room : OnOk result (HasGroupsFor pool run old.image heard)
-  pub queue : OnOk result (HasQueueAt pool run heard old.image new.image)
-  -- no ring number is skipped on the log's device
-  pub numbers : SkipsNoneUpTo run heard old.image new.image
-  pub listed : ListsUpTo pool run heard old.image
-  pub reads : ReadsUpTo pool run heard old new

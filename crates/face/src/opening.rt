@@ -14,7 +14,8 @@ ghost use Rattle.engine.specs.Fits.{Fits};
 ghost use Rattle.engine.specs.Going.{MayGoOn, sizes_of};
 ghost use Rattle.engine.specs.Leaves.{HasNoSizes};
 ghost use Rattle.face.specs.Causes.{HasCause, Halts};
-ghost use Rattle.face.specs.Run.{Run, Begins, Stops, Outgrows, ReadsUpTo, SkipsNoneUpTo};
+ghost use Rattle.face.specs.Range.{ReadsNoMore, WearsOut};
+ghost use Rattle.face.specs.Run.{Run, Begins, Stops, SkipsNoneUpTo};
 ghost use Rattle.face.specs.Going.{Going, IsPaged, IsCounted};
 
 use crate::halt::Halt;
@@ -40,9 +41,9 @@ pub fn open<S: Site>(alloc: Global, pool: u32, site: &mut S) -> Result<Engine, H
         → IsSound newest run.geometry (S.state site.old).image blocks
         → IfOk result (λ engine. IsPaged pool run newest (S.state site.old).image blocks engine 0) }
     ensures worn { (run : Run) → Begins run (S.state site.old) → IsErrOf result (Halt.Stop (Stop.Worn Dev.Flash))
-        → Outgrows pool run (S.state site.old).image 0 }
+        → WearsOut pool run 0 (S.state site.old).image }
     ensures reads { (run : Run) → Begins run (S.state site.old)
-        → ReadsUpTo pool run 0 (S.state site.old) (S.state site.new) }
+        → ReadsNoMore pool run 0 (S.state site.old) (S.state site.new) }
     // No ring number is skipped.
     ensures counted { (run : Run) → Begins run (S.state site.old)
         → (newest : Option Master) (blocks : List (List LogRecord))

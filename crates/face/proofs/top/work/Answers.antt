@@ -5,11 +5,15 @@ use Rattle.site.specs.Laws.{stays_honest, goes_in_sequence}
 use Rattle.record_model.specs.Run.{Line}
 use Rattle.face.specs.Going.{Going, IsCounted, IsPaged}
 use Rattle.engine.specs.Image.{log_under}
+use Rattle.record_model.specs.Touches.{CacheWork}
+use Rattle.second_chance.specs.Machine.{after_works, rules_of}
+use Rattle.engine.specs.Paging.{cache_on}
 use Rattle.face.proofs.Counted.{counted_on, counts_next, counts_still, next_counted}
-use Rattle.face.proofs.Pagings.{next_paged, next_reads, next_worn, paged_queue, paged_room, reads_still}
+use Rattle.face.proofs.Pagings.{asked_with, next_paged, next_reads, next_worn, paged_queue, paged_room, reads_still}
 use Rattle.engine.specs.Listings.{listing_of}
 use Rattle.face.specs.Lines.{up_to_quit}
-use Rattle.face.specs.Run.{Run, Begins, ListsUpTo, ReadsFew, asked_after, state_at, listings_left, listing_at}
+use Rattle.face.specs.Run.{Run, Begins, ReadsFew, state_at, listings_left, listing_at}
+use Rattle.face.specs.Working.{ListsUpTo, asked_after}
 use Rattle.face.specs.Texts.{status_of}
 use Rattle.face.proofs.Cuts.{Cut, no_cut, cut_more, cut_stays, line_is, cut_few_octets}
 use Rattle.face.proofs.Ends.{lists_nothing, never_opened, taking_failed, finished, answer_failed, heard_end, line_heard, quitted, taking_cause, answer_takes_nothing, answer_cause}
@@ -180,7 +184,10 @@ loop-line-preserved g c =
           let ended = c.in-Ok-next.ensures.ended honest cut.ended in
           let is = ap (λ (l : List Line). drop i (up_to_quit l)) begins.lines ∙ line_is entry.left c.loop-line.source mid i cut c.loop-line.invariant.source c.next.new.self next c.in-Line.line hears ended c.next.ensures.source in
           let paged = next_paged c.args.pool own newest entry.image blocks c.works_add_up.ensures.works i c.in-Line.line _ is c.loop-line.engine (c.loop-line.invariant.paged own starts newest blocks sound) c.in_default.field-0 c.answer.new.engine next new (c.in_default.ensures.asks (state_at own i) going.fits) in
-          subst (IsPaged c.args.pool run newest entry.image blocks c.answer.new.engine) (sym (add-one i)) (record { machine = paged.machine; rules_are = paged.rules_are });
+          subst (IsPaged c.args.pool run newest entry.image blocks c.answer.new.engine) (sym (add-one i)) (record {
+            machine = paged.machine ∙ ap (λ (w : List CacheWork). after_works (rules_of c.args.pool run.geometry.groups) w (cache_on run.geometry entry.image)) (asked_with run with newest entry.image blocks (suc i));
+            rules_are = paged.rules_are;
+          });
       reads = λ run begins newest blocks sound.
           let under_way = c.loop-line.invariant.under_way in
           let with = with_line c.args.pool entry mid c.loop-line.engine i under_way c.in-Line.line in
@@ -194,7 +201,8 @@ loop-line-preserved g c =
           let ended = c.in-Ok-next.ensures.ended honest cut.ended in
           let is = ap (λ (l : List Line). drop i (up_to_quit l)) begins.lines ∙ line_is entry.left c.loop-line.source mid i cut c.loop-line.invariant.source c.next.new.self next c.in-Line.line hears ended c.next.ensures.source in
           subst (λ (n : ℕ). ReadsFew c.args.pool run.geometry (asked_after run newest entry.image blocks n) entry new) (sym (add-one i))
-          (next_reads c.args.pool own newest entry.image blocks c.works_add_up.ensures.works i c.in-Line.line _ is c.loop-line.engine (c.loop-line.invariant.paged own starts newest blocks sound) c.works_add_up.ensures.reads entry mid next new refl (c.next.ensures.same honest).reads (c.loop-line.invariant.reads own starts newest blocks sound) (c.answer.ensures.asks (state_at own i) going.fits).reads);
+          (subst (λ (w : List CacheWork). ReadsFew c.args.pool run.geometry w entry new) (asked_with run with newest entry.image blocks (suc i))
+          (next_reads c.args.pool own newest entry.image blocks c.works_add_up.ensures.works i c.in-Line.line _ is c.loop-line.engine (c.loop-line.invariant.paged own starts newest blocks sound) c.works_add_up.ensures.reads entry mid next new refl (c.next.ensures.same honest).reads (c.loop-line.invariant.reads own starts newest blocks sound) (c.answer.ensures.asks (state_at own i) going.fits).reads));
       counted = λ run begins newest blocks sound.
           let under_way = c.loop-line.invariant.under_way in
           let with = with_line c.args.pool entry mid c.loop-line.engine i under_way c.in-Line.line in
