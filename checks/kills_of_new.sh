@@ -5,7 +5,9 @@
 # another program than the one that is built here.
 set -u
 root=$(cd "$(dirname "$(readlink -f "$0")")/.." && pwd)
-folder=$(mktemp -d)
+shared=/dev/shm
+[ -d "$shared" ] && [ -w "$shared" ] || shared=${TMPDIR:-/tmp}
+folder=$(mktemp -d -p "$shared")
 trap 'cd /; rm -rf "$folder"' EXIT
 if ! command -v strace >/dev/null 2>&1 || ! strace -o /dev/null true 2>/dev/null; then
     echo 'skipped: kills of new: need strace'
@@ -59,7 +61,7 @@ whole() {
 # what a run finds: the CAP of a blank database of 16 pages, none, or something else
 opens() {
     local told
-    told=$(printf 'stat\nget 511\nget 512\n' | "$face" run 1 | tr '\n' /)
+    told=$(printf 'stat\nget 511\nget 512\n' | "$face" run 1 2>/dev/null | tr '\n' /)
     case $told in
     'open 0/stat commits 0 used 0 owed 0 cap '*' active 0/none/refused record/') told=${told#*cap } && echo "${told%% *}" ;;
     'fault foreign/') echo none ;;
@@ -70,7 +72,7 @@ opens() {
 # what `new` tells: ready, refused, or something else
 asked() {
     local told
-    told=$("$face" "$@" </dev/null)
+    told=$("$face" "$@" </dev/null 2>/dev/null)
     case "$? $told" in
     '0 ready '*) echo ready ;;
     '9 fault foreign' | '10 fault notblank '*) echo refused ;;
@@ -132,7 +134,7 @@ for state in empty log_there log_missing all_there drafts_left log_used; do
     rm -rf "$folder"/db*
     mkdir "$folder/db" && cd "$folder/db" || exit 1
     "state_$state"
-    strace -f -o "$folder/trace" "$face" "${new[@]}" >/dev/null </dev/null
+    strace -f -o "$folder/trace" "$face" "${new[@]}" >/dev/null 2>&1 </dev/null
     calls=$(sed 's/^[0-9]* *//; /^[a-z0-9_]*(/!d; s/(.*//' "$folder/trace" | grep -v -x execve | sort | uniq -c)
     tried=0 found=0 shut=0 ready=0 refused=0 before=$wrong
     while read -r count call; do

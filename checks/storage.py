@@ -145,12 +145,14 @@ def wanted_status(fault, call, opening, new):
     if call.file in ('input', 'output'):
         return {5 if call.file == 'input' else 6}
     if new:
-        return {0} if call.kind == 'unlink' else {3, 9} if call.kind == 'pread' else {0, 9} if call.kind == 'statx' else {9}
+        return {'unlink': {0, 9}, 'statx': {0, 9}, 'pread': {3, 9}}.get(call.kind, {9})
     return {9} if opening else {3}
 
 
 def fault_line(status, call):
-    return {3: b'fault %s\n' % call.file.split('.')[-1].encode(), 5: b'fault input\n', 9: b'fault foreign\n'}.get(status, b'')
+    if status == 3:
+        return b'fault %s\n' % call.file.split('.')[1].encode()
+    return {5: b'fault input\n', 9: b'fault foreign\n'}.get(status, b'')
 
 
 def check_break(outcome, whole, statuses, call):

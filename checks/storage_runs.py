@@ -92,11 +92,11 @@ class Course:
     def allowed(self, told):
         """The tables that may be found when so much was told: that of the commits that were told, and, where the next line asks for
         a commit, that behind it."""
-        whole, length = 0, 0
+        whole, place = 0, 0
         for text in self.texts:
-            length += len(text)
-            if length > len(told):
+            if not told.startswith(text.encode(), place):
                 break
+            place += len(text)
             whole += 1
         least = self.commits[max(whole - 1, 0)]
         most = self.commits[min(whole, len(self.commits) - 1)] if whole else least

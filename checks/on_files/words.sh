@@ -1,0 +1,112 @@
+#!/usr/bin/env bash
+# What is said on standard error, and the rights of the files that are made. What is told and the statuses are those of the other scripts.
+. "$(dirname "$(readlink -f "$0")")/helpers.bash"
+
+# says NAME STATUS PATTERN WORDS..: the program ends with this status, and standard error has a line of this pattern
+says() {
+    local name=$1 status=$2 pattern=$3 got
+    shift 3
+    "${prefix[@]}" "$face" "$@" >"$folder/out" 2>"$folder/said" </dev/null
+    got=$?
+    [ "$got" -eq "$status" ] && grep -q -x -e "$pattern" "$folder/said"
+    local ok=$?
+    [ $ok -eq 0 ] || echo "  $name: status $got, said: $(cat "$folder/said")"
+    verdict "$name" $ok
+}
+
+# --- words that are wrong
+mkdir "$folder/db"
+cd "$folder/db" || exit 1
+says 'no words' 2 "face: there are no words, or one of them isn't UTF-8 text"
+says 'help' 2 'face: word 1 is "help", and not new, run or load' help
+says 'the usage' 2 'usage: face new PAGES GROUPS BLOCKS .*' --help
+[ "$(grep -v -c '^face: ' "$folder/said")" -eq 8 ] && [ "$(cat "$folder/out")" = 'fault words' ]
+verdict 'the usage has eight lines' $?
+says 'a number that is none' 2 'face: word 3 is "10", which is no GROUPS' new 16 10 64
+says 'a word that is missing' 2 'face: SEED is missing' load 1
+says 'a word too many' 2 'face: word 3 is "2", which is one too many' run 1 2
+
+# --- no database
+says 'no file' 9 'face: this folder has no database: .*' run 1
+"$face" new 16 8 64 >/dev/null </dev/null
+for file in face.log face.flash face.disk; do
+    mv "$file" kept
+    says "$file is missing" 9 "face: $file is missing beside the others: .*" run 1
+    mkdir "$file"
+    says "$file is a folder" 9 "face: $file can't be opened to be read and written: Is a directory (os error 21); .*" run 1
+    rmdir "$file"
+    head -c 1000 kept >"$file"
+    says "$file is too short" 9 "face: $file has 1000 octets, as in no database: .*" run 1
+    mv kept "$file"
+done
+says 'other sizes' 9 'face: face.log has 34304 octets, and these sizes ask for 34816: nothing was made. .*' new 16 8 65
+printf 'set 5 0a\n' | "$face" run 1 >/dev/null
+says 'a used database' 10 "face: the files aren't blank, and nothing was written over. .*" new 16 8 64
+cp face.log kept
+printf '\245' | dd of=face.log conv=notrunc status=none
+printf '\377' | dd of=face.log bs=1 seek=33 conv=notrunc status=none
+says 'unsound contents' 9 "face: what face.log, face.flash and face.disk hold isn't sound, .*" run 1
+cp kept face.log
+if has flock; then
+    prefix=(flock face.log)
+    says 'another program is at work' 9 'face: another program is at work on face.log: .*' run 1
+    prefix=()
+    mkdir "$folder/held"
+    cd "$folder/held" || exit 1
+    prefix=(flock .)
+    says 'another program makes a database' 9 'face: another program is at work on this folder: .*' new 16 8 64
+    prefix=()
+    cd "$folder/db" || exit 1
+else
+    skip 'locks of others: need flock'
+fi
+
+# --- failed calls
+"$face" run 1 >&- 2>"$folder/said" </dev/null
+[ $? -eq 6 ] && grep -q "^face: standard output couldn't be written: Bad file descriptor (os error 9)$" "$folder/said"
+verdict 'an output that is closed' $?
+"$face" run 1 >/dev/full 2>"$folder/said" </dev/null
+[ $? -eq 6 ] && grep -q "^face: standard output couldn't be written: No space left on device (os error 28)$" "$folder/said"
+verdict 'an output that is full' $?
+"$face" run 1 >/dev/null 2>"$folder/said" <.
+[ $? -eq 5 ] && grep -q "^face: standard input couldn't be read: Is a directory (os error 21)$" "$folder/said"
+verdict 'an input that is a folder' $?
+if has strace && strace -o /dev/null true 2>/dev/null; then
+    prefix=(strace -f -o /dev/null -P face.disk -e inject=pread64:error=EIO:when=1)
+    printf 'get 40\n' | "${prefix[@]}" "$face" run 1 >"$folder/out" 2>"$folder/said"
+    [ $? -eq 3 ] && grep -q "^face: face.disk couldn't be read: Input/output error (os error 5)$" "$folder/said"
+    verdict 'a disk that cannot be read' $?
+    mkdir "$folder/none"
+    cd "$folder/none" || exit 1
+    prefix=(strace -f -o /dev/null -e inject=write:error=ENOSPC:when=1)
+    says 'no room for a new log' 9 "face: face.log.new can't be made: No space left on device (os error 28); .*" new 16 8 64
+    prefix=()
+else
+    skip 'words for failing calls: need strace'
+fi
+
+# --- nothing depends on standard error, and nothing is said where nothing is wrong
+cd "$folder/db" || exit 1
+out=$("$face" run 0 2>&- </dev/null)
+[ $? -eq 2 ] && [ "$out" = 'fault words' ]
+verdict 'standard error that is closed' $?
+out=$("$face" run 0 2>/dev/full </dev/null)
+[ $? -eq 2 ] && [ "$out" = 'fault words' ]
+verdict 'standard error that is full' $?
+said=$(printf 'get 5\nquit\n' | "$face" run 1 2>&1 >/dev/null)
+[ -z "$said" ]
+verdict 'a run without faults says nothing' $?
+
+# --- who may read and write what is made
+for mask in 022 000 077; do
+    rm -f face.*
+    (umask "$mask" && "$face" new 16 8 64 >/dev/null </dev/null)
+    [ "$(stat -c %a face.log face.flash face.disk | sort -u)" = 600 ]
+    verdict "files are their owner's alone, umask $mask" $?
+done
+chmod 640 face.*
+printf 'set 5 0a\n' | "$face" run 1 >/dev/null && "$face" new 16 8 64 >/dev/null 2>&1 </dev/null
+[ "$(stat -c %a face.log face.flash face.disk | sort -u)" = 640 ]
+verdict 'the rights of files that are there stay' $?
+
+finish
