@@ -1,4 +1,4 @@
-ghost use Rattle.std.specs.Prelude.{◌≡◌, ◌+◌, ◌<◌, ◌≤◌, not, [], ◌∷◌, ℕ, List, length, take, IsTrue, IfOk, IfErr, if◌then◌else◌};
+ghost use Rattle.std.specs.Prelude.{◌≡◌, ◌+◌, ◌<◌, ◌≤◌, not, [], List, length, take, IsTrue, IfOk, IfErr, if◌then◌else◌};
 ghost use Rattle.byte_fields.specs.declared.frame_head.Mark.{Mark};
 ghost use Rattle.second_chance.specs.Queue.{has_frame, with_read, front_marks};
 ghost use Rattle.second_chance.specs.Plans.{eviction_plan};

@@ -1,4 +1,4 @@
-ghost use Rattle.std.specs.Prelude.{◌≡◌, ◌<◌, ◌≤◌, ◌++◌, ◌∷◌, [], ℕ, Bool, List, length, IfOk, IfErr, OnOk};
+ghost use Rattle.std.specs.Prelude.{◌≡◌, ◌<◌, ◌≤◌, ◌++◌, ◌∷◌, [], ℕ, Bool, List, IfOk, IfErr, OnOk};
 ghost use Rattle.policy_sim.specs.declared.policy.Policy.{Policy};
 ghost use Rattle.policy_sim.specs.Machines.{start, after_touch, machine_counts, IsAfter};
 
