@@ -1,4 +1,4 @@
-ghost use Rattle.std.specs.Prelude.{◌≡◌, ◌+◌, ◌<◌, ◌≤◌, not, [], ◌∷◌, ℕ, List, length, take, IsTrue, IfOk, IfErr, if◌then◌else◌};
+ghost use Rattle.std.specs.Prelude.{◌≡◌, ◌+◌, ◌<◌, ◌≤◌, not, [], List, length, take, IsTrue, IfOk, IfErr, if◌then◌else◌};
 ghost use Rattle.byte_fields.specs.declared.frame_head.Mark.{Mark};
 ghost use Rattle.second_chance.specs.Queue.{has_frame, with_read, front_marks};
 ghost use Rattle.second_chance.specs.Plans.{eviction_plan};
@@ -236,7 +236,14 @@ fn in_pool() -> Counts
 /// What a touch of a page that isn't in the pool counts, where its frame was found or not.
 fn not_in_pool(found: bool, made: &Pushed) -> Counts
     requires { made.now.staged ≤ 8 }
-    ensures counts { result ≡ record { touches = 1; pool = 0; flash = one_where found; disk = one_where (not found); staged = made.now.staged; pushed = one_where made.now.pushed } }
+    ensures counts { result ≡ record {
+      touches = 1;
+      pool = 0;
+      flash = one_where found;
+      disk = one_where (not found);
+      staged = made.now.staged;
+      pushed = one_where made.now.pushed;
+    } }
     ensures bounded { IsBounded result }
 {
     Counts {

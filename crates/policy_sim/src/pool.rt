@@ -72,7 +72,8 @@ impl Pool {
 
     /// Brings a page to the front, whether it is in the pool or not. It is changed where it was, and where it is now.
     pub fn touch(&mut self, page: u32, change: bool) -> Result<(), Stop>
-        ensures ok { OnOk result (self.new ≡ record { page = page; changed = is_changed self.old page || change } ∷ without (λ other. other == page) self.old) }
+        ensures ok { OnOk result (self.new
+            ≡ record { page = page; changed = is_changed self.old page || change } ∷ without (λ other. other == page) self.old) }
         ensures memory { IfErr result (λ stop. stop ≡ Stop.Memory) }
     {
         let _len = self.pages.len();

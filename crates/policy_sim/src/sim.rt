@@ -1,4 +1,4 @@
-ghost use Rattle.std.specs.Prelude.{◌≡◌, ◌<◌, ◌≤◌, ◌++◌, ◌∷◌, [], ℕ, Bool, List, length, IfOk, IfErr, OnOk};
+ghost use Rattle.std.specs.Prelude.{◌≡◌, ◌<◌, ◌≤◌, ◌++◌, ◌∷◌, [], ℕ, Bool, List, IfOk, IfErr, OnOk};
 ghost use Rattle.policy_sim.specs.declared.policy.Policy.{Policy};
 ghost use Rattle.policy_sim.specs.Machines.{start, after_touch, machine_counts, IsAfter};
 
@@ -53,7 +53,8 @@ impl Sim {
     pub fn touch(&mut self, page: u32, change: bool) -> Result<(), Stop>
         requires few { self.old.counts.touches < 1000000 }
         ensures after { OnOk result (self.new ≡ after_touch self.old page change) }
-        ensures counts_are_the_machines { OnOk result ((kind : Policy) → (groups pool : ℕ) → (touches : List (ℕ × Bool)) → IsAfter kind groups pool touches self.old → IsAfter kind groups pool (touches ++ (page, change) ∷ []) self.new) }
+        ensures counts_are_the_machines { OnOk result ((kind : Policy) → (groups pool : ℕ) → (touches : List (ℕ × Bool))
+            → IsAfter kind groups pool touches self.old → IsAfter kind groups pool (touches ++ (page, change) ∷ []) self.new) }
         ensures memory { IfErr result (λ stop. stop ≡ Stop.Memory) }
     {
         if self.ended {
@@ -69,7 +70,8 @@ impl Sim {
     /// What was counted so far.
     pub fn counts(&self) -> Counts
         ensures counts { result ≡ self.now.counts }
-        ensures counts_are_the_machines { (kind : Policy) → (groups pool : ℕ) → (touches : List (ℕ × Bool)) → IsAfter kind groups pool touches self.now → result ≡ machine_counts kind groups pool touches }
+        ensures counts_are_the_machines { (kind : Policy) → (groups pool : ℕ) → (touches : List (ℕ × Bool))
+            → IsAfter kind groups pool touches self.now → result ≡ machine_counts kind groups pool touches }
     {
         self.counts
     }

@@ -1,4 +1,4 @@
-ghost use Rattle.std.specs.Prelude.{◌≤◌, ◌<◌, length};
+ghost use Rattle.std.specs.Prelude.{◌≤◌, length};
 
 use crate::{Counts, Policy, Sim};
 use site::Stop;
