@@ -32,7 +32,8 @@ use Rattle.page_store.specs.Leaves.{AreReady, LeavesPages, LeavesRings, AreGiven
 use Rattle.page_store.specs.Flushing.{chosen, cleared_all, flushed_first, flushed_contents}
 use Rattle.page_store.specs.Stopping.{MayStop, IsLogAtEnd}
 
--- A log and the pages beside it may go on together: they have one geometry, and there is room for the block of the log's tail.
+-- A log and the pages beside it may go on together: they have one geometry, and there is room for the block of the
+-- log's tail.
 pub record MayWork (log : LogStore) (pages : PageStore) (site : State) : Type 0 where
   pub pages_going : MayGoOn pages site
   pub log_going : log_held.MayGoOn log site
@@ -52,7 +53,8 @@ pub record Forces {T : Type 0} (result : Result T Stop) (old new : LogStore) (se
   pub geometry : new.geometry ≡ old.geometry
 
 -- A call on pages: both may go on, sizes stay, and the log is forced only where that is said.
-pub record Works {T : Type 0} (result : Result T Stop) (old new : LogStore) (pages pages' : PageStore) (before now : State) (sealing : Bool) : Type 0 where
+pub record Works {T : Type 0} (result : Result T Stop) (old new : LogStore) (pages pages' : PageStore)
+    (before now : State) (sealing : Bool) : Type 0 where
   pub calls : Calls result before now
   pub forces : Forces result old new sealing
   pub going : MayGoOn pages' now
@@ -62,26 +64,33 @@ pub record Works {T : Type 0} (result : Result T Stop) (old new : LogStore) (pag
   pub log_reads : now.log_reads ≡ before.log_reads
   pub stops : IfErr result (λ stop. MayStop stop)
 
--- A call that reads no page in: what it reads is of the queue, what it says is never Foreign, and of pages that are logged it leaves such.
-pub record Pushes {T : Type 0} (result : Result T Stop) (old new : LogStore) (pages pages' : PageStore) (before now : State) (sealing : Bool) : Type 0 where
+-- A call that reads no page in: what it reads is of the queue, what it says is never Foreign, and of pages that are
+-- logged it leaves such.
+pub record Pushes {T : Type 0} (result : Result T Stop) (old new : LogStore) (pages pages' : PageStore)
+    (before now : State) (sealing : Bool) : Type 0 where
   pub works : Works result old new pages pages' before now sealing
-  pub logged : AreLogged (end_forced old) pages.pool.frames → OnOk result (AreLogged (end_forced new) pages'.pool.frames)
+  pub logged : AreLogged (end_forced old) pages.pool.frames →
+      OnOk result (AreLogged (end_forced new) pages'.pool.frames)
   pub ended : pages'.ended ≡ pages.ended
   pub others : (d : Dev) → d ≢ Flash → reads_of d now ≡ reads_of d before
   pub foreign : IfErr result (λ stop. stop ≢ Foreign)
 
--- When a ring at its end stops a call: that of the log exactly where the log is forced, that of the flash where a group is pushed, and
--- each such push.
-pub record StopsAtEnd {T : Type 0} (result : Result T Stop) (log : LogStore) (pages : PageStore) (sealing pushing : Bool) : Type 0 where
+-- When a ring at its end stops a call: that of the log exactly where the log is forced, that of the flash where a group
+-- is pushed, and each such push.
+pub record StopsAtEnd {T : Type 0} (result : Result T Stop) (log : LogStore) (pages : PageStore)
+    (sealing pushing : Bool) : Type 0 where
   pub worn_log : IsErrOf result (Worn Log) ↔ ((sealing ≡ true) × (log.ring.hi ≡ 2 ^ 40))
   pub worn_flash : IsErrOf result (Worn Flash) → (pushing ≡ true) × (pages.flash.ring.hi ≡ 2 ^ 40)
   pub never_past : pushing ≡ true → pages.flash.ring.hi ≡ 2 ^ 40 → OnOk result ⊥
 
 -- one push of a flush
-pub record Saves {T : Type 0} (result : Result T Stop) (log : LogStore) (pages pages' : PageStore) (before now : State) : Type 0 where
+pub record Saves {T : Type 0} (result : Result T Stop) (log : LogStore) (pages pages' : PageStore) (before now : State)
+    : Type 0 where
   pub machine : OnOk result (cache_of pages' ≡ push_changed (rules pages) (cache_of pages))
-  pub frames : OnOk result (pages'.pool.frames ≡ cleared_all (map (λ f. f.page) (chosen pages.pool.frames)) pages.pool.frames)
-  pub directory : OnOk result (pages'.flash.directory ≡ pushed_queue pages.flash (map (λ f. known_of f.page true) (chosen pages.pool.frames)))
+  pub frames : OnOk result
+      (pages'.pool.frames ≡ cleared_all (map (λ f. f.page) (chosen pages.pool.frames)) pages.pool.frames)
+  pub directory : OnOk result
+      (pages'.flash.directory ≡ pushed_queue pages.flash (map (λ f. known_of f.page true) (chosen pages.pool.frames)))
   pub reads : now.flash_reads ≤ before.flash_reads + 8
   pub worn_log : IsErrOf result (Worn Log) → (forces log (flushed_first pages) ≡ true) × (log.ring.hi ≡ 2 ^ 40)
   pub worn_flash : IsErrOf result (Worn Flash) → pages.flash.ring.hi ≡ 2 ^ 40
@@ -89,17 +98,20 @@ pub record Saves {T : Type 0} (result : Result T Stop) (log : LogStore) (pages p
   pub never_past : pages.flash.ring.hi ≡ 2 ^ 40 → OnOk result ⊥
 
 -- a whole flush
-pub record Flushes {T : Type 0} (result : Result T Stop) (log : LogStore) (pages pages' : PageStore) (before now : State) : Type 0 where
+pub record Flushes {T : Type 0} (result : Result T Stop) (log : LogStore) (pages pages' : PageStore)
+    (before now : State) : Type 0 where
   pub machine : OnOk result (cache_of pages' ≡ flushed (rules pages) (cache_of pages))
   pub reads : now.flash_reads ≤ before.flash_reads + 8 * changed_count (cache_of pages).pool
-  pub asked : now.flash_reads + 8 * next_group (cache_of pages) ≤ before.flash_reads + 8 * next_group (flushed (rules pages) (cache_of pages))
+  pub asked : now.flash_reads + 8 * next_group (cache_of pages) ≤
+      before.flash_reads + 8 * next_group (flushed (rules pages) (cache_of pages))
   pub overflows : IsErrOf result (Worn Flash) → 2 ^ 40 < next_group (flushed (rules pages) (cache_of pages))
   pub worn_log : IsErrOf result (Worn Log) → (forces log (flushed_contents pages) ≡ true) × (log.ring.hi ≡ 2 ^ 40)
   pub worn_flash : IsErrOf result (Worn Flash) → pages'.flash.ring.hi ≡ 2 ^ 40
   pub never_past : wants_flush (cache_of pages) ≡ true → pages.flash.ring.hi ≡ 2 ^ 40 → OnOk result ⊥
 
 -- A page is read, from its frame or from the disk: a site that is honest stays as it is.
-pub record Reads {T : Type 0} (result : Result T Stop) (pages pages' : PageStore) (before now : State) (page : ℕ) : Type 0 where
+pub record Reads {T : Type 0} (result : Result T Stop) (pages pages' : PageStore) (before now : State) (page : ℕ)
+    : Type 0 where
   pub calls : Calls result before now
   pub same : IsTrue before.honest → IsUnchanged before now
   pub fits : Fits pages before → OnOk result (Fits pages' now)
@@ -113,45 +125,63 @@ pub record Reads {T : Type 0} (result : Result T Stop) (pages pages' : PageStore
 
 -- Of an honest site on which store and log are ready.
 
--- Each crash meanwhile leaves each page with its version or its content, rings that were sound, a log ahead that was so, and a front of these changes of
--- the image; and no error comes but for its cause.
-pub record Keeps {T : Type 0} (result : Result T Stop) (log : LogStore) (pages : PageStore) (before now : State) (list : LogList) (sealing : Bool) (changes : List Change) : Type 0 where
-  pub any_moment : IsQuiet before → LeavesOnly before now (LeavesPages pages.flash.geometry (current pages before.image) sealing list before)
-  pub ahead_moment : IsQuiet before → IsAhead log pages before.image → LeavesOnly before now (LeavesSealed pages.flash.geometry)
-  pub rings_moment : (newest : Option Master) → IsQuiet before → AreRingsSoundUnder newest pages.flash.geometry before.image → LeavesOnly before now (LeavesRings newest pages.flash.geometry)
+-- Each crash meanwhile leaves each page with its version or its content, rings that were sound, a log ahead that was
+-- so, and a front of these changes of the image; and no error comes but for its cause.
+pub record Keeps {T : Type 0} (result : Result T Stop) (log : LogStore) (pages : PageStore) (before now : State)
+    (list : LogList) (sealing : Bool) (changes : List Change) : Type 0 where
+  pub any_moment : IsQuiet before →
+      LeavesOnly before now (LeavesPages pages.flash.geometry (current pages before.image) sealing list before)
+  pub ahead_moment : IsQuiet before → IsAhead log pages before.image →
+      LeavesOnly before now (LeavesSealed pages.flash.geometry)
+  pub rings_moment : (newest : Option Master) → IsQuiet before →
+      AreRingsSoundUnder newest pages.flash.geometry before.image →
+      LeavesOnly before now (LeavesRings newest pages.flash.geometry)
   pub front_moment : IsQuiet before → LeavesFront pages.flash.geometry changes before now
   pub quiet : IsQuiet before → IfErr result (λ stop. ((d : Dev) → stop ≢ Device d) → IsQuiet now)
   pub worn_log : IsErrOf result (Worn Log) → IsLogAtEnd pages.flash.geometry now.image
   pub worn : IsErrOf result (Worn Flash) → IsWorn pages.flash.geometry now.image
   pub readable : IsErrOf result Foreign → ⊥
 
--- What stands behind it: store and log are ready, each page has the content that it had, and these changes of the image were made.
-pub record Stands (old new : LogStore) (pages pages' : PageStore) (before now : State) (list : LogList) (sealing : Bool) (changes : List Change) : Type 0 where
+-- What stands behind it: store and log are ready, each page has the content that it had, and these changes of the image
+-- were made.
+pub record Stands (old new : LogStore) (pages pages' : PageStore) (before now : State) (list : LogList) (sealing : Bool)
+    (changes : List Change) : Type 0 where
   pub ready : AreReady pages' new (sealed_if sealing list) now
   pub leaves : LeavesPages pages.flash.geometry (current pages before.image) sealing list before (snapshot_of now)
   pub current : KeepsCurrent pages before.image pages' now.image
   pub sealed : IsAhead old pages before.image → AreSealed pages.flash.geometry now.image
   pub ahead : IsAhead old pages before.image → IsAhead new pages' now.image
-  pub rings : (newest : Option Master) → AreRingsSoundUnder newest pages.flash.geometry before.image → AreRingsSoundUnder newest pages.flash.geometry now.image
+  pub rings : (newest : Option Master) → AreRingsSoundUnder newest pages.flash.geometry before.image →
+      AreRingsSoundUnder newest pages.flash.geometry now.image
   pub reaches : Reaches pages.flash.geometry changes before.image now.image
 
 -- The same of a push of these pages, whatever is given as their contents.
-pub record KeepsGiven {T : Type 0} (result : Result T Stop) (log : LogStore) (pages : PageStore) (numbers : List ℕ) (changed : List Bool) (contents : List (List ℕ)) (before now : State) (list : LogList) (changes : List Change) : Type 0 where
-  pub any_moment : (given : ℕ → List ℕ) → IsQuiet before → AreGiven given numbers contents → AreCleanGiven pages.flash numbers changed contents before.image →
+pub record KeepsGiven {T : Type 0} (result : Result T Stop) (log : LogStore) (pages : PageStore) (numbers : List ℕ)
+    (changed : List Bool) (contents : List (List ℕ)) (before now : State) (list : LogList) (changes : List Change)
+    : Type 0 where
+  pub any_moment : (given : ℕ → List ℕ) → IsQuiet before → AreGiven given numbers contents →
+      AreCleanGiven pages.flash numbers changed contents before.image →
       LeavesOnly before now (LeavesPages pages.flash.geometry given (forces log contents) list before)
-  pub ahead_moment : IsQuiet before → AreSealed pages.flash.geometry before.image → AllByRecursion (IsLogged (end_forced log)) contents → LeavesOnly before now (LeavesSealed pages.flash.geometry)
-  pub rings_moment : (newest : Option Master) → IsQuiet before → AreRingsSoundUnder newest pages.flash.geometry before.image → AllByRecursion IsSound contents →
+  pub ahead_moment : IsQuiet before → AreSealed pages.flash.geometry before.image →
+      AllByRecursion (IsLogged (end_forced log)) contents → LeavesOnly before now (LeavesSealed pages.flash.geometry)
+  pub rings_moment : (newest : Option Master) → IsQuiet before →
+      AreRingsSoundUnder newest pages.flash.geometry before.image → AllByRecursion IsSound contents →
       LeavesOnly before now (LeavesRings newest pages.flash.geometry)
   pub front_moment : IsQuiet before → LeavesFront pages.flash.geometry changes before now
   pub quiet : IsQuiet before → IfErr result (λ stop. ((d : Dev) → stop ≢ Device d) → IsQuiet now)
   pub worn_log : IsErrOf result (Worn Log) → IsLogAtEnd pages.flash.geometry now.image
   pub worn : IsErrOf result (Worn Flash) → IsWorn pages.flash.geometry now.image
 
-pub record StandsGiven (log new : LogStore) (pages pages' : PageStore) (numbers : List ℕ) (changed : List Bool) (contents : List (List ℕ)) (before now : State) (list : LogList) (changes : List Change) : Type 0 where
+pub record StandsGiven (log new : LogStore) (pages pages' : PageStore) (numbers : List ℕ) (changed : List Bool)
+    (contents : List (List ℕ)) (before now : State) (list : LogList) (changes : List Change) : Type 0 where
   pub gives : Gives pages.flash.geometry numbers contents before.image now.image
   pub reaches : Reaches pages.flash.geometry changes before.image now.image
-  pub leaves : (given : ℕ → List ℕ) → AreGiven given numbers contents → AreCleanGiven pages.flash numbers changed contents before.image →
+  pub leaves : (given : ℕ → List ℕ) → AreGiven given numbers contents →
+      AreCleanGiven pages.flash numbers changed contents before.image →
       LeavesPages pages.flash.geometry given (forces log contents) list before (snapshot_of now)
-  pub sealed : AreSealed pages.flash.geometry before.image → AllByRecursion (IsLogged (end_forced log)) contents → AreSealed pages.flash.geometry now.image
-  pub rings : (newest : Option Master) → AreRingsSoundUnder newest pages.flash.geometry before.image → AllByRecursion IsSound contents → AreRingsSoundUnder newest pages.flash.geometry now.image
-  pub ready : AreCleanGiven pages.flash numbers changed contents before.image → AllByRecursion IsSound contents → AreChanged pages numbers → AreReady pages' new (sealed_if (forces log contents) list) now
+  pub sealed : AreSealed pages.flash.geometry before.image → AllByRecursion (IsLogged (end_forced log)) contents →
+      AreSealed pages.flash.geometry now.image
+  pub rings : (newest : Option Master) → AreRingsSoundUnder newest pages.flash.geometry before.image →
+      AllByRecursion IsSound contents → AreRingsSoundUnder newest pages.flash.geometry now.image
+  pub ready : AreCleanGiven pages.flash numbers changed contents before.image → AllByRecursion IsSound contents →
+      AreChanged pages numbers → AreReady pages' new (sealed_if (forces log contents) list) now

@@ -122,10 +122,12 @@ impl PageStore {
 
         // Of an honest site.
         ensures keeps { (list : LogList) → AreReady self.old log.old list (S.state site.old)
-            → Keeps result log.old self.old (S.state site.old) (S.state site.new) list (forces log.old (flushed_first self.old))
+            → Keeps result log.old self.old (S.state site.old) (S.state site.new) list
+            (forces log.old (flushed_first self.old))
             (push_changes (standing log.old list self.old) (chosen self.old.pool.frames)) }
         ensures stands { (list : LogList) → AreReady self.old log.old list (S.state site.old)
-            → OnOk result (Stands log.old log.new self.old self.new (S.state site.old) (S.state site.new) list (forces log.old (flushed_first self.old))
+            → OnOk result (Stands log.old log.new self.old self.new (S.state site.old) (S.state site.new) list
+            (forces log.old (flushed_first self.old))
             (push_changes (standing log.old list self.old) (chosen self.old.pool.frames))) }
 
         // Of every site.
@@ -157,10 +159,12 @@ impl PageStore {
 
         // Of an honest site.
         ensures keeps { (list : LogList) → AreReady self.old log.old list (S.state site.old)
-            → Keeps result log.old self.old (S.state site.old) (S.state site.new) list (forces log.old (flushed_first self.old))
+            → Keeps result log.old self.old (S.state site.old) (S.state site.new) list
+            (forces log.old (flushed_first self.old))
             (push_changes (standing log.old list self.old) (chosen self.old.pool.frames)) }
         ensures stands { (list : LogList) → AreReady self.old log.old list (S.state site.old)
-            → OnOk result (Stands log.old log.new self.old self.new (S.state site.old) (S.state site.new) list (forces log.old (flushed_first self.old))
+            → OnOk result (Stands log.old log.new self.old self.new (S.state site.old) (S.state site.new) list
+            (forces log.old (flushed_first self.old))
             (push_changes (standing log.old list self.old) (chosen self.old.pool.frames))) }
 
         // Of every site.
@@ -183,11 +187,11 @@ impl PageStore {
 
         // Of an honest site.
         ensures keeps { (list : LogList) → AreReady self.old log.old list (S.state site.old)
-            → Keeps result log.old self.old (S.state site.old) (S.state site.new) list (forces log.old (flushed_contents self.old))
-            (flush_changes log.old list self.old) }
+            → Keeps result log.old self.old (S.state site.old) (S.state site.new) list
+            (forces log.old (flushed_contents self.old)) (flush_changes log.old list self.old) }
         ensures stands { (list : LogList) → AreReady self.old log.old list (S.state site.old)
-            → OnOk result (Stands log.old log.new self.old self.new (S.state site.old) (S.state site.new) list (forces log.old (flushed_contents self.old))
-            (flush_changes log.old list self.old)) }
+            → OnOk result (Stands log.old log.new self.old self.new (S.state site.old) (S.state site.new) list
+            (forces log.old (flushed_contents self.old)) (flush_changes log.old list self.old)) }
 
         // Of every site.
         ensures pushes { Pushes result log.old log.new self.old self.new (S.state site.old) (S.state site.new)

@@ -88,7 +88,8 @@ impl PageStore {
 
         // Of an honest site.
         ensures keeps { (list : LogList) → AreReady self.old log.old list (S.state site.old)
-            → KeepsGiven result log.old self.old pages.now changed.now contents.now (S.state site.old) (S.state site.new) list
+            → KeepsGiven result log.old self.old pages.now changed.now contents.now
+            (S.state site.old) (S.state site.new) list
             (given_changes log.old list self.old pages.now changed.now contents.now) }
         ensures stands { (list : LogList) → AreReady self.old log.old list (S.state site.old)
             → OnOk result (StandsGiven log.old log.new self.old self.new pages.now changed.now contents.now
@@ -122,16 +123,17 @@ impl PageStore {
 
         // Of an honest site.
         ensures keeps { (list : LogList) → AreReady self.old log.old list (S.state site.old)
-            → Keeps result log.old self.old (S.state site.old) (S.state site.new) list (forces log.old (evicted self.old))
-            (eviction_changes log.old list self.old) }
+            → Keeps result log.old self.old (S.state site.old) (S.state site.new) list
+            (forces log.old (evicted self.old)) (eviction_changes log.old list self.old) }
         ensures stands { (list : LogList) → AreReady self.old log.old list (S.state site.old)
-            → OnOk result (Stands log.old log.new self.old self.new (S.state site.old) (S.state site.new) list (forces log.old (evicted self.old))
-            (eviction_changes log.old list self.old)) }
+            → OnOk result (Stands log.old log.new self.old self.new (S.state site.old) (S.state site.new) list
+            (forces log.old (evicted self.old)) (eviction_changes log.old list self.old)) }
 
         // Of every site.
         ensures pushes { Pushes result log.old log.new self.old self.new (S.state site.old) (S.state site.new)
             (forces log.old (evicted self.old)) }
-        ensures worn { StopsAtEnd result log.old self.old (forces log.old (evicted self.old)) (is_pushed (cache_of self.old)) }
+        ensures worn { StopsAtEnd result log.old self.old (forces log.old (evicted self.old))
+            (is_pushed (cache_of self.old)) }
         ensures machine { OnOk result (cache_of self.new ≡ evict_coldest (rules self.old) (cache_of self.old)) }
         ensures room_made { 0 < length self.old.pool.frames
             → length self.new.pool.frames < length self.old.pool.frames }
@@ -162,16 +164,17 @@ impl PageStore {
 
         // Of an honest site.
         ensures keeps { (list : LogList) → AreReady self.old log.old list (S.state site.old)
-            → Keeps result log.old self.old (S.state site.old) (S.state site.new) list (forces log.old (pushed_for_room self.old))
-            (room_changes log.old list self.old) }
+            → Keeps result log.old self.old (S.state site.old) (S.state site.new) list
+            (forces log.old (pushed_for_room self.old)) (room_changes log.old list self.old) }
         ensures stands { (list : LogList) → AreReady self.old log.old list (S.state site.old)
-            → OnOk result (Stands log.old log.new self.old self.new (S.state site.old) (S.state site.new) list (forces log.old (pushed_for_room self.old))
-            (room_changes log.old list self.old)) }
+            → OnOk result (Stands log.old log.new self.old self.new (S.state site.old) (S.state site.new) list
+            (forces log.old (pushed_for_room self.old)) (room_changes log.old list self.old)) }
 
         // Of every site.
         ensures pushes { Pushes result log.old log.new self.old self.new (S.state site.old) (S.state site.new)
             (forces log.old (pushed_for_room self.old)) }
-        ensures worn { StopsAtEnd result log.old self.old (forces log.old (pushed_for_room self.old)) (is_full self.old && is_pushed (cache_of self.old)) }
+        ensures worn { StopsAtEnd result log.old self.old (forces log.old (pushed_for_room self.old))
+            (is_full self.old && is_pushed (cache_of self.old)) }
         ensures machine { OnOk result (cache_of self.new ≡ with_way self.old) }
         ensures room_made { OnOk result (length self.new.pool.frames < self.new.pool.size) }
         ensures absent { (page : ℕ) → frame_of self.old.pool.frames page ≡ None

@@ -125,16 +125,17 @@ impl PageStore {
 
         // Of an honest site.
         ensures keeps { (list : LogList) → AreReady self.old log.old list (S.state site.old)
-            → Keeps result log.old self.old (S.state site.old) (S.state site.new) list (forces log.old (pushed_for_room self.old))
-            (room_changes log.old list self.old) }
+            → Keeps result log.old self.old (S.state site.old) (S.state site.new) list
+            (forces log.old (pushed_for_room self.old)) (room_changes log.old list self.old) }
         ensures stands { (list : LogList) → AreReady self.old log.old list (S.state site.old)
-            → OnOk result (Stands log.old log.new self.old self.new (S.state site.old) (S.state site.new) list (forces log.old (pushed_for_room self.old))
-            (room_changes log.old list self.old)) }
+            → OnOk result (Stands log.old log.new self.old self.new (S.state site.old) (S.state site.new) list
+            (forces log.old (pushed_for_room self.old)) (room_changes log.old list self.old)) }
 
         // Of every site.
         ensures works { Works result log.old log.new self.old self.new (S.state site.old) (S.state site.new)
             (forces log.old (pushed_for_room self.old)) }
-        ensures worn { StopsAtEnd result log.old self.old (forces log.old (pushed_for_room self.old)) (is_full self.old && is_pushed (cache_of self.old)) }
+        ensures worn { StopsAtEnd result log.old self.old (forces log.old (pushed_for_room self.old))
+            (is_full self.old && is_pushed (cache_of self.old)) }
         ensures ended { self.new.ended ≡ self.old.ended }
         ensures machine { OnOk result (cache_of self.new ≡ in_front page false (with_way self.old)) }
         ensures front { OnOk result ((front_of self.new.pool.frames).page ≡ page) }

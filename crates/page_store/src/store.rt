@@ -179,16 +179,17 @@ impl PageStore {
 
         // Of an honest site.
         ensures keeps { (list : LogList) → AreReady self.old log.old list (S.state site.old)
-            → Keeps result log.old self.old (S.state site.old) (S.state site.new) list (forces log.old (pushed_by_touch self.old page))
-            (touch_changes log.old list self.old page) }
+            → Keeps result log.old self.old (S.state site.old) (S.state site.new) list
+            (forces log.old (pushed_by_touch self.old page)) (touch_changes log.old list self.old page) }
         ensures stands { (list : LogList) → AreReady self.old log.old list (S.state site.old)
-            → OnOk result (Stands log.old log.new self.old self.new (S.state site.old) (S.state site.new) list (forces log.old (pushed_by_touch self.old page))
-            (touch_changes log.old list self.old page)) }
+            → OnOk result (Stands log.old log.new self.old self.new (S.state site.old) (S.state site.new) list
+            (forces log.old (pushed_by_touch self.old page)) (touch_changes log.old list self.old page)) }
 
         // Of every site.
         ensures works { Works result log.old log.new self.old self.new (S.state site.old) (S.state site.new)
             (forces log.old (pushed_by_touch self.old page)) }
-        ensures worn { StopsAtEnd result log.old self.old (forces log.old (pushed_by_touch self.old page)) (pushes (rules self.old) page (cache_of self.old)) }
+        ensures worn { StopsAtEnd result log.old self.old (forces log.old (pushed_by_touch self.old page))
+            (pushes (rules self.old) page (cache_of self.old)) }
         ensures machine { OnOk result (cache_of self.new ≡ touched (rules self.old) page false (cache_of self.old)) }
         ensures front { OnOk result ((front_of self.new.pool.frames).page ≡ page) }
         ensures there { OnOk result (0 < length self.new.pool.frames) }
@@ -221,11 +222,11 @@ impl PageStore {
 
         // Of an honest site.
         ensures keeps { (list : LogList) → AreReady self.old log.old list (S.state site.old)
-            → Keeps result log.old self.old (S.state site.old) (S.state site.new) list (forces log.old (flushed_contents self.old))
-            (flush_changes log.old list self.old) }
+            → Keeps result log.old self.old (S.state site.old) (S.state site.new) list
+            (forces log.old (flushed_contents self.old)) (flush_changes log.old list self.old) }
         ensures stands { (list : LogList) → AreReady self.old log.old list (S.state site.old)
-            → OnOk result (Stands log.old log.new self.old self.new (S.state site.old) (S.state site.new) list (forces log.old (flushed_contents self.old))
-            (flush_changes log.old list self.old)) }
+            → OnOk result (Stands log.old log.new self.old self.new (S.state site.old) (S.state site.new) list
+            (forces log.old (flushed_contents self.old)) (flush_changes log.old list self.old)) }
 
         // Of every site.
         ensures works { Works result log.old log.new self.old self.new (S.state site.old) (S.state site.new)
