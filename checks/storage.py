@@ -148,7 +148,7 @@ def some_fault(random, call):
 
 
 def wanted_status(fault, call, opening, new):
-    """The statuses that a run, or a `new`, may end with where this befalls this call: 9 of an opening, 3 of a device."""
+    """The statuses that a run, or a `new`, may end with where this befalls: 9 of an opening, 3 of a device."""
     if fault in ('KILL', 'HALF'):
         return {KILLED}
     if (fault, call.kind) in TRIED_AGAIN or call.kind == 'flock':
@@ -344,7 +344,8 @@ def scenes(goals, done, until, first):
 
 
 def counts(done, goals):
-    return ', '.join(f'{done[name]} {name}' + (f' of {goals[name]}' if done[name] < goals[name] else '') for name in goals)
+    wanted = {name: f' of {goals[name]}' if done[name] < goals[name] else '' for name in goals}
+    return ', '.join(f'{done[name]} {name}{wanted[name]}' for name in goals)
 
 
 def work(pool, arguments, goals):

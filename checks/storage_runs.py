@@ -75,8 +75,8 @@ class Sizes(collections.namedtuple('Sizes', 'pages groups blocks')):
 
 
 class Course:
-    """What a run of these lines tells, from a restart on that finds so many commits and this table, and how many commits
-    stand behind each line."""
+    """What a run of these lines tells, from a restart on that finds so many commits and this table, and how many
+    commits stand behind each line."""
 
     def __init__(self, sizes, commits, table, lines):
         model = storage_model.Model(sizes.pages, sizes.blocks, commits, table)
@@ -91,8 +91,8 @@ class Course:
         return ''.join(self.texts).encode()
 
     def allowed(self, told):
-        """The tables that may be found when so much was told: that of the commits that were told, and, where the next line
-        asks for a commit, that behind it."""
+        """The tables that may be found when so much was told: that of the commits that were told, and, where the next
+        line asks for a commit, that behind it."""
         whole, place = 0, 0
         for text in self.texts:
             if not told.startswith(text.encode(), place):
@@ -115,7 +115,7 @@ def short(told):
 
 
 def find(program, sizes, allowed, pool):
-    """Runs over the files that are there, which must hold one of the allowed tables, and answers how many commits it has."""
+    """Runs over the files that are there, which must hold one of the allowed tables; answers how many commits it has."""
     lines = ['get %d' % record for record in range(storage_model.SLOTS * sizes.pages)]
     outcome = program.run(['run', str(pool)], lines)
     commits = opened(outcome.told)

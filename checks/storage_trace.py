@@ -124,7 +124,7 @@ class Disk:
         self.loose_names.append((name, file))
 
     def left(self, random):
-        """The files that a crash leaves, by name. Of the changes of names that aren't stable some first ones are kept, or any."""
+        """The files that a crash leaves, by name. Of changes of names that aren't stable some first ones stand, or any."""
         names = dict(self.stable_names)
         some = random.random() < 0.5
         count = random.randint(0, len(self.loose_names))

@@ -1,5 +1,5 @@
-// What is said on standard error where the words are wrong or the work can't be done. No line that is told and no status
-// depends on it, and what can't be said is left unsaid.
+// What is said on standard error where the words are wrong or the work can't be done. No line that is told and no
+// status depends on it, and what can't be said is left unsaid.
 
 use crate::words::{COUNT_MAX, POOL_MAX, geometry_of, number_in, number_within, sizes};
 use file_site::{Absence, Call, Failure, FileSite, LockFile, Watch, path};
@@ -203,8 +203,8 @@ fn is_length_of(dev: Dev, len: u64) -> bool {
     sizes.is_some()
 }
 
-/// What is known of a site when the program ends: for each device, in their order, why it has no file, if it has none, and its
-/// length; the first call that failed; and what was noticed of the input and the replies.
+/// What is known of a site when the program ends: for each device, in their order, why it has no file, if it has
+/// none, and its length; the first call that failed; and what was noticed of the input and the replies.
 #[derive(Clone, Copy)]
 pub struct Seen {
     absences: [Option<Absence>; 3],
