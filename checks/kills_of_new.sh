@@ -1,8 +1,9 @@
 #!/usr/bin/env bash
-# Kills `new` at each of its system calls, in folders that hold different things before it, and looks at what is left: no file of the
-# database may be short, a run opens a database of these sizes or none, and `new` again, of these sizes or of others, tells `ready` and
-# has made a database of its sizes, or refuses clearly. Prints a table of counts, and 'N kills, M wrong'. It needs strace. FACE names
-# another program than the one that is built here.
+# Kills `new` at each of its system calls, in folders that hold different things before it, and looks at what is left:
+# no file of the database may be short, a run opens a database of these sizes or none, and `new` again, of these sizes
+# or of others, tells `ready` and has made a database of its sizes, or refuses clearly. Prints a table of counts, and
+# 'N kills, M wrong'. It needs strace. The words are the states before it that are tried, without words all. FACE
+# names another program than the one that is built here.
 set -u
 root=$(cd "$(dirname "$(readlink -f "$0")")/.." && pwd)
 shared=/dev/shm
@@ -28,7 +29,8 @@ disk=65536
 kills=0
 wrong=0
 
-# The states before `new`: nothing; some of the files, blank; what an earlier `new` left; a log that was used, and no disk.
+# The states before `new`: nothing; some of the files, blank; what an earlier `new` left; a log that was used, and no
+# disk.
 state_empty() { :; }
 state_log_there() { truncate -s "$log" face.log; }
 state_log_missing() { truncate -s "$flash" face.flash && truncate -s "$disk" face.disk; }
@@ -130,7 +132,8 @@ kill_at() {
 line='%-12s %6s %10s %12s %11s %13s %6s\n'
 # shellcheck disable=SC2059
 printf "$line" state kills 'run opens' 'run refuses' 'new: ready' 'new: refused' wrong
-for state in empty log_there log_missing all_there drafts_left log_used; do
+[ $# -gt 0 ] || set -- empty log_there log_missing all_there drafts_left log_used
+for state in "$@"; do
     rm -rf "$folder"/db*
     mkdir "$folder/db" && cd "$folder/db" || exit 1
     "state_$state"

@@ -1,7 +1,8 @@
 #!/usr/bin/env bash
-# Tries the program over real files as a user would, by the scripts of on_files/, or those that are named: new, run, words on standard
-# error, kills, files that can't be used, full disks, failing calls and closed pipes. Tells what failed or was skipped for want of a
-# tool, and 'N passed, M failed, K skipped' of each script and of all. FACE names another program than the one that is built here.
+# Tries the program over real files as a user would, by the scripts of on_files/, or those that are named: new, run,
+# words on standard error, kills, files that can't be used, full disks, failing calls and closed pipes. Tells what
+# failed or was skipped for want of a tool, and 'N passed, M failed, K skipped' of each script and of all. FACE names
+# another program than the one that is built here.
 set -u
 root=$(cd "$(dirname "$(readlink -f "$0")")/.." && pwd)
 if [ -z "${FACE:-}" ]; then

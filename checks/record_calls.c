@@ -1,10 +1,10 @@
-/* Loaded before the C library, it counts the calls on the files of a database, on its folder and on the standard streams,
- * writes them down, and lets one of them fail.
+/* Loaded before the C library, it counts the calls on the files of a database, on its folder and on the standard
+ * streams, writes them down, and lets one of them fail.
  *
- * RECORD_TO names the file that the calls are appended to, each as a `struct call` and then the octets that were written.
- * RECORD_FAULT is NUMBER:FAULT, the number of a call from 1 on and what befalls it: EIO, ENOSPC or EINTR, with nothing done;
- * SHORT, where half of the octets are taken or given; TORN, where half of the octets are written and the answer is EIO;
- * KILL, before anything is done; HALF, a kill when half of the octets are written. */
+ * RECORD_TO names the file that the calls are appended to, each as a `struct call` and then the octets that were
+ * written. RECORD_FAULT is NUMBER:FAULT, the number of a call from 1 on and what befalls it: EIO, ENOSPC or EINTR, with
+ * nothing done; SHORT, where half of the octets are taken or given; TORN, where half of the octets are written and the
+ * answer is EIO; KILL, before anything is done; HALF, a kill when half of the octets are written. */
 #define _GNU_SOURCE
 #include <dlfcn.h>
 #include <errno.h>
@@ -110,7 +110,8 @@ static size_t part(const char *what, size_t octets)
 }
 
 /* What is answered of a write that has taken so many octets. A write that tears leaves a record of what it took. */
-static ssize_t end_write(enum kind kind, int file, off_t offset, size_t asked, ssize_t taken, const char *what, const void *octets)
+static ssize_t end_write(enum kind kind, int file, off_t offset, size_t asked, ssize_t taken, const char *what,
+                         const void *octets)
 {
     note(kind, file, offset, asked, taken, octets);
     if (strcmp(what, "HALF") == 0) raise(SIGKILL);

@@ -57,9 +57,12 @@ def course_of(outcome, sizes, allowed, lines):
 def moments(random, calls, count):
     """Moments of a run: so many calls are made. Many are chosen behind writes, where something is loose."""
     writes = [number for number, call in enumerate(calls) if call.kind in ('pwrite', 'write', 'rename')]
-    chosen = [random.choice(writes) + random.randint(0, 1) if writes and random.random() < 0.7 else random.randint(0, len(calls))
-              for _ in range(count)]
-    return collections.Counter(chosen)
+
+    def one():
+        near = writes and random.random() < 0.7
+        return random.choice(writes) + random.randint(0, 1) if near else random.randint(0, len(calls))
+
+    return collections.Counter(one() for _ in range(count))
 
 
 def crash_images(random, files, calls, count):
@@ -121,9 +124,17 @@ def try_images(random, program, tally):
 
 # --- faults and kills
 FAULTS = {
-    'open': ['EIO', 'ENOSPC', 'EINTR'], 'read': ['EIO', 'EINTR', 'SHORT'], 'write': ['EIO', 'ENOSPC', 'EINTR', 'SHORT', 'TORN'],
-    'pread': ['EIO', 'EINTR', 'SHORT'], 'pwrite': ['EIO', 'ENOSPC', 'EINTR', 'SHORT', 'TORN'], 'fdatasync': ['EIO', 'ENOSPC', 'EINTR'],
-    'fsync': ['EIO', 'ENOSPC', 'EINTR'], 'rename': ['EIO', 'ENOSPC'], 'unlink': ['EIO'], 'flock': ['EIO', 'EINTR'], 'statx': ['EIO'],
+    'open': ['EIO', 'ENOSPC', 'EINTR'],
+    'read': ['EIO', 'EINTR', 'SHORT'],
+    'write': ['EIO', 'ENOSPC', 'EINTR', 'SHORT', 'TORN'],
+    'pread': ['EIO', 'EINTR', 'SHORT'],
+    'pwrite': ['EIO', 'ENOSPC', 'EINTR', 'SHORT', 'TORN'],
+    'fdatasync': ['EIO', 'ENOSPC', 'EINTR'],
+    'fsync': ['EIO', 'ENOSPC', 'EINTR'],
+    'rename': ['EIO', 'ENOSPC'],
+    'unlink': ['EIO'],
+    'flock': ['EIO', 'EINTR'],
+    'statx': ['EIO'],
 }
 TRIED_AGAIN = {('EINTR', kind) for kind in ('open', 'read', 'write', 'pread', 'pwrite', 'fdatasync', 'fsync')}
 TRIED_AGAIN |= {('SHORT', kind) for kind in ('read', 'write', 'pread', 'pwrite')}
@@ -137,7 +148,7 @@ def some_fault(random, call):
 
 
 def wanted_status(fault, call, opening, new):
-    """The statuses that a run, or a `new`, may end with where this befalls this call. Of the opening it may be 9, of a device 3."""
+    """The statuses that a run, or a `new`, may end with where this befalls: 9 of an opening, 3 of a device."""
     if fault in ('KILL', 'HALF'):
         return {KILLED}
     if (fault, call.kind) in TRIED_AGAIN or call.kind == 'flock':
@@ -167,7 +178,7 @@ def check_break(outcome, whole, statuses, call):
 
 
 def try_break(random, program, sizes, files, words, lines, calls, course, tally):
-    """One fault or kill of a run; behind it the tables are looked for in what is there, and in what a crash leaves of that."""
+    """One fault or kill of a run; behind it the tables are looked for in what is there, and in what a crash leaves."""
     number = random.randrange(len(calls))
     call = calls[number]
     fault = some_fault(random, call)
@@ -208,7 +219,7 @@ def try_break_of_new(random, program, sizes, before, calls, tally):
 
 
 def try_breaks(random, program, tally):
-    """Faults and kills of a `new`, or of a run over what a crash left: of its restart alone, or with sets and pushes."""
+    """Faults and kills of a `new`, or of a run over what a crash left: its restart alone, or with sets and pushes."""
     sizes = Sizes.some(random)
     if random.random() < 0.25:
         before = files_before_new(random, sizes)
@@ -294,6 +305,7 @@ def try_pairs(random, program, tally):
 
 # --- the work, by seeds
 SCENES = {'images': try_images, 'breaks': try_breaks, 'pairs': try_pairs}
+COUNTS = {'images': ['images'], 'breaks': ['kills', 'faults'], 'pairs': ['pairs']}
 program = None
 
 
@@ -315,15 +327,15 @@ def try_scene(scene):
         why = traceback.format_exc()
     kept = os.path.join(tempfile.gettempdir(), f'storage-{kind}-{seed}')
     keep(program, kept)
-    return tally, f'{kind} {seed}: {why}\n  again: checks/storage --again {kind} {seed}    the files then: {kept}'
+    again = f'checks/storage --again {kind} {seed}'
+    return tally, f'{kind} {seed}: {why}\n  again: {again}    the files then: {kept}'
 
 
 def scenes(goals, done, until, first):
     """The scenes to try, the kinds in turn, until each goal is met or the time is over."""
     seed = first
     while time.monotonic() < until:
-        wanted = [kind for kind, counts in (('images', ['images']), ('breaks', ['kills', 'faults']), ('pairs', ['pairs']))
-                  if any(done[count] < goals[count] for count in counts)]
+        wanted = [kind for kind, names in COUNTS.items() if any(done[name] < goals[name] for name in names)]
         if not wanted:
             return
         for kind in wanted:
@@ -332,7 +344,8 @@ def scenes(goals, done, until, first):
 
 
 def counts(done, goals):
-    return ', '.join(f'{done[name]} {name}' + (f' of {goals[name]}' if done[name] < goals[name] else '') for name in goals)
+    wanted = {name: f' of {goals[name]}' if done[name] < goals[name] else '' for name in goals}
+    return ', '.join(f'{done[name]} {name}{wanted[name]}' for name in goals)
 
 
 def work(pool, arguments, goals):
@@ -357,7 +370,8 @@ def work(pool, arguments, goals):
 
 
 def read_arguments():
-    reader = argparse.ArgumentParser(prog='checks/storage', description='Crash images, kills, faults and programs at once, on real files.')
+    reader = argparse.ArgumentParser(
+        prog='checks/storage', description='Crash images, kills, faults and programs at once, on real files.')
     reader.add_argument('--images', type=int, default=20000, help='so many images of crashes')
     reader.add_argument('--kills', type=int, default=2000)
     reader.add_argument('--faults', type=int, default=2000)

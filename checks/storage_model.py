@@ -1,5 +1,5 @@
-"""The record table as docs/COMMANDS.md says it, written apart from the program: what each line is answered, and which table
-each commit leaves."""
+"""The record table as docs/COMMANDS.md says it, written apart from the program: what each line is answered, and which
+table each commit leaves."""
 
 SESSIONS = 8
 SLOTS = 32
@@ -25,8 +25,8 @@ class Session:
 
 
 class Model:
-    """The table of one life of a database of these sizes: a run from its restart on. `tables` has the table behind each commit,
-    from the one that the restart has found on."""
+    """The table of one life of a database of these sizes: a run from its restart on. `tables` has the table behind each
+    commit, from the one that the restart has found on."""
 
     def __init__(self, pages, blocks, commits, table):
         self.records = SLOTS * pages
@@ -175,7 +175,8 @@ class Model:
         return self.enter([(record, value)])
 
     def stat(self):
-        return f'stat commits {self.commits} used {self.used()} owed {self.owed()} cap {self.cap} active {len(self.sessions)}'
+        budget = f'used {self.used()} owed {self.owed()} cap {self.cap}'
+        return f'stat commits {self.commits} {budget} active {len(self.sessions)}'
 
     def answer(self, line):
         """The reply to a line; lines that aren't in the grammar are those that begin with a question mark."""

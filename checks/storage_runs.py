@@ -52,8 +52,9 @@ class Program:
             environment['RECORD_TO'] = self.trace
         if fault:
             environment['RECORD_FAULT'] = '%d:%s' % fault
-        ended = subprocess.run([self.face] + words, cwd=self.folder, env=environment, timeout=60, close_fds=False,
-                               input=''.join(line + '\n' for line in lines).encode(), stdout=subprocess.PIPE, stderr=subprocess.DEVNULL)
+        ended = subprocess.run(
+            [self.face] + words, cwd=self.folder, env=environment, timeout=60, close_fds=False,
+            input=''.join(line + '\n' for line in lines).encode(), stdout=subprocess.PIPE, stderr=subprocess.DEVNULL)
         calls = []
         if record and os.path.exists(self.trace):
             calls = storage_trace.read_calls(self.trace)
@@ -74,8 +75,8 @@ class Sizes(collections.namedtuple('Sizes', 'pages groups blocks')):
 
 
 class Course:
-    """What a run of these lines tells, from a restart on that finds so many commits and this table, and how many commits stand
-    behind each line."""
+    """What a run of these lines tells, from a restart on that finds so many commits and this table, and how many
+    commits stand behind each line."""
 
     def __init__(self, sizes, commits, table, lines):
         model = storage_model.Model(sizes.pages, sizes.blocks, commits, table)
@@ -90,8 +91,8 @@ class Course:
         return ''.join(self.texts).encode()
 
     def allowed(self, told):
-        """The tables that may be found when so much was told: that of the commits that were told, and, where the next line asks for
-        a commit, that behind it."""
+        """The tables that may be found when so much was told: that of the commits that were told, and, where the next
+        line asks for a commit, that behind it."""
         whole, place = 0, 0
         for text in self.texts:
             if not told.startswith(text.encode(), place):
@@ -114,7 +115,7 @@ def short(told):
 
 
 def find(program, sizes, allowed, pool):
-    """Runs over the files that are there, which must hold one of the allowed tables, and answers how many commits it has."""
+    """Runs over the files that are there, which must hold one of the allowed tables; answers how many commits it has."""
     lines = ['get %d' % record for record in range(storage_model.SLOTS * sizes.pages)]
     outcome = program.run(['run', str(pool)], lines)
     commits = opened(outcome.told)
@@ -134,7 +135,8 @@ def first_difference(told, wanted):
 
 
 def find_new(program, sizes, files, ready):
-    """The files that a broken `new` has left hold a blank database, or none where `ready` wasn't told; and `new` again makes one."""
+    """The files that a broken `new` has left hold a blank database, or none where `ready` wasn't told; and `new` again
+    makes one."""
     program.place(files)
     outcome = program.run(['run', '1'])
     if outcome.told == b'open 0\n':

@@ -1,12 +1,12 @@
-"""The calls that a program made, as record_calls.c writes them down, and the images that a crash between or within them may
-leave: of what isn't synced each part may be lost, kept, kept in part, or be anything, in any order."""
+"""The calls that a program made, as record_calls.c writes them down, and the images that a crash between or within them
+may leave: of what isn't synced each part may be lost, kept, kept in part, or be anything, in any order."""
 
 import collections
 import struct
 
 KINDS = ['', 'open', 'read', 'write', 'pread', 'pwrite', 'fdatasync', 'fsync', 'rename', 'unlink', 'flock', 'statx']
-NAMES = ['face.log', 'face.flash', 'face.disk', 'face.log.new', 'face.flash.new', 'face.disk.new', '.', 'input', 'output', '']
-DATABASE = NAMES[:3]
+DATABASE = ['face.log', 'face.flash', 'face.disk']
+NAMES = DATABASE + ['face.log.new', 'face.flash.new', 'face.disk.new', '.', 'input', 'output', '']
 FOLDER = '.'
 CREATES = 1
 HEADER = struct.Struct('<IIqqqQ')
@@ -116,13 +116,6 @@ class Disk:
         elif call.kind == 'unlink':
             self.rename_to(call.file, None)
 
-    def begin(self, call):
-        """Takes over a call in whose middle a crash comes: a write may have been made in part, a change of a name wholly."""
-        if call.kind == 'pwrite' or (call.kind == 'write' and call.file != 'output'):
-            self.make(call)
-        elif call.kind in ('open', 'rename', 'unlink'):
-            self.make(call)
-
     def rename_to(self, name, file):
         if file is None:
             self.names.pop(name, None)
@@ -131,7 +124,7 @@ class Disk:
         self.loose_names.append((name, file))
 
     def left(self, random):
-        """The files that a crash leaves, by name. Changes of names that aren't stable are kept up to one of them, or each or not."""
+        """The files that a crash leaves, by name. Of changes of names that aren't stable some first ones stand, or any."""
         names = dict(self.stable_names)
         some = random.random() < 0.5
         count = random.randint(0, len(self.loose_names))

@@ -4,8 +4,8 @@
 
 # --- failing calls
 if has strace && strace -o /dev/null true 2>/dev/null; then
-    # fails NAME CALL ERROR WHEN STATUS TEXT INPUT: of the calls on the log. The restart saves a master there first, by three writes and two
-    # syncs, behind the sync of the opening.
+    # fails NAME CALL ERROR WHEN STATUS TEXT INPUT: of the calls on the log. The restart saves a master there first,
+    # by three writes and two syncs, behind the sync of the opening.
     fails() {
         fresh
         printf 'set 5 0a0b\n' | "$face" run 1 >/dev/null

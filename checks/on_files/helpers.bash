@@ -1,5 +1,6 @@
-# What the scripts of this folder share: each works in a folder of its own, which it removes, tries the program as a user would, and
-# ends by `finish`, which tells 'N passed, M failed, K skipped'. FACE names another program than the one that is built here.
+# What the scripts of this folder share: each works in a folder of its own, which it removes, tries the program as a
+# user would, and ends by `finish`, which tells 'N passed, M failed, K skipped'. FACE names another program than the
+# one that is built here.
 set -u
 root=$(cd "$(dirname "$(readlink -f "${BASH_SOURCE[0]}")")/../.." && pwd)
 shared=/dev/shm

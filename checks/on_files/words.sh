@@ -1,5 +1,6 @@
 #!/usr/bin/env bash
-# What is said on standard error, and the rights of the files that are made. What is told and the statuses are those of the other scripts.
+# What is said on standard error, and the rights of the files that are made. What is told and the statuses are those
+# of the other scripts.
 . "$(dirname "$(readlink -f "$0")")/helpers.bash"
 
 # says NAME STATUS PATTERN WORDS..: the program ends with this status, and standard error has a line of this pattern
@@ -96,6 +97,12 @@ verdict 'standard error that is full' $?
 said=$(printf 'get 5\nquit\n' | "$face" run 1 2>&1 >/dev/null)
 [ -z "$said" ]
 verdict 'a run without faults says nothing' $?
+
+# --- refused lines, and carriage returns
+printf 'get 5\nget 5\r\nget 5\r\nget 99999\n' | "$face" run 1 >"$folder/out" 2>"$folder/said"
+[ $? -eq 0 ] && [ "$(sed 1d "$folder/out" | tr '\n' /)" = 'value 0a/refused line/refused line/refused record/' ] &&
+    [ "$(cut -c 1-50 "$folder/said" | tr '\n' /)" = 'face: 3 of the replies refused a line/face: line 2 of the input ends with a carriage retu/' ]
+verdict 'refused lines are counted and a carriage return is named' $?
 
 # --- who may read and write what is made
 for mask in 022 000 077; do

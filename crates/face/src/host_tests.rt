@@ -486,3 +486,22 @@ fn why_there_is_no_database_is_said(rt: HostRuntime) -> Result<(), Fail> {
     remove_all(&rt);
     Ok(())
 }
+
+// The lines that were refused are counted, and the first that ends with a carriage return is named; what is told stays.
+#[test]
+fn refused_lines_are_said(rt: HostRuntime) -> Result<(), Fail> {
+    remove_all(&rt);
+    says(&rt, &NEW, 0, "")?;
+    let caller = make_caller(&rt, &RUN, b"get 5\nget 5\r\nget 999999999\nget 5\r\n");
+    assert_eq!(rt; run(&caller), 0);
+    assert!(rt;
+        caller.told().as_slice()
+            == b"open 0\nnone\nrefused line\nrefused record\nrefused line\n".as_slice()
+    );
+    assert_eq!(rt;
+        caller.said().as_str(),
+        "face: 3 of the replies refused a line\nface: line 2 of the input ends with a carriage return, and so is no command: send lines that end with a newline alone\n"
+    );
+    remove_all(&rt);
+    Ok(())
+}

@@ -1,8 +1,8 @@
-// What is said on standard error where the words are wrong or the work can't be done. No line that is told and no status
-// depends on it, and what can't be said is left unsaid.
+// What is said on standard error where the words are wrong or the work can't be done. No line that is told and no
+// status depends on it, and what can't be said is left unsaid.
 
 use crate::words::{COUNT_MAX, POOL_MAX, geometry_of, number_in, number_within, sizes};
-use file_site::{Absence, Call, Failure, FileSite, LockFile, path};
+use file_site::{Absence, Call, Failure, FileSite, LockFile, Watch, path};
 use site::{Dev, Geometry, Site};
 use std::io::{Eprint, Input, Print};
 use std::os::unix::fs::FileExt;
@@ -203,13 +203,14 @@ fn is_length_of(dev: Dev, len: u64) -> bool {
     sizes.is_some()
 }
 
-/// What is known of a site when the program ends: for each device, in their order, why it has no file, if it has none, and its
-/// length; and the first call that failed.
+/// What is known of a site when the program ends: for each device, in their order, why it has no file, if it has
+/// none, and its length; the first call that failed; and what was noticed of the input and the replies.
 #[derive(Clone, Copy)]
 pub struct Seen {
     absences: [Option<Absence>; 3],
     lengths: [u64; 3],
     failure: Option<Failure>,
+    watch: Watch,
 }
 
 /// What is known of this site.
@@ -230,6 +231,7 @@ where
             site.len(Dev::Disk),
         ],
         failure: site.failure(),
+        watch: site.watch(),
     }
 }
 
@@ -322,8 +324,22 @@ fn say_not_made<R: Eprint>(rt: &R, seen: &Seen, geometry: Geometry) {
     }
 }
 
+// Says how many lines of a run were refused, and which is the first that ends with a carriage return.
+fn say_refused<R: Eprint>(rt: &R, watch: Watch) {
+    let refused = watch.refused();
+    if refused > 0 {
+        let _ = eprintln!(rt; "face: {refused} of the replies refused a line");
+    }
+    if let Some(line) = watch.returned() {
+        let _ = eprintln!(rt;
+            "face: line {line} of the input ends with a carriage return, and so is no command: send lines that end with a newline alone"
+        );
+    }
+}
+
 /// Says on standard error why the program ends with this status, where there is something to say.
 pub fn say<R: Eprint>(rt: &R, status: u8, words: &[String], seen: &Seen) {
+    say_refused(rt, seen.watch);
     match status {
         2 => say_words(rt, words),
         3 | 5 | 6 => {

@@ -12,6 +12,7 @@ use crate::making::{Lengths, fresh};
 use crate::opening::{existing, hold_streams};
 use crate::outlet::tells;
 use crate::trouble::{Absence, Call, Failure, Failures};
+use crate::watch::Watch;
 use site::{Dev, Failed, Site, Stop};
 use std::alloc::Global;
 use std::io::{Eprint, Input, Print};
@@ -32,6 +33,7 @@ pub struct FileSite<R: Files + Input + Print + Clock> {
     input: Intake<R::Reader>,
     book: Book,
     failures: Failures,
+    watch: Watch,
 }
 
 // The files that are there, if files may be opened at all.
@@ -88,6 +90,7 @@ where
             input: Intake::new(reader, vec![in alloc; 0u8; PIECE]?),
             book: Book::new(0, 0, 0),
             failures: Failures::new(),
+            watch: Watch::new(),
         })
     }
 
@@ -103,12 +106,18 @@ where
             input: Intake::new(reader, buffer),
             book,
             failures: Failures::new(),
+            watch: Watch::new(),
         }
     }
 
     /// Why no file stands for this device, if none does.
     pub fn absence(&self, dev: Dev) -> Option<Absence> {
         self.devices.of(dev).absence()
+    }
+
+    /// What was noticed of the input and the replies.
+    pub fn watch(&self) -> Watch {
+        self.watch
     }
 
     /// The first call that failed.
@@ -217,7 +226,10 @@ where
         ensures faults { TakeFaults result (state_of self.old.book) (state_of self.new.book) }
     {
         match self.input.take(&self.rt, into) {
-            Ok(count) => Ok(count),
+            Ok(count) => {
+                self.watch.hears(&into[..count]);
+                Ok(count)
+            }
             Err(error) => {
                 self.failures.keep(Call::Take, error);
                 self.book.input_fault();
@@ -237,7 +249,10 @@ where
         ensures faults { TellFaults result (state_of self.old.book) (state_of self.new.book) }
     {
         match tells(&self.rt, piece) {
-            Ok(count) => Ok(count),
+            Ok(count) => {
+                self.watch.tells(&piece[..count]);
+                Ok(count)
+            }
             Err(error) => {
                 self.failures.keep(Call::Tell, error);
                 self.book.output_fault();

@@ -15,9 +15,11 @@ mod progress;
 #[cfg(test)]
 mod tests;
 mod trouble;
+mod watch;
 
 pub use files::FileSite;
 pub use lock::LockFile;
 pub use opening::path;
 pub use outlet::tell_line;
 pub use trouble::{Absence, Call, Failure};
+pub use watch::Watch;

@@ -1,5 +1,5 @@
-// Making the files of a new database. Nothing is made before all that is there is known to be fit for it, and no file has
-// its name before it is whole and stable.
+// Making the files of a new database. Nothing is made before all that is there is known to be fit for it, and no file
+// has its name before it is whole and stable.
 
 use crate::device::{DEVS, Device, Devices};
 use crate::lock::{LockFile, hold};
@@ -218,8 +218,8 @@ fn create<R: Files>(rt: &R, path: &str) -> io::Result<R::File> {
         .open(rt, path)
 }
 
-// A file of this many zeros, whole and stable, under the name of a draft; the log's is locked. What an earlier program left
-// under that name is replaced.
+// A file of this many zeros, whole and stable, under the name of a draft; the log's is locked. What an earlier
+// program left under that name is replaced.
 fn draft<R: Files + Clock + Eprint>(
     rt: &R,
     dev: Dev,
@@ -274,8 +274,8 @@ fn name_drafts<R: Files>(rt: &R, missing: &Which, named: &mut Which) -> Result<(
     Ok(())
 }
 
-// Makes the folder's names stable, also those of an earlier program. A file system that has no sync of folders is taken to
-// keep them.
+// Makes the folder's names stable, also those of an earlier program. A file system that has no sync of folders is
+// taken to keep them.
 fn sync_folder<F: OpenFile>(folder: &F) -> Result<(), Absence> {
     match folder.sync_all() {
         Ok(()) => Ok(()),
@@ -319,7 +319,8 @@ fn remove_made<R: Files>(rt: &R, missing: &Which, named: &Which) {
     }
 }
 
-// Makes the files that are missing and the folder's names stable. Where that fails nothing is there, and nothing is made.
+// Makes the files that are missing and the folder's names stable. Where that fails nothing is there, and nothing is
+// made.
 fn make<R: Files + Clock + Eprint>(
     rt: &R,
     folder: &R::File,
@@ -340,10 +341,10 @@ where
     }
 }
 
-/// The devices of a new database of these lengths. The files that are missing are made where all that are there have their
-/// length and are blank; else a missing file reads as a blank one, and nothing is made. No device is there where a file can't be
-/// read, or another program makes files in the folder, or one of them can't be made, or the folder's names can't be made stable. What takes
-/// long says on standard error how far it has come.
+/// The devices of a new database of these lengths. The files that are missing are made where all that are there have
+/// their length and are blank; else a missing file reads as a blank one, and nothing is made. No device is there
+/// where a file can't be read, or another program makes files in the folder, or one of them can't be made, or the
+/// folder's names can't be made stable. What takes long says on standard error how far it has come.
 pub fn fresh<R: Files + Clock + Eprint>(rt: &R, lengths: &Lengths, zeros: &[u8]) -> Devices<R::File>
 where
     R::File: FileExt + LockFile,

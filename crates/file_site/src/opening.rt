@@ -89,8 +89,8 @@ fn open_any<R: Files>(rt: &R) -> io::Result<R::File> {
     }
 }
 
-/// Three descriptors, to be held while files are opened: where a standard stream is closed its number would else be given
-/// to a file, and the next reply be written over it.
+/// Three descriptors, to be held while files are opened: where a standard stream is closed its number would else be
+/// given to a file, and the next reply be written over it.
 pub fn hold_streams<R: Files>(rt: &R) -> io::Result<(R::File, R::File, R::File)> {
     Ok((open_any(rt)?, open_any(rt)?, open_any(rt)?))
 }

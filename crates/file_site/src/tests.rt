@@ -1,6 +1,7 @@
 // What no clause says: which files are read, written, synced, made and locked, and what the standard streams give and take.
 use crate::fakes::{Fake, FakeReader, World};
 use crate::intake::Intake;
+use crate::watch::Watch;
 use crate::{Absence, Call, FileSite, tell_line};
 use site::{Dev, Failed, Site};
 use std::fs;
@@ -622,5 +623,37 @@ fn files_are_their_owners_alone(rt: HostRuntime) -> Result<(), Fail> {
     }
     assert_eq!(rt; rt.metadata("face.disk")?.permissions().mode(), before);
     remove_all(&rt);
+    Ok(())
+}
+
+// However the input and the replies are cut, the first line that ends with a carriage return and the refusals are noticed.
+#[test]
+fn carriage_returns_and_refusals_are_noticed(rt: HostRuntime) -> Result<(), Fail> {
+    let rows: [(&[u8], Option<u64>); 6] = [
+        (b"", None),
+        (b"get 5\nget 6\n", None),
+        (b"get 5\nget\r6\n\nget 7\r\nget 8\r\n", Some(4)),
+        (b"\r\n", Some(1)),
+        (b"get 5\nget 6\r", Some(2)),
+        (b"\n\r", Some(2)),
+    ];
+    for (input, line) in rows {
+        for size in [1, 2, 3, 100] {
+            let mut watch = Watch::new();
+            for piece in input.chunks(size) {
+                watch.hears(piece);
+            }
+            assert_eq!(rt; watch.returned(), line);
+        }
+    }
+    let told =
+        b"open 0\nrefused line\nvalue 0a\nitem 2 refused \nrefused session\nrefused\nrefused long\n".as_slice();
+    for size in [1, 2, 3, 100] {
+        let mut watch = Watch::new();
+        for piece in told.chunks(size) {
+            watch.tells(piece);
+        }
+        assert_eq!(rt; watch.refused(), 3);
+    }
     Ok(())
 }
