@@ -214,13 +214,6 @@ module _ (logs : LogLaws) (laws : PageLaws) (beside : BesideLaws) (own : CommitL
             subst (λ (c : List ℕ). lsn_of c < end_of log') (sym (stays number')) (omega (arith, before, next, empty, high));
       }
 
--- pages that stay in two calls
-pub keeps_twice : (beside : BesideLaws) (pages : PageStore) (old mid new : State) → KeepsPages pages.flash.geometry pages old.image mid.image → ChangesOnly Log mid new → KeepsPages pages.flash.geometry pages old.image new.image
-keeps_twice beside pages old mid new keeps changes = record {
-  versions = versions_same beside pages mid new changes ∙ keeps.versions;
-  current = λ number. current_same beside pages mid new changes number ∙ keeps.current number;
-}
-
 -- a call that leaves the table of before
 pub before_only : (newest : Option Master) (g : Geometry) (old mid : State) (before after : List Content) (commits : ℕ) → LeavesOnly old mid (LeavesTableUnder newest g before commits old.told) → LeavesOnly old mid (LeavesEitherUnder newest g before after commits old.told)
 before_only newest g old mid before after commits first =

@@ -29,14 +29,6 @@ pub where_two : {T E : Type 0} (A B C : Type 0) (result : Result T E) → OnOk r
 where_two A B C (Ok x) first second then = then first second
 where_two A B C (Err e) first second then = tt
 
-pub no_foreign : {T : Type 0} (stop : Stop) → stop ≢ Foreign → IsErrOf {T = T} (Err stop) Foreign → ⊥
-no_foreign stop never is = never (let same : stop ≡ Foreign = cc in same)
-
--- the cause is the log's device
-pub log_is_read : {T : Type 0} (stop : Stop) → (stop ≡ Device Log) ⊎ (stop ≡ Worn Log) → IsErrOf {T = T} (Err stop) Foreign → ⊥
-log_is_read stop (inl is) other = let same : stop ≡ Foreign = cc in absurd (cc)
-log_is_read stop (inr is) other = let same : stop ≡ Foreign = cc in absurd (cc)
-
 -- On every site.
 
 pub works_then : {A B : Type 0} {a : A} {r : Result B Stop} {old mid new : Store} {before between now : Site} {n n' : ℕ} →
