@@ -101,7 +101,8 @@ verdict 'a run without faults says nothing' $?
 # --- refused lines, and carriage returns
 printf 'get 5\nget 5\r\nget 5\r\nget 99999\n' | "$face" run 1 >"$folder/out" 2>"$folder/said"
 [ $? -eq 0 ] && [ "$(sed 1d "$folder/out" | tr '\n' /)" = 'value 0a/refused line/refused line/refused record/' ] &&
-    [ "$(cut -c 1-50 "$folder/said" | tr '\n' /)" = 'face: 3 of the replies refused a line/face: line 2 of the input ends with a carriage retu/' ]
+    grep -q -x 'face: 3 of the replies refused a line' "$folder/said" &&
+    grep -q '^face: line 2 of the input ends with a carriage return, ' "$folder/said"
 verdict 'refused lines are counted and a carriage return is named' $?
 
 # --- who may read and write what is made
