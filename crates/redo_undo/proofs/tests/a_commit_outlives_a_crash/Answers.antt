@@ -6,4 +6,4 @@ use Rattle.redo_undo.proofs.tests.a_commit_outlives_a_crash.Goals as goal
 
 pub crashed-site-requires : goal.crashed-site-requires
 crashed-site-requires g c =
-    subst (λ (k : Geometry). HasLengths k (image_of c.commit.new.site)) (c.commit.ensures.works.sizes ∙ c.in_ok-store.ensures.sizes) c.in_ok.ensures.works.going.both.pages_going.flash.lengths
+    subst (λ (k : Geometry). HasLengths k (image_of c.commit.new.site)) (c.commit.ensures.works.sizes ∙ c.in_ok-store.ensures.sizes) c.in_ok-commit.ensures.works.going.both.pages_going.flash.lengths
