@@ -24,4 +24,12 @@ for file in face.log face.flash face.disk; do
     told "a run after it" 0 'open 0/none' 'get 5/' run 1
 done
 
+# --- a link that leads nowhere isn't replaced, and nothing is made beside it
+mkdir "$folder/linked"
+cd "$folder/linked" || exit 1
+ln -s nowhere face.disk
+told 'new beside a link that leads nowhere' 9 'fault foreign' '' new 16 8 64
+[ "$(ls -A)" = face.disk ] && [ -L face.disk ]
+verdict 'the link stays, alone' $?
+
 finish

@@ -40,6 +40,23 @@ else
 fi
 told 'nothing was lost by these files' 0 'open 1/value 0a0b' 'get 5/' run 1
 
+# --- a file that becomes too short under a run: what it lacks is a fault
+mkfifo input
+"$face" run 1 <input >replies 2>/dev/null &
+run=$!
+exec 3>input
+printf 'get 5\n' >&3
+for _ in $(seq 100); do
+    grep -q value replies && break
+    sleep 0.05
+done
+truncate -s 10000 face.disk
+printf 'get 511\n' >&3
+exec 3>&-
+wait "$run"
+[ $? -eq 3 ] && [ "$(tr '\n' / <replies)" = 'open 1/value 0a0b/fault disk/' ]
+verdict 'a file that becomes too short under a run' $?
+
 # --- a full disk
 mkdir "$folder/full"
 if [ "$(id -u)" -eq 0 ] && mount -t tmpfs -o size=256k none "$folder/full" 2>/dev/null; then

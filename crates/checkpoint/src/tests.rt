@@ -2,7 +2,7 @@
 ghost use Rattle.std.specs.Prelude.{◌≡◌, ◌∷◌, []};
 
 use crate::{BadMaster, Master, Pairs, UNIT_LEN, newest, read_master, save, write_master};
-use site::{Call, Dev, Geometry, MemSite, Site, Stop};
+use site::{Dev, Geometry, MemSite};
 use std::test::Fail;
 
 const SMALL: Geometry = Geometry {
@@ -110,33 +110,5 @@ fn a_saved_master_is_the_newest(rt: HostRuntime) -> Result<(), Fail> {
     assert_eq!(rt; log.get(520), Some(&1));
     assert_eq!(rt; log.get(528), Some(&3));
     assert_eq!(rt; log.get(545), Some(&2));
-    Ok(())
-}
-
-#[test]
-fn a_save_that_fails_leaves_the_old_master(rt: HostRuntime) -> Result<(), Fail> {
-    let mut site = MemSite::new(rt.alloc(), &SMALL)?;
-    let (mut ring, mut master) = newest(&mut site)?;
-    site.fuse(3);
-    master.redo = 5;
-    assert_eq!(rt;
-        save(&mut site, &mut ring, &master),
-        Err(Stop::Device(Dev::Log))
-    );
-    assert!(rt; ring.ended());
-    let mut after = site.crash(77);
-    if after.len(Dev::Log) < 1_536 {
-        return Err(Stop::Foreign.into());
-    }
-    let (_, left) = newest(&mut after)?;
-    assert_eq!(rt; left, Master::blank());
-    Ok(())
-}
-
-#[test]
-fn a_failed_read_is_told(rt: HostRuntime) -> Result<(), Fail> {
-    let mut site = MemSite::new(rt.alloc(), &SMALL)?;
-    site.fail(Call::Read(Dev::Log), 2)?;
-    assert_eq!(rt; newest(&mut site).is_err(), true);
     Ok(())
 }

@@ -1,6 +1,6 @@
 // Pages on a site in memory.
 use crate::{PAGE_LEN, read_page, sync_disk, write_page};
-use site::{Call, Dev, Geometry, MemSite, Stop};
+use site::{Dev, Geometry, MemSite};
 use std::test::Fail;
 
 const SMALL: Geometry = Geometry {
@@ -8,8 +8,6 @@ const SMALL: Geometry = Geometry {
     groups: 8,
     blocks: 16,
 };
-
-const FAULT: Result<(), Stop> = Err(Stop::Device(Dev::Disk));
 
 #[test]
 fn a_page_stands_in_its_place(rt: HostRuntime) -> Result<(), Fail> {
@@ -39,16 +37,6 @@ fn a_page_is_read(rt: HostRuntime) -> Result<(), Fail> {
 }
 
 #[test]
-fn a_page_is_loose_until_the_sync(rt: HostRuntime) -> Result<(), Fail> {
-    let mut site = MemSite::new(rt.alloc(), &SMALL)?;
-    write_page(&mut site, 0, &[7; PAGE_LEN])?;
-    let site = site.crash(2);
-    assert_eq!(rt; site.content(Dev::Disk).get(4_095), Some(&0xA5));
-    assert_eq!(rt; site.content(Dev::Disk).get(4_096), Some(&0));
-    Ok(())
-}
-
-#[test]
 fn a_synced_page_stays(rt: HostRuntime) -> Result<(), Fail> {
     let mut site = MemSite::new(rt.alloc(), &SMALL)?;
     write_page(&mut site, 0, &[7; PAGE_LEN])?;
@@ -56,30 +44,5 @@ fn a_synced_page_stays(rt: HostRuntime) -> Result<(), Fail> {
     assert_eq!(rt; site.changes(), 2);
     let site = site.crash(2);
     assert_eq!(rt; site.content(Dev::Disk).get(4_095), Some(&7));
-    Ok(())
-}
-
-#[test]
-fn a_read_that_fails(rt: HostRuntime) -> Result<(), Fail> {
-    let mut site = MemSite::new(rt.alloc(), &SMALL)?;
-    site.fail(Call::Read(Dev::Disk), 1)?;
-    let mut page = [1; PAGE_LEN];
-    assert_eq!(rt; read_page(&mut site, 0, &mut page), FAULT);
-    Ok(())
-}
-
-#[test]
-fn a_write_that_fails(rt: HostRuntime) -> Result<(), Fail> {
-    let mut site = MemSite::new(rt.alloc(), &SMALL)?;
-    site.fail(Call::Write(Dev::Disk), 1)?;
-    assert_eq!(rt; write_page(&mut site, 0, &[7; PAGE_LEN]), FAULT);
-    Ok(())
-}
-
-#[test]
-fn a_sync_that_fails(rt: HostRuntime) -> Result<(), Fail> {
-    let mut site = MemSite::new(rt.alloc(), &SMALL)?;
-    site.fail(Call::Sync(Dev::Disk), 1)?;
-    assert_eq!(rt; sync_disk(&mut site), FAULT);
     Ok(())
 }

@@ -2,12 +2,10 @@
 use crate::fakes::{Fake, FakeReader, World};
 use crate::intake::Intake;
 use crate::watch::Watch;
-use crate::{Absence, Call, FileSite, tell_line};
+use crate::{Call, FileSite, tell_line};
 use site::{Dev, Failed, Site};
 use std::fs;
-use std::fs::{File, OpenOptions};
 use std::io::ErrorKind;
-use std::os::unix::fs::{FileExt, PermissionsExt, symlink};
 use std::rt::Files;
 use std::test::Fail;
 
@@ -41,13 +39,6 @@ fn lengths(rt: &HostRuntime) -> [u64; 6] {
     NAMES.map(|path| length(rt, path))
 }
 
-// Puts an octet into the log's file.
-fn put_in_log(rt: &HostRuntime, place: u64, octet: u8) -> Result<(), Fail> {
-    let log = OpenOptions::new().write(true).open(rt, "face.log")?;
-    log.write_all_at(&[octet], place)?;
-    Ok(())
-}
-
 #[test]
 fn files_are_made_and_found_again(rt: HostRuntime) -> Result<(), Fail> {
     remove_all(&rt);
@@ -72,76 +63,6 @@ fn files_are_made_and_found_again(rt: HostRuntime) -> Result<(), Fail> {
     assert_eq!(rt; again.len(Dev::Flash), 8);
     assert!(rt; again.read_at(Dev::Flash, 0, &mut eight).is_ok());
     assert_eq!(rt; eight, *b"flash\0\0\0");
-    remove_all(&rt);
-    Ok(())
-}
-
-#[test]
-fn what_a_file_lacks_is_a_fault(rt: HostRuntime) -> Result<(), Fail> {
-    remove_all(&rt);
-    let mut site = FileSite::fresh(&rt, rt.alloc(), 100, 100, 100)?;
-    OpenOptions::new()
-        .write(true)
-        .open(&rt, "face.log")?
-        .set_len(10)?;
-    assert_eq!(rt; site.len(Dev::Log), 100);
-    assert!(rt; site.read_at(Dev::Log, 0, &mut [0; 10]).is_ok());
-    assert_eq!(rt; site.len(Dev::Log), 100);
-    assert_eq!(rt; site.read_at(Dev::Log, 0, &mut [0; 11]), Err(Failed));
-    drop(site);
-
-    // A folder is no file, and a device of no octets can be synced.
-    fs::remove_file(&rt, "face.disk")?;
-    fs::create_dir(&rt, "face.disk")?;
-    let mut folder = FileSite::fresh(&rt, rt.alloc(), 100, 100, 100)?;
-    assert_eq!(rt; folder.len(Dev::Log), 10);
-    assert_eq!(rt; folder.len(Dev::Disk), 0);
-    assert!(rt; folder.sync(Dev::Disk).is_ok());
-    fs::remove_dir(&rt, "face.disk")?;
-    remove_all(&rt);
-    assert_eq!(rt; FileSite::bare(&rt, rt.alloc())?.len(Dev::Flash), 0);
-    Ok(())
-}
-
-// A new database is refused for a file that isn't blank or has another length: the missing one reads as blank, and nothing
-// is made. Where the others are fit it is made.
-#[test]
-fn a_refused_new_makes_nothing(rt: HostRuntime) -> Result<(), Fail> {
-    remove_all(&rt);
-    drop(FileSite::fresh(&rt, rt.alloc(), 9_000, 20, 30)?);
-    fs::remove_file(&rt, "face.disk")?;
-    let rows = [
-        (9_000, 8_999, b'x'),
-        (9_000, 4_096, b'x'),
-        (9_001, 0, 0),
-        (8_999, 0, 0),
-    ];
-    for (log, place, octet) in rows {
-        put_in_log(&rt, place, octet)?;
-        let mut refused = FileSite::fresh(&rt, rt.alloc(), log, 20, 30)?;
-        assert_eq!(rt; refused.len(Dev::Log), 9_000);
-        assert_eq!(rt; refused.len(Dev::Disk), 30);
-        let mut last = [9; 4];
-        assert!(rt; refused.read_at(Dev::Disk, 26, &mut last).is_ok());
-        assert_eq!(rt; last, [0; 4]);
-        assert!(rt; refused.sync(Dev::Disk).is_ok());
-        assert_eq!(rt; refused.len(Dev::Disk), 30);
-        assert_eq!(rt; refused.write_at(Dev::Disk, 0, b"x"), Err(Failed));
-        drop(refused);
-        assert_eq!(rt; lengths(&rt), [9_000, 20, NONE, NONE, NONE, NONE]);
-        put_in_log(&rt, place, 0)?;
-    }
-    // A link that leads nowhere isn't replaced.
-    symlink(&rt, "nowhere", "face.disk")?;
-    let linked = FileSite::fresh(&rt, rt.alloc(), 9_000, 20, 30)?;
-    assert_eq!(rt; linked.len(Dev::Disk), 0);
-    drop(linked);
-    assert!(rt; rt.symlink_metadata("face.disk")?.is_symlink());
-    fs::remove_file(&rt, "face.disk")?;
-    let made = FileSite::fresh(&rt, rt.alloc(), 9_000, 20, 30)?;
-    assert_eq!(rt; made.len(Dev::Disk), 30);
-    drop(made);
-    assert_eq!(rt; lengths(&rt), [9_000, 20, 30, NONE, NONE, NONE]);
     remove_all(&rt);
     Ok(())
 }
@@ -246,39 +167,6 @@ fn what_cannot_be_made_is_removed(rt: HostRuntime) -> Result<(), Fail> {
         };
         assert_eq!(rt; lengths(&rt), left, "{call} {path}");
     }
-    remove_all(&rt);
-    Ok(())
-}
-
-// A second program finds no log while the first lasts, whatever either does, and two programs don't make files at once.
-#[test]
-fn one_program_at_a_time(rt: HostRuntime) -> Result<(), Fail> {
-    remove_all(&rt);
-    let first = FileSite::fresh(&rt, rt.alloc(), 10, 20, 30)?;
-    assert_eq!(rt; first.len(Dev::Log), 10);
-    assert_eq!(rt; FileSite::existing(&rt, rt.alloc())?.len(Dev::Log), 0);
-    assert_eq!(rt;
-        FileSite::fresh(&rt, rt.alloc(), 10, 20, 30)?.len(Dev::Log),
-        0
-    );
-    drop(first);
-    let second = FileSite::existing(&rt, rt.alloc())?;
-    assert_eq!(rt; second.len(Dev::Log), 10);
-    assert_eq!(rt; FileSite::existing(&rt, rt.alloc())?.len(Dev::Log), 0);
-    drop(second);
-    remove_all(&rt);
-    let folder = File::open(&rt, ".")?;
-    assert!(rt; folder.try_lock().is_ok());
-    assert_eq!(rt;
-        FileSite::fresh(&rt, rt.alloc(), 10, 20, 30)?.len(Dev::Log),
-        0
-    );
-    assert_eq!(rt; lengths(&rt), [NONE; 6]);
-    drop(folder);
-    assert_eq!(rt;
-        FileSite::fresh(&rt, rt.alloc(), 10, 20, 30)?.len(Dev::Log),
-        10
-    );
     remove_all(&rt);
     Ok(())
 }
@@ -429,126 +317,6 @@ fn all_input_is_taken(rt: HostRuntime) -> Result<(), Fail> {
     Ok(())
 }
 
-// What stands for a device, as a word; a name and the kind of an error behind it.
-fn word_of(rt: &HostRuntime, absence: Option<Absence>) -> Result<String, Fail> {
-    let word = match absence {
-        None => format!(in rt.alloc(); "file")?,
-        Some(Absence::Missing) => format!(in rt.alloc(); "missing")?,
-        Some(Absence::Busy(name)) => format!(in rt.alloc(); "busy {name}")?,
-        Some(Absence::Unopened(name, error)) => {
-            format!(in rt.alloc(); "unopened {name}: {error}")?
-        }
-        Some(Absence::Unmade(name, error)) => format!(in rt.alloc(); "unmade {name}: {error}")?,
-    };
-    Ok(word)
-}
-
-// Why no file stands for a device is kept, with the system's words.
-#[test]
-fn an_absence_has_its_reason(rt: HostRuntime) -> Result<(), Fail> {
-    remove_all(&rt);
-    let none = FileSite::existing(&rt, rt.alloc())?;
-    for dev in [Dev::Log, Dev::Flash, Dev::Disk] {
-        assert_eq!(rt; word_of(&rt, none.absence(dev))?.as_str(), "missing");
-    }
-    drop(none);
-    let first = FileSite::fresh(&rt, rt.alloc(), 10, 20, 30)?;
-    let second = FileSite::existing(&rt, rt.alloc())?;
-    assert_eq!(rt; word_of(&rt, first.absence(Dev::Log))?.as_str(), "file");
-    assert_eq!(rt;
-        word_of(&rt, second.absence(Dev::Log))?.as_str(),
-        "busy face.log"
-    );
-    assert_eq!(rt; word_of(&rt, second.absence(Dev::Disk))?.as_str(), "file");
-    drop(first);
-    drop(second);
-    let rows = [
-        (
-            "open",
-            "face.flash",
-            ErrorKind::PermissionDenied,
-            "unopened face.flash: permission denied",
-        ),
-        (
-            "sync",
-            "face.flash",
-            ErrorKind::Other,
-            "unopened face.flash: other error",
-        ),
-        ("open", "/dev/null", ErrorKind::NotFound, "file"),
-        ("open", "face.flash", ErrorKind::NotFound, "missing"),
-    ];
-    let world = World::new(rt.alloc());
-    let fake = Fake {
-        rt: &rt,
-        world: &world,
-    };
-    for (call, path, kind, word) in rows {
-        world.fail(call, path, kind, 1);
-        let site = FileSite::existing(fake, rt.alloc())?;
-        assert_eq!(rt; word_of(&rt, site.absence(Dev::Flash))?.as_str(), word);
-        assert_eq!(rt; word_of(&rt, site.absence(Dev::Disk))?.as_str(), "file");
-    }
-    remove_all(&rt);
-    Ok(())
-}
-
-// What couldn't be made is kept, with the system's words; it is the reason of all three devices.
-#[test]
-fn what_cannot_be_made_has_its_reason(rt: HostRuntime) -> Result<(), Fail> {
-    let rows = [
-        (
-            "make",
-            "face.flash.new",
-            "unmade face.flash.new: no storage space",
-        ),
-        (
-            "fill",
-            "face.disk.new",
-            "unmade face.disk.new: no storage space",
-        ),
-        (
-            "sync all",
-            "face.log.new",
-            "unmade face.log.new: no storage space",
-        ),
-        (
-            "rename",
-            "face.flash.new",
-            "unmade face.flash: no storage space",
-        ),
-        ("sync all", ".", "unmade .: no storage space"),
-        ("open", ".", "unopened .: no storage space"),
-    ];
-    for (call, path, word) in rows {
-        remove_all(&rt);
-        let world = World::new(rt.alloc());
-        world.fail(call, path, ErrorKind::StorageFull, 1);
-        let fake = Fake {
-            rt: &rt,
-            world: &world,
-        };
-        let site = FileSite::fresh(fake, rt.alloc(), 10, 20, 30)?;
-        for dev in [Dev::Log, Dev::Flash, Dev::Disk] {
-            assert_eq!(rt; word_of(&rt, site.absence(dev))?.as_str(), word, "{call}");
-        }
-    }
-    remove_all(&rt);
-    let folder = File::open(&rt, ".")?;
-    assert!(rt; folder.try_lock().is_ok());
-    let site = FileSite::fresh(&rt, rt.alloc(), 10, 20, 30)?;
-    assert_eq!(rt; word_of(&rt, site.absence(Dev::Log))?.as_str(), "busy .");
-    drop(site);
-    drop(folder);
-    symlink(&rt, "nowhere", "face.disk")?;
-    let linked = FileSite::fresh(&rt, rt.alloc(), 10, 20, 30)?;
-    let word = word_of(&rt, linked.absence(Dev::Disk))?;
-    assert_eq!(rt; word.as_str(), "unopened face.disk: entity not found");
-    assert_eq!(rt; word_of(&rt, linked.absence(Dev::Log))?.as_str(), "missing");
-    remove_all(&rt);
-    Ok(())
-}
-
 // The first call that failed is kept with its error, whatever fails behind it.
 #[test]
 fn the_first_failure_is_kept(rt: HostRuntime) -> Result<(), Fail> {
@@ -607,21 +375,6 @@ fn making_large_files_is_told_of(rt: HostRuntime) -> Result<(), Fail> {
         assert_eq!(rt; site.len(Dev::Log), 2_097_152);
         assert_eq!(rt; world.said(rt.alloc()).as_str(), words);
     }
-    remove_all(&rt);
-    Ok(())
-}
-
-// A file that is made is its owner's alone, and one that is there keeps its rights.
-#[test]
-fn files_are_their_owners_alone(rt: HostRuntime) -> Result<(), Fail> {
-    remove_all(&rt);
-    fs::write(&rt, "face.disk", [0u8; 30].as_slice())?;
-    let before = rt.metadata("face.disk")?.permissions().mode();
-    drop(FileSite::fresh(&rt, rt.alloc(), 10, 20, 30)?);
-    for path in ["face.log", "face.flash"] {
-        assert_eq!(rt; rt.metadata(path)?.permissions().mode() & 0o777, 0o600);
-    }
-    assert_eq!(rt; rt.metadata("face.disk")?.permissions().mode(), before);
     remove_all(&rt);
     Ok(())
 }

@@ -8,7 +8,7 @@ ghost use Rattle.log_store.specs.Held.{MayGoOn};
 use crate::LogStore;
 use log_records::{BLOCK_LEN, LogRecord};
 use record_model::Octets;
-use site::{Call, Dev, Geometry, MemSite, Stop};
+use site::{Dev, Geometry, MemSite, Stop};
 use std::test::Fail;
 
 const SMALL: Geometry = Geometry {
@@ -112,17 +112,5 @@ fn reads_from_the_tail_and_from_a_block(rt: HostRuntime) -> Result<(), Fail> {
     assert_eq!(rt; log.kept(), 0);
     let mut content = [0; BLOCK_LEN];
     assert_eq!(rt; log.read_block(&mut site, log.kept(), &mut content)?, 28);
-    Ok(())
-}
-
-#[test]
-fn a_fault_ends_the_log(rt: HostRuntime) -> Result<(), Fail> {
-    let mut site = MemSite::new(rt.alloc(), &SMALL)?;
-    site.fail(Call::Sync(Dev::Log), 1)?;
-    let mut log = opened(&mut site)?;
-    log.append(&mut site, &LogRecord::Begin)?;
-    assert!(rt; !log.ended());
-    assert_eq!(rt; log.force(&mut site), Err(Stop::Device(Dev::Log)));
-    assert!(rt; log.ended());
     Ok(())
 }

@@ -99,10 +99,6 @@ module _ (pages : List ℕ) (contents : List (List ℕ)) (n : ℕ) (old mid new 
       own : (k : ℕ) → k ≡ n → page_on (get_or pages k 0) new.image.disk ≡ get_or contents k []
       own k is = ap (λ (m : ℕ). page_on (get_or pages m 0) new.image.disk) is ∙ ap (page_on page) disk ∙ page_written.here ∙ ap (λ (m : ℕ). get_or contents m []) (sym is)
 
--- the octets of a page that was taken from a list
-pub taken : (contents : List (List ℕ)) (n : ℕ) (page octets : List ℕ) → n < length contents → page ≡ get_or contents n page → octets ≡ page → octets ≡ get_or contents n []
-taken contents n page octets lt is same = same ∙ is ∙ get_or_default contents n page [] lt
-
 pub on_err : {T E : Type 0} (r : Result T E) (P : Type 0) → P → OnErr r P
 on_err (Ok x) P p = tt
 on_err (Err e) P p = p

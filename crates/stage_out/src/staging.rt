@@ -1,5 +1,5 @@
 // Pages are written one after the other, and then the disk is synced once.
-ghost use Rattle.std.specs.Prelude.{◌≡◌, ◌≢◌, ◌+◌, length, [], IsTrue, IfErr, OnOk, OnErr, IsOk};
+ghost use Rattle.std.specs.Prelude.{◌≡◌, ◌≢◌, ◌+◌, ◌<◌, length, get_or, [], IsTrue, IfErr, OnOk, OnErr, IsOk};
 ghost use Rattle.std.specs.List.{All, AllPairs};
 ghost use Rattle.site.specs.declared.geometry.Geometry.{Geometry};
 ghost use Rattle.site.specs.declared.outside.Dev.{Dev};
@@ -62,6 +62,15 @@ pub fn stage<S: Site>(site: &mut S, pages: &[u32], contents: &[Page]) -> Result<
     sync_disk(site)
 }
 
+// The octets of the content at a place.
+fn octets_at(contents: &[Page], place: usize) -> &[u8]
+    requires { place < length contents.now }
+    ensures octets { result.now ≡ get_or contents.now place [] }
+    ensures size { length result.now ≡ 4096 }
+{
+    contents[place].bytes()
+}
+
 // Writes the pages, in order.
 fn write_all<S: Site>(site: &mut S, pages: &[u32], contents: &[Page]) -> Result<(), Stop>
     requires lists { length contents.now ≡ length pages.now }
@@ -79,7 +88,7 @@ fn write_all<S: Site>(site: &mut S, pages: &[u32], contents: &[Page]) -> Result<
     ensures stops { IfErr result (λ stop. stop ≡ Stop.Device Dev.Disk) }
 {
     for place in 0..pages.len() {
-        match write_page(site, pages[place], contents[place].bytes()) {
+        match write_page(site, pages[place], octets_at(contents, place)) {
             Ok(()) => {}
             Err(stop) => return Err(stop),
         }

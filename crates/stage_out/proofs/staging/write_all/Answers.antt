@@ -1,8 +1,8 @@
-use Rattle.std.proofs.Common.{◌≡◌, ◌*◌, ◌<◌, ℕ, List, [], length, get_or, subst, ◌∙◌, arith, rules, refl}
+use Rattle.std.proofs.Common.{◌≡◌, ◌*◌, ℕ, List, [], length, get_or, subst, ◌∙◌, arith, rules, refl}
 use Rattle.site.specs.declared.outside.Dev.TheVariants.{Disk}
 use Rattle.site.specs.Calls.{Lies}
 use Rattle.site.specs.Laws.{stays_honest, goes_nowhere, goes_in_sequence, fault_since}
-use Rattle.stage_out.proofs.Steps.{nothing_left, nothing_written, write_leaves, write_done, taken}
+use Rattle.stage_out.proofs.Steps.{nothing_left, nothing_written, write_leaves, write_done}
 use Rattle.stage_out.proofs.staging.write_all.Goals as goal
 
 pub loop-place-init : goal.loop-place-init
@@ -44,8 +44,7 @@ loop-place-preserved g c =
     let pages = c.args.pages.now in
     let contents = c.args.contents.now in
     let place = c.loop-place.place in
-    let less : place < length contents = omega (arith, c.loop-place-test.true, c.requires.lists) in
-    let is : c.bytes.result.now ≡ get_or contents place [] = taken contents place c.index-contents-place.result c.bytes.result.now less c.index-contents-place.is c.bytes.ensures.octets in
+    let is : c.octets_at.result.now ≡ get_or contents place [] = c.octets_at.ensures.octets in
     record {
       left = λ honest.
           let later = stays_honest old mid c.loop-place.invariant.goes honest in
@@ -54,7 +53,7 @@ loop-place-preserved g c =
       written = λ honest.
           let later = stays_honest old mid c.loop-place.invariant.goes honest in
           write_done pages contents place old mid new c.loop-place-test.true (c.loop-place.invariant.written honest) c.requires.once c.requires.lie
-          (subst (λ (b : List ℕ). length b ≡ 4096) is c.bytes.ensures.size)
+          (subst (λ (b : List ℕ). length b ≡ 4096) is c.octets_at.ensures.size)
           (subst (λ (b : List ℕ). Lies Disk (4096 * get_or pages place 0) b mid new) is (c.in-Ok.ensures.written later))
           (c.in-Ok.ensures.calls later);
       goes = goes_in_sequence old mid new c.loop-place.invariant.goes c.write_page.ensures.goes;
