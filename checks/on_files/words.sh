@@ -77,10 +77,28 @@ if has strace && strace -o /dev/null true 2>/dev/null; then
     printf 'get 40\n' | "${prefix[@]}" "$face" run 1 >"$folder/out" 2>"$folder/said"
     [ $? -eq 3 ] && grep -q "^face: face.disk couldn't be read: Input/output error (os error 5)$" "$folder/said"
     verdict 'a disk that cannot be read' $?
+    # each step of making the files; what was made doesn't stay
     mkdir "$folder/none"
     cd "$folder/none" || exit 1
-    prefix=(strace -f -o /dev/null -e inject=write:error=ENOSPC:when=1)
-    says 'no room for a new log' 9 "face: face.log.new can't be made: No space left on device (os error 28); .*" new 16 8 64
+    # unmade NAME WHAT ERROR STRACE'S WORDS..
+    unmade() {
+        local name=$1 what=$2 error=$3
+        shift 3
+        prefix=(strace -f -o /dev/null "$@")
+        says "$name" 9 "face: $what: $error; .*" new 16 8 64
+        prefix=()
+        [ -z "$(ls -A)" ]
+        verdict "$name: nothing stays" $?
+    }
+    full='No space left on device (os error 28)'
+    broken='Input\/output error (os error 5)'
+    unmade 'a draft that cannot be made' "face.flash.new can't be made" "$full" -P face.flash.new -e inject=openat:error=ENOSPC:when=1
+    unmade 'no room for a new log' "face.log.new can't be made" "$full" -e inject=write:error=ENOSPC:when=1
+    unmade 'no room for a new disk' "face.disk.new can't be made" "$full" -P "$PWD/face.disk.new" -e inject=write:error=ENOSPC:when=1
+    unmade 'a draft that cannot be synced' "face.log.new can't be made" "$broken" -P "$PWD/face.log.new" -e inject=fsync:error=EIO:when=1
+    unmade 'a draft that cannot be renamed' "face.flash can't be made" "$broken" -e inject=rename:error=EIO:when=2
+    unmade 'a folder that cannot be opened' "this folder can't be opened to be read and written" "$full" -P . -e inject=openat:error=ENOSPC:when=1
+    unmade 'a folder that cannot be synced' "this folder can't be made" "$broken" -P "$PWD" -e inject=fsync:error=EIO:when=1
     prefix=()
 else
     skip 'words for failing calls: need strace'
