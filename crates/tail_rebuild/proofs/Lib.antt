@@ -1,1 +1,4 @@
-
+pub mod Calling
+pub mod Lists
+pub mod Saved
+pub mod Standing

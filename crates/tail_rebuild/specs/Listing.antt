@@ -1,6 +1,5 @@
 -- Lists of heads, as they are read one group after the other.
 use Rattle.std.specs.Prelude.{◌≡◌, ◌≢◌, ◌⊎◌, ℕ, ◌+◌, ◌-◌, ◌≤◌, ◌<◌, IsTrue, List, [], length, take, slice_index_or, Result, IfErr, IsErrOf}
-use Rattle.std.specs.List.{All}
 use Rattle.site.specs.declared.outside.Dev.{Dev}
 use Rattle.site.specs.declared.outside.Dev.TheVariants.{Flash}
 use Rattle.site.specs.declared.outside.Stop.{Stop}

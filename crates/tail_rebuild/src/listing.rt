@@ -3,7 +3,8 @@ ghost use Rattle.std.specs.Prelude.{◌≡◌, ◌+◌, ◌-◌, ◌*◌, ◌/�
 ghost use Rattle.std.specs.List.{All};
 ghost use Rattle.site.specs.declared.outside.Stop.{Stop};
 ghost use Rattle.site.specs.Geometry.{HasLimits};
-ghost use Rattle.sealed_ring.specs.Ready.{Fits as RingFits};
+ghost use Rattle.sealed_ring.specs.Ready.{IsUsable, Fits as RingFits};
+ghost use Rattle.image_changes.specs.Rings.{group_shape as group_ring};
 ghost use Rattle.byte_fields.specs.declared.frame_head.FrameHead.{FrameHead};
 ghost use Rattle.frame_group.specs.Groups.{Frame, heads_of};
 ghost use Rattle.meta_segments.specs.Segments.{heads_of_group, AreSegmentHeads};
@@ -37,7 +38,7 @@ fn list_saved(
     requires segment { AreSegmentHeads heads.now }
     requires listed { All (AreHeadsIn pages) list.old.items }
 
-    ensures listed { All (AreHeadsIn pages) list.new.items }
+    ensures listed { OnOk result (All (AreHeadsIn pages) list.new.items) }
     ensures more { OnOk result (length list.new.items ≡ length list.old.items + (4 - skip)) }
     ensures front { (all : List (List FrameHead)) → IsFront all list.old.items
         → GoesOnWith heads.now skip all (length list.old.items) → OnOk result (IsFront all list.new.items) }
@@ -69,7 +70,7 @@ pub fn list_segments<S: Site>(
     requires rings { AreRings geometry.now groups.now segments.now (S.state site.old) }
     requires none { list.old.items ≡ [] }
 
-    ensures listed { All (AreHeadsIn geometry.now.pages) list.new.items }
+    ensures listed { OnOk result (All (AreHeadsIn geometry.now.pages) list.new.items) }
     ensures count { OnOk result ((groups.now.hi - (geometry.now.groups - 1)) + length list.new.items ≡ 4 * segments.now.hi) }
     ensures front { IsTrue (S.state site.old).honest → RingFits segments.now (S.state site.old)
         → RingFits groups.now (S.state site.old)
@@ -106,11 +107,12 @@ pub fn list_tail<S: Site>(
     list: &mut Vec<[FrameHead; 8]>,
 ) -> Result<(), Stop>
     requires usable { IsUsable groups.now (S.state site.old) }
-    requires shape { groups.now.shape ≡ group_shape geometry.now }
+    requires shape { groups.now.shape ≡ group_ring geometry.now }
     requires listed { All (AreHeadsIn geometry.now.pages) list.old.items }
-    requires tail { (groups.now.hi - (geometry.now.groups - 1)) + length list.old.items + 4 ≥ groups.now.hi }
+    requires begun { (groups.now.hi - (geometry.now.groups - 1)) + length list.old.items ≤ groups.now.hi }
+    requires tail { groups.now.hi ≤ (groups.now.hi - (geometry.now.groups - 1)) + length list.old.items + 4 }
 
-    ensures listed { All (AreHeadsIn geometry.now.pages) list.new.items }
+    ensures listed { OnOk result (All (AreHeadsIn geometry.now.pages) list.new.items) }
     ensures count { OnOk result ((groups.now.hi - (geometry.now.groups - 1)) + length list.new.items ≡ groups.now.hi) }
     ensures front { IsTrue (S.state site.old).honest → RingFits groups.now (S.state site.old)
         → (first : ℕ) (stand : List (List Frame)) → HasGroups geometry.now first stand (S.state site.old).image
