@@ -1,4 +1,6 @@
 pub mod Calling
+pub mod Following
+pub mod Fours
 pub mod Lists
 pub mod Saved
 pub mod Standing

@@ -11,7 +11,7 @@ use Rattle.sealed_ring.specs.Near.{IsNear}
 use Rattle.sealed_ring.proofs.Units.{live_count}
 use Rattle.byte_fields.specs.declared.frame_head.FrameHead.{FrameHead}
 use Rattle.byte_fields.specs.FrameHeads.{spelling_of_all}
-use Rattle.byte_fields.proofs.HeadLists.{length_all}
+use Rattle.byte_fields.proofs.HeadLists.{length_all, all_at}
 use Rattle.image_changes.specs.Rings.{group_shape, segment_shape, units_on}
 use Rattle.frame_group.specs.Groups.{Frame, heads_of}
 use Rattle.meta_segments.specs.Segments.{heads_of_group, IsSegment}
@@ -19,7 +19,7 @@ use Rattle.meta_segments.specs.Following.{IsLive as Live, heads_with}
 use Rattle.tail_rebuild.specs.Standing.{HasGroups, HasSegments, HasSaved, PagesExist, segment_on}
 use Rattle.tail_rebuild.specs.Listing.{GoesOnWith}
 use Rattle.tail_rebuild.specs.Rebuilt.{AreRings}
-use Rattle.tail_rebuild.proofs.Standing.{all_at, first_is, heads_at_exist}
+use Rattle.tail_rebuild.proofs.Standing.{first_is, heads_at_exist}
 
 -- all live segments are listed
 pub segment_count : (g : Geometry) (segments : List (List FrameHead)) (image : Image) → HasSegments g segments image → length segments ≡ min (hi_of (segment_shape g) image.flash) (g.groups / 4 + 2)

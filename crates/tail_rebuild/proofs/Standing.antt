@@ -11,16 +11,11 @@ use Rattle.sealed_ring.specs.Ready.{region, units_in, Fits as RingFits}
 use Rattle.sealed_ring.proofs.Units.{live_count}
 use Rattle.byte_fields.specs.declared.frame_head.FrameHead.{FrameHead}
 use Rattle.byte_fields.specs.FrameHeads.{blank}
+use Rattle.byte_fields.proofs.HeadLists.{all_at}
 use Rattle.image_changes.specs.Rings.{group_shape, units_on}
 use Rattle.frame_group.specs.Groups.{Frame, group, head_of, heads_of, HasHeads}
 use Rattle.frame_group.proofs.Front.{begins_with_heads, one_heads}
 use Rattle.tail_rebuild.specs.Standing.{HasFrames, HasGroups, PagesExist, group_on}
-
--- what holds of all holds at each place
-pub all_at : {X : Type 0} (P : X → Type 0) (xs : List X) (k : ℕ) (d : X) → AllByRecursion P xs → k < length xs → P (get_or xs k d)
-all_at P [] k d all lt = absurd (omega (arith, lt))
-all_at P (x ∷ xs) zero d all lt = all.0
-all_at P (x ∷ xs) (suc k) d all lt = all_at P xs k d all.1 (omega (arith, lt))
 
 -- a ring still fits where the devices have what they had
 pub fits_again : (ring : Ring) (old new : State) → new.image ≡ old.image → RingFits ring old → RingFits ring new

@@ -4,8 +4,14 @@
 
 mod finding;
 mod heads;
+mod laws;
 mod listing;
 mod reading;
+mod saving;
+#[cfg(test)]
+mod tests;
 
 pub use finding::rebuild;
 pub use heads::{HeadList, Heads};
+pub use laws::segments_follow;
+pub use saving::save_due;
