@@ -1,23 +1,21 @@
 -- Groups and segments when one more comes.
-use Rattle.std.proofs.Common.{◌≡◌, ◌≢◌, ◌⊎◌, inl, inr, ℕ, zero, suc, ◌+◌, ◌-◌, ◌*◌, ◌/◌, ◌%◌, ◌<◌, ◌≤◌, min, List, [], ◌∷◌, ◌++◌, length, get_or, map, take, drop, refl, sym, ap, subst, ◌∙◌, arith}
-use Rattle.std.specs.List.{AllByRecursion, flat_map}
+use Rattle.std.proofs.Common.{◌≡◌, ◌⊎◌, inl, inr, ℕ, zero, suc, ◌+◌, ◌-◌, ◌*◌, ◌/◌, ◌<◌, ◌≤◌, List, [], ◌∷◌, ◌++◌, length, get_or, map, drop, refl, sym, ap, subst, ◌∙◌, arith}
+use Rattle.std.specs.List.{AllByRecursion}
 use Rattle.std.proofs.lemmas.Bool.{cases_lt}
 use Rattle.std.proofs.lemmas.List.{length-map, length-append, length-drop, map-append, drop-map, get_or-drop, get_or-map}
 use Rattle.site.specs.declared.geometry.Geometry.{Geometry}
-use Rattle.site.specs.Geometry.{HasLimits}
 use Rattle.site.specs.State.{Image}
-use Rattle.sealed_ring.specs.Ring.{Units, hi_of, last_of, IsRing}
+use Rattle.sealed_ring.specs.Ring.{Units, hi_of, last_of}
 use Rattle.byte_fields.specs.declared.frame_head.FrameHead.{FrameHead}
 use Rattle.byte_fields.specs.FrameHeads.{spelling_of_all, FitsFields, AreGroupHeads}
 use Rattle.byte_fields.proofs.HeadLists.{all_more, all_at}
-use Rattle.image_changes.specs.Rings.{RingName, Groups, Segments, group_shape, segment_shape, units_on, KeepsUnits}
-use Rattle.image_changes.specs.Changes.{ReadsAs, Appends}
-use Rattle.frame_group.specs.Groups.{Frame, group, heads_of, IsGroup}
+use Rattle.image_changes.specs.Rings.{Groups, Segments, group_shape, segment_shape, KeepsUnits}
+use Rattle.frame_group.specs.Groups.{Frame, group, heads_of}
 use Rattle.frame_group.proofs.Front.{heads_are_group, begins_with_heads}
-use Rattle.meta_segments.specs.Segments.{heads_of_group, AreSegmentHeads, IsSegment}
+use Rattle.meta_segments.specs.Segments.{heads_of_group, IsSegment}
 use Rattle.meta_segments.specs.Following.{IsLive, heads_with, Follow}
 use Rattle.meta_segments.proofs.Numbers.{group_follows, segment_follows}
-use Rattle.tail_rebuild.specs.Standing.{HasFrames, HasGroups, HasSegments, HasSaved}
+use Rattle.tail_rebuild.specs.Standing.{HasFrames, HasGroups, HasSegments}
 use Rattle.tail_rebuild.specs.Saving.{segment_of, with_segment}
 use Rattle.tail_rebuild.specs.Laws.{StandsAgain, SegmentSaved, GroupPushed, with_group}
 use Rattle.tail_rebuild.proofs.Fours.{group_of_flat, length_flat, all_flat}
@@ -122,8 +120,8 @@ segment_saved g first groups segments old new limits due appends has holds =
       | inr under ↦ inl (omega (arith, under))
     ] in
     let own : (i : ℕ) → i < 4 → IsLive h all (4 * k + i) → heads_of_group heads i ≡ heads_with h all (4 * k + i) = λ i less live.
-        let place : 4 * k + i + length all - h ≡ length groups - 4 + i = omega (arith, size, due, four) in
-        last_four g groups has.are_groups four i less ∙ sym (get_or-map heads_of groups (length groups - 4 + i) [] [] (omega (arith, four, less))) ∙ sym (ap (λ (n : ℕ). get_or all n []) place) in
+    let place : 4 * k + i + length all - h ≡ length groups - 4 + i = omega (arith, size, due, four) in
+    last_four g groups has.are_groups four i less ∙ sym (get_or-map heads_of groups (length groups - 4 + i) [] [] (omega (arith, four, less))) ∙ sym (ap (λ (n : ℕ). get_or all n []) place) in
     let follow = segment_follows k h gone segments all heads holds.follow due own room in (
       groups_again g first groups old new here has,
       record {

@@ -2,5 +2,6 @@ pub mod Calling
 pub mod Following
 pub mod Fours
 pub mod Lists
+pub mod Save
 pub mod Saved
 pub mod Standing

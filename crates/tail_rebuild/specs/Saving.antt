@@ -1,5 +1,5 @@
 -- A segment that is saved: when it is due, what it has, and what its save does.
-use Rattle.std.specs.Prelude.{◌≡◌, ℕ, ◌+◌, ◌-◌, ◌*◌, ◌/◌, ◌==◌, Bool, true, false, IsTrue, List, [], ◌∷◌, ◌++◌, length, drop, flat_map, if◌then◌else◌, Result, OnOk}
+use Rattle.std.specs.Prelude.{ℕ, ◌+◌, ◌-◌, ◌*◌, ◌/◌, ◌==◌, Bool, IsTrue, List, [], ◌∷◌, ◌++◌, length, drop, flat_map, if◌then◌else◌, Result, OnOk}
 use Rattle.site.specs.declared.outside.Stop.{Stop}
 use Rattle.site.specs.declared.geometry.Geometry.{Geometry}
 use Rattle.site.specs.State.{State, IsQuiet}

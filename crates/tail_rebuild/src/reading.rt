@@ -74,6 +74,7 @@ pub fn read_group<S: Site>(
         → (first : ℕ) (groups : List (List Frame)) → HasGroups geometry.now first groups (S.state site.old).image
         → IfOk result (λ heads. heads ≡ slice_index_or (map heads_of groups) (group - first) []) }
     ensures reads { ReadsFlash result 1 (S.state site.old) (S.state site.new) }
+    ensures no_memory { IsErrOf result Stop.Memory → ⊥ }
     ensures foreign { IsErrOf result Stop.Foreign → IsTrue (S.state site.old).honest
         → RingFits ring.now (S.state site.old)
         → (first : ℕ) (groups : List (List Frame)) → HasGroups geometry.now first groups (S.state site.old).image → ⊥ }

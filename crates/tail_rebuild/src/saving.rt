@@ -47,6 +47,7 @@ fn read_last_four<S: Site>(
         → (first : ℕ) (stand : List (List Frame)) → HasGroups geometry.now first stand (S.state site.old).image
         → IfOk result (λ heads. heads ≡ segment_of stand) }
     ensures reads { ReadsFlash result 4 (S.state site.old) (S.state site.new) }
+    ensures no_memory { IsErrOf result Stop.Memory → ⊥ }
     ensures foreign { IsErrOf result Stop.Foreign → IsTrue (S.state site.old).honest
         → RingFits groups.now (S.state site.old)
         → (first : ℕ) (stand : List (List Frame)) → HasGroups geometry.now first stand (S.state site.old).image → ⊥ }
@@ -115,5 +116,8 @@ pub fn save_due<S: Site>(
     };
     let mut content = [0u8; SEGMENT_LEN];
     write_segment(&heads, &mut content);
-    segments.append(site, &content)
+    if let Err(stop) = segments.append(site, &content) {
+        return Err(stop);
+    }
+    Ok(())
 }
