@@ -5,3 +5,4 @@ pub mod Lists
 pub mod Save
 pub mod Saved
 pub mod Standing
+pub mod Tries

@@ -3,3 +3,4 @@ pub mod Listing
 pub mod Rebuilt
 pub mod Saving
 pub mod Standing
+pub mod Trying

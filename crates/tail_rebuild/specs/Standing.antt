@@ -1,4 +1,4 @@
--- The groups and the segments that stand on the flash of an image, and S8 of the two.
+-- The groups and the segments that stand on the flash of an image, and how the segments follow the groups.
 use Rattle.std.specs.Prelude.{◌≡◌, ℕ, ◌+◌, ◌<◌, IsTrue, List, length, map}
 use Rattle.std.specs.List.{All, AllByRecursion}
 use Rattle.site.specs.declared.geometry.Geometry.{Geometry}
@@ -37,7 +37,7 @@ pub record HasSegments (g : Geometry) (segments : List (List FrameHead)) (image 
   pub are_segments : AllByRecursion (λ heads. IsSegment (spelling_of_all heads) heads) segments
   pub live : (units_on (segment_shape g) image).live ≡ map spelling_of_all segments
 
--- S8: as many segments are saved as groups were pushed, by fours, at most one less; a live segment has the heads of those of
+-- The segments follow the groups: as many segments are saved as groups were pushed, by fours, at most one less; a live segment has the heads of those of
 -- its groups that are live, and each live group of a saved segment has that segment live.
 pub record HasSaved (g : Geometry) (groups : List (List Frame)) (segments : List (List FrameHead)) (image : Image) : Type 0 where
   pub has : HasSegments g segments image

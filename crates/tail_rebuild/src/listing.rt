@@ -99,7 +99,7 @@ pub fn list_segments<S: Site>(
     Ok(())
 }
 
-// Lists the heads of the at most four groups that aren't in segments, by one read for each.
+// Lists the heads of the live groups that aren't listed yet, by one read for each.
 pub fn list_tail<S: Site>(
     site: &mut S,
     geometry: &Geometry,
@@ -110,14 +110,14 @@ pub fn list_tail<S: Site>(
     requires shape { groups.now.shape ≡ group_ring geometry.now }
     requires listed { All (AreHeadsIn geometry.now.pages) list.old.items }
     requires begun { (groups.now.hi - (geometry.now.groups - 1)) + length list.old.items ≤ groups.now.hi }
-    requires tail { groups.now.hi ≤ (groups.now.hi - (geometry.now.groups - 1)) + length list.old.items + 4 }
 
     ensures listed { OnOk result (All (AreHeadsIn geometry.now.pages) list.new.items) }
     ensures count { OnOk result ((groups.now.hi - (geometry.now.groups - 1)) + length list.new.items ≡ groups.now.hi) }
     ensures front { IsTrue (S.state site.old).honest → RingFits groups.now (S.state site.old)
         → (first : ℕ) (stand : List (List Frame)) → HasGroups geometry.now first stand (S.state site.old).image
         → IsFront (map heads_of stand) list.old.items → OnOk result (IsFront (map heads_of stand) list.new.items) }
-    ensures reads { ReadsFlash result 4 (S.state site.old) (S.state site.new) }
+    ensures reads { ReadsFlash result (groups.now.hi - ((groups.now.hi - (geometry.now.groups - 1)) + length list.old.items))
+        (S.state site.old) (S.state site.new) }
     ensures foreign { IsErrOf result Stop.Foreign → IsTrue (S.state site.old).honest
         → RingFits groups.now (S.state site.old)
         → (first : ℕ) (stand : List (List Frame)) → HasGroups geometry.now first stand (S.state site.old).image → ⊥ }

@@ -1,10 +1,16 @@
 // Groups and segments on a site in memory.
+ghost use Rattle.std.specs.Prelude.{IfOk};
+ghost use Rattle.site.specs.Geometry.{HasLengths};
+ghost use Rattle.site.specs.MemState.{state_of};
+ghost use Rattle.tail_rebuild.specs.Trying.{small, MayTry};
+
 use crate::reading::{group_shape, segment_shape};
 use crate::{rebuild, save_due};
 use frame_group::GROUP_LEN;
 use meta_segments::SEGMENT_LEN;
 use sealed_ring::Ring;
 use site::{Dev, Geometry, MemSite, Stop};
+use std::alloc::Global;
 use std::test::Fail;
 
 const SMALL: Geometry = Geometry {
@@ -19,20 +25,28 @@ const MANY: Geometry = Geometry {
     blocks: 16,
 };
 
-// Appends a group of one frame of a page.
-fn append_group(site: &mut MemSite, groups: &mut Ring, page: u8) -> Result<(), Stop> {
-    let mut content = [0u8; GROUP_LEN];
-    content[0] = 1;
-    content[7] = page;
-    groups.append(site, &content)
-}
-
-// Appends five such groups.
-fn append_five(site: &mut MemSite, groups: &mut Ring) -> Result<(), Stop> {
-    for page in 0..5 {
-        append_group(site, groups, page)?;
+// Appends a group of one frame for each of these pages.
+fn append_pages(site: &mut MemSite, groups: &mut Ring, pages: &[u8]) -> Result<(), Stop>
+    requires { MayTry groups.old (state_of site.old) }
+    ensures { MayTry groups.new (state_of site.new) }
+{
+    for page in pages {
+        let mut content = [0u8; GROUP_LEN];
+        content[0] = 1;
+        content[7] = *page;
+        groups.append(site, &content)?;
     }
     Ok(())
+}
+
+// Devices with these groups.
+fn with_groups(alloc: Global, pages: &[u8]) -> Result<MemSite, Stop>
+    ensures { IfOk result (λ site. HasLengths small (state_of site).image) }
+{
+    let mut site = MemSite::new(alloc, &SMALL)?;
+    let mut groups = Ring::scan(&mut site, group_shape(&SMALL))?;
+    append_pages(&mut site, &mut groups, pages)?;
+    Ok(site)
 }
 
 #[test]
@@ -46,9 +60,7 @@ fn many_groups_that_are_blank(rt: HostRuntime) -> Result<(), Fail> {
 
 #[test]
 fn a_segment_and_a_group_behind_it(rt: HostRuntime) -> Result<(), Fail> {
-    let mut site = MemSite::new(rt.alloc(), &SMALL)?;
-    let mut groups = Ring::scan(&mut site, group_shape(&SMALL))?;
-    append_five(&mut site, &mut groups)?;
+    let mut site = with_groups(rt.alloc(), &[0, 1, 2, 3, 4])?;
     let mut segments = Ring::scan(&mut site, segment_shape(&SMALL))?;
     let mut content = [0u8; SEGMENT_LEN];
     for place in 0..4 {
@@ -56,33 +68,31 @@ fn a_segment_and_a_group_behind_it(rt: HostRuntime) -> Result<(), Fail> {
         content[128 * place + 7] = place as u8;
     }
     segments.append(&mut site, &content)?;
-    let before = site.reads(Dev::Flash);
+    // The groups' slots and the segments', once each and once more.
+    assert_eq!(rt; site.reads(Dev::Flash), 15);
     let heads = rebuild(rt.alloc(), &mut site, &SMALL)?;
-    assert_eq!(rt; heads.list.len(), 5);
-    assert_eq!(rt; heads.list.at(3)[0].page, 3);
-    assert_eq!(rt; heads.list.at(4)[0].page, 4);
-    assert!(rt; !heads.list.at(4)[1].present);
-    // Six of the segments' slots, two of the groups', one segment and one group.
-    assert_eq!(rt; site.reads(Dev::Flash) - before, 10);
+    let list = heads.list.as_slice();
+    assert_eq!(rt; list.len(), 5);
+    assert_eq!(rt; list[3][0].page, 3);
+    assert_eq!(rt; list[4][0].page, 4);
+    assert!(rt; !list[4][1].present);
+    // The segments' slots once more, two of the groups', one segment and one group.
+    assert_eq!(rt; site.reads(Dev::Flash), 25);
     Ok(())
 }
 
 #[test]
 fn a_segment_is_saved_once_it_is_due(rt: HostRuntime) -> Result<(), Fail> {
-    let mut site = MemSite::new(rt.alloc(), &SMALL)?;
-    let mut groups = Ring::scan(&mut site, group_shape(&SMALL))?;
-    let mut segments = Ring::scan(&mut site, segment_shape(&SMALL))?;
-    append_group(&mut site, &mut groups, 9)?;
-    append_group(&mut site, &mut groups, 8)?;
-    append_group(&mut site, &mut groups, 7)?;
-    save_due(&mut site, &SMALL, &groups, &mut segments)?;
-    assert_eq!(rt; segments.hi(), 0);
-    append_group(&mut site, &mut groups, 6)?;
-    save_due(&mut site, &SMALL, &groups, &mut segments)?;
-    assert_eq!(rt; segments.hi(), 1);
-    // The heads of the second group in slot 0 of the segments.
+    let mut site = with_groups(rt.alloc(), &[9, 8, 7, 6])?;
+    let mut heads = rebuild(rt.alloc(), &mut site, &SMALL)?;
+    assert_eq!(rt; heads.list.len(), 4);
+    assert_eq!(rt; heads.segments.hi(), 0);
+    save_due(&mut site, &SMALL, &heads.groups, &mut heads.segments)?;
+    assert_eq!(rt; heads.segments.hi(), 1);
+    // In slot 0 of the segments: its open gate, and the head of the second group.
     let flash = site.content(Dev::Flash);
-    assert_eq!(rt; flash.get(266_240 + 9 + 128), Some(&1));
-    assert_eq!(rt; flash.get(266_240 + 9 + 135), Some(&8));
+    assert_eq!(rt; flash.get(266_240), Some(&0xA5));
+    assert_eq!(rt; flash.get(266_377), Some(&1));
+    assert_eq!(rt; flash.get(266_384), Some(&8));
     Ok(())
 }

@@ -34,8 +34,8 @@ returns-clause-count g c =
 pub returns-clause-reads : goal.returns-clause-reads
 returns-clause-reads g c =
     let slots : c.args.groups.now.shape.slots ≡ c.args.geometry.now.groups = ap (λ (s : Shape). s.slots) c.requires.shape in
-    reads_answered tt tt (length c.loop-group.list.items - length c.args.list.now.items) 4 (g.S.Site.state c.args.site.now) (g.S.Site.state c.loop-group.site)
-    (omega (arith, slots, c.loop-group.invariant.count, c.loop-group.auto.group-end, c.requires.begun, c.requires.tail, c.loop-group.auto.group)) c.loop-group.invariant.reads
+    reads_answered tt tt (length c.loop-group.list.items - length c.args.list.now.items) _ (g.S.Site.state c.args.site.now) (g.S.Site.state c.loop-group.site)
+    (omega (arith, slots, c.loop-group.invariant.count, c.loop-group.auto.group-end, c.requires.begun, c.loop-group.auto.group)) c.loop-group.invariant.reads
 
 pub loop-group-preserved : goal.loop-group-preserved
 loop-group-preserved g c =
