@@ -6,6 +6,7 @@ ghost use Rattle.site.specs.Calls.{Goes, SameReads, ReadsMore, IsUnchanged};
 ghost use Rattle.site.specs.Faults.{CallFaults, WorkFaults};
 ghost use Rattle.site.specs.Moments.{LeavesOnly};
 ghost use Rattle.sealed_ring.specs.Ring.{FitsIn, IsRing, SameOutside, Seals, appended, gate, number, first_number, unit_at, IsLive};
+ghost use Rattle.sealed_ring.specs.Near.{IsFirstMissing, IsNear};
 ghost use Rattle.sealed_ring.specs.Ready.{region, units_in, FaultRose, IsUsable, Fits, Finds, IsReady, ChangesOnly, LeavesOldOrNew};
 
 use crate::Shape;
@@ -80,6 +81,60 @@ impl Ring {
             hi,
             ended: false,
         })
+    }
+
+    /// Finds the ring from a number near its next unit: tries the units `first` to `first + 3` in order, and its next unit is
+    /// the first that isn't there, else `first + 4`. It reads gate and number of each of these slots once, at most 5. Where
+    /// the ring is of the form and its next unit is one of these numbers, it is the ring that `scan` finds.
+    pub fn scan_near<S: Site>(site: &mut S, shape: Shape, first: u64) -> Result<Ring, Stop>
+        requires fits { FitsIn shape (length (region shape (S.state site.old))) }
+        requires slots { 6 ≤ shape.slots }
+        requires bounded { first ≤ 2 ^ 40 }
+
+        ensures shape { IfOk result (λ ring. ring.shape ≡ shape) }
+        ensures usable { IfOk result (λ ring. IsUsable ring (S.state site.new)) }
+        ensures ended { IfOk result (λ ring. ring.ended ≡ false) }
+        ensures near { IfOk result (λ ring. (first ≤ ring.hi) × (ring.hi ≤ first + 4)) }
+        ensures found { IsTrue (S.state site.old).honest
+            → IfOk result (λ ring. IsFirstMissing shape (region shape (S.state site.old)) first ring.hi) }
+        ensures fits { IsTrue (S.state site.old).honest
+            → IsNear shape (region shape (S.state site.old)) first
+            → IfOk result (λ ring. Fits ring (S.state site.new)) }
+        ensures same { IsTrue (S.state site.old).honest
+            → IsUnchanged (S.state site.old) (S.state site.new) }
+        ensures goes { Goes (S.state site.old) (S.state site.new) }
+        ensures faults { WorkFaults result (S.state site.old) (S.state site.new) }
+        ensures reads { reads_of shape.dev (S.state site.new)
+            ≤ reads_of shape.dev (S.state site.old) + 5 }
+        ensures others { (d : Dev) → d ≢ shape.dev
+            → reads_of d (S.state site.new) ≡ reads_of d (S.state site.old) }
+
+        // When each answer comes.
+        ensures device { IsErrOf result (Stop.Device shape.dev)
+            → FaultRose shape.dev (S.state site.old) (S.state site.new) }
+        ensures foreign { IsErrOf result Stop.Foreign → IsTrue (S.state site.old).honest
+            → IsNear shape (region shape (S.state site.old)) first → ⊥ }
+        ensures stops { IfErr result (λ e. (e ≡ Stop.Device shape.dev) ⊎ (e ≡ Stop.Foreign)) }
+    {
+        for hi in first..first + 5 {
+            let Ok(head) = read_head(site, shape, hi % shape.slots) else {
+                return Err(Stop::Device(shape.dev));
+            };
+            if head.gate != OPEN {
+                return Ok(Ring {
+                    shape,
+                    hi,
+                    ended: false,
+                });
+            }
+            if head.number != hi {
+                return Err(Stop::Foreign);
+            }
+            if hi == HI_MAX {
+                return Err(Stop::Foreign);
+            }
+        }
+        Err(Stop::Foreign)
     }
 
     /// One past the newest live unit.

@@ -25,6 +25,14 @@ const LONG: Shape = Shape {
     room: 32_896,
 };
 
+const SIX: Shape = Shape {
+    dev: Dev::Log,
+    base: 512,
+    slots: 6,
+    stride: 520,
+    room: 503,
+};
+
 #[test]
 fn the_last_two_of_five_units_live(rt: HostRuntime) -> Result<(), Fail> {
     let mut site = MemSite::new(rt.alloc(), &SMALL)?;
@@ -113,5 +121,19 @@ fn a_long_unit(rt: HostRuntime) -> Result<(), Fail> {
     assert!(rt; flash.starts_with(&[0xA5, 0, 0, 0, 0, 0, 0, 0, 0, 9]));
     assert_eq!(rt; flash.get(32_904), Some(&9));
     assert_eq!(rt; flash.get(32_905), Some(&0));
+    Ok(())
+}
+
+#[test]
+fn a_ring_from_a_number_near_its_end(rt: HostRuntime) -> Result<(), Fail> {
+    let mut site = MemSite::new(rt.alloc(), &SMALL)?;
+    let mut ring = Ring::scan(&mut site, SIX)?;
+    ring.append(&mut site, &[10; 503])?;
+    ring.append(&mut site, &[11; 503])?;
+    assert_eq!(rt; site.reads(Dev::Log), 7);
+    assert_eq!(rt; Ring::scan_near(&mut site, SIX, 0)?, ring);
+    assert_eq!(rt; site.reads(Dev::Log), 10);
+    assert_eq!(rt; Ring::scan_near(&mut site, SIX, 2)?, ring);
+    assert_eq!(rt; site.reads(Dev::Log), 11);
     Ok(())
 }

@@ -1,0 +1,170 @@
+-- Groups and segments when one more comes.
+use Rattle.std.proofs.Common.{◌≡◌, ◌⊎◌, inl, inr, ℕ, zero, suc, ◌+◌, ◌-◌, ◌*◌, ◌/◌, ◌<◌, ◌≤◌, List, [], ◌∷◌, ◌++◌, length, get_or, map, drop, refl, sym, ap, subst, ◌∙◌, arith}
+use Rattle.std.specs.List.{AllByRecursion}
+use Rattle.std.proofs.lemmas.Bool.{cases_lt}
+use Rattle.std.proofs.lemmas.List.{length-map, length-append, length-drop, map-append, drop-map, get_or-drop, get_or-map}
+use Rattle.site.specs.declared.geometry.Geometry.{Geometry}
+use Rattle.site.specs.State.{Image}
+use Rattle.sealed_ring.specs.Ring.{Units, hi_of, last_of}
+use Rattle.byte_fields.specs.declared.frame_head.FrameHead.{FrameHead}
+use Rattle.byte_fields.specs.FrameHeads.{spelling_of_all, FitsFields, AreGroupHeads}
+use Rattle.byte_fields.proofs.HeadLists.{all_more, all_at}
+use Rattle.image_changes.specs.Rings.{Groups, Segments, group_shape, segment_shape, KeepsUnits}
+use Rattle.frame_group.specs.Groups.{Frame, group, heads_of}
+use Rattle.frame_group.proofs.Front.{heads_are_group, begins_with_heads}
+use Rattle.meta_segments.specs.Segments.{heads_of_group, IsSegment}
+use Rattle.meta_segments.specs.Following.{IsLive, heads_with, Follow}
+use Rattle.meta_segments.proofs.Numbers.{group_follows, segment_follows}
+use Rattle.tail_rebuild.specs.Standing.{HasFrames, HasGroups, HasSegments}
+use Rattle.tail_rebuild.specs.Saving.{segment_of, with_segment}
+use Rattle.tail_rebuild.specs.Laws.{StandsAgain, SegmentSaved, GroupPushed, with_group}
+use Rattle.tail_rebuild.proofs.Fours.{group_of_flat, length_flat, all_flat}
+use Rattle.tail_rebuild.proofs.Standing.{count}
+use Rattle.tail_rebuild.proofs.Saved.{segment_count}
+
+-- A ring that has the same units.
+
+groups_again : (g : Geometry) (first : ℕ) (groups : List (List Frame)) (old new : Image) → KeepsUnits (group_shape g) old new → HasGroups g first groups old → HasGroups g first groups new
+groups_again g first groups old new keeps has = record {
+  form = keeps.form has.form;
+  next = has.next ∙ sym (ap (λ (u : Units). u.hi) keeps.units);
+  are_groups = has.are_groups;
+  live = ap (λ (u : Units). u.live) keeps.units ∙ has.live;
+}
+
+segments_again : (g : Geometry) (segments : List (List FrameHead)) (old new : Image) → KeepsUnits (segment_shape g) old new → HasSegments g segments old → HasSegments g segments new
+segments_again g segments old new keeps has = record {
+  form = keeps.form has.form;
+  are_segments = has.are_segments;
+  live = ap (λ (u : Units). u.live) keeps.units ∙ has.live;
+}
+
+pub stands_again : StandsAgain
+stands_again g first groups segments old new same has holds =
+    let here = same.rings Groups in
+    let there = same.rings Segments in (
+      groups_again g first groups old new here has,
+      record {
+        has = segments_again g segments old new there holds.has;
+        follow = subst (λ (h : ℕ). Follow (hi_of (segment_shape g) new.flash) segments h (map heads_of groups)) (sym (ap (λ (u : Units). u.hi) here.units))
+            (subst (λ (k : ℕ). Follow k segments (hi_of (group_shape g) old.flash) (map heads_of groups)) (sym (ap (λ (u : Units). u.hi) there.units)) holds.follow);
+      },
+    )
+
+-- Lists of units with one more.
+
+all_dropped : {X : Type 0} (P : X → Type 0) (n : ℕ) (xs : List X) → AllByRecursion P xs → AllByRecursion P (drop n xs)
+all_dropped P zero xs all = all
+all_dropped P (suc n) [] all = tt
+all_dropped P (suc n) (x ∷ xs) all = all_dropped P n xs all.1
+
+-- as many live as can
+live_more : {X : Type 0} (f : X → List ℕ) (xs : List X) (x : X) (m n : ℕ) → m ≡ n → last_of m (map f xs ++ f x ∷ []) ≡ map f (drop (length xs + 1 - n) (xs ++ x ∷ []))
+live_more f xs x m n same =
+    let all : map f xs ++ f x ∷ [] ≡ map f (xs ++ x ∷ []) = sym (map-append f xs (x ∷ [])) in
+    let long : length (map f xs ++ f x ∷ []) - m ≡ length xs + 1 - n = let mapped = length-map xs f in let more = length-append (map f xs) (f x ∷ []) in omega (arith, mapped, more, same) in
+    (λ i. drop (long i) (all i)) ∙ drop-map f (length xs + 1 - n) (xs ++ x ∷ [])
+
+-- the heads of the groups of a segment
+
+frames_eight : (g : Geometry) (frames : List Frame) → HasFrames g frames (group frames) → length (heads_of frames) ≡ 8
+frames_eight g frames has = (heads_are_group frames has.is_group.some has.is_group.room).eight
+
+last_four : (g : Geometry) (groups : List (List Frame)) → AllByRecursion (λ frames. HasFrames g frames (group frames)) groups → 4 ≤ length groups → (i : ℕ) → i < 4
+    → heads_of_group (segment_of groups) i ≡ heads_of (get_or groups (length groups - 4 + i) [])
+last_four g groups all four i less =
+    let n = length groups - 4 in
+    let long = length-drop n groups in
+    group_of_flat heads_of (λ frames. HasFrames g frames (group frames)) (drop n groups) i [] (λ frames has. frames_eight g frames has) (all_dropped (λ frames. HasFrames g frames (group frames)) n groups all)
+    (omega (arith, long, four, less))
+    ∙ ap heads_of (get_or-drop n groups i [])
+
+pub are_segment : (g : Geometry) (groups : List (List Frame)) → AllByRecursion (λ frames. HasFrames g frames (group frames)) groups → 4 ≤ length groups → IsSegment (spelling_of_all (segment_of groups)) (segment_of groups)
+are_segment g groups all four =
+    let n = length groups - 4 in
+    let long = length-drop n groups in
+    let last = all_dropped (λ frames. HasFrames g frames (group frames)) n groups all in
+    record {
+      spelled = refl;
+      are_heads = record {
+        size = let each = length_flat heads_of (λ frames. HasFrames g frames (group frames)) (drop n groups) (λ frames has. frames_eight g frames has) last in omega (arith, each, long, four);
+        groups = λ i less.
+            let own = all_at (λ frames. HasFrames g frames (group frames)) groups (n + i) [] all (omega (arith, four, less)) in
+            subst AreGroupHeads (sym (last_four g groups all four i less)) (heads_are_group (get_or groups (n + i) []) own.is_group.some own.is_group.room);
+      };
+      fit_fields = all_flat heads_of (λ frames. HasFrames g frames (group frames)) FitsFields (drop n groups) (λ frames has. (begins_with_heads (group frames) frames has.is_group).at_front.fit_fields) last;
+    }
+
+-- A segment that is due is saved.
+
+pub segment_saved : SegmentSaved
+segment_saved g first groups segments old new limits due appends has holds =
+    let k = hi_of (segment_shape g) old.flash in
+    let h = hi_of (group_shape g) old.flash in
+    let all = map heads_of groups in
+    let heads = segment_of groups in
+    let gone = length segments + 1 - (g.groups / 4 + 2) in
+    let many = count g first groups old has in
+    let few = segment_count g segments old holds.has in
+    let eight = limits.groups in
+    let fours = limits.fours in
+    let size = length-map groups heads_of in
+    let four : 4 ≤ length groups = omega (arith, many, due, eight) in
+    let here = appends.others Groups (λ h. cc) in
+    let next : hi_of (segment_shape g) new.flash ≡ k + 1 = ap (λ (u : Units). u.hi) appends.units in
+    let same : hi_of (group_shape g) new.flash ≡ h = ap (λ (u : Units). u.hi) here.units in
+    let long = length-drop gone (segments ++ heads ∷ []) in
+    let more = length-append segments (heads ∷ []) in
+    let room : (gone ≡ 0) ⊎ (length all ≤ 4 * length (drop gone (segments ++ heads ∷ []))) = elim (cases_lt (g.groups / 4 + 2) (length segments + 1)) [
+      | inl over ↦ inr (omega (arith, over, long, more, size, many, fours))
+      | inr under ↦ inl (omega (arith, under))
+    ] in
+    let own : (i : ℕ) → i < 4 → IsLive h all (4 * k + i) → heads_of_group heads i ≡ heads_with h all (4 * k + i) = λ i less live.
+    let place : 4 * k + i + length all - h ≡ length groups - 4 + i = omega (arith, size, due, four) in
+    last_four g groups has.are_groups four i less ∙ sym (get_or-map heads_of groups (length groups - 4 + i) [] [] (omega (arith, four, less))) ∙ sym (ap (λ (n : ℕ). get_or all n []) place) in
+    let follow = segment_follows k h gone segments all heads holds.follow due own room in (
+      groups_again g first groups old new here has,
+      record {
+        has = record {
+          form = appends.form;
+          are_segments = all_dropped (λ hs. IsSegment (spelling_of_all hs) hs) gone (segments ++ heads ∷ [])
+              (all_more (λ hs. IsSegment (spelling_of_all hs) hs) segments heads holds.has.are_segments (are_segment g groups has.are_groups four));
+          live = ap (λ (u : Units). u.live) appends.units ∙ ap (λ (l : List (List ℕ)). last_of (g.groups / 4 + 3 - 1) (l ++ spelling_of_all heads ∷ [])) holds.has.live
+              ∙ live_more spelling_of_all segments heads (g.groups / 4 + 3 - 1) (g.groups / 4 + 2) (omega arith);
+        };
+        follow = subst (λ (n : ℕ). Follow (hi_of (segment_shape g) new.flash) (with_segment g segments heads) n all) (sym same)
+            (subst (λ (n : ℕ). Follow n (with_segment g segments heads) h all) (sym next) follow);
+      },
+    )
+
+-- A group is pushed while no segment is due.
+
+pub group_pushed : GroupPushed
+group_pushed g first groups segments frames old new limits room own appends has holds =
+    let k = hi_of (segment_shape g) old.flash in
+    let h = hi_of (group_shape g) old.flash in
+    let gone = length groups + 1 - (g.groups - 1) in
+    let there = appends.others Segments (λ h. cc) in
+    let next : hi_of (group_shape g) new.flash ≡ h + 1 = ap (λ (u : Units). u.hi) appends.units in
+    let same : hi_of (segment_shape g) new.flash ≡ k = ap (λ (u : Units). u.hi) there.units in
+    let long = length-drop gone (groups ++ frames ∷ []) in
+    let more = length-append groups (frames ∷ []) in
+    let eight = limits.groups in
+    let before = has.next in
+    let heads : drop gone (map heads_of groups ++ heads_of frames ∷ []) ≡ map heads_of (with_group g groups frames) =
+    ap (drop gone) (sym (map-append heads_of groups (frames ∷ []))) ∙ drop-map heads_of gone (groups ++ frames ∷ []) in
+    let follow = group_follows k h gone segments (map heads_of groups) (heads_of frames) holds.follow room in (
+      record {
+        form = appends.form;
+        next = omega (arith, long, more, next, before, eight);
+        are_groups = all_dropped (λ fs. HasFrames g fs (group fs)) gone (groups ++ frames ∷ []) (all_more (λ fs. HasFrames g fs (group fs)) groups frames has.are_groups own);
+        live = ap (λ (u : Units). u.live) appends.units ∙ ap (λ (l : List (List ℕ)). last_of (g.groups - 1) (l ++ group frames ∷ [])) has.live
+            ∙ live_more group groups frames (g.groups - 1) (g.groups - 1) refl;
+      },
+      record {
+        has = segments_again g segments old new there holds.has;
+        follow = subst (λ (l : List (List FrameHead)). Follow (hi_of (segment_shape g) new.flash) segments (hi_of (group_shape g) new.flash) l) heads
+            (subst (λ (n : ℕ). Follow (hi_of (segment_shape g) new.flash) segments n (drop gone (map heads_of groups ++ heads_of frames ∷ []))) (sym next)
+            (subst (λ (n : ℕ). Follow n segments (h + 1) (drop gone (map heads_of groups ++ heads_of frames ∷ []))) (sym same) follow));
+      },
+    )

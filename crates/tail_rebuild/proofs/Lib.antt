@@ -1,0 +1,8 @@
+pub mod Calling
+pub mod Following
+pub mod Fours
+pub mod Lists
+pub mod Save
+pub mod Saved
+pub mod Standing
+pub mod Tries

@@ -1,0 +1,108 @@
+-- The segments that stand on flash, what was read of one, and which groups it has.
+use Rattle.std.proofs.Common.{◌≡◌, ℕ, ◌+◌, ◌-◌, ◌*◌, ◌/◌, ◌%◌, ◌<◌, ◌≤◌, min, max, List, [], length, get_or, map, take, drop, arith, sym, ap, subst, ◌∙◌}
+use Rattle.std.proofs.lemmas.List.{take-take, take_all, length-map, get_or-map}
+use Rattle.site.specs.declared.geometry.Geometry.{Geometry}
+use Rattle.site.specs.State.{State, Image}
+use Rattle.sealed_ring.specs.declared.slots.Shape.{Shape}
+use Rattle.sealed_ring.specs.declared.ring.Ring.{Ring}
+use Rattle.sealed_ring.specs.Ring.{hi_of, units_of, unit_at, IsLive}
+use Rattle.sealed_ring.specs.Ready.{region, units_in, Fits as RingFits}
+use Rattle.sealed_ring.specs.Near.{IsNear}
+use Rattle.sealed_ring.proofs.Units.{live_count}
+use Rattle.byte_fields.specs.declared.frame_head.FrameHead.{FrameHead}
+use Rattle.byte_fields.specs.FrameHeads.{spelling_of_all}
+use Rattle.byte_fields.proofs.HeadLists.{length_all, all_at}
+use Rattle.image_changes.specs.Rings.{group_shape, segment_shape, units_on}
+use Rattle.frame_group.specs.Groups.{Frame, heads_of}
+use Rattle.meta_segments.specs.Segments.{heads_of_group, IsSegment}
+use Rattle.meta_segments.specs.Following.{IsLive as Live, heads_with}
+use Rattle.tail_rebuild.specs.Standing.{HasGroups, HasSegments, HasSaved, PagesExist, segment_on}
+use Rattle.tail_rebuild.specs.Listing.{GoesOnWith}
+use Rattle.tail_rebuild.specs.Rebuilt.{AreRings}
+use Rattle.tail_rebuild.proofs.Standing.{first_is, heads_at_exist}
+
+-- all live segments are listed
+pub segment_count : (g : Geometry) (segments : List (List FrameHead)) (image : Image) → HasSegments g segments image → length segments ≡ min (hi_of (segment_shape g) image.flash) (g.groups / 4 + 2)
+segment_count g segments image has =
+    let all : length segments ≡ min (hi_of (segment_shape g) image.flash) (g.groups / 4 + 3 - 1) = sym (length-map segments spelling_of_all) ∙ ap length (sym has.live) ∙ live_count (segment_shape g) image.flash in
+    omega (arith, all)
+
+-- the heads of a live segment, as its octets were read
+pub segment_read : (g : Geometry) (ring : Ring) (site : State) (n : ℕ) (segments : List (List FrameHead)) (into : List ℕ) → ring.shape ≡ segment_shape g → RingFits ring site → IsLive ring.shape ring.hi n
+    → HasSegments g segments site.image → drop 8 into ≡ take 512 (unit_at ring.shape (units_in ring.shape site) n) → IsSegment (take 512 (drop 8 into)) (heads_with ring.hi segments n)
+segment_read g ring site n segments into shape fits live has read =
+    let slots : ring.shape.slots ≡ g.groups / 4 + 3 = ap (λ (s : Shape). s.slots) shape in
+    let hi : ring.hi ≡ hi_of (segment_shape g) site.image.flash = fits ∙ ap (λ (s : Shape). hi_of s (region s site)) shape in
+    let all = segment_count g segments site.image has in
+    let below = live.below in
+    let near = live.near in
+    let at : n - (hi_of (segment_shape g) site.image.flash - (g.groups / 4 + 3 - 1)) ≡ n + length segments - ring.hi = omega (arith, slots, hi, all, below, near) in
+    let less : n + length segments - ring.hi < length segments = omega (arith, slots, hi, all, below, near) in
+    let heads = heads_with ring.hi segments n in
+    let is : IsSegment (spelling_of_all heads) heads = all_at (λ hs. IsSegment (spelling_of_all hs) hs) segments (n + length segments - ring.hi) [] has.are_segments less in
+    let there : segment_on g site.image n ≡ spelling_of_all heads =
+    ap (λ (i : ℕ). get_or (units_on (segment_shape g) site.image).live i []) at ∙ ap (λ (l : List (List ℕ)). get_or l (n + length segments - ring.hi) []) has.live
+    ∙ get_or-map spelling_of_all segments (n + length segments - ring.hi) [] [] less in
+    let long : length (spelling_of_all heads) ≤ 512 = let size = is.are_heads.size in let each = length_all heads in omega (arith, size, each) in
+    let content : take 512 (drop 8 into) ≡ spelling_of_all heads =
+    ap (take 512) read ∙ take-take 512 512 (unit_at ring.shape (units_in ring.shape site) n) (omega arith)
+    ∙ ap (λ (s : Shape). take 512 (unit_at s (units_of s (region s site)) n)) shape ∙ ap (take 512) there ∙ take_all 512 (spelling_of_all heads) long in
+    subst (λ (l : List ℕ). IsSegment l heads) (sym content) is
+
+-- the list of live heads goes on with those of a live segment
+pub goes_on : (g : Geometry) (first : ℕ) (stand : List (List Frame)) (saved : List (List FrameHead)) (image : Image) (s at : ℕ) → HasGroups g first stand image → HasSaved g stand saved image
+    → first / 4 ≤ s → s < hi_of (segment_shape g) image.flash → first + at ≡ max first (4 * s) → GoesOnWith (heads_with (hi_of (segment_shape g) image.flash) saved s) (first - 4 * s) (map heads_of stand) at
+goes_on g first stand saved image s at has holds least below is =
+    let k = hi_of (segment_shape g) image.flash in
+    let h = hi_of (group_shape g) image.flash in
+    let all = map heads_of stand in
+    let size : length all ≡ length stand = length-map stand heads_of in
+    let next = has.next in
+    let low = holds.follow.low in
+    record {
+      inside = omega (arith, size, next, low, below, is, least);
+      same = λ i less.
+          let m = first + at + i in
+          let live : Live h all m = record { not_before = omega (arith, size, next); before = omega (arith, next, low, below, is, least, less) } in
+          let saves : m < 4 * k = omega (arith, below, is, least, less) in
+          let row : m / 4 ≡ s = omega (arith, is, least, less) in
+          let column : m % 4 ≡ first - 4 * s + i = omega (arith, is, least, less) in
+          let place : m + length all - h ≡ at + i = omega (arith, size, next) in
+          sym (ap (λ (n : ℕ). get_or all n []) place) ∙ sym (holds.follow.same m live (holds.follow.saved m live saves))
+          ∙ (λ j. heads_of_group (heads_with k saved (row j)) (column j));
+    }
+
+-- its heads are of pages that exist
+pub saved_exist : (g : Geometry) (first : ℕ) (stand : List (List Frame)) (image : Image) (heads : List FrameHead) (skip at group : ℕ) → HasGroups g first stand image → GoesOnWith heads skip (map heads_of stand) at
+    → skip ≤ group → group < 4 → PagesExist g.pages (heads_of_group heads group)
+saved_exist g first stand image heads skip at group has goes least below =
+    let size : length (map heads_of stand) ≡ length stand = length-map stand heads_of in
+    let inside = goes.inside in
+    let back : skip + (group - skip) ≡ group = omega (arith, least) in
+    subst (PagesExist g.pages) (goes.same (group - skip) (omega (arith, least, below)) ∙ ap (heads_of_group heads) back)
+    (heads_at_exist g first stand image (at + (group - skip)) has (omega (arith, size, inside, least, below)))
+
+-- the same by what the two rings know
+pub lists_on : (g : Geometry) (groups segments : Ring) (site : State) (first own s at skip : ℕ) (heads : List FrameHead) (stand : List (List Frame)) (saved : List (List FrameHead)) → AreRings g groups segments site
+    → RingFits groups site → RingFits segments site → HasGroups g first stand site.image → HasSaved g stand saved site.image
+    → own ≡ groups.hi - (groups.shape.slots - 1) → own / 4 ≤ s → s < segments.hi → own + at ≡ max own (4 * s) → skip ≡ own - 4 * s → heads ≡ heads_with segments.hi saved s
+    → GoesOnWith heads skip (map heads_of stand) at
+lists_on g groups segments site first own s at skip heads stand saved rings groups_fit segments_fit has holds oldest least below is skipped read =
+    let slots : groups.shape.slots ≡ g.groups = ap (λ (t : Shape). t.slots) rings.groups_shape in
+    let hi : groups.hi ≡ hi_of (group_shape g) site.image.flash = groups_fit ∙ ap (λ (t : Shape). hi_of t (region t site)) rings.groups_shape in
+    let next : segments.hi ≡ hi_of (segment_shape g) site.image.flash = segments_fit ∙ ap (λ (t : Shape). hi_of t (region t site)) rings.segments_shape in
+    let start = first_is g first stand site.image has in
+    let same : own ≡ first = omega (arith, slots, hi, start, oldest) in
+    let goes = goes_on g first stand saved site.image s at has holds (omega (arith, same, least)) (omega (arith, next, below)) (omega (arith, same, is)) in
+    let apart : first - 4 * s ≡ skip = omega (arith, same, skipped) in
+    let other : heads_with (hi_of (segment_shape g) site.image.flash) saved s ≡ heads = sym (read ∙ ap (λ (n : ℕ). heads_with n saved s) next) in
+    subst (λ (n : ℕ). GoesOnWith heads n (map heads_of stand) at) apart (subst (λ (l : List FrameHead). GoesOnWith l (first - 4 * s) (map heads_of stand) at) other goes)
+
+-- the ring of groups is near the number that the segments tell
+pub near_segments : (g : Geometry) (segments : Ring) (site : State) (first : ℕ) (stand : List (List Frame)) (saved : List (List FrameHead)) (shape : Shape) → shape ≡ group_shape g → segments.shape ≡ segment_shape g → RingFits segments site
+    → HasGroups g first stand site.image → HasSaved g stand saved site.image → IsNear shape (region shape site) (4 * segments.hi)
+near_segments g segments site first stand saved shape is segments_shape fits has holds =
+    let next : segments.hi ≡ hi_of (segment_shape g) site.image.flash = fits ∙ ap (λ (t : Shape). hi_of t (region t site)) segments_shape in
+    let low = holds.follow.low in
+    let high = holds.follow.high in
+    subst (λ (t : Shape). IsNear t (region t site) (4 * segments.hi)) (sym is) (record { form = has.form; least = omega (arith, next, low); most = omega (arith, next, high) })

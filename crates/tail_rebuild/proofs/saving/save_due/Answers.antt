@@ -1,0 +1,102 @@
+use Rattle.std.proofs.Common.{◌≡◌, inl, inr, ⊎_elim, ℕ, ◌+◌, ◌*◌, true, sym, ◌∙◌, ap, subst, arith, Err, length}
+use Rattle.std.proofs.lemmas.Bool.{eq-eqb, ne_eqb}
+use Rattle.site.specs.declared.outside.Dev.TheVariants.{Flash}
+use Rattle.site.specs.Moments.{ChangesOnly}
+use Rattle.sealed_ring.specs.declared.slots.Shape.{Shape}
+use Rattle.byte_fields.specs.FrameHeads.{spelling_of_all}
+use Rattle.site.specs.Laws.{stays_honest, changes_in_sequence}
+use Rattle.site.proofs.Working.{err_again}
+use Rattle.meta_segments.proofs.Whole.{segment_form}
+use Rattle.tail_rebuild.specs.Saving.{is_due}
+use Rattle.tail_rebuild.proofs.Save.{none_saved, read_failed, finds_mid, ready_mid, moments, reached, stands_behind, unchanged_changes}
+use Rattle.tail_rebuild.proofs.saving.save_due.Goals as goal
+
+pub returns-then-hi-clause-saves : goal.returns-then-hi-clause-saves
+returns-then-hi-clause-saves g c first stand saved stands =
+    none_saved c.args.geometry.now c.args.groups.now c.args.segments.now first stand saved (g.S.Site.state c.args.site.now)
+    (ne_eqb c.args.groups.now.hi (4 * c.args.segments.now.hi + 4) (λ same. c.if-hi.true (c.hi.ensures ∙ same ∙ ap (λ (n : ℕ). 4 * n + 4) (sym c.hi-2.ensures)))) stands
+
+pub returns-in-Err-clause-saves : goal.returns-in-Err-clause-saves
+returns-in-Err-clause-saves g c first stand saved stands =
+    read_failed c.args.geometry.now c.args.groups.now c.args.segments.now first stand saved (g.S.Site.state c.args.site.now) (g.S.Site.state c.read_last_four.new.site) c.in-Err.stop (c.in-Err.ensures.reads.same stands.honest)
+
+pub returns-in-Err-clause-foreign : goal.returns-in-Err-clause-foreign
+returns-in-Err-clause-foreign g c says first stand saved stands = c.in-Err.ensures.foreign (err_again _ _ says) stands.honest stands.groups_fit first stand stands.has
+
+pub returns-in-Err-clause-stops : goal.returns-in-Err-clause-stops
+returns-in-Err-clause-stops g c = ⊎_elim (λ device. inl device) (λ other. ⊎_elim (λ memory. absurd (c.in-Err.ensures.no_memory (ap Err memory))) (λ foreign. inr foreign) other) c.in-Err.ensures.reads.stops
+
+pub write_segment-requires-clause-form : goal.write_segment-requires-clause-form
+write_segment-requires-clause-form g c = segment_form c.in-Ok.heads c.in-Ok.ensures.are_heads
+
+pub returns-in-Err-append-clause-saves : goal.returns-in-Err-append-clause-saves
+returns-in-Err-append-clause-saves g c first stand saved stands =
+    let old = g.S.Site.state c.args.site.now in
+    let mid = g.S.Site.state c.read_last_four.new.site in
+    let new = g.S.Site.state c.append.new.site in
+    let geometry = c.args.geometry.now in
+    let groups = c.args.groups.now in
+    let segments = c.args.segments.now in
+    let is_next : groups.hi ≡ 4 * segments.hi + 4 = (sym c.hi.ensures) ∙ c.if-hi.false ∙ ap (λ (n : ℕ). 4 * n + 4) c.hi-2.ensures in
+    let due : is_due groups.hi segments.hi ≡ true = eq-eqb groups.hi (4 * segments.hi + 4) is_next in
+    let same = c.in-Ok.ensures.reads.same stands.honest in
+    let honest_mid = stays_honest old mid c.in-Ok.ensures.reads.goes stands.honest in
+    let is = c.write_segment.ensures.written ∙ ap spelling_of_all (c.in-Ok.ensures.heads stands.honest stands.groups_fit first stand stands.has) in
+    let size : length c.write_segment.new.content ≡ 512 = omega (arith) in
+    let changes = c.append.ensures.changes honest_mid in
+    record {
+      any_moment = λ quiet. moments geometry groups segments first stand saved old mid c.requires.limits c.requires.lengths c.requires.rings due same stands new c.write_segment.new.content is size
+          (c.append.ensures.any_moment honest_mid (ready_mid geometry groups segments first stand saved old mid c.requires.limits c.requires.lengths c.requires.rings due same stands quiet)) changes.only quiet;
+      reaches = tt;
+      stands = tt;
+    }
+
+pub returns-in-Err-append-clause-changes : goal.returns-in-Err-append-clause-changes
+returns-in-Err-append-clause-changes g c honest =
+    let old = g.S.Site.state c.args.site.now in
+    let mid = g.S.Site.state c.read_last_four.new.site in
+    changes_in_sequence Flash old mid (g.S.Site.state c.append.new.site) (unchanged_changes Flash old mid (c.in-Ok.ensures.reads.same honest))
+    (subst (λ (s : Shape). ChangesOnly s.dev mid (g.S.Site.state c.append.new.site)) c.requires.rings.segments_shape (c.append.ensures.changes (stays_honest old mid c.in-Ok.ensures.reads.goes honest)))
+
+pub returns-in-Err-append-clause-reads : goal.returns-in-Err-append-clause-reads
+returns-in-Err-append-clause-reads g c = omega (arith, c.append.ensures.reads Flash, c.in-Ok.ensures.reads.reads)
+
+pub returns-clause-saves : goal.returns-clause-saves
+returns-clause-saves g c first stand saved stands =
+    let old = g.S.Site.state c.args.site.now in
+    let mid = g.S.Site.state c.read_last_four.new.site in
+    let new = g.S.Site.state c.append.new.site in
+    let geometry = c.args.geometry.now in
+    let groups = c.args.groups.now in
+    let segments = c.args.segments.now in
+    let is_next : groups.hi ≡ 4 * segments.hi + 4 = (sym c.hi.ensures) ∙ c.if-hi.false ∙ ap (λ (n : ℕ). 4 * n + 4) c.hi-2.ensures in
+    let due : is_due groups.hi segments.hi ≡ true = eq-eqb groups.hi (4 * segments.hi + 4) is_next in
+    let same = c.in-Ok.ensures.reads.same stands.honest in
+    let honest_mid = stays_honest old mid c.in-Ok.ensures.reads.goes stands.honest in
+    let is = c.write_segment.ensures.written ∙ ap spelling_of_all (c.in-Ok.ensures.heads stands.honest stands.groups_fit first stand stands.has) in
+    let size : length c.write_segment.new.content ≡ 512 = omega (arith) in
+    let changes = c.append.ensures.changes honest_mid in
+    let finds = finds_mid geometry groups segments first stand saved old mid c.requires.limits c.requires.lengths c.requires.rings due same stands in
+    let goes = c.append.ensures.goes in
+    let ready = c.in_default.ensures.ready honest_mid finds in
+    let outside = c.in_default.ensures.outside honest_mid in
+    let units = c.in_default.ensures.stands honest_mid finds in
+    let honest_new = stays_honest mid new goes honest_mid in
+    record {
+      any_moment = λ quiet. moments geometry groups segments first stand saved old mid c.requires.limits c.requires.lengths c.requires.rings due same stands new c.write_segment.new.content is size
+          (c.append.ensures.any_moment honest_mid (ready_mid geometry groups segments first stand saved old mid c.requires.limits c.requires.lengths c.requires.rings due same stands quiet)) changes.only quiet;
+      reaches = reached geometry groups segments first stand saved old mid c.requires.limits c.requires.lengths c.requires.rings due same stands new c.append.new.self c.write_segment.new.content is size goes
+          c.append.ensures.shape ready outside changes.only units honest_new;
+      stands = stands_behind geometry groups segments first stand saved old mid c.requires.limits c.requires.lengths c.requires.rings due same stands new c.append.new.self c.write_segment.new.content is size goes
+          c.append.ensures.shape ready outside changes.only units honest_new is_next;
+    }
+
+pub returns-clause-changes : goal.returns-clause-changes
+returns-clause-changes g c honest =
+    let old = g.S.Site.state c.args.site.now in
+    let mid = g.S.Site.state c.read_last_four.new.site in
+    changes_in_sequence Flash old mid (g.S.Site.state c.append.new.site) (unchanged_changes Flash old mid (c.in-Ok.ensures.reads.same honest))
+    (subst (λ (s : Shape). ChangesOnly s.dev mid (g.S.Site.state c.append.new.site)) c.requires.rings.segments_shape (c.append.ensures.changes (stays_honest old mid c.in-Ok.ensures.reads.goes honest)))
+
+pub returns-clause-reads : goal.returns-clause-reads
+returns-clause-reads g c = omega (arith, c.append.ensures.reads Flash, c.in-Ok.ensures.reads.reads)

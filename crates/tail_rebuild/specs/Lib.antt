@@ -1,0 +1,6 @@
+pub mod Laws
+pub mod Listing
+pub mod Rebuilt
+pub mod Saving
+pub mod Standing
+pub mod Trying

@@ -1,0 +1,38 @@
+-- Lists of heads, as they are read one group after the other.
+use Rattle.std.specs.Prelude.{◌≡◌, ◌≢◌, ◌⊎◌, ℕ, ◌+◌, ◌-◌, ◌≤◌, ◌<◌, IsTrue, List, [], length, take, slice_index_or, Result, IfErr, IsErrOf}
+use Rattle.site.specs.declared.outside.Dev.{Dev}
+use Rattle.site.specs.declared.outside.Dev.TheVariants.{Flash}
+use Rattle.site.specs.declared.outside.Stop.{Stop}
+use Rattle.site.specs.declared.outside.Stop.TheVariants.{Device, Memory, Foreign}
+use Rattle.site.specs.State.{State, reads_of}
+use Rattle.site.specs.Calls.{Goes, FaultRose, IsUnchanged}
+use Rattle.site.specs.Faults.{WorkFaults}
+use Rattle.byte_fields.specs.declared.frame_head.FrameHead.{FrameHead}
+use Rattle.byte_fields.specs.FrameHeads.{AreGroupHeads}
+use Rattle.meta_segments.specs.Segments.{heads_of_group}
+use Rattle.tail_rebuild.specs.Standing.{PagesExist}
+
+-- the heads of a group, all of pages that exist
+pub record AreHeadsIn (pages : ℕ) (heads : List FrameHead) : Type 0 where
+  pub are_heads : AreGroupHeads heads
+  pub exist : PagesExist pages heads
+
+-- a list is the front of another one
+abbrev pub IsFront : List (List FrameHead) → List (List FrameHead) → Type 0
+IsFront all list = list ≡ take (length list) all
+
+-- from a place on a list goes on with the heads of a segment's groups, from this one of the four on
+pub record GoesOnWith (heads : List FrameHead) (skip : ℕ) (all : List (List FrameHead)) (at : ℕ) : Type 0 where
+  pub inside : at + (4 - skip) ≤ length all
+  pub same : (i : ℕ) → i < 4 - skip → slice_index_or all (at + i) [] ≡ heads_of_group heads (skip + i)
+
+-- What a call that only reads the flash leaves: of an honest site nothing changes but counts, and of each site at most n flash
+-- reads are made and no other; an error is that of the flash, want of memory, or content that isn't of the form.
+pub record ReadsFlash {T : Type 0} (result : Result T Stop) (n : ℕ) (old new : State) : Type 0 where
+  pub same : IsTrue old.honest → IsUnchanged old new
+  pub goes : Goes old new
+  pub faults : WorkFaults result old new
+  pub reads : new.flash_reads ≤ old.flash_reads + n
+  pub others : (d : Dev) → d ≢ Flash → reads_of d new ≡ reads_of d old
+  pub device : IsErrOf result (Device Flash) → FaultRose Flash old new
+  pub stops : IfErr result (λ stop. (stop ≡ Device Flash) ⊎ ((stop ≡ Memory) ⊎ (stop ≡ Foreign)))
