@@ -24,8 +24,8 @@ ghost use Rattle.flash_cache.specs.Held.{MayGoOn, Fits, IsWorn, HasGroups, HasFr
 ghost use Rattle.flash_cache.specs.Pushed.{staged_marks, staged_pages, staged_contents, chance_marks, pages_pushed, frames_pushed, known_pushed, pushed_groups, pushed_queue, changes_of_push, LeavesPush, ChangesPages};
 ghost use Rattle.flash_cache.specs.Kept.{GivesVersions, LeavesVersions, AreCleanGiven, LeavesClean};
 
-use crate::leaving::{contents_at, pages_at};
-use crate::making::group_content;
+use crate::leaving::frames_leaving;
+use crate::making::{group_content, heads_given};
 use byte_fields::{FrameHead, Mark};
 use flash_directory::{Directory, HeadView};
 use frame_group::{GROUP_LEN, HEADS_LEN, PAGE_LEN, group_heads};
@@ -478,17 +478,23 @@ impl FlashCache {
             ⊎ ((stop ≡ Stop.Device Dev.Disk)
             ⊎ ((stop ≡ Stop.Memory) ⊎ (stop ≡ Stop.Worn Dev.Flash)))) }
     {
-        let content = group_content(pages, changed, contents);
+        let given = heads_given(pages, changed, contents);
+        let (staged, chances) = match frames_leaving(
+            self.alloc,
+            site,
+            &self.directory,
+            &self.ring,
+            plan,
+        ) {
+            Ok(both) => both,
+            Err(stop) => return Err(stop),
+        };
+        let content = group_content(&chances, &given, contents);
         let Ok(heads) = group_heads(&content) else {
             unreachable!()
         };
-        let staged = pages_at(self.alloc, &self.directory, &plan.staged)?;
-        let first = self.directory.first();
-        let octets = match contents_at(self.alloc, site, &self.ring, first, &plan.staged) {
-            Ok(octets) => octets,
-            Err(stop) => return Err(stop),
-        };
-        self.write(site, staged.as_slice(), octets.as_slice(), &content, &heads)
+        let (pages, octets) = (staged.pages.as_slice(), staged.contents.as_slice());
+        self.write(site, pages, octets, &content, &heads)
     }
 
     // Stages pages, and then appends a group; its heads are these.
