@@ -21,11 +21,14 @@ pub fn heads_given(pages: &[u32], changed: &[bool], contents: &[Page]) -> [Frame
 {
     let mut heads = [FrameHead::BLANK; 8];
     for index in 0..pages.len() {
+        let page = &contents[index];
+        // A page is as long as a frame's.
+        let _octets = page.bytes();
         heads[index] = FrameHead {
             present: true,
             dirty: changed[index],
             page: pages[index],
-            lsn: contents[index].lsn(),
+            lsn: page.lsn(),
         };
     }
     heads
