@@ -1,6 +1,6 @@
-use Rattle.std.proofs.Common.{◌≡◌, ◌<◌, ℕ, length, ◌++◌, ◌∷◌, [], get_or, sym, ◌∙◌}
+use Rattle.std.proofs.Common.{◌<◌, ℕ, length, ◌++◌, ◌∷◌, [], sym, ◌∙◌}
 use Rattle.second_chance.specs.Queue.{front_marks}
-use Rattle.flash_cache.specs.Leaving.{no_mark, mark_at}
+use Rattle.flash_cache.specs.Leaving.{mark_at}
 use Rattle.flash_cache.proofs.Gathering.{mapped_more, mark_is, taken_has}
 use Rattle.flash_cache.proofs.leaving.pages_at.Goals as goal
 

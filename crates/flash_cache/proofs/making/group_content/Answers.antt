@@ -1,7 +1,6 @@
-use Rattle.std.proofs.Common.{rules, ◌≡◌, ◌++◌, ℕ, List, length, replicate, [], refl, sym, ◌∙◌, ap, subst, arith}
+use Rattle.std.proofs.Common.{rules, ◌≡◌, ℕ, List, length, replicate, [], refl, sym, ◌∙◌, ap}
 use Rattle.std.proofs.lemmas.List.{length-replicate}
-use Rattle.byte_fields.specs.declared.frame_head.FrameHead.{FrameHead}
-use Rattle.frame_group.specs.Groups.{Frame, group, heads_of}
+use Rattle.frame_group.specs.Groups.{group, heads_of}
 use Rattle.frame_group.proofs.Pages.{zeros_have_no_frames}
 use Rattle.flash_cache.specs.Leaving.{frames_with, again}
 use Rattle.flash_cache.specs.Pushed.{frames_given}

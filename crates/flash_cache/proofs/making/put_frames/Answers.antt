@@ -1,9 +1,9 @@
-use Rattle.std.proofs.Common.{◌≡◌, ◌+◌, ◌<◌, ◌≤◌, ℕ, List, [], ◌∷◌, ◌++◌, length, get_or, replicate, take, true, false, refl, sym, ◌∙◌, ap, subst, arith, add-one, append_assoc, length-append}
+use Rattle.std.proofs.Common.{◌≡◌, ◌+◌, ◌<◌, ◌≤◌, ℕ, List, [], ◌∷◌, ◌++◌, length, get_or, take, sym, ◌∙◌, ap, subst, arith, append_assoc, length-append}
 use Rattle.std.proofs.lemmas.List.{get_or_default, take_all, take_more, length-take-le}
 use Rattle.std.specs.List.{AllByRecursion}
 use Rattle.byte_fields.specs.declared.frame_head.FrameHead.{FrameHead}
 use Rattle.byte_fields.specs.FrameHeads.{blank}
-use Rattle.frame_group.specs.Groups.{Frame, IsFrame, group, frame_of, head_of, lsn_of}
+use Rattle.frame_group.specs.Groups.{Frame, IsFrame, group, frame_of, lsn_of}
 use Rattle.flash_cache.specs.Leaving.{frames_with}
 use Rattle.flash_cache.specs.Pushed.{no_frame}
 use Rattle.flash_cache.proofs.Given.{all_more}
