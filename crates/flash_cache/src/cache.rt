@@ -273,18 +273,18 @@ impl FlashCache {
         Ok(true)
     }
 
-    /// Pushes a group with the second chances of the plan, and behind them the pages given, each dirty where it was changed.
-    /// Where the queue is full its front group leaves. The frames of it that have a second chance are read, and stand in the
-    /// new group as they were, dirty or not, but not referenced. Those that the plan stages, the others that are valid and
-    /// dirty, are read, written to the disk, and synced there before the group is appended.
+    /// Pushes a group with the second chances of the plan, and behind them the pages given, each dirty where it was
+    /// changed. Where the queue is full its front group leaves. The frames of it that have a second chance are read, and
+    /// stand in the new group as they were, dirty or not, but not referenced. Those that the plan stages, the others that
+    /// are valid and dirty, are read, written to the disk, and synced there before the group is appended.
     ///
-    /// At each moment of the call the queue has its old groups, and the staged pages may have any octets on the disk; or it
-    /// has the new group, and the staged pages stand on the disk. So each page has the version that it had, or all pages
-    /// given have their contents, and every other page the version that it had.
+    /// At each moment of the call the queue has its old groups, and the staged pages may have any octets on the disk; or
+    /// it has the new group, and the staged pages stand on the disk. So each page has the version that it had, or all
+    /// pages given have their contents, and every other page the version that it had.
     ///
     /// `plan` is that of the machine for the front group. The lists are the pages given, of which none is given twice,
-    /// whether each was changed, and the content of each. With the second chances they are 1 to 8 pages; a page that has a
-    /// second chance may be given, too, and has the content given then.
+    /// whether each was changed, and the content of each. With the second chances they are 1 to 8 pages; a page that has
+    /// a second chance may be given, too, and has the content given then.
     pub fn push_group<S: Site>(
         &mut self,
         site: &mut S,

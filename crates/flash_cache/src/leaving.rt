@@ -38,7 +38,8 @@ pub struct FrontFrames {
     pub contents: Vec<Page>,
 }
 
-/// The frames of the front group that a plan stages, and those that it gives a second chance, each by one read of one page.
+/// The frames of the front group that a plan stages, and those that it gives a second chance, each by one read of one
+/// page.
 pub fn frames_leaving<S: Site>(
     alloc: Global,
     site: &mut S,
@@ -130,7 +131,8 @@ fn frames_at<S: Site>(
     }
 }
 
-// The pages of the front group's frames at these places, and whether each frame is dirty. The one error is want of memory.
+// The pages of the front group's frames at these places, and whether each frame is dirty. The one error is want of
+// memory.
 fn pages_at(
     alloc: Global,
     directory: &Directory,

@@ -155,7 +155,8 @@ fn filled(octet: u8) -> Page {
     Page::from_bytes(&[octet; 4096])
 }
 
-// Pushes these pages with the plan for the front group, where the new group has room for them beside its second chances.
+// Pushes these pages with the plan for the front group, where the new group has room for them beside its second
+// chances.
 fn push(
     cache: &mut FlashCache,
     site: &mut MemSite,

@@ -23,8 +23,8 @@ pub fn staged_frames_are_apart()
     ensures apart { StagedApart }
 {}
 
-/// Each second chance stands in the front group, valid and referenced; there are at most seven; and none of them is staged: with
-/// the staged frames they are no more than the front group has.
+/// Each second chance stands in the front group, valid and referenced; there are at most seven; and none of them is
+/// staged: with the staged frames they are no more than the front group has.
 pub fn second_chances_stand()
     ensures stand { ChancesStand }
     ensures few { ChancesFew }
