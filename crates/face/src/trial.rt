@@ -123,17 +123,24 @@ fn status_of_life(status: u8, within: bool) -> Option<u8>
 }
 
 // One life on a site in memory, and the status that is told of it. None for want of memory.
-fn live(alloc: Global, pool: u32, lines: &[u8], stop: Option<(u64, u64)>, inner: &mut MemSite) -> Option<u8>
+fn live(
+    alloc: Global,
+    pool: u32,
+    lines: &[u8],
+    stop: Option<(u64, u64)>,
+    inner: &mut MemSite,
+) -> Option<u8>
     requires pool { (1 ≤ pool) × (pool ≤ 4096) }
     ensures life { (g : Geometry) (before : Between) → IsReady g before inner.old
         → IfSome result (λ status. HasLivedOne g before lines.now status (state_of inner.new)) }
     ensures status { IfSome result (λ status. IsStatus (spec.is_within stop (limits_of inner.new).changes) status) }
     ensures lives { numbers_in inner.new ≡ numbers_in inner.old }
 {
+    what_is_left_opens();
     light_fuse(stop, inner);
-    if inner.feed(lines).is_err() {
+    let Ok(()) = inner.feed(lines) else {
         return None;
-    }
+    };
     let status = serve(alloc, pool, inner);
     if inner.lacked() {
         return None;
@@ -191,7 +198,6 @@ fn live_script<S: Site>(
     ensures goes { Goes (S.state site.old) (S.state site.new) }
 {
     blank_stands();
-    what_is_left_opens();
     let mut inner = inner;
     for place in 0..STOPS_MAX + 1 {
         let Some(life) = life(script, place) else {
@@ -201,9 +207,9 @@ fn live_script<S: Site>(
         let Some(status) = live(alloc, pool, lines, life.stop, &mut inner) else {
             return (Err(Halt::Stop(Stop::Memory)), inner);
         };
-        if tell_life(site, inner.told(), place as u64 + 1, status).is_err() {
+        let Ok(()) = tell_life(site, inner.told(), place as u64 + 1, status) else {
             return (Err(Halt::Output), inner);
-        }
+        };
         let Some((_, seed)) = life.stop else {
             return (Ok(()), inner);
         };
@@ -213,7 +219,12 @@ fn live_script<S: Site>(
 }
 
 // All of a trial but its fault line.
-fn work<S: Site>(alloc: Global, pool: u32, inner: MemSite, site: &mut S) -> (Result<(), Halt>, MemSite)
+fn work<S: Site>(
+    alloc: Global,
+    pool: u32,
+    inner: MemSite,
+    site: &mut S,
+) -> (Result<(), Halt>, MemSite)
     requires pool { (1 ≤ pool) × (pool ≤ 4096) }
     ensures lives { (g : Geometry) → IsNewSite g inner → IsTrue (S.state site.old).honest
         → Ends g (S.state site.old).left result.0 (S.state site.old) (S.state site.new) (numbers_of result.1) }
