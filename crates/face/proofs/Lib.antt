@@ -14,9 +14,11 @@ mod Fronts
 mod Heard
 mod Listed
 mod Lives
+mod Livings
 mod LoadFaults
 mod Loadings
 mod Logs
+mod Longer
 mod Meanings
 mod MemoryLaws
 mod NewLaws
@@ -27,6 +29,7 @@ mod Replies
 mod Runs
 mod Stated
 mod Tallies
+mod Trials
 mod Turns
 mod WordLaws
 mod WordLists

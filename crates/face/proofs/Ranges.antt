@@ -39,11 +39,11 @@ begins : (text rest : List ℕ) → starts_with nat_eq (text ++ rest) text ≡ t
 begins text rest = (starts_is Decides-eqb (text ++ rest) text (starts_with nat_eq (text ++ rest) text) refl).1 rest refl
 
 -- a list that no list goes on to doesn't begin so
-begins_not : (told text : List ℕ) → ((rest : List ℕ) → told ≡ text ++ rest → ⊥) → starts_with nat_eq told text ≡ false
+pub begins_not : (told text : List ℕ) → ((rest : List ℕ) → told ≡ text ++ rest → ⊥) → starts_with nat_eq told text ≡ false
 begins_not told text none = not_true (starts_with nat_eq told text) (λ yes. none (drop (length text) told) ((starts_is Decides-eqb told text (starts_with nat_eq told text) refl).0 yes))
 
 -- the whole texts are counted
-counts : (xs : List (List ℕ)) (w : ℕ) (rest : List ℕ) → w ≤ length xs → (w < length xs → starts_with nat_eq rest (get_or xs w []) ≡ false) → whole_texts (flat_map (λ (x : List ℕ). x) (take w xs) ++ rest) xs ≡ w
+pub counts : (xs : List (List ℕ)) (w : ℕ) (rest : List ℕ) → w ≤ length xs → (w < length xs → starts_with nat_eq rest (get_or xs w []) ≡ false) → whole_texts (flat_map (λ (x : List ℕ). x) (take w xs) ++ rest) xs ≡ w
 counts [] zero rest le un = refl
 counts [] (suc w) rest le un = absurd (omega (arith, le))
 counts (x ∷ xs) zero rest le un = λ i. if un (omega arith) i then 1 + whole_texts (drop (length x) rest) xs else 0
@@ -64,7 +64,7 @@ pub record Plain (text : List ℕ) : Type 0 where
   pub is : text ≡ first ∷ second ∷ more
   pub other : (first ≡ 102) → (second ≡ 97) → ⊥
 
-plain_text : (r : Reply) → Plain (reply_text r)
+pub plain_text : (r : Reply) → Plain (reply_text r)
 plain_text (reply.Value value) = record { first = 118; second = 97; more = _; is = refl; other = λ a b. omega (arith, a) }
 plain_text reply.Nothing = record { first = 110; second = 111; more = _; is = refl; other = λ a b. omega (arith, a) }
 plain_text (reply.Committed count) = record { first = 99; second = 111; more = _; is = refl; other = λ a b. omega (arith, a) }
@@ -82,7 +82,7 @@ plain_text (reply.Busy session) = record { first = 98; second = 117; more = _; i
 plain_text (reply.Full used owed cap) = record { first = 102; second = 117; more = _; is = refl; other = λ a b. omega (arith, b) }
 plain_text (reply.Refused why) = record { first = 114; second = 101; more = _; is = refl; other = λ a b. omega (arith, a) }
 
-plain_opening : (n : ℕ) → Plain (open_text n)
+pub plain_opening : (n : ℕ) → Plain (open_text n)
 plain_opening n = record { first = 111; second = 112; more = _; is = refl; other = λ a b. omega (arith, a) }
 
 -- a text of the run
@@ -114,7 +114,7 @@ not_empty : (a b : ℕ) (more rest : List ℕ) (k : ℕ) → take k [] ≡ (a �
 not_empty a b more rest zero is = cc
 not_empty a b more rest (suc k) is = cc
 
-not_in_fault : (text fault rest : List ℕ) → Plain text → IsFault fault → IsFront rest fault → (more : List ℕ) → rest ≡ text ++ more → ⊥
+pub not_in_fault : (text fault rest : List ℕ) → Plain text → IsFault fault → IsFront rest fault → (more : List ℕ) → rest ≡ text ++ more → ⊥
 not_in_fault text fault rest p is front more e =
     let front_is : take front.0 fault ≡ (p.first ∷ p.second ∷ p.more) ++ more = sym front.1 ∙ e ∙ ap (λ (l : List ℕ). l ++ more) p.is in
     let none : fault ≡ [] → ⊥ = λ empty. not_empty p.first p.second p.more more front.0 (ap (take front.0) (sym empty) ∙ front_is) in

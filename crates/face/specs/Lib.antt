@@ -4,6 +4,7 @@ pub mod Headline
 pub mod Image
 pub mod Lines
 pub mod Lives
+pub mod Living
 pub mod Loads
 pub mod New
 pub mod Program
@@ -12,6 +13,7 @@ pub mod Run
 pub mod Tells
 pub mod Texts
 pub mod TopCall
+pub mod Trial
 pub mod Words
 pub mod Working
 pub mod Workload

@@ -24,6 +24,9 @@ mod source;
 mod tests;
 mod text;
 mod top;
+mod trial;
+#[cfg(test)]
+mod trial_tests;
 mod words;
 
 use std::process::ExitCode;

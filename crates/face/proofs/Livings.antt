@@ -1,0 +1,102 @@
+-- One life, and the lives of a script under way.
+use Rattle.std.proofs.Common.{◌≡◌, ◌⊎◌, inl, inr, ⊎_elim, ℕ, zero, suc, ◌+◌, ◌-◌, ◌≤◌, ◌<◌, Bool, true, false, List, [], ◌∷◌, ◌++◌, length, take, drop, refl, sym, ◌∙◌, ap, subst, arith, append_assoc, IsTrue}
+use Rattle.std.specs.Prelude.{Option, Some, None, IfSome}
+use Rattle.std.proofs.lemmas.List.{append-nil}
+use Rattle.site.specs.State.{State as Site, Image, Snapshot, MayLeave, now_of, snapshot_of, no_loose}
+use Rattle.site.specs.Laws.{holds_now}
+use Rattle.site.specs.declared.geometry.Geometry.{Geometry}
+use Rattle.record_model.specs.State.{State, Content, opened}
+use Rattle.record_model.specs.Run.{IsInRange, Line, after_commits, commit_marks}
+use Rattle.engine.specs.Image.{Opens}
+use Rattle.face.specs.Headline.{Durability, IsFaultOf, IsGood, ran}
+use Rattle.face.specs.Lines.{commands_of}
+use Rattle.face.specs.Lives.{LawOfLives, OpensAgain}
+use Rattle.face.specs.Living.{Finds, HasLivedOne, IsFoundAfter}
+use Rattle.face.specs.Range.{IsLeft, IsToldOf, run_of, run_text, texts, turns_of}
+use Rattle.face.specs.Run.{Run}
+use Rattle.face.specs.Texts.{fault_line, status_of}
+use Rattle.face.specs.Trial.{Between, GoesOn, IsLineOf, IsTextOf, life_run}
+use Rattle.face.proofs.Longer.{all_heard, lines_longer, range_all, run_with, table_all, told_all}
+use Rattle.face.proofs.Ranges.{IsFault}
+
+fault_is : (status : ℕ) (fault : List ℕ) (old new : Site) → IsFaultOf status fault old new → IsFault fault
+fault_is status fault old new is = ⊎_elim (λ none. inl none.1) (λ halt. inr (halt.0, halt.2)) is
+
+line_is : (status : ℕ) (fault : List ℕ) (old new : Site) → IsFaultOf status fault old new → IsLineOf status fault
+line_is status fault old new is = ⊎_elim (λ none. inl none.1) (λ halt. inr (halt.0, halt.1, halt.2)) is
+
+-- A run from nothing told is a life, over all lines of the input.
+module _ (law : LawOfLives) (g : Geometry) (before : Between) (octets : List ℕ) (old new : Site) (status : ℕ) (left : old.left ≡ octets) (nothing : old.told ≡ [])
+    (d : Durability g (opened before.table before.commits 0 (g.blocks - 1)) old new status) where
+  abbrev opening : State
+  opening = opened before.table before.commits 0 (g.blocks - 1)
+
+  abbrev run : Run
+  run = life_run g before octets d.listings
+
+  taken : octets ≡ d.octets ++ new.left
+  taken = sym left ∙ d.taken
+
+  longer : (more : List Line) × (commands_of true octets ≡ commands_of d.ended d.octets ++ more)
+  longer = lines_longer d.ended octets d.octets new.left taken d.end
+
+  all_is : run_with g opening d.listings (commands_of d.ended d.octets ++ longer.0) ≡ run
+  all_is = ap (run_with g opening d.listings) (sym longer.1)
+
+  now : IsLeft (ran d) old.told d.fault (snapshot_of new)
+  now = holds_now old new (IsLeft (ran d) old.told d.fault) d.any_moment
+
+  told_same : (told : List ℕ) → new.told ≡ old.told ++ told → told ≡ new.told
+  told_same told is = ap (λ (l : List ℕ). l ++ told) (sym nothing) ∙ sym is
+
+  is_told : IsToldOf (ran d) d.fault new.told
+  is_told = subst (IsToldOf (ran d) d.fault) (told_same now.told now.told_is) now.is_told
+
+  is_text : IsTextOf run status new.told
+  is_text = record {
+    fault = d.fault;
+    of_status = line_is status d.fault old new d.of_status;
+    told = subst (λ (r : Run). IsToldOf r d.fault new.told) all_is (told_all g opening d.listings (commands_of d.ended d.octets) longer.0 d.fault new.told is_told);
+    whole = λ zero. sym (told_same (run_text (ran d)) (d.done zero).told) ∙ sym (all_heard g opening d.listings d.ended octets d.octets new.left taken d.end (d.heard zero));
+  }
+
+  found : (image : Image) → MayLeave (now_of new) (record { told = new.told; image = image }) → IsFoundAfter g run new.told image
+  found image may =
+      let again : OpensAgain (ran d) old.told (record { told = new.told; image = image }) = (law g opening old new status d).any_moment.now (record { told = new.told; image = image }) may in
+      let same = told_same again.told again.told_is in
+      let range = subst (λ (l : List ℕ). IsInRange l (texts (ran d)) (commit_marks (turns_of (ran d))) again.k) same again.in_range in
+      let xs = commands_of d.ended d.octets in
+      let is_fault = fault_is status d.fault old new d.of_status in
+      record {
+        table = again.next.table;
+        commits = again.next.commits;
+        goes_on = record {
+          k = again.k;
+          in_range = subst (λ (r : Run). IsInRange new.told (texts r) (commit_marks (turns_of r)) again.k) all_is (range_all g opening d.listings xs longer.0 d.fault new.told is_fault is_told again.k range);
+          table_is = again.table ∙ table_all g opening d.listings xs longer.0 d.fault new.told is_fault is_told again.k range ∙ ap (λ (r : Run). after_commits before.table (turns_of r) again.k) all_is;
+          commits_are = again.commits;
+        };
+        finds = λ site honest quiet is.
+            let good = again.good site honest quiet is in
+            record { honest = good.honest; quiet = good.quiet; opens = subst (Opens g site.image) good.opens.state good.opens };
+      }
+
+  pub lived_one : HasLivedOne g before octets status new
+  lived_one = record { listings = d.listings; is_text = is_text; left = found }
+
+-- A site that a life may begin on, once its lines are fed.
+pub fed_site : (g : Geometry) (before : Between) (entry lit fed : Site) (kept octets : List ℕ) → lit ≡ record entry { kept = kept } → fed ≡ record lit { left = lit.left ++ octets } → Finds g before.table before.commits entry → entry.told ≡ [] → entry.left ≡ [] →
+    Finds g before.table before.commits fed × (fed.left ≡ octets) × (fed.told ≡ [])
+fed_site g before entry lit fed kept octets is_lit is_fed finds told left = (
+  record {
+    honest = subst IsTrue (sym (ap (λ (s : Site). s.honest) is_fed ∙ ap (λ (s : Site). s.honest) is_lit)) finds.honest;
+    quiet = ap (λ (s : Site). s.loose) is_fed ∙ ap (λ (s : Site). s.loose) is_lit ∙ finds.quiet;
+    opens = subst (λ (i : Image). Opens g i (opened before.table before.commits 0 (g.blocks - 1))) (sym (ap (λ (s : Site). s.image) is_fed ∙ ap (λ (s : Site). s.image) is_lit)) finds.opens;
+  },
+  ap (λ (s : Site). s.left) is_fed ∙ ap (λ (l : List ℕ). l ++ octets) (ap (λ (s : Site). s.left) is_lit ∙ left),
+  ap (λ (s : Site). s.told) is_fed ∙ ap (λ (s : Site). s.told) is_lit ∙ told,
+)
+
+pub with_status : (g : Geometry) (before : Between) (octets : List ℕ) (site : Site) (A : ℕ → Type 0) (o : Option ℕ) (status : ℕ) → IfSome o (λ told. (told ≡ status) × A told) → HasLivedOne g before octets status site → IfSome o (λ told. HasLivedOne g before octets told site)
+with_status g before octets site A (Some told) status is lived = subst (λ (n : ℕ). HasLivedOne g before octets n site) (sym is.0) lived
+with_status g before octets site A None status is lived = is

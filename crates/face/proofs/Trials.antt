@@ -1,0 +1,402 @@
+-- The lives of a script, one after the other.
+use Rattle.std.proofs.Common.{◌≡◌, ◌≢◌, ◌⊎◌, inl, inr, ⊎_elim, ℕ, zero, suc, ◌+◌, ◌-◌, ◌≤◌, ◌<◌, Bool, true, false, List, [], ◌∷◌, ◌++◌, length, take, drop, refl, sym, ◌∙◌, ap, subst, arith, add-one, append_assoc, length-append, take-append-drop, IsTrue}
+use Rattle.std.specs.Prelude.{Option, Some, None, min, Result, Ok, Err, OnOk, OnErr, slice_get, slice_range}
+use Rattle.std.proofs.lemmas.List.{append-nil, length-take-le, take_all, take_at}
+use Rattle.site.specs.State.{State as Site, Image, MayLeave, Moment, no_loose, now_of, snapshot_of}
+use Rattle.site.specs.Calls.{Goes, Rose, SameReads}
+use Rattle.site.specs.Crash.{image_left, started}
+use Rattle.site.specs.Geometry.{blank_image}
+use Rattle.site.specs.Laws.{calm, each_weaker, goes_in_sequence, in_sequence, no_call, now_leaves, now_same, rose_then, stays_honest}
+use Rattle.site.specs.MemState.{IsFresh, limits_of, lives_of, state_of}
+use Rattle.site.specs.Moments.{EachMoment}
+use Rattle.site.specs.Telling.{TellsPart}
+use Rattle.site.specs.declared.geometry.Geometry.{Geometry}
+use Rattle.site.specs.declared.mem.MemSite.{MemSite}
+use Rattle.site.specs.declared.outside.Failed.{Failed}
+use Rattle.site.specs.declared.outside.Stop.TheVariants.{Device, Memory, Worn, Foreign}
+use Rattle.record_model.specs.State.{opened}
+use Rattle.workload.specs.declared.scripts.Life.{Life}
+use Rattle.workload.specs.declared.scripts.StopLine.{StopLine}
+use Rattle.workload.specs.Scripts.{lives_between, lives_of as lives_in, stops_from}
+use Rattle.face.specs.declared.halt.Halt.{Halt}
+use Rattle.face.specs.declared.halt.Halt.TheVariants as halt
+use Rattle.face.specs.Image.{BlankLaw, blank_table}
+use Rattle.face.specs.Lines.{HearsOnly}
+use Rattle.face.specs.Living.{Ends, Finds, HasLivedOne, IsFoundAfter, IsGivenUp, IsHaltOfTrial, IsReady}
+use Rattle.face.specs.Run.{IsFront}
+use Rattle.face.specs.Tells.{Tells}
+use Rattle.face.specs.Texts.{fault_line, status_of}
+use Rattle.face.specs.Trial.{Between, HaveLived, IsLife, IsNewSite, IsNext, IsStatus, LeavesDevices, Lives, TellsAll, TellsFirst, TellsSome, TrialCauses, TrialContract, at_first, is_within, life_line, numbers_of, script_limit}
+use Rattle.face.proofs.Endings.{ends_with}
+use Rattle.face.proofs.Longer.{front_more}
+
+-- How many lives a script has.
+
+between_count : (start : ℕ) (stops : List StopLine) (end : ℕ) → length (lives_between start stops end) ≡ suc (length stops)
+between_count start [] end = refl
+between_count start (stop ∷ stops) end = ap suc (between_count stop.next stops end)
+
+between_last : (start : ℕ) (stops : List StopLine) (end place : ℕ) (life : Life) → slice_get (lives_between start stops end) place ≡ Some life → life.stop ≡ None → place ≡ length stops
+between_last start [] end zero life is none = refl
+between_last start [] end (suc place) life is none = absurd cc
+between_last start (stop ∷ stops) end zero life is none = absurd (ended (ap_stop is))
+  where
+    ap_stop : Some (record { start = start; end = stop.from; stop = Some (stop.limit, stop.seed) }) ≡ Some life → Some (stop.limit, stop.seed) ≡ life.stop
+    ap_stop same = cc
+
+    ended : Some (stop.limit, stop.seed) ≡ life.stop → ⊥
+    ended same = cc
+between_last start (stop ∷ stops) end (suc place) life is none = ap suc (between_last stop.next stops end place life is none)
+
+between_more : (start : ℕ) (stops : List StopLine) (end place : ℕ) (life : Life) (x : ℕ × ℕ) → slice_get (lives_between start stops end) place ≡ Some life → life.stop ≡ Some x → place < length stops
+between_more start [] end zero life x is some = absurd (last is)
+  where
+    ap_stop : Some (record { start = min start end; end = end; stop = None }) ≡ Some life → None ≡ life.stop
+    ap_stop same = cc
+
+    never : None ≡ life.stop → ⊥
+    never same = cc
+
+    last : Some (record { start = min start end; end = end; stop = None }) ≡ Some life → ⊥
+    last same = never (ap_stop same)
+between_more start [] end (suc place) life x is some = absurd cc
+between_more start (stop ∷ stops) end zero life x is some = omega arith
+between_more start (stop ∷ stops) end (suc place) life x is some = let less = between_more stop.next stops end place life x is some in omega (arith, less)
+
+module _ (script : List ℕ) where
+  abbrev stops : List StopLine
+  stops = take 31 (stops_from script 0)
+
+  count : length (lives_in script) ≡ suc (length stops)
+  count = between_count 0 stops (length script)
+
+  pub some_lives : 0 < length (lives_in script)
+  some_lives = let same = count in omega (arith, same)
+
+  pub few_lives : length (lives_in script) ≤ 32
+  few_lives = let same = count in let few = length-take-most 31 (stops_from script 0) in omega (arith, same, few)
+    where
+      length-take-most : (n : ℕ) (xs : List StopLine) → length (take n xs) ≤ n
+      length-take-most zero xs = omega arith
+      length-take-most (suc n) [] = omega arith
+      length-take-most (suc n) (x ∷ xs) = let few = length-take-most n xs in omega (arith, few)
+
+  pub last_life : (place : ℕ) (life : Life) → slice_get (lives_in script) place ≡ Some life → life.stop ≡ None → suc place ≡ length (lives_in script)
+  last_life place life is none = ap suc (between_last 0 stops (length script) place life is none) ∙ sym count
+
+  pub more_lives : (place : ℕ) (life : Life) (x : ℕ × ℕ) → slice_get (lives_in script) place ≡ Some life → life.stop ≡ Some x → suc place < length (lives_in script)
+  more_lives place life x is some = let less = between_more 0 stops (length script) place life x is some in let same = count in omega (arith, less, same)
+
+pub there_is : {X : Type 0} (xs : List X) (place : ℕ) → place < length xs → slice_get xs place ≡ None → ⊥
+there_is [] place less is = omega (arith, less)
+there_is (x ∷ xs) zero less is = cc
+there_is (x ∷ xs) (suc place) less is = there_is xs place (omega (arith, less)) is
+
+-- The devices of a site.
+
+pub devices_then : (a b c : Site) → LeavesDevices a b → LeavesDevices b c → LeavesDevices a c
+devices_then a b c first second =
+    in_sequence a b c (λ m. (m.image ≡ a.image) × (m.loose ≡ a.loose)) first
+    (each_weaker b c (λ m. (m.image ≡ b.image) × (m.loose ≡ b.loose)) (λ m. (m.image ≡ a.image) × (m.loose ≡ a.loose)) (λ m same. (same.0 ∙ first.now.0, same.1 ∙ first.now.1)) second)
+
+pub devices_told : (piece : List ℕ) (a b : Site) → EachMoment a b (TellsPart piece a) → LeavesDevices a b
+devices_told piece a b tells = each_weaker a b (TellsPart piece a) (λ m. (m.image ≡ a.image) × (m.loose ≡ a.loose)) (λ m part. (part.image, part.loose)) tells
+
+pub devices_still : (a : Site) → LeavesDevices a a
+devices_still a = no_call a (λ m. (m.image ≡ a.image) × (m.loose ≡ a.loose)) (refl, refl)
+
+pub devices_heard : (a b : Site) → HearsOnly a b → LeavesDevices a b
+devices_heard a b hears = calm a a b (λ m. (m.image ≡ a.image) × (m.loose ≡ a.loose)) (devices_still a) hears.past (now_same a b hears.told hears.image hears.loose)
+
+-- Fronts.
+
+pub front_behind : (before rest all : List ℕ) → IsFront rest all → IsFront (before ++ rest) (before ++ all)
+front_behind before rest all front =
+    let parted : all ≡ rest ++ drop front.0 all = sym (take-append-drop front.0 all) ∙ ap (λ (l : List ℕ). l ++ drop front.0 all) (sym front.1) in
+    let whole : before ++ all ≡ (before ++ rest) ++ drop front.0 all = ap (λ (l : List ℕ). before ++ l) parted ∙ sym (append_assoc before rest (drop front.0 all)) in
+    (length (before ++ rest), sym (ap (take (length (before ++ rest))) whole ∙ take_at (before ++ rest) (drop front.0 all) (length (before ++ rest)) refl))
+
+-- what was told in part, of a piece and of a line behind it
+pub told_part : (old mid new : Site) (piece line : List ℕ) → mid.told ≡ old.told ++ piece → EachMoment mid new (TellsPart line mid) → (rest : List ℕ) × (new.told ≡ old.told ++ rest) × IsFront rest (piece ++ line)
+told_part old mid new piece line is tells =
+    let part = tells.now.told 0 in
+    (piece ++ take part.0 line, sym (append-nil new.told) ∙ part.1 ∙ ap (λ (l : List ℕ). l ++ take part.0 line) is ∙ append_assoc old.told piece (take part.0 line), front_behind piece (take part.0 line) line (part.0, refl))
+
+pub told_first_part : (old new : Site) (piece line : List ℕ) → EachMoment old new (TellsPart piece old) → (rest : List ℕ) × (new.told ≡ old.told ++ rest) × IsFront rest (piece ++ line)
+told_first_part old new piece line tells =
+    let part = tells.now.told 0 in
+    (take part.0 piece, sym (append-nil new.told) ∙ part.1, front_more (take part.0 piece) piece line (part.0, refl))
+
+pub on_err : {T E : Type 0} (P : Type 0) (r : Result T E) → P → OnErr r P
+on_err P (Ok x) p = tt
+on_err P (Err e) p = p
+
+-- One life more.
+
+-- What stands behind a life that is over, where this is what it leaves.
+pub record Behind (g : Geometry) (number : ℕ) (octets : List ℕ) (stop : Option (ℕ × ℕ)) (before : Between) (text : List ℕ) (status changes : ℕ) (image : Image) : Type 0 where
+  pub after : Between
+  pub life : IsLife g number octets stop before after
+  pub told : after.told ≡ before.told ++ (text ++ life_line number status)
+  pub counted : after.changes ≡ before.changes ++ changes ∷ []
+  pub finds : (site : Site) → IsTrue site.honest → site.loose ≡ no_loose → site.image ≡ image → Finds g after.table after.commits site
+
+pub behind : (g : Geometry) (number : ℕ) (octets : List ℕ) (stop : Option (ℕ × ℕ)) (before : Between) (status changes : ℕ) (site : Site) (image : Image) → HasLivedOne g before octets status site →
+    IsStatus (is_within stop changes) status → MayLeave (now_of site) (record { told = site.told; image = image }) → Behind g number octets stop before site.told status changes image
+behind g number octets stop before status changes site image lived is_status may =
+    let found = lived.left image may in
+    record {
+      after = record { told = before.told ++ (site.told ++ life_line number status); changes = before.changes ++ changes ∷ []; table = found.table; commits = found.commits };
+      life = record { listings = lived.listings; text = site.told; status = status; is_text = lived.is_text; told = refl; changes = changes; is_status = is_status; counted = refl; goes_on = found.goes_on };
+      told = refl;
+      counted = refl;
+      finds = found.finds;
+    }
+
+-- So many lives were told, and the next one may begin on the site in memory.
+pub record Reached (g : Geometry) (script : List ℕ) (lives : ℕ) (old now : Site) (inner : MemSite) : Type 0 where
+  pub before : Between
+  pub lived : HaveLived g script lives before
+  pub ready : IsReady g before inner
+  pub numbers : lives_of inner ≡ before.changes
+  pub count : length before.changes ≡ lives
+  pub told : now.told ≡ old.told ++ before.told
+
+pub none_yet : BlankLaw → (g : Geometry) (script : List ℕ) (old : Site) (inner : MemSite) → IsNewSite g inner → Reached g script 0 old old inner
+none_yet blank g script old inner new =
+    let state = new.state in
+    record {
+      before = at_first g;
+      lived = refl;
+      ready = record {
+        finds = subst (Finds g (blank_table g) 0) (sym state) (record { honest = refl; quiet = refl; opens = (blank g new.limits).1 });
+        told = ap (λ (s : Site). s.told) state;
+        left = ap (λ (s : Site). s.left) state;
+      };
+      numbers = new.lives;
+      count = refl;
+      told = sym (append-nil old.told);
+    }
+
+-- the site of the life that is over, and how it ended
+module _ (g : Geometry) (script : List ℕ) (place : ℕ) (old mid : Site) (inner lived : MemSite) (r : Reached g script place old mid inner) (numbers : lives_of lived ≡ lives_of inner) where
+  pub given_up : (new : Site) → new.told ≡ mid.told → IsGivenUp g script old new (numbers_of lived)
+  given_up new same = record {
+    lives = place;
+    before = r.before;
+    lived = r.lived;
+    told = same ∙ r.told;
+    changes = (limits_of lived).changes;
+    numbers_are = ap (λ (l : List ℕ). l ++ (limits_of lived).changes ∷ []) (numbers ∙ r.numbers);
+  }
+
+  module _ (life : Life) (is_life : slice_get (lives_in script) place ≡ Some life) (status : ℕ) (one : HasLivedOne g r.before (slice_range script life.start life.end) status (state_of lived)) (is_status : IsStatus (is_within life.stop (limits_of lived).changes) status) where
+    abbrev text : List ℕ
+    text = (state_of lived).told
+
+    abbrev changes : ℕ
+    changes = (limits_of lived).changes
+
+    here : Behind g (place + 1) (slice_range script life.start life.end) life.stop r.before text status changes (state_of lived).image
+    here = behind g (place + 1) (slice_range script life.start life.end) life.stop r.before status changes (state_of lived) (state_of lived).image one is_status (now_leaves (state_of lived))
+
+    pub told_in_part : (new : Site) (rest : List ℕ) → new.told ≡ mid.told ++ rest → IsFront rest (text ++ life_line (place + 1) status) → TellsSome g script old new (numbers_of lived)
+    told_in_part new rest told front = record {
+      lives = place;
+      before = r.before;
+      lived = r.lived;
+      after = here.after;
+      next = (life, is_life, here.life);
+      rest = rest;
+      told = told ∙ ap (λ (l : List ℕ). l ++ rest) r.told ∙ append_assoc old.told r.before.told rest;
+      front = subst (IsFront (r.before.told ++ rest)) (sym here.told) (front_behind r.before.told rest _ front);
+      numbers_are = ap (λ (l : List ℕ). l ++ changes ∷ []) (numbers ∙ r.numbers) ∙ sym here.counted;
+    }
+
+    pub told_last : (new : Site) → new.told ≡ mid.told ++ (text ++ life_line (place + 1) status) → life.stop ≡ None → TellsAll g script old new (numbers_of lived)
+    told_last new told none = record {
+      last = here.after;
+      lived = subst (λ (n : ℕ). HaveLived g script n here.after) (last_life script place life is_life none) (r.before, r.lived, (life, is_life, here.life));
+      told = told ∙ ap (λ (l : List ℕ). l ++ (text ++ life_line (place + 1) status)) r.told ∙ append_assoc old.told r.before.told _ ∙ ap (λ (l : List ℕ). old.told ++ l) (sym here.told);
+      numbers_are = ap (λ (l : List ℕ). l ++ changes ∷ []) (numbers ∙ r.numbers) ∙ sym here.counted;
+    }
+
+    module _ (stop : ℕ × ℕ) (some : life.stop ≡ Some stop) (seed : ℕ) (cut : MemSite)
+        (state : state_of cut ≡ started (0 ∷ 0 ∷ lives_of cut) (image_left seed (state_of lived).loose (state_of lived).image))
+        (left : MayLeave (now_of (state_of lived)) (record { told = (state_of lived).told; image = (state_of cut).image }))
+        (all : lives_of cut ≡ drop (length (lives_of lived ++ changes ∷ []) - 31) (lives_of lived ++ changes ∷ [])) where
+      next : Behind g (place + 1) (slice_range script life.start life.end) life.stop r.before text status changes (state_of cut).image
+      next = behind g (place + 1) (slice_range script life.start life.end) life.stop r.before status changes (state_of lived) (state_of cut).image one is_status left
+
+      more : suc place < length (lives_in script)
+      more = more_lives script place life stop is_life some
+
+      kept : lives_of cut ≡ r.before.changes ++ changes ∷ []
+      kept =
+          let same = numbers ∙ r.numbers in
+          let count : length (lives_of lived ++ changes ∷ []) ≡ suc place = ap (λ (l : List ℕ). length (l ++ changes ∷ [])) same ∙ length-append r.before.changes (changes ∷ []) ∙ ap (λ (n : ℕ). n + 1) r.count ∙ add-one place in
+          let few = few_lives script in
+          let none : length (lives_of lived ++ changes ∷ []) - 31 ≡ 0 = let less = more in omega (arith, count, few, less) in
+          all ∙ ap (λ (n : ℕ). drop n (lives_of lived ++ changes ∷ [])) none ∙ ap (λ (l : List ℕ). l ++ changes ∷ []) same
+
+      pub goes_on : (new : Site) → new.told ≡ mid.told ++ (text ++ life_line (place + 1) status) → Reached g script (place + 1) old new cut
+      goes_on new told = subst (λ (n : ℕ). Reached g script n old new cut) (sym (add-one place)) (record {
+        before = next.after;
+        lived = (r.before, r.lived, (life, is_life, next.life));
+        ready = record {
+          finds = next.finds (state_of cut) refl (ap (λ (s : Site). s.loose) state) refl;
+          told = ap (λ (s : Site). s.told) state;
+          left = ap (λ (s : Site). s.left) state;
+        };
+        numbers = kept ∙ sym next.counted;
+        count = ap length next.counted ∙ length-append r.before.changes (changes ∷ []) ∙ ap (λ (n : ℕ). n + 1) r.count ∙ add-one place;
+        told = told ∙ ap (λ (l : List ℕ). l ++ (text ++ life_line (place + 1) status)) r.told ∙ append_assoc old.told r.before.told _ ∙ ap (λ (l : List ℕ). old.told ++ l) (sym next.told);
+      })
+
+-- Before the first life.
+
+pub unbegun : (g : Geometry) (script : List ℕ) (old new : Site) (inner : MemSite) → IsNewSite g inner → new.told ≡ old.told → IsGivenUp g script old new (numbers_of inner)
+unbegun g script old new inner is told = record {
+  lives = 0;
+  before = at_first g;
+  lived = refl;
+  told = told ∙ sym (append-nil old.told);
+  changes = (limits_of inner).changes;
+  numbers_are = ap (λ (l : List ℕ). l ++ (limits_of inner).changes ∷ []) is.lives;
+}
+
+pub numbers_unbegun : (g : Geometry) (inner : MemSite) → IsNewSite g inner → numbers_of inner ≡ 0 ∷ []
+numbers_unbegun g inner is = ap (λ (l : List ℕ). l ++ (limits_of inner).changes ∷ []) is.lives ∙ ap (λ (n : ℕ). n ∷ []) is.fresh.changes
+
+-- A trial as a whole.
+
+pub told_all_lives : (g : Geometry) (script : List ℕ) (old new : Site) (numbers : List ℕ) → TellsAll g script old new numbers → Lives g script old new 0 numbers
+told_all_lives g script old new numbers all = record {
+  all = λ e. all;
+  some = λ e. absurd (omega (arith, e));
+  first = λ ne six. absurd (ne refl);
+  none = λ which. ⊎_elim (λ e. absurd (omega (arith, e))) (λ e. absurd (omega (arith, e))) which;
+}
+
+module _ {T : Type 0} (g : Geometry) (script : List ℕ) (old mid new : Site) (numbers : List ℕ) (status : ℕ) (result : Result T Failed) (goes : Goes old mid) (honest : IsTrue mid.honest) where
+  told_first : (h : Halt) → status ≡ status_of h → (status_of h ≢ 0) → (status_of h ≢ 6) → ((status_of h ≡ 5) ⊎ (status_of h ≡ 7) → numbers ≡ 0 ∷ []) → IsGivenUp g script old mid numbers → Tells (fault_line h) mid new result → Lives g script old new status numbers
+  told_first h is nonzero nonsix none u tells = record {
+    all = λ e. absurd (nonzero (sym is ∙ e));
+    some = λ e. absurd (nonsix (sym is ∙ e));
+    first = λ ne more. (
+      h,
+      is,
+      record {
+        lives = u.lives;
+        before = u.before;
+        lived = u.lived;
+        ends = ends_with (old.told ++ u.before.told) (fault_line h) old mid new result goes honest u.told tells;
+        changes = u.changes;
+        numbers_are = u.numbers_are;
+      },
+    );
+    none = λ which. none (⊎_elim (λ e. inl (sym is ∙ e)) (λ e. inr (sym is ∙ e)) which);
+  }
+
+  told_some : status ≡ 6 → TellsSome g script old mid numbers → Tells (fault_line halt.Output) mid new result → Lives g script old new status numbers
+  told_some is some tells = record {
+    all = λ e. let other = sym is ∙ e in absurd (omega (arith, other));
+    some = λ e. record {
+      lives = some.lives;
+      before = some.before;
+      lived = some.lived;
+      after = some.after;
+      next = some.next;
+      rest = some.rest;
+      told = nothing ∙ some.told;
+      front = some.front;
+      numbers_are = some.numbers_are;
+    };
+    first = λ ne six. absurd (six is);
+    none = λ which. ⊎_elim (λ e. let other = sym is ∙ e in absurd (omega (arith, other))) (λ e. let other = sym is ∙ e in absurd (omega (arith, other))) which;
+  }
+    where
+      nothing : new.told ≡ mid.told
+      nothing = let part = (tells.any_moment honest).now.told 0 in sym (append-nil new.told) ∙ part.1 ∙ ap (λ (l : List ℕ). mid.told ++ l) (take_all part.0 [] (omega arith)) ∙ append-nil mid.told
+
+  pub told_and_fault : (h : Halt) → status ≡ status_of h → Ends {T = T} g script (Err h) old mid numbers → ((h ≡ halt.Input) ⊎ (h ≡ halt.Limit) → numbers ≡ 0 ∷ []) → Tells (fault_line h) mid new result → Lives g script old new status numbers
+  told_and_fault (halt.Stop (Device dev)) is u none tells = told_first (halt.Stop (Device dev)) is (λ e. omega (arith, e)) (λ e. omega (arith, e)) (λ which. ⊎_elim (λ e. absurd (omega (arith, e))) (λ e. absurd (omega (arith, e))) which) u tells
+  told_and_fault (halt.Stop Memory) is u none tells = told_first (halt.Stop Memory) is (λ e. omega (arith, e)) (λ e. omega (arith, e)) (λ which. ⊎_elim (λ e. absurd (omega (arith, e))) (λ e. absurd (omega (arith, e))) which) u tells
+  told_and_fault (halt.Stop (Worn dev)) is u none tells = told_first (halt.Stop (Worn dev)) is (λ e. omega (arith, e)) (λ e. omega (arith, e)) (λ which. ⊎_elim (λ e. absurd (omega (arith, e))) (λ e. absurd (omega (arith, e))) which) u tells
+  told_and_fault (halt.Stop Foreign) is u none tells = told_first (halt.Stop Foreign) is (λ e. omega (arith, e)) (λ e. omega (arith, e)) (λ which. ⊎_elim (λ e. absurd (omega (arith, e))) (λ e. absurd (omega (arith, e))) which) u tells
+  told_and_fault halt.Input is u none tells = told_first halt.Input is (λ e. omega (arith, e)) (λ e. omega (arith, e)) (λ which. none (inl refl)) u tells
+  told_and_fault halt.Limit is u none tells = told_first halt.Limit is (λ e. omega (arith, e)) (λ e. omega (arith, e)) (λ which. none (inr refl)) u tells
+  told_and_fault halt.Output is u none tells = told_some is u tells
+
+-- Why it ends so.
+
+pub caused_none : (old new : Site) → (IsTrue old.honest → length old.left ≤ script_limit) → TrialCauses old new 0
+caused_none old new fits = record {
+  others = inl refl;
+  input = λ e. absurd (omega (arith, e));
+  output = λ e. absurd (omega (arith, e));
+  limit = λ honest e. absurd (omega (arith, e));
+  over = λ honest many. let few = fits honest in absurd (omega (arith, few, many));
+  complete = λ honest input output few. inl refl;
+}
+
+pub record TrialHalts (h : Halt) (old mid : Site) : Type 0 where
+  pub is : IsHaltOfTrial h
+  pub input : h ≡ halt.Input → Rose old.input_faults mid.input_faults
+  pub output : h ≡ halt.Output → Rose old.output_faults mid.output_faults
+  pub few : h ≡ halt.Output → IsTrue old.honest → length old.left ≤ script_limit
+  pub limit : h ≡ halt.Limit → IsTrue old.honest → length old.left ≡ script_limit + 1 + length mid.left
+
+pub caused_by : (h : Halt) (status : ℕ) (old mid new : Site) → status ≡ status_of h → TrialHalts h old mid → Goes mid new → (IsTrue old.honest → new.left ≡ mid.left) → TrialCauses old new status
+caused_by h status old mid new is t goes left = ⊎_elim memory (⊎_elim input (⊎_elim output limit)) t.is
+  where
+    memory : h ≡ halt.Stop Memory → TrialCauses old new status
+    memory e =
+        let four : status ≡ 4 = is ∙ ap status_of e in
+        record {
+          others = inr (inl four);
+          input = λ x. absurd (omega (arith, four, x));
+          output = λ x. absurd (omega (arith, four, x));
+          limit = λ honest x. absurd (omega (arith, four, x));
+          over = λ honest many. inr (inl four);
+          complete = λ honest a b few. inr four;
+        }
+
+    input : h ≡ halt.Input → TrialCauses old new status
+    input e =
+        let five : status ≡ 5 = is ∙ ap status_of e in
+        let rose = rose_then _ _ _ (t.input e) goes.input_faults in
+        record {
+          others = inr (inr (inl five));
+          input = λ x. rose;
+          output = λ x. absurd (omega (arith, five, x));
+          limit = λ honest x. absurd (omega (arith, five, x));
+          over = λ honest many. inr (inr five);
+          complete = λ honest a b few. absurd (a rose);
+        }
+
+    output : h ≡ halt.Output → TrialCauses old new status
+    output e =
+        let six : status ≡ 6 = is ∙ ap status_of e in
+        let rose = rose_then _ _ _ (t.output e) goes.output_faults in
+        record {
+          others = inr (inr (inr (inl six)));
+          input = λ x. absurd (omega (arith, six, x));
+          output = λ x. rose;
+          limit = λ honest x. absurd (omega (arith, six, x));
+          over = λ honest many. let few = t.few e honest in absurd (omega (arith, few, many));
+          complete = λ honest a b few. absurd (b rose);
+        }
+
+    limit : h ≡ halt.Limit → TrialCauses old new status
+    limit e =
+        let seven : status ≡ 7 = is ∙ ap status_of e in
+        let over : IsTrue old.honest → length old.left ≡ script_limit + 1 + length new.left = λ honest. let all = t.limit e honest in let same = ap length (left honest) in omega (arith, all, same) in
+        record {
+          others = inr (inr (inr (inr seven)));
+          input = λ x. absurd (omega (arith, seven, x));
+          output = λ x. absurd (omega (arith, seven, x));
+          limit = λ honest x. over honest;
+          over = λ honest many. inl seven;
+          complete = λ honest a b few. let all = over honest in absurd (omega (arith, all, few));
+        }

@@ -1,0 +1,13 @@
+use Rattle.site.specs.MemState.{state_of}
+use Rattle.face.specs.Trial.{IsStatus, is_within}
+use Rattle.site.specs.MemState.{limits_of}
+use Rattle.face.proofs.Livings.{fed_site, lived_one, with_status}
+use Rattle.face.proofs.trial.live.Goals as goal
+
+pub returns-clause-life : goal.returns-clause-life
+returns-clause-life c g before ready =
+    let fed = state_of c.feed.new.self in
+    let new = state_of c.serve-status.new.site in
+    let is = fed_site g before (state_of c.args.inner.now) (state_of c.light_fuse.new.inner) fed _ c.args.lines.now c.light_fuse.ensures.state c.in-Ok.ensures.ok ready.finds ready.told ready.left in
+    with_status g before c.args.lines.now new _ c.status_of_life.result c.serve-status.result c.status_of_life.ensures
+    (lived_one c.what_is_left_opens.ensures g before c.args.lines.now fed new c.serve-status.result is.1 is.2 ((c.serve-status.ensures.run.headline g _ is.0).durability))

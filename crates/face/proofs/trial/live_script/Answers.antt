@@ -1,0 +1,76 @@
+use Rattle.std.proofs.Common.{◌≡◌, ◌∙◌, ◌++◌, ◌+◌, ℕ, List, refl, sym, ap, subst, arith, add-one, ◌<◌, length}
+use Rattle.site.specs.Laws.{goes_in_sequence, goes_nowhere, stays_honest}
+use Rattle.std.specs.Prelude.{None}
+use Rattle.face.specs.Run.{IsFront}
+use Rattle.site.specs.MemState.{state_of}
+use Rattle.workload.specs.Scripts.{lives_of as lives_in}
+use Rattle.face.specs.Trial.{life_line}
+use Rattle.face.proofs.Trials.{devices_still, devices_then, few_lives, given_up, goes_on, more_lives, none_yet, some_lives, told_in_part, told_last}
+use Rattle.face.proofs.trial.live_script.Goals as goal
+
+pub loop-place-init : goal.loop-place-init
+loop-place-init g c = record {
+  goes = goes_nowhere (g.S.Site.state c.args.site.now);
+  devices = λ honest. devices_still (g.S.Site.state c.args.site.now);
+  left = λ honest. refl;
+  reads = λ dev. refl;
+  there = some_lives c.args.script.now;
+  lives = λ geometry new honest. none_yet c.blank_stands.ensures geometry c.args.script.now (g.S.Site.state c.args.site.now) c.args.inner new;
+}
+
+pub unreachable-requires-2 : goal.unreachable-requires-2
+unreachable-requires-2 g c = let there = c.loop-place.invariant.there in let few = few_lives c.args.script.now in let end = c.loop-place-test.false in omega (arith, there, few, end)
+
+pub loop-place-preserved : goal.loop-place-preserved
+loop-place-preserved g c =
+    let old = g.S.Site.state c.args.site.now in
+    let mid = g.S.Site.state c.loop-place.site in
+    let new = g.S.Site.state c.tell_life.new.site in
+    let inv = c.loop-place.invariant in
+    let life = c.in-Some.life in
+    let is_life = sym c.in-Some.ensures.life in
+    record {
+      goes = goes_in_sequence old mid new inv.goes c.tell_life.ensures.goes;
+      devices = λ honest. devices_then old mid new (inv.devices honest) (c.tell_life.ensures.devices (stays_honest old mid inv.goes honest));
+      left = λ honest. c.tell_life.ensures.left (stays_honest old mid inv.goes honest) ∙ inv.left honest;
+      reads = λ dev. c.tell_life.ensures.reads dev ∙ inv.reads dev;
+      there = subst (λ (n : ℕ). n < length (lives_in c.args.script.now)) (sym (add-one c.loop-place.place)) (more_lives c.args.script.now c.loop-place.place life _ is_life c.in-Some-stop.is);
+      lives = λ geometry is_new honest.
+          let r = inv.lives geometry is_new honest in
+          goes_on geometry c.args.script.now c.loop-place.place old mid c.loop-place.inner c.live.new.inner r c.live.ensures.lives life is_life c.in-Some-live.status
+          (c.in-Some-live.ensures.life geometry r.before r.ready) c.in-Some-live.ensures.status _ c.in-Some-stop.is c.in-Some-stop.seed c.crash-inner.result
+          c.crash-inner.ensures.state c.crash-inner.ensures.left c.crash-inner.ensures.lives new
+          (c.in-Ok.ensures.told (stays_honest old mid inv.goes honest) ∙ ap (λ (l : List ℕ). mid.told ++ (l ++ life_line (c.loop-place.place + 1) c.in-Some-live.status)) c.told.ensures);
+    }
+
+pub returns-in_default-tell_life-clause-devices : goal.returns-in_default-tell_life-clause-devices
+returns-in_default-tell_life-clause-devices g c honest =
+    let old = g.S.Site.state c.args.site.now in
+    let mid = g.S.Site.state c.loop-place.site in
+    devices_then old mid (g.S.Site.state c.tell_life.new.site) (c.loop-place.invariant.devices honest) (c.tell_life.ensures.devices (stays_honest old mid c.loop-place.invariant.goes honest))
+
+pub returns-in_default-stop-clause-devices : goal.returns-in_default-stop-clause-devices
+returns-in_default-stop-clause-devices g c honest =
+    let old = g.S.Site.state c.args.site.now in
+    let mid = g.S.Site.state c.loop-place.site in
+    devices_then old mid (g.S.Site.state c.tell_life.new.site) (c.loop-place.invariant.devices honest) (c.tell_life.ensures.devices (stays_honest old mid c.loop-place.invariant.goes honest))
+
+pub returns-in_default-tell_life-clause-lives : goal.returns-in_default-tell_life-clause-lives
+returns-in_default-tell_life-clause-lives g c geometry is_new honest =
+    let old = g.S.Site.state c.args.site.now in
+    let mid = g.S.Site.state c.loop-place.site in
+    let r = c.loop-place.invariant.lives geometry is_new honest in
+    let part = c.in_default-tell_life.ensures.part (stays_honest old mid c.loop-place.invariant.goes honest) in
+    told_in_part geometry c.args.script.now c.loop-place.place old mid c.loop-place.inner c.live.new.inner r c.live.ensures.lives c.in-Some.life (sym c.in-Some.ensures.life) c.in-Some-live.status
+    (c.in-Some-live.ensures.life geometry r.before r.ready) c.in-Some-live.ensures.status (g.S.Site.state c.tell_life.new.site) part.0 part.1
+    (subst (λ (l : List ℕ). IsFront part.0 (l ++ life_line (c.loop-place.place + 1) c.in-Some-live.status)) c.told.ensures part.2)
+
+pub returns-in_default-stop-clause-lives : goal.returns-in_default-stop-clause-lives
+returns-in_default-stop-clause-lives g c geometry is_new honest =
+    let old = g.S.Site.state c.args.site.now in
+    let mid = g.S.Site.state c.loop-place.site in
+    let r = c.loop-place.invariant.lives geometry is_new honest in
+    told_last geometry c.args.script.now c.loop-place.place old mid c.loop-place.inner c.live.new.inner r c.live.ensures.lives c.in-Some.life (sym c.in-Some.ensures.life) c.in-Some-live.status
+    (c.in-Some-live.ensures.life geometry r.before r.ready) c.in-Some-live.ensures.status (g.S.Site.state c.tell_life.new.site)
+    (c.in-Ok.ensures.told (stays_honest old mid c.loop-place.invariant.goes honest) ∙ ap (λ (l : List ℕ). mid.told ++ (l ++ life_line (c.loop-place.place + 1) c.in-Some-live.status)) c.told.ensures)
+    c.in_default-stop.is

@@ -1,0 +1,20 @@
+use Rattle.std.proofs.Common.{◌≡◌, ◌<◌, IsTrue, length}
+use Rattle.site.specs.Calls.{Goes, SameReads}
+use Rattle.site.specs.declared.geometry.Geometry.{Geometry}
+use Rattle.workload.specs.Scripts.{lives_of}
+use Rattle.face.specs.Trial.{IsNewSite, LeavesDevices}
+use Rattle.face.proofs.Trials.{Reached}
+use Rattle.face.proofs.trial.live_script.Given as goal
+
+abbrev pub invariant-loop-place : goal.invariant-loop-place
+invariant-loop-place g l =
+    let old = g.S.Site.state l.fn.site in
+    let now = g.S.Site.state l.site in
+    record {
+      goes : Goes old now;
+      devices : IsTrue old.honest → LeavesDevices old now;
+      left : IsTrue old.honest → now.left ≡ old.left;
+      reads : SameReads old now;
+      there : l.place < length (lives_of l.script);
+      lives : (geometry : Geometry) → IsNewSite geometry l.fn.inner → IsTrue old.honest → Reached geometry l.script l.place old now l.inner;
+    }

@@ -1,0 +1,33 @@
+use Rattle.std.proofs.Common.{◌∙◌, ap, inl, inr, subst, ⊎_elim}
+use Rattle.std.specs.Prelude.{Err, IfErr, Result}
+use Rattle.site.specs.Laws.{stays_honest}
+use Rattle.face.specs.Living.{Ends, IsHaltOfTrial}
+use Rattle.face.specs.Texts.{fault_line}
+use Rattle.face.specs.Trial.{numbers_of}
+use Rattle.face.specs.declared.halt.Halt.{Halt}
+use Rattle.face.proofs.Trials.{caused_by, devices_then, devices_told, numbers_unbegun, told_and_fault}
+use Rattle.face.proofs.trial.trial.Goals as goal
+
+pub returns-in-Err-clause-trial : goal.returns-in-Err-clause-trial
+returns-in-Err-clause-trial g c geometry is_new =
+    let old = g.S.Site.state c.args.site.now in
+    let mid = g.S.Site.state c.work-lived.new.site in
+    let new = g.S.Site.state c.tell_halt.new.site in
+    let work = c.work-lived.ensures in
+    let numbers = numbers_of c.work-lived.result.1 in
+    record {
+      lives = λ honest.
+          told_and_fault {T = Unit {0}} geometry old.left old mid new numbers c.status.result c.tell_halt.result work.goes (stays_honest old mid work.goes honest) c.in-Err.halt c.status.ensures
+          (subst (λ (r : Result (Unit {0}) Halt). Ends geometry old.left r old mid numbers) c.in-Err.is (work.lives geometry is_new honest))
+          (λ which. ap numbers_of (work.unbegun (⊎_elim (λ e. inl (c.in-Err.is ∙ ap Err e)) (λ e. inr (c.in-Err.is ∙ ap Err e)) which)) ∙ numbers_unbegun geometry c.args.inner is_new)
+          c.tell_halt.ensures;
+      causes = caused_by c.in-Err.halt c.status.result old mid new c.status.ensures (record {
+        is = subst (λ (r : Result (Unit {0}) Halt). IfErr r IsHaltOfTrial) c.in-Err.is work.halts;
+        input = λ e. work.input (c.in-Err.is ∙ ap Err e);
+        output = λ e. (work.output (c.in-Err.is ∙ ap Err e)).0;
+        few = λ e. (work.output (c.in-Err.is ∙ ap Err e)).1;
+        limit = λ e honest. work.limit honest (c.in-Err.is ∙ ap Err e);
+      }) c.tell_halt.ensures.goes (λ honest. (c.tell_halt.ensures.devices (stays_honest old mid work.goes honest)).left);
+      devices = λ honest. devices_then old mid new (work.devices honest) (devices_told (fault_line c.in-Err.halt) mid new (c.tell_halt.ensures.any_moment (stays_honest old mid work.goes honest)));
+      reads = λ dev. c.tell_halt.ensures.reads dev ∙ work.reads dev;
+    }
