@@ -29,7 +29,7 @@ use Rattle.page_store.specs.Held.{MayGoOn, Fits, current}
 use Rattle.page_store.specs.Caching.{next_group, cache_of, rules}
 use Rattle.page_store.specs.Ahead.{IsLogged, AreSealed, LeavesSealed, AreLogged, IsAhead, end_forced, forces}
 use Rattle.page_store.specs.Leaves.{AreReady, LeavesPages, LeavesRings, AreGiven, Gives, AreChanged, KeepsCurrent}
-use Rattle.page_store.specs.Flushing.{chosen, cleared_all, flushed_first, flushed_contents}
+use Rattle.page_store.specs.Flushing.{saved_next, cleared_all, flushed_first, flushed_contents}
 use Rattle.page_store.specs.Stopping.{MayStop, IsLogAtEnd}
 
 -- A log and the pages beside it may go on together: they have one geometry, and there is room for the block of the
@@ -88,9 +88,9 @@ pub record Saves {T : Type 0} (result : Result T Stop) (log : LogStore) (pages p
     : Type 0 where
   pub machine : OnOk result (cache_of pages' ≡ push_changed (rules pages) (cache_of pages))
   pub frames : OnOk result
-      (pages'.pool.frames ≡ cleared_all (map (λ f. f.page) (chosen pages.pool.frames)) pages.pool.frames)
+      (pages'.pool.frames ≡ cleared_all (map (λ f. f.page) (saved_next pages)) pages.pool.frames)
   pub directory : OnOk result
-      (pages'.flash.directory ≡ pushed_queue pages.flash (map (λ f. known_of f.page true) (chosen pages.pool.frames)))
+      (pages'.flash.directory ≡ pushed_queue pages.flash (map (λ f. known_of f.page true) (saved_next pages)))
   pub reads : now.flash_reads ≤ before.flash_reads + 8
   pub worn_log : IsErrOf result (Worn Log) → (forces log (flushed_first pages) ≡ true) × (log.ring.hi ≡ 2 ^ 40)
   pub worn_flash : IsErrOf result (Worn Flash) → pages.flash.ring.hi ≡ 2 ^ 40

@@ -8,7 +8,7 @@ use Rattle.page_store.proofs.store.PageStore.push_changed.Goals as goal
 pub contents_of-requires : goal.contents_of-requires
 contents_of-requires g c =
     let frames = c.args.self.now.pool.frames in
-    subst (All (λ (page : ℕ). IsSome (frame_of frames page))) (sym c.requires.pages) (pages_there frames c.requires.going.pages_going.own.pool.distinct)
+    subst (All (λ (page : ℕ). IsSome (frame_of frames page))) (sym c.requires.pages) (pages_there _ frames c.requires.going.pages_going.own.pool.distinct)
 
 pub returns-in_err-plan-clause-keeps : goal.returns-in_err-plan-clause-keeps
 returns-in_err-plan-clause-keeps g c list ready = keeps_still c.requires.going.sizes ready (search rules) (search rules) (search rules)
