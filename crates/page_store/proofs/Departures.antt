@@ -1,6 +1,6 @@
 -- Pages leave the pool with an eviction.
-use Rattle.std.proofs.Common.{◌≡◌, ◌≢◌, ◌⊎◌, inl, inr, ℕ, zero, suc, ◌<◌, ◌≤◌, ◌==◌, Bool, true, false, not, ◌&&◌, ◌||◌, cond, List, [], ◌∷◌, ◌++◌, length, get_or, map, reverse, Option, Some, None, arith, refl, sym, ap, subst, ◌∙◌, length-append}
-use Rattle.std.specs.Prelude.{Contains}
+use Rattle.std.proofs.Common.{◌≡◌, ◌≢◌, ◌⊎◌, inl, inr, ℕ, zero, suc, ◌-◌, ◌<◌, ◌≤◌, ◌==◌, Bool, true, false, not, ◌&&◌, ◌||◌, cond, List, [], ◌∷◌, ◌++◌, length, get_or, map, reverse, Option, Some, None, arith, refl, sym, ap, subst, ◌∙◌, length-append}
+use Rattle.std.specs.Prelude.{Contains, AllPairs}
 use Rattle.std.specs.List.{AllByRecursion}
 use Rattle.std.proofs.lemmas.Option.{none-some}
 use Rattle.std.proofs.lemmas.Bool.{cases_eq, eqb-false, eq-eqb}
@@ -19,7 +19,7 @@ use Rattle.buffer_pool.specs.Laws.{IsLast, WithoutTakesOne}
 use Rattle.second_chance.specs.declared.plan.PoolMark.{PoolMark}
 use Rattle.second_chance.specs.declared.frame.Frame.{Frame as Known}
 use Rattle.second_chance.specs.Queue.{Queue, has_frame, frame_of as known_of}
-use Rattle.second_chance.specs.Plans.{pulled_at_eviction}
+use Rattle.second_chance.specs.Plans.{group_size, chances_of, pulled_at_eviction}
 use Rattle.second_chance.specs.Machine.{Rules, PoolPage, Cache, leaving, pool_marks, pool_frame, must_be_pushed, evict_first, evict_coldest, after_eviction, push_evicted, without, is_pulled}
 use Rattle.log_store.specs.declared.store.LogStore.{LogStore}
 use Rattle.log_store.specs.LogList.{LogList}
@@ -28,12 +28,13 @@ use Rattle.page_store.specs.declared.store.PageStore.{PageStore}
 use Rattle.page_store.specs.Held.{IsPage, IsStore, MayGoOn, Fits, content_by, current}
 use Rattle.page_store.specs.Caching.{pool_page, cache_of, rules}
 use Rattle.page_store.specs.Ahead.{IsLogged, AreSealed, LeavesSealed, forces, evicted}
-use Rattle.page_store.specs.Pulling.{mark_for, without_all, pulled, evicted_of, evicted_frames}
+use Rattle.page_store.specs.Calls.{MayWork}
+use Rattle.page_store.specs.Pulling.{LeavesOut, mark_for, without_all, pulled, evicted_of, evicted_frames}
 use Rattle.page_store.specs.Leaves.{AreReady, LeavesPages, AreGiven, Gives, AreChanged, KeepsCurrent}
 use Rattle.page_store.proofs.Pools.{absent}
 use Rattle.page_store.proofs.Clearing.{is_among}
 use Rattle.page_store.proofs.Saving.{all_both, all_weaker, all_reverse, distinct_reverse, found_all}
-use Rattle.page_store.proofs.Removing.{page_of, frames_without, all_pulled, pulled_move, pulled_apart, pool_left}
+use Rattle.page_store.proofs.Removing.{store_part, page_of, frames_without, all_left, pulled_few, all_pulled, pulled_move, pulled_apart, pool_left}
 use Rattle.page_store.proofs.Movable.{pulled_of}
 use Rattle.buffer_pool.specs.Frames as pool
 use Rattle.std.specs.List.{All}
@@ -43,8 +44,12 @@ use Rattle.flash_cache.specs.Held.{disk_on}
 use Rattle.page_store.specs.Ahead.{AreLogged, end_forced}
 use Rattle.page_store.proofs.Evictions.{all_front, all_last, distinct_front, reverse_last, not_forced}
 use Rattle.page_store.proofs.PushLaws.{or_listed}
-use Rattle.page_store.proofs.Saving.{all_index, all_map}
+use Rattle.page_store.proofs.Saving.{all_index, all_map, pages_apart}
 use Rattle.page_store.proofs.Touching.{all_found}
+use Rattle.page_store.specs.Changing.{given_changes, eviction_changes}
+use Rattle.page_store.specs.declared.taking.Taken.{Taken}
+use Rattle.page_store.specs.Taking.{Has}
+use Rattle.page_store.proofs.Changing.{given_are, eviction_is}
 use Rattle.page_store.proofs.Flushes.{marks_turned, not_among}
 use Rattle.page_store.proofs.Calling.{AreItsOwn}
 
@@ -70,7 +75,7 @@ evicts_pushed store rest last queue is must after =
     let small : Cache = record { pool = map pool_page rest.frames; queue = before } in
     let gone : List Frame = pulled smaller in
     let marks : pulled_at_eviction r.pulls r.chances (leaving r before) (pool_marks small) ≡ map (mark_for before) gone =
-    ap (pulled_at_eviction r.pulls r.chances (leaving r before)) (marks_turned before rest.frames) ∙ pulled_of r.pulls _ before (reverse rest.frames) in
+    ap (pulled_at_eviction r.pulls r.chances (leaving r before)) (marks_turned before rest.frames) ∙ pulled_of r.pulls (group_size - 1 - length (chances_of r.chances (leaving r before))) before (reverse rest.frames) in
     (λ i. let c : Cache = record { pool = pool_left before gone rest.frames i; queue = after i } in c)
     ∙ (λ i. let c : Cache = record { pool = without (is_pulled (sym marks i)) (map pool_page rest.frames); queue = pushed_queue store.flash (known_marks before (last ∷ gone) i) } in c)
     ∙ (λ i. let c : Cache = record {
@@ -87,10 +92,10 @@ evicts_pushed store rest last queue is must after =
 
 -- Some frames leave the pool: none of their pages is there any more, and all others are as they were.
 pub record IsWithout (old new gone : List Frame) : Type 0 where
-  pub gone : AllByRecursion (λ (f : Frame). frame_of new f.page ≡ None) gone
+  pub absent : AllByRecursion (λ (f : Frame). frame_of new f.page ≡ None) gone
   pub others : (n : ℕ) → is_among (map page_of gone) n ≡ false → frame_of new n ≡ frame_of old n
 
-none_either : (b : Bool) → cond b None (None {A = Frame}) ≡ None
+none_either : (b : Bool) → ◌≡◌ {A = Option Frame} (cond b None None) None
 none_either true = refl
 none_either false = refl
 
@@ -196,6 +201,13 @@ module _ (store : PageStore) (rest : Pool) (last : Frame) (is : store.pool.frame
   pub rest_logged : (end : ℕ) → AllByRecursion (λ (frame : Frame). IsLogged end frame.content) store.pool.frames → AllByRecursion (λ (frame : Frame). IsLogged end frame.content) rest.frames
   rest_logged end all = all_front (λ (frame : Frame). IsLogged end frame.content) rest.frames last (subst (AllByRecursion (λ (frame : Frame). IsLogged end frame.content)) is all)
 
+  pub absent_rest : (page : ℕ) → frame_of store.pool.frames page ≡ None → frame_of rest.frames page ≡ None
+  absent_rest page none = by (cases_eq page last.page)
+    where
+      by : (page ≡ last.page) ⊎ (page ≢ last.page) → frame_of rest.frames page ≡ None
+      by (inl same) = ap (frame_of rest.frames) same ∙ one.gone
+      by (inr other) = others page other ∙ none
+
   -- The pages that are pushed are the pool's own, each once.
 
   not_last : AllByRecursion (λ (f : Frame). f.page ≢ last.page) rest.frames
@@ -228,7 +240,7 @@ module _ (store : PageStore) (rest : Pool) (last : Frame) (is : store.pool.frame
     -- the pool without them
     pub gone_without : WithoutTakesOne → IsWithout store.pool.frames (without_all (map page_of (pulled smaller)) rest.frames) gone
     gone_without law = record {
-      gone = (
+      absent = (
         frames_without law (map page_of (pulled smaller)) rest.frames last.page ∙ ap (λ (o : Option Frame). cond (is_among (map page_of (pulled smaller)) last.page) None o) one.gone ∙ none_either (is_among (map page_of (pulled smaller)) last.page),
         all_gone (λ (n : ℕ). frame_of (without_all (map page_of (pulled smaller)) rest.frames) n ≡ None) (pulled smaller) (λ n is. frames_without law (map page_of (pulled smaller)) rest.frames n ∙ ap (λ (b : Bool). cond b None (frame_of rest.frames n)) is),
       );
@@ -246,7 +258,7 @@ module _ (store : PageStore) (pool : Pool) (xs : List Frame) (w : IsWithout stor
 
   listed_gone : (n k : ℕ) → k < length (map page_of xs) → get_or (map page_of xs) k 0 ≡ n → frame_of pool.frames n ≡ None
   listed_gone n k less is = subst (λ (page : ℕ). frame_of pool.frames page ≡ None) is
-      (all_index (λ (page : ℕ). frame_of pool.frames page ≡ None) (map page_of xs) k 0 (all_map (λ (page : ℕ). frame_of pool.frames page ≡ None) page_of xs w.gone) less)
+      (all_index (λ (page : ℕ). frame_of pool.frames page ≡ None) (map page_of xs) k 0 (all_map (λ (page : ℕ). frame_of pool.frames page ≡ None) page_of xs w.absent) less)
 
   pub without_fits : (site : State) → Fits store site → Fits after site
   without_fits site fits = record {
@@ -341,3 +353,82 @@ known_own (x ∷ xs) = ap (λ (l : List Known). known_of x.page x.changed ∷ l)
 pub with_parts : (P : List ℕ → List Bool → List (List ℕ) → Type 0) {a a' : List ℕ} {b b' : List Bool} {c c' : List (List ℕ)} → a ≡ a' → b ≡ b' → c ≡ c' → P a b c → P a' b' c'
 with_parts P {a = a} {a' = a'} {b = b} {b' = b'} {c = c} first second third p =
     subst (P a' b') third (subst (λ (l : List Bool). P a' l c) second (subst (λ (l : List ℕ). P l b c) first p))
+
+-- All that a push of the coldest page and of those that are pulled with it asks, and what it makes.
+
+pub record Departs (store : PageStore) (pool : Pool) (pages : List ℕ) (changed : List Bool) (contents : List (List ℕ)) : Type 0 where
+  pub some : 1 ≤ length pages
+  pub few : length pages ≤ 8
+  pub marks : length changed ≡ length pages
+  pub lists : length contents ≡ length pages
+  pub exist : All (λ (page : ℕ). page < store.flash.geometry.pages) pages
+  pub apart : AllPairs (λ (a b : ℕ). a ≢ b) pages
+  pub forced : (log : LogStore) → forces log contents ≡ forces log (evicted store)
+  pub changes : (log : LogStore) (list : LogList) → given_changes log list store pages changed contents ≡ eviction_changes log list store
+  pub own : (log : LogStore) (site : State) → Fits store site → AreItsOwn log store pages changed contents site.image
+  pub ready : (log : LogStore) (list : LogList) (site : State) → AreReady store log list site → AreReady (record store { pool = pool }) log list site
+  pub are_changed : AreChanged (record store { pool = pool }) pages
+  pub current : (store' : PageStore) (old new : Image) → store'.pool ≡ pool → store'.flash.geometry ≡ store.flash.geometry → Gives store.flash.geometry pages contents old new → KeepsCurrent store old store' new
+  pub logged : (end : ℕ) → AreLogged end store.pool.frames → AreLogged end pool.frames
+  pub machine : (queue : Queue) → queue ≡ pushed_queue store.flash (known_given pages changed) → ◌≡◌ {A = Cache} (record { pool = map pool_page pool.frames; queue = queue }) (evict_coldest (rules store) (cache_of store))
+
+-- both may go on
+pub going_left : (log : LogStore) (store : PageStore) (rest : Pool) (last : Frame) (site : State) (pool : Pool) → store.pool.frames ≡ rest.frames ++ last ∷ [] → IsLast rest.frames last → rest.size ≡ store.pool.size
+    → LeavesOut rest.frames pool.frames → pool.size ≡ rest.size → MayWork log store site → MayWork log (record store { pool = pool }) site
+going_left log store rest last site pool is one size part same going =
+    let smaller : PageStore = record store { pool = rest } in
+    let left = rest_going store rest last is one site size going.pages_going in
+    record {
+      pages_going = record { flash = left.flash; own = store_part smaller pool part same left.own };
+      log_going = going.log_going;
+      sizes = going.sizes;
+      room = going.room;
+    }
+
+-- and what is left is logged as it was
+pub logged_left : (end : ℕ) (store : PageStore) (rest : Pool) (last : Frame) (pool : Pool) → store.pool.frames ≡ rest.frames ++ last ∷ [] → LeavesOut rest.frames pool.frames → AreLogged end store.pool.frames → AreLogged end pool.frames
+logged_left end store rest last pool is part all = subst (AllByRecursion (λ (f : Frame). IsLogged end f.content)) (sym part.left) (all_left (λ (f : Frame). IsLogged end f.content) part.pages rest.frames
+    (all_front (λ (f : Frame). IsLogged end f.content) rest.frames last (subst (AllByRecursion (λ (f : Frame). IsLogged end f.content)) is all)))
+
+module _ (store : PageStore) (rest : Pool) (last : Frame) (is : store.pool.frames ≡ rest.frames ++ last ∷ []) (one : IsLast rest.frames last) (disk : UnframedIsDisk) (law : WithoutTakesOne) (whole : IsStore store)
+    (must : must_be_pushed store.flash.directory (pool_page last) ≡ true) where
+  abbrev all_gone_now : List Frame
+  all_gone_now = last ∷ pulled (record store { pool = rest })
+
+  abbrev pool_then : Pool
+  pool_then = record rest { frames = without_all (map page_of (pulled (record store { pool = rest }))) rest.frames }
+
+  rest_distinct : AreDistinct rest.frames
+  rest_distinct = distinct_front rest.frames last (subst AreDistinct is whole.pool.distinct)
+
+  own_departs : Departs store pool_then (map page_of all_gone_now) (map (λ (f : Frame). f.changed) all_gone_now) (map (λ (f : Frame). f.content) all_gone_now)
+  own_departs =
+      let xs : List Frame = all_gone_now in
+      let found = gone_found store rest last is one rest_distinct in
+      let move = gone_move store rest last is one rest_distinct must in
+      let out = gone_without store rest last is one rest_distinct law in
+      let count : length xs ≤ 8 = omega (arith, pulled_few (rules store) store.flash.directory (reverse rest.frames)) in
+      let evicted_are = some_evicted store rest last is one must in
+      record {
+        some = omega arith;
+        few = omega (arith, count, length-map xs page_of);
+        marks = omega (arith, length-map xs page_of, length-map xs (λ (f : Frame). f.changed));
+        lists = omega (arith, length-map xs page_of, length-map xs (λ (f : Frame). f.content));
+        exist = own_exist store xs found whole;
+        apart = pages_apart xs (gone_apart store rest last is one rest_distinct);
+        forced = λ log. ap (λ (l : List Frame). forces log (map (λ (f : Frame). f.content) l)) (sym evicted_are);
+        changes = λ log list. given_are log list store xs ∙ sym (eviction_is log list store xs evicted_are);
+        own = λ log site fits. own_push store xs found disk log site whole fits move;
+        ready = λ log list site ready. without_ready store pool_then xs out log list site ready;
+        are_changed = without_changed store pool_then xs out;
+        current = λ store' old new pool geometry gives. without_current store pool_then xs out store' old new pool geometry (own_given store xs found old) gives;
+        logged = λ end all. all_left (λ (f : Frame). IsLogged end f.content) (map page_of (pulled (record store { pool = rest }))) rest.frames
+            (all_front (λ (f : Frame). IsLogged end f.content) rest.frames last (subst (AllByRecursion (λ (f : Frame). IsLogged end f.content)) is all));
+        machine = λ queue after. evicts_pushed store rest last queue is must (after ∙ ap (pushed_queue store.flash) (known_own xs));
+      }
+
+  pub departs : (pool : Pool) (taken : Taken) (pages : List ℕ) (changed : List Bool) (contents : List (List ℕ)) → pool ≡ pool_then → Has taken all_gone_now
+      → pages ≡ taken.pages.items → changed ≡ taken.changed.items → contents ≡ taken.contents.items → Departs store pool pages changed contents
+  departs pool taken pages changed contents then has first second third =
+      subst (λ (p : Pool). Departs store p pages changed contents) (sym then)
+      (with_parts (Departs store pool_then) (sym (first ∙ has.pages)) (sym (second ∙ has.changed)) (sym (third ∙ has.contents)) own_departs)

@@ -192,3 +192,15 @@ module _ (law : WithoutTakesOne) (store : PageStore) (own : IsStore store) where
 
   pub next_pulled : (k : ℕ) (d : Frame) → k < length xs → (page : ℕ) → slice_get (map page_of xs) k ≡ Some page → frame_of (without_all (take k (map page_of xs)) frames) page ≡ Some (get_or xs k d)
   next_pulled k d less page at = subst (λ (n : ℕ). frame_of (without_all (take k (map page_of xs)) frames) n ≡ Some (get_or xs k d)) (next_page k d less page at) (next_there law frames xs xs_found xs_apart k d less)
+
+-- a page that isn't there isn't there then
+pub absent_part : WithoutTakesOne → (old new : List Frame) → LeavesOut old new → (page : ℕ) → frame_of old page ≡ None → frame_of new page ≡ None
+absent_part law old new part page none =
+    ap (λ (l : List Frame). frame_of l page) part.left ∙ frames_without law part.pages old page ∙ ap (λ (o : Option Frame). cond (is_among part.pages page) None o) none ∙ either (is_among part.pages page)
+  where
+    either : (b : Bool) → ◌≡◌ {A = Option Frame} (cond b None None) None
+    either true = refl
+    either false = refl
+
+pub few_part : (old new : List Frame) → LeavesOut old new → length new ≤ length old
+few_part old new part = let count = ap length part.left in omega (arith, count, few_left part.pages old)

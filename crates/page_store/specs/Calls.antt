@@ -1,10 +1,10 @@
 -- What the calls on pages ask and say, each as one record, with the call's result as its index where that matters.
-use Rattle.std.specs.Prelude.{◌≡◌, ◌≢◌, ◌↔◌, ℕ, ◌+◌, ◌*◌, ◌^◌, ◌≤◌, ◌<◌, Bool, true, if◌then◌else◌, IsTrue, List, map, Option, Result, OnOk, IfErr, IsErrOf}
+use Rattle.std.specs.Prelude.{◌≡◌, ◌≢◌, ◌⊎◌, ℕ, ◌+◌, ◌*◌, ◌^◌, ◌≤◌, ◌<◌, Bool, true, if◌then◌else◌, IsTrue, List, map, Option, Result, OnOk, IfErr, IsErrOf}
 use Rattle.std.specs.List.{AllByRecursion}
 use Rattle.site.specs.declared.outside.Dev.{Dev}
 use Rattle.site.specs.declared.outside.Dev.TheVariants.{Log, Flash}
 use Rattle.site.specs.declared.outside.Stop.{Stop}
-use Rattle.site.specs.declared.outside.Stop.TheVariants.{Device, Worn, Foreign}
+use Rattle.site.specs.declared.outside.Stop.TheVariants.{Device, Worn, Memory, Foreign}
 use Rattle.site.specs.State.{State, IsQuiet, reads_of, snapshot_of}
 use Rattle.site.specs.Calls.{IsUnchanged}
 use Rattle.site.specs.Moments.{LeavesOnly}
@@ -75,11 +75,12 @@ pub record Pushes {T : Type 0} (result : Result T Stop) (old new : LogStore) (pa
   pub others : (d : Dev) → d ≢ Flash → reads_of d now ≡ reads_of d before
   pub foreign : IfErr result (λ stop. stop ≢ Foreign)
 
--- When a ring at its end stops a call: that of the log exactly where the log is forced, that of the flash where a group
--- is pushed, and each such push.
+-- When a ring at its end stops a call: that of the log where the log is forced, unless memory is wanting before; that of
+-- the flash where a group is pushed, and each such push.
 pub record StopsAtEnd {T : Type 0} (result : Result T Stop) (log : LogStore) (pages : PageStore)
     (sealing pushing : Bool) : Type 0 where
-  pub worn_log : IsErrOf result (Worn Log) ↔ ((sealing ≡ true) × (log.ring.hi ≡ 2 ^ 40))
+  pub worn_log : IsErrOf result (Worn Log) → (sealing ≡ true) × (log.ring.hi ≡ 2 ^ 40)
+  pub at_log_end : sealing ≡ true → log.ring.hi ≡ 2 ^ 40 → IsErrOf result (Worn Log) ⊎ IsErrOf result Memory
   pub worn_flash : IsErrOf result (Worn Flash) → (pushing ≡ true) × (pages.flash.ring.hi ≡ 2 ^ 40)
   pub never_past : pushing ≡ true → pages.flash.ring.hi ≡ 2 ^ 40 → OnOk result ⊥
 

@@ -62,7 +62,7 @@ returns-in-Err-clause-saves g c =
       frames = tt;
       directory = tt;
       reads = c.push.ensures.reads;
-      worn_log = λ says. (let both = c.in-Err.ensures.worn.worn_log.0 says in (sym (ap (forces c.args.log.now) facts.chosen_are.first) ∙ both.0, both.1));
+      worn_log = λ says. (let both = c.in-Err.ensures.worn.worn_log says in (sym (ap (forces c.args.log.now) facts.chosen_are.first) ∙ both.0, both.1));
       worn_flash = λ says. (c.in-Err.ensures.worn.worn_flash says).1;
       worn_at = c.in-Err.ensures.worn_at;
       never_past = λ past. tt;
