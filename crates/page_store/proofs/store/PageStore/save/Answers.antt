@@ -14,6 +14,7 @@ use Rattle.page_store.specs.Caching.{pool_page, cache_of, rules as rules_for}
 use Rattle.page_store.specs.Ahead.{IsLogged, end_forced, forces}
 use Rattle.page_store.specs.Calls.{Stands}
 use Rattle.page_store.specs.Changing.{standing, push_changes}
+use Rattle.page_store.specs.Pulling.{room_for_pages}
 use Rattle.page_store.specs.Flushing.{saved_next, flushed_first, cleared_all}
 use Rattle.page_store.proofs.Saving.{pages_there, pages_exist, pages_apart, distinct_chosen, some_chosen}
 use Rattle.page_store.proofs.Choosing.{room_some}
@@ -26,22 +27,22 @@ use Rattle.page_store.proofs.store.PageStore.save.Goals as goal
 
 pub push-requires-clause-some : goal.push-requires-clause-some
 push-requires-clause-some g c =
-    let some = some_chosen _ c.args.self.now.pool.frames (room_some (rules_for c.args.self.now) c.args.self.now.flash.directory) c.requires.some in
+    let some = some_chosen (room_for_pages (rules_for c.args.self.now) c.args.self.now.flash.directory) c.args.self.now.pool.frames (room_some (rules_for c.args.self.now) c.args.self.now.flash.directory) c.requires.some in
     let count = ap length c.requires.pages in
     omega (arith, some, count, length-map (saved_next c.args.self.now) (λ (f : Frame). f.page))
 
 pub push-requires-clause-exist : goal.push-requires-clause-exist
 push-requires-clause-exist g c = subst (All (λ (page : ℕ). page < c.args.self.now.flash.geometry.pages)) (sym c.requires.pages)
-    (pages_exist _ c.args.self.now.pool.frames c.requires.going.pages_going.own.pool.distinct c.args.self.now.flash.geometry.pages c.requires.going.pages_going.own.pages)
+    (pages_exist (room_for_pages (rules_for c.args.self.now) c.args.self.now.flash.directory) c.args.self.now.pool.frames c.requires.going.pages_going.own.pool.distinct c.args.self.now.flash.geometry.pages c.requires.going.pages_going.own.pages)
 
 pub push-requires-clause-apart : goal.push-requires-clause-apart
-push-requires-clause-apart g c = subst (AllPairs (λ (a b : ℕ). a ≢ b)) (sym c.requires.pages) (pages_apart (saved_next c.args.self.now) (distinct_chosen _ c.args.self.now.pool.frames c.requires.going.pages_going.own.pool.distinct))
+push-requires-clause-apart g c = subst (AllPairs (λ (a b : ℕ). a ≢ b)) (sym c.requires.pages) (pages_apart (saved_next c.args.self.now) (distinct_chosen (room_for_pages (rules_for c.args.self.now) c.args.self.now.flash.directory) c.args.self.now.pool.frames c.requires.going.pages_going.own.pool.distinct))
 
 pub clear_all-requires-clause-there : goal.clear_all-requires-clause-there
 clear_all-requires-clause-there g c =
     let frames = c.args.self.now.pool.frames in
     subst (λ (p : Pool). All (λ (page : ℕ). IsSome (frame_of p.frames page)) c.args.pages.now) (sym c.push.ensures.pool)
-    (subst (All (λ (page : ℕ). IsSome (frame_of frames page))) (sym c.requires.pages) (pages_there _ frames c.requires.going.pages_going.own.pool.distinct))
+    (subst (All (λ (page : ℕ). IsSome (frame_of frames page))) (sym c.requires.pages) (pages_there (room_for_pages (rules_for c.args.self.now) c.args.self.now.flash.directory) frames c.requires.going.pages_going.own.pool.distinct))
 
 pub returns-in-Err-clause-keeps : goal.returns-in-Err-clause-keeps
 returns-in-Err-clause-keeps g c list ready =
