@@ -1,5 +1,5 @@
 -- Lists of changes, call by call.
-use Rattle.std.proofs.Common.{◌≡◌, ℕ, zero, suc, ◌+◌, ◌*◌, ◌<◌, ◌≤◌, Bool, true, false, not, ◌&&◌, cond, List, [], ◌∷◌, ◌++◌, length, map, reverse, refl, sym, ap, ◌∙◌, arith, append_assoc, append-nil}
+use Rattle.std.proofs.Common.{◌≡◌, ℕ, zero, suc, ◌+◌, ◌*◌, ◌<◌, ◌≤◌, Bool, true, false, not, ◌&&◌, cond, List, [], ◌∷◌, ◌++◌, length, map, refl, sym, ap, ◌∙◌, arith, append_assoc, append-nil}
 use Rattle.std.specs.List.{AllByRecursion}
 use Rattle.std.proofs.lemmas.List.{length-map}
 use Rattle.site.specs.declared.geometry.Geometry.{Geometry}
@@ -15,13 +15,12 @@ use Rattle.log_store.specs.LogList.{LogList, sealed_if, changes_if}
 use Rattle.page_store.specs.declared.store.PageStore.{PageStore}
 use Rattle.log_store.specs.Held.{has_tail}
 use Rattle.page_store.specs.Ahead.{forces}
-use Rattle.page_store.specs.Flushing.{chosen, cleared_all, flushed_first}
+use Rattle.page_store.specs.Flushing.{saved_next, cleared_all, flushed_first}
 use Rattle.second_chance.specs.Queue.{frame_of as known_of}
 use Rattle.second_chance.specs.declared.frame.Frame.{Frame as Known}
-use Rattle.second_chance.specs.Machine.{must_be_pushed, wants_flush}
-use Rattle.page_store.specs.Caching.{pool_page}
-use Rattle.page_store.specs.Changing.{Standing, stored, push_changes, standing, given_changes, first_changes, eviction_changes, cache_at, after_push, pushes_changes}
-use Rattle.page_store.proofs.Evictions.{reverse_last}
+use Rattle.second_chance.specs.Machine.{wants_flush}
+use Rattle.page_store.specs.Changing.{Standing, stored, push_changes, standing, given_changes, changes_if_any, eviction_changes, cache_at, next_saved, after_push, pushes_changes}
+use Rattle.page_store.specs.Pulling.{evicted_frames}
 
 -- What the first changes leave, more changes may leave too.
 pub front_more : (g : Geometry) (first more : List Change) (old new : State) → LeavesFront g first old new → LeavesFront g (first ++ more) old new
@@ -32,6 +31,16 @@ front_more g first more old new leaves = leaves_weaker old new (IsReached g (IsF
       made = (is.made.0 ++ more, ap (λ (l : List Change). l ++ more) is.made.1 ∙ append_assoc is.changes is.made.0 more);
       reaches = is.reaches;
     }) leaves
+
+-- Pages that are given with their marks and contents are frames of the pool.
+frames_given_are : (xs : List Frame) → frames_given (map (λ (f : Frame). f.page) xs) (map (λ (f : Frame). f.changed) xs) (map (λ (f : Frame). f.content) xs) ≡ map stored xs
+frames_given_are [] = refl
+frames_given_are (x ∷ xs) = ap (λ (l : List Stored). stored x ∷ l) (frames_given_are xs)
+
+pub given_are : (log : LogStore) (list : LogList) (store : PageStore) (xs : List Frame)
+    → given_changes log list store (map (λ (f : Frame). f.page) xs) (map (λ (f : Frame). f.changed) xs) (map (λ (f : Frame). f.content) xs) ≡ push_changes (standing log list store) xs
+given_are log list store xs =
+    ap (λ (l : List Stored). changes_if (forces log (map (λ (f : Frame). f.content) xs)) list ++ changes_of_push (staged_pages store.flash) (group l)) (frames_given_are xs)
 
 -- Pages that are given as changed, with what the pool has of them, are frames of the pool.
 frames_changed : (xs : List Frame) (changed : List Bool) → length changed ≡ length xs → AllByRecursion (λ (b : Bool). b ≡ true) changed → AllByRecursion (λ (f : Frame). f.changed ≡ true) xs
@@ -49,12 +58,9 @@ given_is log list store pages changed contents xs are have lists marks all =
     ∙ ap (λ (l : List Stored). changes_if (forces log (map (λ (f : Frame). f.content) xs)) list ++ changes_of_push (staged_pages store.flash) (group l))
     (frames_changed xs changed (let count = ap length are in omega (arith, lists, count, length-map xs (λ (f : Frame). f.page))) marks all)
 
--- An eviction pushes the coldest page, or nothing.
-pub eviction_is : (log : LogStore) (list : LogList) (store : PageStore) (rest : List Frame) (last : Frame) (b : Bool) → store.pool.frames ≡ rest ++ last ∷ [] → must_be_pushed store.flash.directory (pool_page last) ≡ b
-    → eviction_changes log list store ≡ cond b (push_changes (standing log list store) (last ∷ [])) []
-eviction_is log list store rest last b is must =
-    ap (first_changes (standing log list store)) (ap reverse is ∙ reverse_last rest last)
-    ∙ ap (λ (t : Bool). cond t (push_changes (standing log list store) (last ∷ [])) []) must
+-- An eviction pushes some pages, or none.
+pub eviction_is : (log : LogStore) (list : LogList) (store : PageStore) (frames : List Frame) → evicted_frames store ≡ frames → eviction_changes log list store ≡ changes_if_any (standing log list store) frames
+eviction_is log list store frames is = ap (changes_if_any (standing log list store)) is
 
 -- A flush, push by push.
 
@@ -75,8 +81,8 @@ tail_after false false any next next' is end = refl
 pub standing_after : (log log' : LogStore) (list list' : LogList) (store store' : PageStore) (any : Bool) → forces log (flushed_first store) ≡ (has_tail log && any)
     → log'.ring.hi ≡ cond (forces log (flushed_first store)) (log.ring.hi + 1) log.ring.hi → 512 * (log'.ring.hi + cond (has_tail log') 1 0) ≡ 512 * (log.ring.hi + cond (has_tail log) 1 0)
     → list' ≡ sealed_if (forces log (flushed_first store)) list → store'.flash.geometry ≡ store.flash.geometry
-    → store'.flash.directory ≡ pushed_queue store.flash (map (λ (f : Frame). known_of f.page true) (chosen store.pool.frames))
-    → store'.pool.frames ≡ cleared_all (map (λ (f : Frame). f.page) (chosen store.pool.frames)) store.pool.frames → standing log' list' store' ≡ after_push (standing log list store)
+    → store'.flash.directory ≡ pushed_queue store.flash (map (λ (f : Frame). known_of f.page true) (saved_next store))
+    → store'.pool.frames ≡ cleared_all (map (λ (f : Frame). f.page) (saved_next store)) store.pool.frames → standing log' list' store' ≡ after_push (standing log list store)
 standing_after log log' list list' store store' any is next end sealed geometry queue frames =
     let tail : has_tail log' ≡ (has_tail log && not (forces log (flushed_first store))) =
     tail_after (has_tail log) (has_tail log') any log.ring.hi log'.ring.hi (next ∙ ap {B = ℕ} (λ (b : Bool). cond b (log.ring.hi + 1) log.ring.hi) is) end ∙ sym (ap (λ (b : Bool). has_tail log && not b) is) in
@@ -95,19 +101,19 @@ module _ (all made : List Change) (s : Standing) (count : ℕ) (so_far : HasMade
     where
       by : (n : ℕ) → pushes_changes n s ≡ []
       by zero = refl
-      by (suc n) = ap (λ (b : Bool). cond b (push_changes s (chosen s.frames) ++ pushes_changes n (after_push s)) []) none
+      by (suc n) = ap (λ (b : Bool). cond b (push_changes s (next_saved s) ++ pushes_changes n (after_push s)) []) none
 
   -- some page is
-  pub one_to_come : wants_flush (cache_at s) ≡ true → (count' : ℕ) → count' < count → (s' : Standing) → s' ≡ after_push s → HasMade all (made ++ push_changes s (chosen s.frames)) s' count'
+  pub one_to_come : wants_flush (cache_at s) ≡ true → (count' : ℕ) → count' < count → (s' : Standing) → s' ≡ after_push s → HasMade all (made ++ push_changes s (next_saved s)) s' count'
   one_to_come some count' fewer s' is = by so_far.pushes refl
     where
-      by : (n : ℕ) → so_far.pushes ≡ n → HasMade all (made ++ push_changes s (chosen s.frames)) s' count'
+      by : (n : ℕ) → so_far.pushes ≡ n → HasMade all (made ++ push_changes s (next_saved s)) s' count'
       by zero none = absurd (omega (arith, fewer, so_far.enough, none))
       by (suc n) more = record {
         pushes = n;
         enough = omega (arith, fewer, so_far.enough, more);
         split = so_far.split ∙ ap (λ (k : ℕ). made ++ pushes_changes k s) more
-            ∙ ap (λ (b : Bool). made ++ cond b (push_changes s (chosen s.frames) ++ pushes_changes n (after_push s)) []) some
-            ∙ sym (append_assoc made (push_changes s (chosen s.frames)) (pushes_changes n (after_push s)))
-            ∙ ap (λ (t : Standing). (made ++ push_changes s (chosen s.frames)) ++ pushes_changes n t) (sym is);
+            ∙ ap (λ (b : Bool). made ++ cond b (push_changes s (next_saved s) ++ pushes_changes n (after_push s)) []) some
+            ∙ sym (append_assoc made (push_changes s (next_saved s)) (pushes_changes n (after_push s)))
+            ∙ ap (λ (t : Standing). (made ++ push_changes s (next_saved s)) ++ pushes_changes n t) (sym is);
       }

@@ -1,23 +1,38 @@
 -- The coldest changed pages.
-use Rattle.std.proofs.Common.{◌≡◌, ℕ, zero, suc, ◌≤◌, Bool, true, false, cond, List, [], ◌∷◌, ◌++◌, length, take, map, filter, reverse, arith, refl, sym, ap, ◌∙◌}
-use Rattle.std.specs.List.{AllByRecursion}
+use Rattle.std.proofs.Common.{◌≡◌, ℕ, zero, suc, ◌-◌, ◌≤◌, Bool, true, false, ◌&&◌, cond, List, [], ◌∷◌, ◌++◌, length, take, map, filter, reverse, arith, refl, sym, ap, ◌∙◌}
+use Rattle.std.specs.List.{AllByRecursion, enumerate_from}
 use Rattle.std.proofs.lemmas.List.{reverse-append, take_all, length-take, length-map}
 use Rattle.std.proofs.lemmas.List.Elements.{filter-append}
 use Rattle.buffer_pool.specs.declared.frame.Frame.{Frame}
 use Rattle.second_chance.specs.declared.plan.PoolMark.{PoolMark}
 use Rattle.second_chance.specs.Queue.{Queue, has_frame}
-use Rattle.page_store.specs.Flushing.{changed_frames, chosen, mark_for}
+use Rattle.second_chance.specs.Plans.{Placed, chances_of}
+use Rattle.second_chance.specs.Machine.{Rules, leaving}
+use Rattle.page_store.specs.Flushing.{changed_frames}
+use Rattle.page_store.specs.Pulling.{mark_for, room_for_pages}
 
 abbrev pub if_changed : Frame → List Frame
 if_changed frame = cond frame.changed (frame ∷ []) []
 
--- One frame more, and more frames once there are enough.
+-- the coldest ones, as many as there is room for
+abbrev pub first_changed : ℕ → List Frame → List Frame
+first_changed room frames = take room (changed_frames frames)
+
+-- a group has room for one page at least beside its second chances
+pub room_some : (r : Rules) (queue : Queue) → 1 ≤ room_for_pages r queue
+room_some r queue = by r.chances
+  where
+    by : (given : Bool) → 1 ≤ 8 - length (chances_of given (leaving r queue))
+    by true = omega (arith, length-take 7 (filter (λ (f : Placed). f.1.valid && f.1.referenced) (enumerate_from 0 (leaving r queue))))
+    by false = omega arith
+
+-- One frame more.
 
 pub changed_more : (frame : Frame) (frames : List Frame) → changed_frames (frame ∷ frames) ≡ changed_frames frames ++ if_changed frame
 changed_more frame frames = ap (filter (λ f. f.changed)) (reverse-append (frame ∷ []) frames) ∙ filter-append (λ f. f.changed) (reverse frames) (frame ∷ [])
 
-pub few_chosen : (frames : List Frame) → length (chosen frames) ≤ 8
-few_chosen frames = omega (arith, length-take 8 (changed_frames frames))
+pub few_chosen : (room : ℕ) (frames : List Frame) → length (first_changed room frames) ≤ room
+few_chosen room frames = omega (arith, length-take room (changed_frames frames))
 
 -- All that is chosen is changed.
 
@@ -34,8 +49,8 @@ all_take P zero xs all = tt
 all_take P (suc n) [] all = tt
 all_take P (suc n) (x ∷ xs) all = (all.0, all_take P n xs all.1)
 
-pub chosen_changed : (frames : List Frame) → AllByRecursion (λ (f : Frame). f.changed ≡ true) (chosen frames)
-chosen_changed frames = all_take (λ (f : Frame). f.changed ≡ true) 8 (changed_frames frames) (all_pass (λ (f : Frame). f.changed) (reverse frames))
+pub chosen_changed : (room : ℕ) (frames : List Frame) → AllByRecursion (λ (f : Frame). f.changed ≡ true) (first_changed room frames)
+chosen_changed room frames = all_take (λ (f : Frame). f.changed ≡ true) room (changed_frames frames) (all_pass (λ (f : Frame). f.changed) (reverse frames))
 
 filter_marks : (queue : Queue) (xs : List Frame) → AllByRecursion (λ (f : Frame). f.changed ≡ true) xs → filter (λ (m : PoolMark). m.changed) (map (mark_for queue) xs) ≡ map (mark_for queue) xs
 filter_marks queue [] all = refl
@@ -47,11 +62,13 @@ pages_marked : (queue : Queue) (xs : List Frame) → map (λ (m : PoolMark). m.p
 pages_marked queue [] = refl
 pages_marked queue (x ∷ xs) = ap (λ (l : List ℕ). x.page ∷ l) (pages_marked queue xs)
 
-pub pulled_all : (queue : Queue) (frames : List Frame) → map (λ (m : PoolMark). m.page) (take 8 (filter (λ (m : PoolMark). m.changed) (map (mark_for queue) (chosen frames)))) ≡ map (λ (f : Frame). f.page) (chosen frames)
-pulled_all queue frames =
-    ap (λ (l : List PoolMark). map (λ (m : PoolMark). m.page) (take 8 l)) (filter_marks queue (chosen frames) (chosen_changed frames))
-    ∙ ap (map (λ (m : PoolMark). m.page)) (take_all 8 (map (mark_for queue) (chosen frames)) (omega (arith, few_chosen frames, length-map (chosen frames) (mark_for queue))))
-    ∙ pages_marked queue (chosen frames)
+pub pulled_all : (room : ℕ) (queue : Queue) (frames : List Frame)
+    → map (λ (m : PoolMark). m.page) (take room (filter (λ (m : PoolMark). m.changed) (map (mark_for queue) (first_changed room frames)))) ≡ map (λ (f : Frame). f.page) (first_changed room frames)
+pulled_all room queue frames =
+    ap (λ (l : List PoolMark). map (λ (m : PoolMark). m.page) (take room l)) (filter_marks queue (first_changed room frames) (chosen_changed room frames))
+    ∙ ap (map (λ (m : PoolMark). m.page))
+    (take_all room (map (mark_for queue) (first_changed room frames)) (omega (arith, few_chosen room frames, length-map (first_changed room frames) (mark_for queue))))
+    ∙ pages_marked queue (first_changed room frames)
 
 -- What a plan knows of a page that was changed.
 abbrev pub changed_mark : Queue → ℕ → PoolMark

@@ -26,10 +26,11 @@ use Rattle.image_changes.specs.Changes.{Change}
 use Rattle.second_chance.specs.Laws.{changed_count}
 use Rattle.page_store.specs.Calls.{Keeps, Stands}
 use Rattle.page_store.specs.Changing.{standing, push_changes, given_changes}
-use Rattle.page_store.specs.Flushing.{changed_frames, chosen, mark_for, content_in, cleared_all}
+use Rattle.page_store.specs.Flushing.{changed_frames, saved_next, content_in, cleared_all}
+use Rattle.page_store.specs.Pulling.{mark_for, room_for_pages}
 use Rattle.page_store.proofs.PushLaws.{or_listed}
 use Rattle.page_store.proofs.Pools.{page_is}
-use Rattle.page_store.proofs.Choosing.{few_chosen, chosen_changed}
+use Rattle.page_store.proofs.Choosing.{first_changed, few_chosen, chosen_changed}
 use Rattle.page_store.proofs.Calling.{AreItsOwn}
 use Rattle.page_store.proofs.Changing.{given_is, known_pages, HasMade}
 use Rattle.page_store.proofs.Clearing.{frames_cleared, cleared_by, by_content, by_mark, is_among, pages_saved, all_pages}
@@ -46,7 +47,7 @@ among_listed (p ∷ pages) n is = by (p == n) refl is (among_listed pages n)
     by true same is rest = (0, omega arith, eqb-true _ _ same)
     by false other is rest = let there = rest is in (suc there.0, let less = there.1 in omega (arith, less), there.2)
 
-not_among : (pages : List ℕ) (n : ℕ) → (Contains pages n → ⊥) → is_among pages n ≡ false
+pub not_among : (pages : List ℕ) (n : ℕ) → (Contains pages n → ⊥) → is_among pages n ≡ false
 not_among pages n none = by (is_among pages n) refl
   where
     by : (b : Bool) → is_among pages n ≡ b → is_among pages n ≡ false
@@ -138,7 +139,7 @@ take_marked queue zero xs = refl
 take_marked queue (suc n) [] = refl
 take_marked queue (suc n) (x ∷ xs) = ap (λ (l : List PoolMark). mark_for queue x ∷ l) (take_marked queue n xs)
 
-marks_turned : (queue : Queue) (xs : List Frame) → map (pool_mark queue) (reverse (map pool_page xs)) ≡ map (mark_for queue) (reverse xs)
+pub marks_turned : (queue : Queue) (xs : List Frame) → map (pool_mark queue) (reverse (map pool_page xs)) ≡ map (mark_for queue) (reverse xs)
 marks_turned queue [] = refl
 marks_turned queue (x ∷ xs) =
     ap (map (pool_mark queue)) (reverse-append (pool_page x ∷ []) (map pool_page xs))
@@ -147,11 +148,12 @@ marks_turned queue (x ∷ xs) =
     ∙ sym (map-append (mark_for queue) (reverse xs) (x ∷ []))
     ∙ sym (ap (map (mark_for queue)) (reverse-append (x ∷ []) xs))
 
-pulled_marks : (queue : Queue) (frames : List Frame) → take 8 (filter (λ (m : PoolMark). m.changed) (map (pool_mark queue) (reverse (map pool_page frames)))) ≡ map (mark_for queue) (chosen frames)
-pulled_marks queue frames =
-    ap (λ (l : List PoolMark). take 8 (filter (λ (m : PoolMark). m.changed) l)) (marks_turned queue frames)
-    ∙ ap (take 8) (filter_marked queue (reverse frames))
-    ∙ take_marked queue 8 (changed_frames frames)
+pulled_marks : (room : ℕ) (queue : Queue) (frames : List Frame)
+    → take room (filter (λ (m : PoolMark). m.changed) (map (pool_mark queue) (reverse (map pool_page frames)))) ≡ map (mark_for queue) (first_changed room frames)
+pulled_marks room queue frames =
+    ap (λ (l : List PoolMark). take room (filter (λ (m : PoolMark). m.changed) l)) (marks_turned queue frames)
+    ∙ ap (take room) (filter_marked queue (reverse frames))
+    ∙ take_marked queue room (changed_frames frames)
 
 pulled_pages : (queue : Queue) (xs : List Frame) (n : ℕ) → is_pulled (map (mark_for queue) xs) n ≡ is_among (map (λ (f : Frame). f.page) xs) n
 pulled_pages queue [] n = refl
@@ -161,17 +163,19 @@ pulled_frames : (queue : Queue) (xs : List Frame) → AllByRecursion (λ (f : Fr
 pulled_frames queue [] all = refl
 pulled_frames queue (x ∷ xs) all = λ i. known_of x.page (all.0 i) ∷ pulled_frames queue xs all.1 i
 
-pub machine_saved : (store : PageStore) (queue : Queue) → queue ≡ pushed (is_full (rules store) store.flash.directory) (map (λ page. known_of page true) (map (λ (f : Frame). f.page) (chosen store.pool.frames))) store.flash.directory
-    → ◌≡◌ {A = Cache} (record { pool = map pool_page (cleared_all (map (λ (f : Frame). f.page) (chosen store.pool.frames)) store.pool.frames); queue = queue }) (push_changed (rules store) (cache_of store))
+pub machine_saved : (store : PageStore) (queue : Queue) → queue ≡ pushed (is_full (rules store) store.flash.directory) (map (λ page. known_of page true) (map (λ (f : Frame). f.page) (saved_next store))) store.flash.directory
+    → ◌≡◌ {A = Cache} (record { pool = map pool_page (cleared_all (map (λ (f : Frame). f.page) (saved_next store)) store.pool.frames); queue = queue }) (push_changed (rules store) (cache_of store))
 machine_saved store queue is =
     let before = store.flash.directory in
     let frames = store.pool.frames in
-    let pages = map (λ (f : Frame). f.page) (chosen frames) in
-    let pulled = pulled_marks before frames in
-    let names : is_among pages ≡ is_pulled (map (mark_for before) (chosen frames)) = λ i n. sym (pulled_pages before (chosen frames) n) i in
+    let room : ℕ = room_for_pages (rules store) before in
+    let first : List Frame = saved_next store in
+    let pages = map (λ (f : Frame). f.page) first in
+    let pulled = pulled_marks room before frames in
+    let names : is_among pages ≡ is_pulled (map (mark_for before) first) = λ i n. sym (pulled_pages before first n) i in
     let full : Bool = is_full (rules store) before in
     (λ i. let k : Cache = record { pool = pages_saved pages frames i; queue = is i } in k)
-    ∙ (λ i. let k : Cache = record { pool = saved (names i) (map pool_page frames); queue = pushed full (sym (pulled_frames before (chosen frames) (chosen_changed frames)) i) before } in k)
+    ∙ (λ i. let k : Cache = record { pool = saved (names i) (map pool_page frames); queue = pushed full (sym (pulled_frames before first (chosen_changed room frames)) i) before } in k)
     ∙ (λ i. let k : Cache = record { pool = saved (is_pulled (sym pulled i)) (map pool_page frames); queue = pushed full (map pool_frame (sym pulled i)) before } in k)
 
 -- The pages of the pool are sound and exist still.
@@ -189,25 +193,27 @@ marked pages = take (length pages) (replicate 8 true)
 pub record IsSaving (store : PageStore) (pages : List ℕ) (contents : List (List ℕ)) : Type 0 where
   pub own : (log : LogStore) (image : Image) → AreItsOwn log store pages (marked pages) contents image
   pub chosen_are : HasChosen store pages (marked pages) contents
-  pub changes : (log : LogStore) (list : LogList) → given_changes log list store pages (marked pages) contents ≡ push_changes (standing log list store) (chosen store.pool.frames)
-  pub known : known_given pages (marked pages) ≡ map (λ (f : Frame). known_of f.page true) (chosen store.pool.frames)
+  pub changes : (log : LogStore) (list : LogList) → given_changes log list store pages (marked pages) contents ≡ push_changes (standing log list store) (saved_next store)
+  pub known : known_given pages (marked pages) ≡ map (λ (f : Frame). known_of f.page true) (saved_next store)
 
-pub is_saving : (store : PageStore) (pages : List ℕ) (contents : List (List ℕ)) → IsStore store → pages ≡ map (λ (f : Frame). f.page) (chosen store.pool.frames) → contents ≡ map (content_in store.pool.frames) pages → IsSaving store pages contents
+pub is_saving : (store : PageStore) (pages : List ℕ) (contents : List (List ℕ)) → IsStore store → pages ≡ map (λ (f : Frame). f.page) (saved_next store) → contents ≡ map (content_in store.pool.frames) pages → IsSaving store pages contents
 is_saving store pages contents is are have =
     let frames = store.pool.frames in
-    let short : length pages ≤ 8 = let count = ap length are in omega (arith, count, few_chosen frames, length-map (chosen frames) (λ (f : Frame). f.page)) in
+    let room : ℕ = room_for_pages (rules store) store.flash.directory in
+    let first : List Frame = saved_next store in
+    let short : length pages ≤ 8 = let count = ap length are in omega (arith, count, few_chosen room frames, length-map first (λ (f : Frame). f.page)) in
     let lists = length-take-le (length pages) (replicate 8 true) short in
     let facts = has_chosen store pages (marked pages) contents is.pool.distinct are have lists (all_true (length pages)) in
     record {
       own = λ log image. record {
         given = facts.given image;
         clean = facts.clean image;
-        sound = chosen_contents IsSound frames pages contents is.pool.distinct are have (all_weaker (IsPage store.flash.geometry.pages) (λ (f : Frame). IsSound f.content) (λ f p. p.sound) frames is.pages);
-        logged = chosen_contents (IsLogged (end_forced log)) frames pages contents is.pool.distinct are have;
+        sound = chosen_contents IsSound room frames pages contents is.pool.distinct are have (all_weaker (IsPage store.flash.geometry.pages) (λ (f : Frame). IsSound f.content) (λ f p. p.sound) frames is.pages);
+        logged = chosen_contents (IsLogged (end_forced log)) room frames pages contents is.pool.distinct are have;
       };
       chosen_are = facts;
-      changes = λ log list. given_is log list store pages (marked pages) contents (chosen frames) are facts.first lists (all_true (length pages)) (chosen_changed frames);
-      known = known_changed pages (marked pages) lists (all_true (length pages)) ∙ ap (map (λ page. known_of page true)) are ∙ known_pages (chosen frames);
+      changes = λ log list. given_is log list store pages (marked pages) contents first are facts.first lists (all_true (length pages)) (chosen_changed room frames);
+      known = known_changed pages (marked pages) lists (all_true (length pages)) ∙ ap (map (λ page. known_of page true)) are ∙ known_pages first;
     }
 
 -- A flush, push by push: what its pushes so far leave, with the changes that are made and those still to come.

@@ -2,12 +2,13 @@
 use Rattle.std.proofs.Common.{◌≡◌, ◌≢◌, ℕ, zero, suc, ◌<◌, ◌≤◌, ◌==◌, Bool, true, false, not, ◌&&◌, ◌||◌, cond, List, [], ◌∷◌, ◌++◌, length, min, take, drop, map, filter, reverse, append_assoc, length-append, arith, refl, sym, ap, ◌∙◌}
 use Rattle.std.specs.List.{AllByRecursion, list_any}
 use Rattle.std.proofs.lemmas.Bool.{eq-eqb, ne_eqb, eqb-true, eqb-false}
-use Rattle.std.proofs.lemmas.List.{take_all, length-take, length-map, length-reverse, reverse-append, map-append}
+use Rattle.std.proofs.lemmas.List.{take_all, length-take, length-map, length-reverse}
 use Rattle.buffer_pool.specs.declared.frame.Frame.{Frame}
 use Rattle.buffer_pool.specs.Frames.{AreDistinct}
 use Rattle.page_store.specs.Caching.{pool_page}
-use Rattle.page_store.specs.Flushing.{changed_frames, chosen, cleared_all}
-use Rattle.page_store.proofs.Choosing.{changed_more}
+use Rattle.page_store.specs.Flushing.{changed_frames, cleared_all}
+use Rattle.page_store.proofs.Choosing.{first_changed, changed_more}
+use Rattle.page_store.proofs.Movable.{reverse_map}
 use Rattle.page_store.proofs.Clearing.{cleared_by, by_page, by_mark, is_among, all_cleared}
 use Rattle.page_store.proofs.Saving.{all_both, distinct_reverse, some_chosen}
 
@@ -79,11 +80,6 @@ left_are n saved (f ∷ frames) distinct apart = by n f.changed refl (λ k ps ot
         ∙ ap (λ ps. left ps frames) (sym (append_assoc saved (f.page ∷ []) (map page_of (take m (filter (λ g. g.changed) frames)))))
         ∙ others m (saved ++ f.page ∷ []) (one_apart saved f.page frames apart.1 distinct.0)
 
-reverse_map : {X Y : Type 0} (f : X → Y) (xs : List X) → reverse (map f xs) ≡ map f (reverse xs)
-reverse_map f [] = refl
-reverse_map f (x ∷ xs) =
-    reverse-append (f x ∷ []) (map f xs) ∙ ap (λ l. l ++ f x ∷ []) (reverse_map f xs) ∙ sym (map-append f (reverse xs) (x ∷ [])) ∙ sym (ap (map f) (reverse-append (x ∷ []) xs))
-
 -- the frames as they are then
 left_cleared : (pages : List ℕ) (frames : List Frame) → map page_of (filter (λ f. f.changed) (map (cleared_by pages) frames)) ≡ left pages frames
 unfolding left
@@ -99,13 +95,13 @@ left_cleared pages (f ∷ frames) =
     by false rest = rest
 
 -- a push of the coldest leaves the others, in their order
-pub pages_left : (frames : List Frame) → AreDistinct frames → map page_of (changed_frames (cleared_all (map page_of (chosen frames)) frames)) ≡ drop 8 (map page_of (changed_frames frames))
-pages_left frames distinct =
-    let saved : List ℕ = map page_of (chosen frames) in
+pub pages_left : (room : ℕ) (frames : List Frame) → AreDistinct frames → map page_of (changed_frames (cleared_all (map page_of (first_changed room frames)) frames)) ≡ drop room (map page_of (changed_frames frames))
+pages_left room frames distinct =
+    let saved : List ℕ = map page_of (first_changed room frames) in
     ap (λ l. map page_of (filter (λ f. f.changed) (reverse l))) (all_cleared saved frames)
     ∙ ap (λ l. map page_of (filter (λ f. f.changed) l)) (reverse_map (cleared_by saved) frames)
     ∙ left_cleared saved (reverse frames)
-    ∙ left_are 8 [] (reverse frames) (distinct_reverse frames distinct) (none (reverse frames))
+    ∙ left_are room [] (reverse frames) (distinct_reverse frames distinct) (none (reverse frames))
   where
     none : (l : List Frame) → AreApart [] l
     none [] = tt
@@ -141,7 +137,7 @@ no_pages : (frames : List Frame) → length (map page_of (changed_frames frames)
 no_pages frames none = by (list_any (λ p. p.changed) (map pool_page frames)) refl
   where
     by : (b : Bool) → list_any (λ p. p.changed) (map pool_page frames) ≡ b → list_any (λ p. p.changed) (map pool_page frames) ≡ false
-    by true is = absurd (omega (arith, none, some_chosen frames is, length-take 8 (changed_frames frames), length-map (changed_frames frames) page_of))
+    by true is = absurd (omega (arith, none, some_chosen 1 frames (omega arith) is, length-take 1 (changed_frames frames), length-map (changed_frames frames) page_of))
     by false is = is
 
 -- there are no more changed pages than pages
@@ -189,11 +185,11 @@ module _ (frames : List Frame) (rest : List ℕ) (are : rest ≡ map page_of (ch
   pub none_left : (length rest == 0) ≡ true → list_any (λ p. p.changed) (map pool_page frames) ≡ false
   none_left empty = no_pages frames (sym (ap length are) ∙ eqb-true (length rest) 0 empty)
 
-  module _ (n : ℕ) (n_is : n ≡ min 8 (length rest)) where
-    pub front_pages : take n rest ≡ map page_of (chosen frames)
-    front_pages = take_same n 8 rest (omega (arith, n_is)) (omega (arith, n_is)) (λ less. omega (arith, n_is, less)) ∙ ap (take 8) are ∙ take_pages 8 (changed_frames frames)
+  module _ (room n : ℕ) (n_is : n ≡ min room (length rest)) where
+    pub front_pages : take n rest ≡ map page_of (first_changed room frames)
+    front_pages = take_same n room rest (omega (arith, n_is)) (omega (arith, n_is)) (λ less. omega (arith, n_is, less)) ∙ ap (take room) are ∙ take_pages room (changed_frames frames)
 
-    pub back_pages : (after : List Frame) → AreDistinct frames → after ≡ cleared_all (map page_of (chosen frames)) frames → drop n rest ≡ map page_of (changed_frames after)
+    pub back_pages : (after : List Frame) → AreDistinct frames → after ≡ cleared_all (map page_of (first_changed room frames)) frames → drop n rest ≡ map page_of (changed_frames after)
     back_pages after distinct is =
-        drop_same n 8 rest (omega (arith, n_is)) (omega (arith, n_is)) (λ less. omega (arith, n_is, less)) ∙ ap (drop 8) are ∙ sym (pages_left frames distinct)
+        drop_same n room rest (omega (arith, n_is)) (omega (arith, n_is)) (λ less. omega (arith, n_is, less)) ∙ ap (drop room) are ∙ sym (pages_left room frames distinct)
         ∙ ap (λ l. map page_of (changed_frames l)) (sym is)

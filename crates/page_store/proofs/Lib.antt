@@ -7,7 +7,9 @@ pub mod Versions
 pub mod Entering
 pub mod Bringing
 pub mod Touching
+pub mod Removing
 pub mod Choosing
+pub mod Movable
 pub mod Clearing
 pub mod Saving
 pub mod Flushes
@@ -20,3 +22,4 @@ pub mod Calling
 pub mod Changing
 pub mod Lines
 pub mod Left
+pub mod Departures

@@ -14,10 +14,11 @@ use Rattle.buffer_pool.specs.Frames.{AreDistinct, frame_of}
 use Rattle.second_chance.specs.Queue.{frame_of as known_of}
 use Rattle.page_store.specs.declared.store.PageStore.{PageStore}
 use Rattle.page_store.specs.Held.{IsPage, content_by, current}
-use Rattle.page_store.specs.Caching.{pool_page}
+use Rattle.page_store.specs.Caching.{pool_page, rules}
+use Rattle.page_store.specs.Pulling.{room_for_pages}
 use Rattle.page_store.specs.Leaves.{AreGiven, AreChanged}
-use Rattle.page_store.specs.Flushing.{changed_frames, chosen, content_in, flushed_first}
-use Rattle.page_store.proofs.Choosing.{all_take, if_changed, changed_more, chosen_changed}
+use Rattle.page_store.specs.Flushing.{changed_frames, saved_next, content_in, flushed_first}
+use Rattle.page_store.proofs.Choosing.{first_changed, all_take, if_changed, changed_more, chosen_changed}
 
 -- lists
 
@@ -45,11 +46,11 @@ all_append P (x ∷ xs) ys all others = (all.0, all_append P xs ys all.1 others)
 turned : {X : Type 0} (x : X) (xs : List X) → reverse (x ∷ xs) ≡ reverse xs ++ x ∷ []
 turned x xs = reverse-append (x ∷ []) xs
 
-all_reverse : {X : Type 0} (P : X → Type 0) (xs : List X) → AllByRecursion P xs → AllByRecursion P (reverse xs)
+pub all_reverse : {X : Type 0} (P : X → Type 0) (xs : List X) → AllByRecursion P xs → AllByRecursion P (reverse xs)
 all_reverse P [] all = tt
 all_reverse P (x ∷ xs) all = subst (AllByRecursion P) (sym (turned x xs)) (all_append P (reverse xs) (x ∷ []) (all_reverse P xs all.1) (all.0, tt))
 
-all_filter : {X : Type 0} (P : X → Type 0) (test : X → Bool) (xs : List X) → AllByRecursion P xs → AllByRecursion P (filter test xs)
+pub all_filter : {X : Type 0} (P : X → Type 0) (test : X → Bool) (xs : List X) → AllByRecursion P xs → AllByRecursion P (filter test xs)
 all_filter P test [] all = tt
 all_filter P test (x ∷ xs) all = by (test x) (all_filter P test xs all.1)
   where
@@ -57,8 +58,8 @@ all_filter P test (x ∷ xs) all = by (test x) (all_filter P test xs all.1)
     by true rest = (all.0, rest)
     by false rest = rest
 
-pub all_chosen : (P : Frame → Type 0) (frames : List Frame) → AllByRecursion P frames → AllByRecursion P (chosen frames)
-all_chosen P frames all = all_take P 8 (changed_frames frames) (all_filter P (λ f. f.changed) (reverse frames) (all_reverse P frames all))
+pub all_chosen : (P : Frame → Type 0) (room : ℕ) (frames : List Frame) → AllByRecursion P frames → AllByRecursion P (first_changed room frames)
+all_chosen P room frames all = all_take P room (changed_frames frames) (all_filter P (λ f. f.changed) (reverse frames) (all_reverse P frames all))
 
 -- each page once
 
@@ -75,7 +76,7 @@ distinct_reverse (x ∷ xs) apart =
     subst AreDistinct (sym (turned x xs)) (distinct_append (reverse xs) x (distinct_reverse xs apart.1)
     (all_reverse (λ (other : Frame). other.page ≢ x.page) xs (all_weaker (λ (other : Frame). x.page ≢ other.page) (λ (other : Frame). other.page ≢ x.page) (λ other ne same. ne (sym same)) xs apart.0)))
 
-distinct_filter : (test : Frame → Bool) (xs : List Frame) → AreDistinct xs → AreDistinct (filter test xs)
+pub distinct_filter : (test : Frame → Bool) (xs : List Frame) → AreDistinct xs → AreDistinct (filter test xs)
 distinct_filter test [] apart = tt
 distinct_filter test (x ∷ xs) apart = by (test x) (distinct_filter test xs apart.1)
   where
@@ -83,13 +84,13 @@ distinct_filter test (x ∷ xs) apart = by (test x) (distinct_filter test xs apa
     by true rest = (all_filter (λ (other : Frame). x.page ≢ other.page) test xs apart.0, rest)
     by false rest = rest
 
-distinct_take : (n : ℕ) (xs : List Frame) → AreDistinct xs → AreDistinct (take n xs)
+pub distinct_take : (n : ℕ) (xs : List Frame) → AreDistinct xs → AreDistinct (take n xs)
 distinct_take zero xs apart = tt
 distinct_take (suc n) [] apart = tt
 distinct_take (suc n) (x ∷ xs) apart = (all_take (λ (other : Frame). x.page ≢ other.page) n xs apart.0, distinct_take n xs apart.1)
 
-pub distinct_chosen : (frames : List Frame) → AreDistinct frames → AreDistinct (chosen frames)
-distinct_chosen frames apart = distinct_take 8 (changed_frames frames) (distinct_filter (λ (f : Frame). f.changed) (reverse frames) (distinct_reverse frames apart))
+pub distinct_chosen : (room : ℕ) (frames : List Frame) → AreDistinct frames → AreDistinct (first_changed room frames)
+distinct_chosen room frames apart = distinct_take room (changed_frames frames) (distinct_filter (λ (f : Frame). f.changed) (reverse frames) (distinct_reverse frames apart))
 
 pub pages_apart : (xs : List Frame) → AreDistinct xs → AllPairs (λ (a b : ℕ). a ≢ b) (map (λ (f : Frame). f.page) xs)
 pages_apart [] apart i j d before within = absurd (omega (arith, within))
@@ -109,11 +110,11 @@ found_all (f ∷ fs) apart = (
       (λ other ne found. ap (λ b. cond b (Some f) (frame_of fs other.page)) (ne_eqb f.page other.page ne) ∙ found) fs apart.0 (found_all fs apart.1),
 )
 
-pub found_chosen : (frames : List Frame) → AreDistinct frames → AllByRecursion (λ (f : Frame). frame_of frames f.page ≡ Some f) (chosen frames)
-found_chosen frames apart = all_chosen (λ (f : Frame). frame_of frames f.page ≡ Some f) frames (found_all frames apart)
+pub found_chosen : (room : ℕ) (frames : List Frame) → AreDistinct frames → AllByRecursion (λ (f : Frame). frame_of frames f.page ≡ Some f) (first_changed room frames)
+found_chosen room frames apart = all_chosen (λ (f : Frame). frame_of frames f.page ≡ Some f) room frames (found_all frames apart)
 
-pub some_chosen : (frames : List Frame) → list_any (λ p. p.changed) (map pool_page frames) ≡ true → 1 ≤ length (chosen frames)
-some_chosen frames some = omega (arith, length-take 8 (changed_frames frames), some_changed frames some)
+pub some_chosen : (room : ℕ) (frames : List Frame) → 1 ≤ room → list_any (λ p. p.changed) (map pool_page frames) ≡ true → 1 ≤ length (first_changed room frames)
+some_chosen room frames least some = omega (arith, least, length-take room (changed_frames frames), some_changed frames some)
   where
     some_changed : (fs : List Frame) → list_any (λ p. p.changed) (map pool_page fs) ≡ true → 1 ≤ length (changed_frames fs)
     some_changed [] some = absurd cc
@@ -126,28 +127,28 @@ some_chosen frames some = omega (arith, length-take 8 (changed_frames frames), s
 
 -- The pages of chosen frames, and what they have.
 
-module _ (frames : List Frame) (apart : AreDistinct frames) where
+module _ (room : ℕ) (frames : List Frame) (apart : AreDistinct frames) where
   abbrev pages : List ℕ
-  pages = map (λ (f : Frame). f.page) (chosen frames)
+  pages = map (λ (f : Frame). f.page) (first_changed room frames)
 
   pub pages_there : All (λ (page : ℕ). IsSome (frame_of frames page)) pages
   pages_there k d less = all_index (λ (page : ℕ). IsSome (frame_of frames page)) pages k d
-      (all_map (λ (page : ℕ). IsSome (frame_of frames page)) (λ (f : Frame). f.page) (chosen frames)
-      (all_weaker (λ (f : Frame). frame_of frames f.page ≡ Some f) (λ (f : Frame). IsSome (frame_of frames f.page)) (λ f found. ap is_some found) (chosen frames) (found_chosen frames apart))) less
+      (all_map (λ (page : ℕ). IsSome (frame_of frames page)) (λ (f : Frame). f.page) (first_changed room frames)
+      (all_weaker (λ (f : Frame). frame_of frames f.page ≡ Some f) (λ (f : Frame). IsSome (frame_of frames f.page)) (λ f found. ap is_some found) (first_changed room frames) (found_chosen room frames apart))) less
 
   pub pages_exist : (most : ℕ) → AllByRecursion (IsPage most) frames → All (λ (page : ℕ). page < most) pages
   pages_exist most all k d less = all_index (λ (page : ℕ). page < most) pages k d
-      (all_map (λ (page : ℕ). page < most) (λ (f : Frame). f.page) (chosen frames) (all_weaker (IsPage most) (λ (f : Frame). f.page < most) (λ f p. p.exists) (chosen frames) (all_chosen (IsPage most) frames all))) less
+      (all_map (λ (page : ℕ). page < most) (λ (f : Frame). f.page) (first_changed room frames) (all_weaker (IsPage most) (λ (f : Frame). f.page < most) (λ f p. p.exists) (first_changed room frames) (all_chosen (IsPage most) room frames all))) less
 
   contents_each : (xs : List Frame) → AllByRecursion (λ (f : Frame). frame_of frames f.page ≡ Some f) xs → map (content_in frames) (map (λ (f : Frame). f.page) xs) ≡ map (λ (f : Frame). f.content) xs
   contents_each [] all = refl
   contents_each (x ∷ xs) all = λ i. content_by (all.0 i) [] ∷ contents_each xs all.1 i
 
-  pub contents_are : map (content_in frames) pages ≡ map (λ (f : Frame). f.content) (chosen frames)
-  contents_are = contents_each (chosen frames) (found_chosen frames apart)
+  pub contents_are : map (content_in frames) pages ≡ map (λ (f : Frame). f.content) (first_changed room frames)
+  contents_are = contents_each (first_changed room frames) (found_chosen room frames apart)
 
   pub contents_all : (P : List ℕ → Type 0) → AllByRecursion (λ (f : Frame). P f.content) frames → AllByRecursion P (map (content_in frames) pages)
-  contents_all P all = subst (AllByRecursion P) (sym contents_are) (all_map P (λ (f : Frame). f.content) (chosen frames) (all_chosen (λ (f : Frame). P f.content) frames all))
+  contents_all P all = subst (AllByRecursion P) (sym contents_are) (all_map P (λ (f : Frame). f.content) (first_changed room frames) (all_chosen (λ (f : Frame). P f.content) room frames all))
 
   content_at : (xs : List ℕ) (k : ℕ) → k < length xs → get_or (map (content_in frames) xs) k [] ≡ content_in frames (get_or xs k 0)
   content_at [] k less = absurd (omega (arith, less))
@@ -159,17 +160,17 @@ module _ (frames : List Frame) (apart : AreDistinct frames) where
 
   pub changed_there : (k : ℕ) (frame : Frame) → k < length pages → frame_of frames (get_or pages k 0) ≡ Some frame → frame.changed ≡ true
   changed_there k frame less found = all_index (λ (page : ℕ). (f : Frame) → frame_of frames page ≡ Some f → f.changed ≡ true) pages k 0
-      (all_map (λ (page : ℕ). (f : Frame) → frame_of frames page ≡ Some f → f.changed ≡ true) (λ (f : Frame). f.page) (chosen frames)
+      (all_map (λ (page : ℕ). (f : Frame) → frame_of frames page ≡ Some f → f.changed ≡ true) (λ (f : Frame). f.page) (first_changed room frames)
       (all_both (λ (f : Frame). frame_of frames f.page ≡ Some f) (λ (f : Frame). f.changed ≡ true) (λ (f : Frame). (other : Frame) → frame_of frames f.page ≡ Some other → other.changed ≡ true)
-      (λ f own is other found. let same : f ≡ other = one f other (sym own ∙ found) in ap (λ (g : Frame). g.changed) (sym same) ∙ is) (chosen frames) (found_chosen frames apart) (chosen_changed frames)))
+      (λ f own is other found. let same : f ≡ other = one f other (sym own ∙ found) in ap (λ (g : Frame). g.changed) (sym same) ∙ is) (first_changed room frames) (found_chosen room frames apart) (chosen_changed room frames)))
       less frame found
     where
       one : (f other : Frame) → Some f ≡ Some other → f ≡ other
       one f other same = cc
 
-pub given_there : (store : PageStore) (image : Image) (apart : AreDistinct store.pool.frames) → AreGiven (current store image) (pages store.pool.frames apart) (map (content_in store.pool.frames) (pages store.pool.frames apart))
-given_there store image apart = record {
-  each = λ k less. content_there store.pool.frames apart k less ∙ by (frame_of store.pool.frames (get_or (pages store.pool.frames apart) k 0)) (version_on store.flash.geometry image (get_or (pages store.pool.frames apart) k 0)) (pages_there store.pool.frames apart k 0 less);
+pub given_there : (room : ℕ) (store : PageStore) (image : Image) (apart : AreDistinct store.pool.frames) → AreGiven (current store image) (pages room store.pool.frames apart) (map (content_in store.pool.frames) (pages room store.pool.frames apart))
+given_there room store image apart = record {
+  each = λ k less. content_there room store.pool.frames apart k less ∙ by (frame_of store.pool.frames (get_or (pages room store.pool.frames apart) k 0)) (version_on store.flash.geometry image (get_or (pages room store.pool.frames apart) k 0)) (pages_there room store.pool.frames apart k 0 less);
 }
   where
     by : (o : Option Frame) (version : List ℕ) → IsSome o → content_by o [] ≡ content_by o version
@@ -201,18 +202,18 @@ pub record HasChosen (store : PageStore) (pages : List ℕ) (changed : List Bool
   pub each : (k : ℕ) → k < length pages → get_or contents k [] ≡ content_in store.pool.frames (get_or pages k 0)
   pub first : contents ≡ flushed_first store
 
-pub has_chosen : (store : PageStore) (ps : List ℕ) (changed : List Bool) (contents : List (List ℕ)) → AreDistinct store.pool.frames → ps ≡ map (λ (f : Frame). f.page) (chosen store.pool.frames)
+pub has_chosen : (store : PageStore) (ps : List ℕ) (changed : List Bool) (contents : List (List ℕ)) → AreDistinct store.pool.frames → ps ≡ map (λ (f : Frame). f.page) (saved_next store)
     → contents ≡ map (content_in store.pool.frames) ps → length changed ≡ length ps → AllByRecursion (λ (b : Bool). b ≡ true) changed → HasChosen store ps changed contents
 has_chosen store ps changed contents apart is has lists all =
-    let own : List ℕ = pages store.pool.frames apart in
+    let room : ℕ = room_for_pages (rules store) store.flash.directory in
     let frames = store.pool.frames in
     subst (HasChosen store ps changed) (sym has) (record {
-      given = λ image. subst (λ l. AreGiven (current store image) l (map (content_in frames) l)) (sym is) (given_there store image apart);
+      given = λ image. subst (λ l. AreGiven (current store image) l (map (content_in frames) l)) (sym is) (given_there room store image apart);
       clean = λ image. clean_none store.flash ps changed (map (content_in frames) ps) image lists all;
-      are_changed = subst (AreChanged store) (sym is) (record { each = λ k frame less found. changed_there frames apart k frame less found });
-      there = subst (All (λ (page : ℕ). IsSome (frame_of frames page))) (sym is) (pages_there frames apart);
+      are_changed = subst (AreChanged store) (sym is) (record { each = λ k frame less found. changed_there room frames apart k frame less found });
+      there = subst (All (λ (page : ℕ). IsSome (frame_of frames page))) (sym is) (pages_there room frames apart);
       each = λ k less. content_at_place frames ps k less;
-      first = ap (map (content_in frames)) is ∙ contents_are frames apart;
+      first = ap (map (content_in frames)) is ∙ contents_are room frames apart;
     })
   where
     content_at_place : (frames : List Frame) (xs : List ℕ) (k : ℕ) → k < length xs → get_or (map (content_in frames) xs) k [] ≡ content_in frames (get_or xs k 0)
@@ -220,6 +221,6 @@ has_chosen store ps changed contents apart is has lists all =
     content_at_place frames (x ∷ xs) zero less = refl
     content_at_place frames (x ∷ xs) (suc k) less = content_at_place frames xs k (omega (arith, less))
 
-pub chosen_contents : (P : List ℕ → Type 0) (frames : List Frame) (ps : List ℕ) (contents : List (List ℕ)) → AreDistinct frames → ps ≡ map (λ (f : Frame). f.page) (chosen frames) → contents ≡ map (content_in frames) ps
+pub chosen_contents : (P : List ℕ → Type 0) (room : ℕ) (frames : List Frame) (ps : List ℕ) (contents : List (List ℕ)) → AreDistinct frames → ps ≡ map (λ (f : Frame). f.page) (first_changed room frames) → contents ≡ map (content_in frames) ps
     → AllByRecursion (λ (f : Frame). P f.content) frames → AllByRecursion P contents
-chosen_contents P frames ps contents apart is has all = subst (AllByRecursion P) (sym (has ∙ ap (map (content_in frames)) is)) (contents_all frames apart P all)
+chosen_contents P room frames ps contents apart is has all = subst (AllByRecursion P) (sym (has ∙ ap (map (content_in frames)) is)) (contents_all room frames apart P all)

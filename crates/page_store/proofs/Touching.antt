@@ -80,7 +80,7 @@ module _ (store : PageStore) (page : ℕ) (frame : Frame) (found : frame_of stor
 
 -- The same frames in another order.
 
-all_without : (P : Frame → Type 0) (frames : List Frame) (page : ℕ) → AllByRecursion P frames → AllByRecursion P (pool.without frames page)
+pub all_without : (P : Frame → Type 0) (frames : List Frame) (page : ℕ) → AllByRecursion P frames → AllByRecursion P (pool.without frames page)
 all_without P [] page all = tt
 all_without P (frame ∷ frames) page all = by (frame.page == page) (all_without P frames page all.1)
   where
@@ -88,7 +88,7 @@ all_without P (frame ∷ frames) page all = by (frame.page == page) (all_without
     by true rest = rest
     by false rest = (all.0, rest)
 
-all_found : (P : Frame → Type 0) (frames : List Frame) (page : ℕ) (frame : Frame) → AllByRecursion P frames → frame_of frames page ≡ Some frame → P frame
+pub all_found : (P : Frame → Type 0) (frames : List Frame) (page : ℕ) (frame : Frame) → AllByRecursion P frames → frame_of frames page ≡ Some frame → P frame
 all_found P [] page frame all found = absurd (none-some frame found)
 all_found P (first ∷ frames) page frame all found = by (first.page == page) found (all_found P frames page frame all.1)
   where

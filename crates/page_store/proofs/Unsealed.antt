@@ -5,7 +5,8 @@ use Rattle.std.proofs.lemmas.List.{reverse-append, get_or_default}
 use Rattle.buffer_pool.specs.declared.frame.Frame.{Frame}
 use Rattle.buffer_pool.specs.Frames.{AreDistinct, frame_of}
 use Rattle.page_store.specs.Caching.{pool_page}
-use Rattle.page_store.specs.Flushing.{changed_frames, chosen, cleared_all}
+use Rattle.page_store.specs.Flushing.{changed_frames, cleared_all}
+use Rattle.page_store.proofs.Choosing.{first_changed}
 use Rattle.page_store.proofs.Clearing.{cleared_by, by_content, by_mark, is_among, all_cleared}
 use Rattle.page_store.proofs.Saving.{found_all, found_chosen, all_index, all_map, all_both}
 use Rattle.page_store.proofs.Flushes.{among_listed}
@@ -57,8 +58,8 @@ any_taken u (suc n) (x ∷ xs) some = by (u x.content) some (any_taken u n xs)
     by true some rest = refl
     by false some rest = rest some
 
-pub chosen_some : (u : List ℕ → Bool) (frames : List Frame) → list_any u (map (λ (f : Frame). f.content) (chosen frames)) ≡ true → some_changed u frames ≡ true
-chosen_some u frames some = sym (any_changed u frames) ∙ any_taken u 8 (changed_frames frames) some
+pub chosen_some : (u : List ℕ → Bool) (room : ℕ) (frames : List Frame) → list_any u (map (λ (f : Frame). f.content) (first_changed room frames)) ≡ true → some_changed u frames ≡ true
+chosen_some u room frames some = sym (any_changed u frames) ∙ any_taken u room (changed_frames frames) some
 
 -- where none of the chosen pages passes, the others alone decide
 
@@ -71,18 +72,18 @@ none_at u (x ∷ xs) none = by (u x.content) refl none (none_at u xs)
     by true is none rest = absurd cc
     by false is none rest = (is, rest none)
 
-module _ (u : List ℕ → Bool) (frames : List Frame) (apart : AreDistinct frames) (none : list_any u (map (λ (f : Frame). f.content) (chosen frames)) ≡ false) where
+module _ (u : List ℕ → Bool) (room : ℕ) (frames : List Frame) (apart : AreDistinct frames) (none : list_any u (map (λ (f : Frame). f.content) (first_changed room frames)) ≡ false) where
   abbrev named : List ℕ
-  named = map (λ (f : Frame). f.page) (chosen frames)
+  named = map (λ (f : Frame). f.page) (first_changed room frames)
 
   abbrev Passes : ℕ → Type 0
   Passes page = (f : Frame) → frame_of frames page ≡ Some f → u f.content ≡ false
 
   all_named : AllByRecursion Passes named
-  all_named = all_map Passes (λ (f : Frame). f.page) (chosen frames)
+  all_named = all_map Passes (λ (f : Frame). f.page) (first_changed room frames)
       (all_both (λ (f : Frame). frame_of frames f.page ≡ Some f) (λ (f : Frame). u f.content ≡ false) (λ (f : Frame). Passes f.page)
       (λ f own is other found. let same : f ≡ other = one f other (sym own ∙ found) in ap (λ (g : Frame). u g.content) (sym same) ∙ is)
-      (chosen frames) (found_chosen frames apart) (none_at u (chosen frames) none))
+      (first_changed room frames) (found_chosen room frames apart) (none_at u (first_changed room frames) none))
     where
       one : (f other : Frame) → Some f ≡ Some other → f ≡ other
       one f other same = cc
@@ -126,23 +127,23 @@ module _ (u : List ℕ → Bool) (frames : List Frame) (apart : AreDistinct fram
 abbrev pub forces_at : Bool → ℕ → List Frame → (ℕ → List ℕ → Bool) → Bool
 forces_at tail hi frames test = tail && list_any (test (512 * hi)) (map (λ (f : Frame). f.content) (changed_frames frames))
 
-pub next_round : (test : ℕ → List ℕ → Bool) (frames : List Frame) (apart : AreDistinct frames) (b : Bool) (t1 t2 : Bool) (h1 h2 : ℕ)
-    → let forced = t1 && list_any (test (512 * h1)) (map (λ (f : Frame). f.content) (chosen frames)) in
+pub next_round : (test : ℕ → List ℕ → Bool) (room : ℕ) (frames : List Frame) (apart : AreDistinct frames) (b : Bool) (t1 t2 : Bool) (h1 h2 : ℕ)
+    → let forced = t1 && list_any (test (512 * h1)) (map (λ (f : Frame). f.content) (first_changed room frames)) in
     h2 ≡ cond forced (h1 + 1) h1 → 512 * (h2 + cond t2 1 0) ≡ 512 * (h1 + cond t1 1 0)
-    → (b || forces_at t1 h1 frames test) ≡ ((b || forced) || forces_at t2 h2 (cleared_all (map (λ (f : Frame). f.page) (chosen frames)) frames) test)
-next_round test frames apart b false t2 h1 h2 next end = ap (λ t. b || t) (sym (none t2 end)) ∙ grouped b _
+    → (b || forces_at t1 h1 frames test) ≡ ((b || forced) || forces_at t2 h2 (cleared_all (map (λ (f : Frame). f.page) (first_changed room frames)) frames) test)
+next_round test room frames apart b false t2 h1 h2 next end = ap (λ t. b || t) (sym (none t2 end)) ∙ grouped b _
   where
-    none : (t : Bool) → 512 * (h2 + cond t 1 0) ≡ 512 * (h1 + 0) → forces_at t h2 (cleared_all (map (λ (f : Frame). f.page) (chosen frames)) frames) test ≡ false
+    none : (t : Bool) → 512 * (h2 + cond t 1 0) ≡ 512 * (h1 + 0) → forces_at t h2 (cleared_all (map (λ (f : Frame). f.page) (first_changed room frames)) frames) test ≡ false
     none true end = absurd (omega (arith, next, end))
     none false end = refl
 
     grouped : (a c : Bool) → (a || c) ≡ ((a || false) || c)
     grouped true c = refl
     grouped false c = refl
-next_round test frames apart b true t2 h1 h2 next end = by (list_any (test (512 * h1)) (map (λ (f : Frame). f.content) (chosen frames))) refl next
+next_round test room frames apart b true t2 h1 h2 next end = by (list_any (test (512 * h1)) (map (λ (f : Frame). f.content) (first_changed room frames))) refl next
   where
     last : Bool → Bool
-    last c = (b || c) || forces_at t2 h2 (cleared_all (map (λ (f : Frame). f.page) (chosen frames)) frames) test
+    last c = (b || c) || forces_at t2 h2 (cleared_all (map (λ (f : Frame). f.page) (first_changed room frames)) frames) test
 
     or_true : (a c : Bool) → (a || true) ≡ ((a || true) || c)
     or_true true c = refl
@@ -156,15 +157,15 @@ next_round test frames apart b true t2 h1 h2 next end = by (list_any (test (512 
     same_tail true is = refl
     same_tail false is = absurd (omega (arith, is))
 
-    by : (c : Bool) → list_any (test (512 * h1)) (map (λ (f : Frame). f.content) (chosen frames)) ≡ c → h2 ≡ cond c (h1 + 1) h1
-        → (b || forces_at true h1 frames test) ≡ ((b || c) || forces_at t2 h2 (cleared_all (map (λ (f : Frame). f.page) (chosen frames)) frames) test)
-    by true is next = ap (λ t. b || t) (any_changed (test (512 * h1)) frames ∙ chosen_some (test (512 * h1)) frames is) ∙ or_true b _
+    by : (c : Bool) → list_any (test (512 * h1)) (map (λ (f : Frame). f.content) (first_changed room frames)) ≡ c → h2 ≡ cond c (h1 + 1) h1
+        → (b || forces_at true h1 frames test) ≡ ((b || c) || forces_at t2 h2 (cleared_all (map (λ (f : Frame). f.page) (first_changed room frames)) frames) test)
+    by true is next = ap (λ t. b || t) (any_changed (test (512 * h1)) frames ∙ chosen_some (test (512 * h1)) room frames is) ∙ or_true b _
     by false is next =
         let tail : t2 ≡ true = same_tail t2 (ap (λ h. 512 * (h + cond t2 1 0)) (sym next) ∙ end) in
-        let rest : forces_at true h1 frames test ≡ forces_at t2 h2 (cleared_all (map (λ (f : Frame). f.page) (chosen frames)) frames) test =
-        any_changed (test (512 * h1)) frames ∙ same_changed (test (512 * h1)) frames apart is
-        ∙ sym (any_changed (test (512 * h1)) (cleared_all (map (λ (f : Frame). f.page) (chosen frames)) frames))
-        ∙ (λ i. sym tail i && list_any (test (512 * sym next i)) (map (λ (f : Frame). f.content) (changed_frames (cleared_all (map (λ (f : Frame). f.page) (chosen frames)) frames)))) in
+        let rest : forces_at true h1 frames test ≡ forces_at t2 h2 (cleared_all (map (λ (f : Frame). f.page) (first_changed room frames)) frames) test =
+        any_changed (test (512 * h1)) frames ∙ same_changed (test (512 * h1)) room frames apart is
+        ∙ sym (any_changed (test (512 * h1)) (cleared_all (map (λ (f : Frame). f.page) (first_changed room frames)) frames))
+        ∙ (λ i. sym tail i && list_any (test (512 * sym next i)) (map (λ (f : Frame). f.content) (changed_frames (cleared_all (map (λ (f : Frame). f.page) (first_changed room frames)) frames)))) in
         ap (λ t. b || t) rest ∙ grouped b _
 
 -- At the end no page is changed.
@@ -186,10 +187,10 @@ nothing_forced tail u frames none = ap (λ t. tail && t) (any_changed u frames �
     and_false false = refl
 
 -- Where the first ones force the log, all do.
-pub forced_by_first : (tail : Bool) (u : List ℕ → Bool) (frames : List Frame) → (tail && list_any u (map (λ (f : Frame). f.content) (chosen frames))) ≡ true
+pub forced_by_first : (tail : Bool) (u : List ℕ → Bool) (room : ℕ) (frames : List Frame) → (tail && list_any u (map (λ (f : Frame). f.content) (first_changed room frames))) ≡ true
     → (tail && list_any u (map (λ (f : Frame). f.content) (changed_frames frames))) ≡ true
-forced_by_first true u frames is = any_changed u frames ∙ chosen_some u frames is
-forced_by_first false u frames is = is
+forced_by_first true u room frames is = any_changed u frames ∙ chosen_some u room frames is
+forced_by_first false u room frames is = is
 
 pub or_first : (a b : Bool) → a ≡ true → (a || b) ≡ true
 or_first a b is = ap (λ t. t || b) is

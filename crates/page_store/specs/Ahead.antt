@@ -1,5 +1,5 @@
 -- The log is ahead of the pages: no version of a page has an LSN that isn't sealed.
-use Rattle.std.specs.Prelude.{ℕ, ◌+◌, ◌*◌, ◌<◌, nat_le, nat_lt, Bool, ◌&&◌, List, [], ◌∷◌, reverse, if◌then◌else◌}
+use Rattle.std.specs.Prelude.{ℕ, ◌+◌, ◌*◌, ◌<◌, nat_le, nat_lt, Bool, ◌&&◌, List, [], map, if◌then◌else◌}
 use Rattle.std.specs.List.{AllByRecursion, list_any}
 use Rattle.site.specs.declared.geometry.Geometry.{Geometry}
 use Rattle.site.specs.State.{Image, Snapshot}
@@ -10,10 +10,10 @@ use Rattle.flash_cache.specs.Held.{version_on}
 use Rattle.log_store.specs.declared.store.LogStore.{LogStore}
 use Rattle.log_store.specs.Held.{has_tail}
 use Rattle.buffer_pool.specs.declared.frame.Frame.{Frame}
-use Rattle.second_chance.specs.Queue.{Queue}
-use Rattle.second_chance.specs.Machine.{must_be_pushed, lacks_room}
+use Rattle.second_chance.specs.Machine.{lacks_room}
 use Rattle.page_store.specs.declared.store.PageStore.{PageStore}
-use Rattle.page_store.specs.Caching.{pool_page, cache_of, rules, is_full}
+use Rattle.page_store.specs.Caching.{cache_of, rules, is_full}
+use Rattle.page_store.specs.Pulling.{evicted_frames}
 
 -- a page was never changed, or its LSN lies below the end of the log's blocks
 pub record IsLogged (end : ℕ) (content : List ℕ) : Type 0 where
@@ -54,13 +54,9 @@ is_unsealed end content = nat_lt 0 (lsn_of content) && nat_le end (lsn_of conten
 abbrev pub forces : LogStore → List (List ℕ) → Bool
 forces log contents = has_tail log && list_any (is_unsealed (end_now log)) contents
 
--- what an eviction pushes: the content of the coldest page, where that was changed or has no frame in the queue
-abbrev pub evicted_first : Queue → List Frame → List (List ℕ)
-evicted_first queue [] = []
-evicted_first queue (coldest ∷ warmer) = if must_be_pushed queue (pool_page coldest) then coldest.content ∷ [] else []
-
+-- the contents that an eviction pushes
 abbrev pub evicted : PageStore → List (List ℕ)
-evicted store = evicted_first store.flash.directory (reverse store.pool.frames)
+evicted store = map (λ f. f.content) (evicted_frames store)
 
 -- what is pushed where room is made for a page, and by a touch
 abbrev pub pushed_for_room : PageStore → List (List ℕ)

@@ -1,10 +1,10 @@
 -- What the calls on pages ask and say, each as one record, with the call's result as its index where that matters.
-use Rattle.std.specs.Prelude.{◌≡◌, ◌≢◌, ◌↔◌, ℕ, ◌+◌, ◌*◌, ◌^◌, ◌≤◌, ◌<◌, Bool, true, if◌then◌else◌, IsTrue, List, map, Option, Result, OnOk, IfErr, IsErrOf}
+use Rattle.std.specs.Prelude.{◌≡◌, ◌≢◌, ◌⊎◌, ℕ, ◌+◌, ◌*◌, ◌^◌, ◌≤◌, ◌<◌, Bool, true, if◌then◌else◌, IsTrue, List, map, Option, Result, OnOk, IfErr, IsErrOf}
 use Rattle.std.specs.List.{AllByRecursion}
 use Rattle.site.specs.declared.outside.Dev.{Dev}
 use Rattle.site.specs.declared.outside.Dev.TheVariants.{Log, Flash}
 use Rattle.site.specs.declared.outside.Stop.{Stop}
-use Rattle.site.specs.declared.outside.Stop.TheVariants.{Device, Worn, Foreign}
+use Rattle.site.specs.declared.outside.Stop.TheVariants.{Device, Worn, Memory, Foreign}
 use Rattle.site.specs.State.{State, IsQuiet, reads_of, snapshot_of}
 use Rattle.site.specs.Calls.{IsUnchanged}
 use Rattle.site.specs.Moments.{LeavesOnly}
@@ -29,7 +29,7 @@ use Rattle.page_store.specs.Held.{MayGoOn, Fits, current}
 use Rattle.page_store.specs.Caching.{next_group, cache_of, rules}
 use Rattle.page_store.specs.Ahead.{IsLogged, AreSealed, LeavesSealed, AreLogged, IsAhead, end_forced, forces}
 use Rattle.page_store.specs.Leaves.{AreReady, LeavesPages, LeavesRings, AreGiven, Gives, AreChanged, KeepsCurrent}
-use Rattle.page_store.specs.Flushing.{chosen, cleared_all, flushed_first, flushed_contents}
+use Rattle.page_store.specs.Flushing.{saved_next, cleared_all, flushed_first, flushed_contents}
 use Rattle.page_store.specs.Stopping.{MayStop, IsLogAtEnd}
 
 -- A log and the pages beside it may go on together: they have one geometry, and there is room for the block of the
@@ -75,11 +75,12 @@ pub record Pushes {T : Type 0} (result : Result T Stop) (old new : LogStore) (pa
   pub others : (d : Dev) → d ≢ Flash → reads_of d now ≡ reads_of d before
   pub foreign : IfErr result (λ stop. stop ≢ Foreign)
 
--- When a ring at its end stops a call: that of the log exactly where the log is forced, that of the flash where a group
--- is pushed, and each such push.
+-- When a ring at its end stops a call: that of the log where the log is forced, unless memory is wanting before; that of
+-- the flash where a group is pushed, and each such push.
 pub record StopsAtEnd {T : Type 0} (result : Result T Stop) (log : LogStore) (pages : PageStore)
     (sealing pushing : Bool) : Type 0 where
-  pub worn_log : IsErrOf result (Worn Log) ↔ ((sealing ≡ true) × (log.ring.hi ≡ 2 ^ 40))
+  pub worn_log : IsErrOf result (Worn Log) → (sealing ≡ true) × (log.ring.hi ≡ 2 ^ 40)
+  pub at_log_end : sealing ≡ true → log.ring.hi ≡ 2 ^ 40 → IsErrOf result (Worn Log) ⊎ IsErrOf result Memory
   pub worn_flash : IsErrOf result (Worn Flash) → (pushing ≡ true) × (pages.flash.ring.hi ≡ 2 ^ 40)
   pub never_past : pushing ≡ true → pages.flash.ring.hi ≡ 2 ^ 40 → OnOk result ⊥
 
@@ -88,9 +89,9 @@ pub record Saves {T : Type 0} (result : Result T Stop) (log : LogStore) (pages p
     : Type 0 where
   pub machine : OnOk result (cache_of pages' ≡ push_changed (rules pages) (cache_of pages))
   pub frames : OnOk result
-      (pages'.pool.frames ≡ cleared_all (map (λ f. f.page) (chosen pages.pool.frames)) pages.pool.frames)
+      (pages'.pool.frames ≡ cleared_all (map (λ f. f.page) (saved_next pages)) pages.pool.frames)
   pub directory : OnOk result
-      (pages'.flash.directory ≡ pushed_queue pages.flash (map (λ f. known_of f.page true) (chosen pages.pool.frames)))
+      (pages'.flash.directory ≡ pushed_queue pages.flash (map (λ f. known_of f.page true) (saved_next pages)))
   pub reads : now.flash_reads ≤ before.flash_reads + 8
   pub worn_log : IsErrOf result (Worn Log) → (forces log (flushed_first pages) ≡ true) × (log.ring.hi ≡ 2 ^ 40)
   pub worn_flash : IsErrOf result (Worn Flash) → pages.flash.ring.hi ≡ 2 ^ 40

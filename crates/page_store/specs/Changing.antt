@@ -1,5 +1,5 @@
 -- Which changes of an image the calls on pages make.
-use Rattle.std.specs.Prelude.{ℕ, zero, suc, ◌+◌, ◌*◌, Bool, true, not, ◌&&◌, List, [], ◌∷◌, ◌++◌, map, reverse, if◌then◌else◌}
+use Rattle.std.specs.Prelude.{ℕ, zero, suc, ◌+◌, ◌*◌, Bool, true, not, ◌&&◌, List, [], ◌∷◌, ◌++◌, map, if◌then◌else◌}
 use Rattle.std.specs.List.{list_any}
 use Rattle.image_changes.specs.Changes.{Change}
 use Rattle.frame_group.specs.Groups.{Frame as Stored, group}
@@ -7,7 +7,7 @@ use Rattle.flash_cache.specs.Pushed.{staged_pages, frames_given, changes_of_push
 use Rattle.buffer_pool.specs.declared.frame.Frame.{Frame}
 use Rattle.second_chance.specs.Plans.{chances_given, staged_of}
 use Rattle.second_chance.specs.Queue.{Queue, pushed, frame_of as known_of}
-use Rattle.second_chance.specs.Machine.{Cache, rules_of, leaving, is_full as queue_is_full, must_be_pushed, wants_flush, lacks_room}
+use Rattle.second_chance.specs.Machine.{Cache, rules_of, leaving, is_full as queue_is_full, wants_flush, lacks_room}
 use Rattle.second_chance.specs.Laws.{changed_count}
 use Rattle.log_store.specs.declared.store.LogStore.{LogStore}
 use Rattle.log_store.specs.LogList.{LogList, sealed_if, changes_if}
@@ -15,6 +15,7 @@ use Rattle.log_store.specs.Held.{has_tail}
 use Rattle.page_store.specs.declared.store.PageStore.{PageStore}
 use Rattle.page_store.specs.Caching.{pool_page, cache_of, rules, is_full}
 use Rattle.page_store.specs.Ahead.{is_unsealed, forces}
+use Rattle.page_store.specs.Pulling.{evicted_frames}
 use Rattle.page_store.specs.Flushing.{chosen, cleared_all}
 
 -- What the changes of a push depend on: whether the log has a tail, the number of its next block, its records, the queue on a flash of
@@ -56,13 +57,13 @@ given_changes log list store pages changed contents = changes_if (forces log con
 
 -- A touch.
 
--- what the eviction of the coldest page changes: the push of it, where it must be pushed
-abbrev pub first_changes : Standing → List Frame → List Change
-first_changes s [] = []
-first_changes s (coldest ∷ warmer) = if must_be_pushed s.queue (pool_page coldest) then push_changes s (coldest ∷ []) else []
+-- what an eviction changes: the push of the pages that it pushes, if there are any
+abbrev pub changes_if_any : Standing → List Frame → List Change
+changes_if_any s [] = []
+changes_if_any s (coldest ∷ warmer) = push_changes s (coldest ∷ warmer)
 
 abbrev pub eviction_changes : LogStore → LogList → PageStore → List Change
-eviction_changes log list store = first_changes (standing log list store) (reverse store.pool.frames)
+eviction_changes log list store = changes_if_any (standing log list store) (evicted_frames store)
 
 -- what changes where room is made for a page, and by a touch
 abbrev pub room_changes : LogStore → LogList → PageStore → List Change
@@ -76,22 +77,26 @@ touch_changes log list store page = if lacks_room (rules store) page (cache_of s
 abbrev pub cache_at : Standing → Cache
 cache_at s = record { pool = map pool_page s.frames; queue = s.queue }
 
+-- the pages that the next push saves
+abbrev pub next_saved : Standing → List Frame
+next_saved s = chosen (rules_of 0 s.groups) s.queue s.frames
+
 -- Behind a push of the coldest changed pages: where the log was forced it has one block more and no tail, the queue has the group, and
 -- the pages count as unchanged.
 abbrev pub after_push : Standing → Standing
 after_push s = record {
-  tail = s.tail && not (is_forced s (chosen s.frames));
-  next = if is_forced s (chosen s.frames) then s.next + 1 else s.next;
-  list = sealed_if (is_forced s (chosen s.frames)) s.list;
+  tail = s.tail && not (is_forced s (next_saved s));
+  next = if is_forced s (next_saved s) then s.next + 1 else s.next;
+  list = sealed_if (is_forced s (next_saved s)) s.list;
   groups = s.groups;
-  queue = pushed (queue_is_full (rules_of 0 s.groups) s.queue) (map (λ f. known_of f.page true) (chosen s.frames)) s.queue;
-  frames = cleared_all (map (λ f. f.page) (chosen s.frames)) s.frames;
+  queue = pushed (queue_is_full (rules_of 0 s.groups) s.queue) (map (λ f. known_of f.page true) (next_saved s)) s.queue;
+  frames = cleared_all (map (λ f. f.page) (next_saved s)) s.frames;
 }
 
 -- the changes of a flush, push by push; each push saves at least one changed page
 abbrev pub pushes_changes : ℕ → Standing → List Change
 pushes_changes zero s = []
-pushes_changes (suc pushes) s = if wants_flush (cache_at s) then push_changes s (chosen s.frames) ++ pushes_changes pushes (after_push s) else []
+pushes_changes (suc pushes) s = if wants_flush (cache_at s) then push_changes s (next_saved s) ++ pushes_changes pushes (after_push s) else []
 
 abbrev pub flush_changes : LogStore → LogList → PageStore → List Change
 flush_changes log list store = pushes_changes (changed_count (cache_of store).pool) (standing log list store)

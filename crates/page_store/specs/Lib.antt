@@ -1,10 +1,12 @@
 pub mod Held
 pub mod Caching
+pub mod Pulling
 pub mod Changing
 pub mod Ahead
 pub mod Leaves
 pub mod Calls
 pub mod Stopping
 pub mod Flushing
+pub mod Taking
 pub mod Trying
 pub mod Laws

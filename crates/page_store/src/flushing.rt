@@ -10,11 +10,12 @@ ghost use Rattle.log_store.specs.LogList.{LogList};
 ghost use Rattle.page_store.specs.Caching.{cache_of};
 ghost use Rattle.page_store.specs.Ahead.{forces};
 ghost use Rattle.page_store.specs.Leaves.{AreReady};
-ghost use Rattle.page_store.specs.Flushing.{chosen, mark_for, content_in, cleared_all, flushed_first, flushed_contents};
+ghost use Rattle.page_store.specs.Flushing.{saved_next, content_in, cleared_all, flushed_first, flushed_contents};
+ghost use Rattle.page_store.specs.Pulling.{mark_for};
 ghost use Rattle.page_store.specs.Changing.{standing, push_changes, flush_changes};
 ghost use Rattle.page_store.specs.Calls.{MayWork, Pushes, Saves, Flushes, Keeps, Stands};
 
-use crate::pushing::{NO_MARK, leaving};
+use crate::pushing::{GROUP_SIZE, NO_MARK, leaving, room_for_pages};
 use crate::store::PageStore;
 use buffer_pool::frames_of_pages;
 use flash_cache::unframed_is_disk;
@@ -25,15 +26,12 @@ use site::{Site, Stop};
 use slotted_page::Page;
 use std::alloc::Global;
 
-/// The most frames that a group has.
-const GROUP_SIZE: usize = 8;
-
 impl PageStore {
     // What a plan knows of these pages, which are the coldest changed ones.
     fn changed_marks(&self, pages: &[u32]) -> Result<Vec<PoolMark>, Stop>
-        requires { pages.now ≡ map (λ f. f.page) (chosen self.now.pool.frames) }
+        requires { pages.now ≡ map (λ f. f.page) (saved_next self.now) }
         ensures marks { IfOk result (λ marks. marks.items
-            ≡ map (mark_for self.now.flash.directory) (chosen self.now.pool.frames)) }
+            ≡ map (mark_for self.now.flash.directory) (saved_next self.now)) }
         ensures memory { IfErr result (λ stop. stop ≡ Stop.Memory) }
     {
         let mut marks = Vec::new(self.alloc);
@@ -50,12 +48,12 @@ impl PageStore {
 
     // The plan of a push of these pages, which are the coldest changed ones.
     fn plan_for_changed(&self, pages: &[u32]) -> Result<Plan, Stop>
-        requires pages { pages.now ≡ map (λ f. f.page) (chosen self.now.pool.frames) }
+        requires pages { pages.now ≡ map (λ f. f.page) (saved_next self.now) }
         requires groups { 2 ≤ self.now.flash.geometry.groups }
         requires few { length self.now.flash.directory.groups < self.now.flash.geometry.groups }
         ensures chances { IfOk result (λ plan. plan.chances ≡ []) }
         ensures staged { IfOk result (λ plan. plan.staged ≡ map (λ f. f.0) (staged_marks self.now.flash)) }
-        ensures pulled { IfOk result (λ plan. plan.pulled ≡ map (λ f. f.page) (chosen self.now.pool.frames)) }
+        ensures pulled { IfOk result (λ plan. plan.pulled ≡ map (λ f. f.page) (saved_next self.now)) }
         ensures memory { IfErr result (λ stop. stop ≡ Stop.Memory) }
     {
         let changed = self.changed_marks(pages)?;
@@ -117,18 +115,18 @@ impl PageStore {
         requires some { wants_flush (cache_of self.old) ≡ true }
         requires chances { plan.now.chances ≡ [] }
         requires staged { plan.now.staged ≡ map (λ f. f.0) (staged_marks self.old.flash) }
-        requires pages { pages.now ≡ map (λ f. f.page) (chosen self.old.pool.frames) }
+        requires pages { pages.now ≡ map (λ f. f.page) (saved_next self.old) }
         requires contents { contents.now ≡ map (content_in self.old.pool.frames) pages.now }
 
         // Of an honest site.
         ensures keeps { (list : LogList) → AreReady self.old log.old list (S.state site.old)
             → Keeps result log.old self.old (S.state site.old) (S.state site.new) list
             (forces log.old (flushed_first self.old))
-            (push_changes (standing log.old list self.old) (chosen self.old.pool.frames)) }
+            (push_changes (standing log.old list self.old) (saved_next self.old)) }
         ensures stands { (list : LogList) → AreReady self.old log.old list (S.state site.old)
             → OnOk result (Stands log.old log.new self.old self.new (S.state site.old) (S.state site.new) list
             (forces log.old (flushed_first self.old))
-            (push_changes (standing log.old list self.old) (chosen self.old.pool.frames))) }
+            (push_changes (standing log.old list self.old) (saved_next self.old))) }
 
         // Of every site.
         ensures pushes { Pushes result log.old log.new self.old self.new (S.state site.old) (S.state site.new)
@@ -155,17 +153,17 @@ impl PageStore {
     ) -> Result<(), Stop>
         requires going { MayWork log.old self.old (S.state site.old) }
         requires some { wants_flush (cache_of self.old) ≡ true }
-        requires pages { pages.now ≡ map (λ f. f.page) (chosen self.old.pool.frames) }
+        requires pages { pages.now ≡ map (λ f. f.page) (saved_next self.old) }
 
         // Of an honest site.
         ensures keeps { (list : LogList) → AreReady self.old log.old list (S.state site.old)
             → Keeps result log.old self.old (S.state site.old) (S.state site.new) list
             (forces log.old (flushed_first self.old))
-            (push_changes (standing log.old list self.old) (chosen self.old.pool.frames)) }
+            (push_changes (standing log.old list self.old) (saved_next self.old)) }
         ensures stands { (list : LogList) → AreReady self.old log.old list (S.state site.old)
             → OnOk result (Stands log.old log.new self.old self.new (S.state site.old) (S.state site.new) list
             (forces log.old (flushed_first self.old))
-            (push_changes (standing log.old list self.old) (chosen self.old.pool.frames))) }
+            (push_changes (standing log.old list self.old) (saved_next self.old))) }
 
         // Of every site.
         ensures pushes { Pushes result log.old log.new self.old self.new (S.state site.old) (S.state site.new)
@@ -205,7 +203,8 @@ impl PageStore {
         let pages = self.pool.coldest_changed(self.alloc, self.pool.len())?;
         let mut rest = pages.as_slice();
         while !rest.is_empty() {
-            let (group, behind) = rest.split_at(GROUP_SIZE.min(rest.len()));
+            let room = room_for_pages(&self.flash);
+            let (group, behind) = rest.split_at(room.min(rest.len()));
             if let Err(stop) = self.push_changed(site, log, group) {
                 return Err(stop);
             }

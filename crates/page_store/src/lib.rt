@@ -9,6 +9,7 @@ mod listing;
 mod pushing;
 mod reading;
 mod store;
+mod taking;
 #[cfg(test)]
 mod tests;
 

@@ -9,6 +9,7 @@ ghost use Rattle.buffer_pool.specs.Frames.{frame_of};
 ghost use Rattle.log_store.specs.declared.store.LogStore.{LogStore};
 ghost use Rattle.log_store.specs.LogList.{LogList};
 ghost use Rattle.page_store.specs.Caching.{cache_of, rules, is_full, is_pushed, with_way};
+ghost use Rattle.page_store.specs.Pulling.{room_for_pages};
 ghost use Rattle.page_store.specs.Ahead.{forces, evicted, pushed_for_room};
 ghost use Rattle.page_store.specs.Leaves.{AreReady};
 ghost use Rattle.page_store.specs.Changing.{given_changes, eviction_changes, room_changes};
@@ -16,15 +17,19 @@ ghost use Rattle.page_store.specs.Calls.{MayWork, Pushes, StopsAtEnd, Keeps, Sta
 
 use crate::forcing::force_for;
 use crate::store::PageStore;
+use crate::taking::Taken;
 use buffer_pool::frames_of_pages;
 use byte_fields::Mark;
 use flash_cache::{FlashCache, unframed_is_disk};
 use image_changes::{changes_add_up, fronts_add_up, ring_kept};
 use image_meaning::rings_kept_under;
 use log_store::{LogStore, stays_beside};
-use second_chance::{Plan, plan_evict};
+use second_chance::{Plan, plan_flush};
 use site::{Site, Stop};
 use slotted_page::Page;
+
+/// The most frames that a group has.
+pub const GROUP_SIZE: usize = 8;
 
 pub const NO_MARK: Mark = Mark {
     page: 0,
@@ -46,20 +51,21 @@ pub fn leaving(flash: &FlashCache, into: &mut [Mark; 8]) -> usize
     }
 }
 
-// The plan of a push with an evicted page. Nothing is pulled from the pool.
-fn plan_for_evicted(flash: &FlashCache) -> Plan
+/// How many pages the next group has room for beside its second chances.
+pub fn room_for_pages(flash: &FlashCache) -> usize
     requires groups { 2 ≤ flash.now.geometry.groups }
     requires few { length flash.now.directory.groups < flash.now.geometry.groups }
-    ensures chances { result.chances ≡ [] }
-    ensures staged { result.staged ≡ map (λ f. f.0) (staged_marks flash.now) }
+    ensures room { result ≡ room_for_pages (rules_of 0 flash.now.geometry.groups) flash.now.directory }
+    ensures some { 1 ≤ result }
+    ensures few { result ≤ 8 }
 {
     let mut marks = [NO_MARK; 8];
     let count = leaving(flash, &mut marks);
-    plan_evict(Some(&marks[..count]), &[])
+    GROUP_SIZE - plan_flush(Some(&marks[..count]), &[]).chances.len()
 }
 
-// Whether an evicted page is to be pushed: it was changed, or it has no frame in the queue.
-fn must_be_pushed(flash: &FlashCache, page: u32, changed: bool) -> bool
+/// Whether a page that leaves the pool is to be pushed: it was changed, or it has no frame in the queue.
+pub fn must_be_pushed(flash: &FlashCache, page: u32, changed: bool) -> bool
     ensures { result ≡ must_be_pushed flash.now.directory (record { page = page; changed = changed }) }
 {
     changed || !flash.holds(page)
@@ -117,7 +123,8 @@ impl PageStore {
         }
     }
 
-    /// Takes the coldest page out of the pool. Where it was changed, or has no frame in the queue, it is pushed.
+    /// Takes the coldest page out of the pool. Where it was changed, or has no frame in the queue, it is pushed, with the coldest
+    /// others of which one or the other is so: as many as the group has room for leave the pool too.
     pub(crate) fn evict<S: Site>(&mut self, site: &mut S, log: &mut LogStore) -> Result<(), Stop>
         requires going { MayWork log.old self.old (S.state site.old) }
 
@@ -150,8 +157,17 @@ impl PageStore {
         if !must_be_pushed(&self.flash, page, changed) {
             return Ok(());
         }
-        let plan = plan_for_evicted(&self.flash);
-        self.push(site, log, &plan, &[page], &[changed], &[content])
+        match self.take_with(page, changed, content) {
+            Ok((plan, taken)) => {
+                let Taken {
+                    pages,
+                    changed,
+                    contents,
+                } = &taken;
+                self.push(site, log, &plan, pages, changed, contents)
+            }
+            Err(stop) => Err(stop),
+        }
     }
 
     /// Makes room for one page more: where the pool is full its coldest page is evicted.

@@ -1,16 +1,17 @@
 -- What a push takes, from the marks of the front group and of the pool's pages.
-use Rattle.std.specs.Prelude.{ℕ, ◌-◌, ◌==◌, Bool, false, not, ◌&&◌, ◌||◌, List, [], length, map, filter, take, if◌then◌else◌}
+use Rattle.std.specs.Prelude.{ℕ, ◌-◌, ◌==◌, Bool, true, false, not, ◌&&◌, ◌||◌, List, [], length, map, filter, take, if◌then◌else◌}
 use Rattle.std.specs.List.{list_any, enumerate_from}
 use Rattle.byte_fields.specs.declared.frame_head.Mark.{Mark}
 use Rattle.second_chance.specs.declared.plan.PoolMark.{PoolMark}
 use Rattle.second_chance.specs.declared.plan.Plan.{Plan}
 
--- whether second chances are given, and whether an eviction pulls pages: not yet
+-- whether second chances are given: not yet
 abbrev pub chances_given : Bool
 chances_given = false
 
+-- whether an eviction pulls pages
 abbrev pub pages_pulled : Bool
-pages_pulled = false
+pages_pulled = true
 
 -- a group has at most so many frames, and at most so many of a front group's are given a second chance
 abbrev pub group_size : ℕ

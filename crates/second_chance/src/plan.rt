@@ -45,13 +45,13 @@ pub struct Taking {
     pub pulls: bool,
 }
 
-/// What the pushes of the page cache take: no second chances, and nothing from the pool at an eviction.
+/// What the pushes of the page cache take: no second chances.
 const TAKING: Taking = Taking {
     chances: false,
-    pulls: false,
+    pulls: true,
 };
 
-/// What the push of an evicted page does in the page cache: `plan_evict_taking`, with no second chances and no pulled pages.
+/// What the push of an evicted page does in the page cache: `plan_evict_taking`, with no second chances.
 pub fn plan_evict(front: Option<&[Mark]>, pool: &[PoolMark]) -> Plan
     requires { ForSome front (λ marks. length marks.now ≤ 8) }
     ensures { result ≡ eviction_plan pages_pulled chances_given (unwrap_or (option_copied front.entry) []) pool.now }

@@ -1,4 +1,4 @@
-use Rattle.std.proofs.Common.{rules, [], ◌≡◌, Bool, ◌++◌, true, false, refl, sym, ap, subst, ◌∙◌, arith, ◌≤◌, map}
+use Rattle.std.proofs.Common.{rules, ℕ, [], ◌≡◌, Bool, ◌++◌, true, false, refl, sym, ap, subst, ◌∙◌, arith, ◌≤◌, map}
 use Rattle.std.specs.Prelude.{nat_lt, ◌||◌}
 use Rattle.std.proofs.lemmas.Bool.{true≢false}
 use Rattle.std.proofs.lemmas.Bool.Decides.{nat_tests}
@@ -11,7 +11,9 @@ use Rattle.page_store.specs.declared.store.PageStore.{PageStore}
 use Rattle.page_store.specs.Caching.{next_group, cache_of, rules as rules_for}
 use Rattle.page_store.specs.Ahead.{forces, is_unsealed, end_now}
 use Rattle.buffer_pool.specs.declared.frame.Frame.{Frame}
-use Rattle.page_store.specs.Flushing.{chosen, flushed_first, flushed_contents, changed_frames}
+use Rattle.page_store.specs.Flushing.{cleared_all, saved_next, flushed_first, flushed_contents, changed_frames}
+use Rattle.page_store.specs.Pulling.{room_for_pages}
+use Rattle.page_store.proofs.Choosing.{first_changed}
 use Rattle.page_store.specs.Changing.{standing, push_changes, flush_changes, after_push, pushes_changes}
 use Rattle.page_store.proofs.Left.{some_left, none_left, front_pages, back_pages, all_changed}
 use Rattle.page_store.proofs.Unsealed.{next_round, nothing_forced, forced_by_first, or_first, or_second}
@@ -83,7 +85,10 @@ pub push_changed-requires-clause-some : goal.push_changed-requires-clause-some
 push_changed-requires-clause-some g c = some_left c.loop-rest.self.pool.frames c.loop-rest.rest.now c.loop-rest.invariant.pages (sym c.is_empty.ensures ∙ c.loop-rest-test.true)
 
 pub push_changed-requires-clause-pages : goal.push_changed-requires-clause-pages
-push_changed-requires-clause-pages g c = c.split_at.ensures.front ∙ front_pages c.loop-rest.self.pool.frames c.loop-rest.rest.now c.loop-rest.invariant.pages c.min.result c.min.ensures
+push_changed-requires-clause-pages g c =
+    let frames = c.loop-rest.self.pool.frames in
+    c.split_at.ensures.front ∙ front_pages frames c.loop-rest.rest.now c.loop-rest.invariant.pages c.room_for_pages-room.result c.min.result c.min.ensures
+    ∙ ap (λ (n : ℕ). map (λ (f : Frame). f.page) (first_changed n frames)) c.room_for_pages-room.ensures.room
 
 -- a push ends it
 
@@ -101,7 +106,7 @@ returns-in-Err-clause-keeps g c list ready =
     let saves = c.flushes_save_all.ensures.saves_a_page (rules_for store) (cache_of store) wants in
     let s = standing log (sealed_if b list) store in
     let next = one_to_come (flush_changes log0 list c.args.self.now) so_far.made s (changed_count (cache_of store).pool) so_far.has wants 0 (omega (arith, saves)) (after_push s) refl in
-    keeps_more (pushes_changes next.pushes (after_push s)) (either b forced (λ is. inv.forced ∙ or_first b _ is) (λ is. inv.forced ∙ or_second b _ (forced_by_first (has_tail log) (is_unsealed (end_now log)) store.pool.frames is))) next.split
+    keeps_more (pushes_changes next.pushes (after_push s)) (either b forced (λ is. inv.forced ∙ or_first b _ is) (λ is. inv.forced ∙ or_second b _ (forced_by_first (has_tail log) (is_unsealed (end_now log)) (room_for_pages (rules_for store) store.flash.directory) store.pool.frames is))) next.split
     (keeps_then c.fronts_add_up.ensures once inv.pushes.works.geometry (inv.pushes.works.calls.stays_quiet ready.blocks.honest) so_far.stands so_far.keeps (c.in-Err.ensures.keeps (sealed_if b list) so_far.stands.ready))
   where
     either : (b f : Bool) {P : Type 0} → (b ≡ true → P) → (f ≡ true → P) → (b || f) ≡ true → P
@@ -138,7 +143,7 @@ returns-in-Err-clause-flushes g c =
           let both = push.worn_log says in
           let tail = and_left (has_tail log) _ both.0 in
           let kept : log0.ring.hi ≡ log.ring.hi = kept_block log0.ring.hi log.ring.hi (has_tail log0) (has_tail log) inv.pushes.works.forces.end inv.pushes.works.forces.rises tail in
-          (inv.forced ∙ or_second (nat_lt log0.ring.hi log.ring.hi) _ (forced_by_first (has_tail log) (is_unsealed (end_now log)) store.pool.frames both.0), kept ∙ both.1);
+          (inv.forced ∙ or_second (nat_lt log0.ring.hi log.ring.hi) _ (forced_by_first (has_tail log) (is_unsealed (end_now log)) (room_for_pages (rules_for store) store.flash.directory) store.pool.frames both.0), kept ∙ both.1);
       worn_flash = push.worn_at;
       never_past = λ wants past. tt;
     }
@@ -182,7 +187,7 @@ loop-rest-preserved g c =
       so_far = λ list ready.
           let so_far = inv.so_far list ready in
           let list' = sealed_if b list in
-          let more = push_changes (standing log list' store) (chosen store.pool.frames) in
+          let more = push_changes (standing log list' store) (saved_next store) in
           let stands = c.in_default.ensures.stands list' so_far.stands.ready in
           record {
             made = so_far.made ++ more;
@@ -194,14 +199,15 @@ loop-rest-preserved g c =
             stands = stands_as (sym now) refl (stands_then c.changes_add_up.ensures once works.geometry so_far.stands stands);
           };
       forced = inv.forced
-          ∙ next_round is_unsealed store.pool.frames inv.going.pages_going.own.pool.distinct b (has_tail log) (has_tail log') log.ring.hi log'.ring.hi push.works.forces.next push.works.forces.end
+          ∙ next_round is_unsealed (room_for_pages (rules_for store) store.flash.directory) store.pool.frames inv.going.pages_going.own.pool.distinct b (has_tail log) (has_tail log') log.ring.hi log'.ring.hi push.works.forces.next push.works.forces.end
           ∙ (λ i. sym now i || forces log' (map (λ (f : Frame). f.content) (changed_frames (sym save.frames i))));
       untouched = λ some past. absurd (save.never_past (ap (λ (s : PageStore). s.flash.ring.hi) (inv.untouched some past) ∙ past));
       machine = inv.machine ∙ (c.flushes_save_all.ensures.goes_on (rules_for first) (cache_of store) wants).0
           ∙ ap (flushed (rules_for first)) (ap (λ (r : Rules). push_changed r (cache_of store)) (sym same) ∙ sym save.machine);
       reads = omega (arith, inv.reads, save.reads, saves, count);
       asked = (let one = ap next_group save.machine in let groups : 1 ≤ (rules_for store).groups = omega (arith, inv.going.pages_going.flash.limits.groups) in let next = changed_next (rules_for store) (cache_of store) groups in omega (arith, inv.asked, save.reads, one, next));
-      pages = c.split_at.ensures.back ∙ back_pages store.pool.frames c.loop-rest.rest.now inv.pages c.min.result c.min.ensures store'.pool.frames inv.going.pages_going.own.pool.distinct save.frames;
+      pages = c.split_at.ensures.back ∙ back_pages store.pool.frames c.loop-rest.rest.now inv.pages c.room_for_pages-room.result c.min.result c.min.ensures store'.pool.frames inv.going.pages_going.own.pool.distinct
+          (save.frames ∙ ap (λ (n : ℕ). cleared_all (map (λ (f : Frame). f.page) (first_changed n store.pool.frames)) store.pool.frames) (sym c.room_for_pages-room.ensures.room));
     }
 
 -- no page is changed

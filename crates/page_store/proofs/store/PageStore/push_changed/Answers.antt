@@ -1,6 +1,8 @@
 use Rattle.std.proofs.Common.{rules, ℕ, sym, subst}
 use Rattle.std.specs.Prelude.{All, IsSome}
 use Rattle.buffer_pool.specs.Frames.{frame_of}
+use Rattle.page_store.specs.Caching.{rules as rules_for}
+use Rattle.page_store.specs.Pulling.{room_for_pages}
 use Rattle.page_store.proofs.Saving.{pages_there}
 use Rattle.page_store.proofs.Calling.{keeps_still}
 use Rattle.page_store.proofs.store.PageStore.push_changed.Goals as goal
@@ -8,7 +10,7 @@ use Rattle.page_store.proofs.store.PageStore.push_changed.Goals as goal
 pub contents_of-requires : goal.contents_of-requires
 contents_of-requires g c =
     let frames = c.args.self.now.pool.frames in
-    subst (All (λ (page : ℕ). IsSome (frame_of frames page))) (sym c.requires.pages) (pages_there frames c.requires.going.pages_going.own.pool.distinct)
+    subst (All (λ (page : ℕ). IsSome (frame_of frames page))) (sym c.requires.pages) (pages_there (room_for_pages (rules_for c.args.self.now) c.args.self.now.flash.directory) frames c.requires.going.pages_going.own.pool.distinct)
 
 pub returns-in_err-plan-clause-keeps : goal.returns-in_err-plan-clause-keeps
 returns-in_err-plan-clause-keeps g c list ready = keeps_still c.requires.going.sizes ready (search rules) (search rules) (search rules)

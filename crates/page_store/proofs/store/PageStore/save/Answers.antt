@@ -10,12 +10,14 @@ use Rattle.second_chance.specs.declared.frame.Frame.{Frame as Known}
 use Rattle.flash_cache.specs.Pushed.{pushed_queue}
 use Rattle.page_store.specs.declared.store.PageStore.{PageStore}
 use Rattle.page_store.specs.Held.{IsPage, MayGoOn}
-use Rattle.page_store.specs.Caching.{pool_page, cache_of}
+use Rattle.page_store.specs.Caching.{pool_page, cache_of, rules as rules_for}
 use Rattle.page_store.specs.Ahead.{IsLogged, end_forced, forces}
 use Rattle.page_store.specs.Calls.{Stands}
 use Rattle.page_store.specs.Changing.{standing, push_changes}
-use Rattle.page_store.specs.Flushing.{chosen, flushed_first, cleared_all}
+use Rattle.page_store.specs.Pulling.{room_for_pages}
+use Rattle.page_store.specs.Flushing.{saved_next, flushed_first, cleared_all}
 use Rattle.page_store.proofs.Saving.{pages_there, pages_exist, pages_apart, distinct_chosen, some_chosen}
+use Rattle.page_store.proofs.Choosing.{room_some}
 use Rattle.page_store.proofs.Touching.{pool_going}
 use Rattle.page_store.proofs.Clearing.{all_contents}
 use Rattle.page_store.proofs.Flushes.{is_saving, saved_fits, saved_current, machine_saved, pages_cleared}
@@ -25,22 +27,22 @@ use Rattle.page_store.proofs.store.PageStore.save.Goals as goal
 
 pub push-requires-clause-some : goal.push-requires-clause-some
 push-requires-clause-some g c =
-    let some = some_chosen c.args.self.now.pool.frames c.requires.some in
+    let some = some_chosen (room_for_pages (rules_for c.args.self.now) c.args.self.now.flash.directory) c.args.self.now.pool.frames (room_some (rules_for c.args.self.now) c.args.self.now.flash.directory) c.requires.some in
     let count = ap length c.requires.pages in
-    omega (arith, some, count, length-map (chosen c.args.self.now.pool.frames) (λ (f : Frame). f.page))
+    omega (arith, some, count, length-map (saved_next c.args.self.now) (λ (f : Frame). f.page))
 
 pub push-requires-clause-exist : goal.push-requires-clause-exist
 push-requires-clause-exist g c = subst (All (λ (page : ℕ). page < c.args.self.now.flash.geometry.pages)) (sym c.requires.pages)
-    (pages_exist c.args.self.now.pool.frames c.requires.going.pages_going.own.pool.distinct c.args.self.now.flash.geometry.pages c.requires.going.pages_going.own.pages)
+    (pages_exist (room_for_pages (rules_for c.args.self.now) c.args.self.now.flash.directory) c.args.self.now.pool.frames c.requires.going.pages_going.own.pool.distinct c.args.self.now.flash.geometry.pages c.requires.going.pages_going.own.pages)
 
 pub push-requires-clause-apart : goal.push-requires-clause-apart
-push-requires-clause-apart g c = subst (AllPairs (λ (a b : ℕ). a ≢ b)) (sym c.requires.pages) (pages_apart (chosen c.args.self.now.pool.frames) (distinct_chosen c.args.self.now.pool.frames c.requires.going.pages_going.own.pool.distinct))
+push-requires-clause-apart g c = subst (AllPairs (λ (a b : ℕ). a ≢ b)) (sym c.requires.pages) (pages_apart (saved_next c.args.self.now) (distinct_chosen (room_for_pages (rules_for c.args.self.now) c.args.self.now.flash.directory) c.args.self.now.pool.frames c.requires.going.pages_going.own.pool.distinct))
 
 pub clear_all-requires-clause-there : goal.clear_all-requires-clause-there
 clear_all-requires-clause-there g c =
     let frames = c.args.self.now.pool.frames in
     subst (λ (p : Pool). All (λ (page : ℕ). IsSome (frame_of p.frames page)) c.args.pages.now) (sym c.push.ensures.pool)
-    (subst (All (λ (page : ℕ). IsSome (frame_of frames page))) (sym c.requires.pages) (pages_there frames c.requires.going.pages_going.own.pool.distinct))
+    (subst (All (λ (page : ℕ). IsSome (frame_of frames page))) (sym c.requires.pages) (pages_there (room_for_pages (rules_for c.args.self.now) c.args.self.now.flash.directory) frames c.requires.going.pages_going.own.pool.distinct))
 
 pub returns-in-Err-clause-keeps : goal.returns-in-Err-clause-keeps
 returns-in-Err-clause-keeps g c list ready =
@@ -61,7 +63,7 @@ returns-in-Err-clause-saves g c =
       frames = tt;
       directory = tt;
       reads = c.push.ensures.reads;
-      worn_log = λ says. (let both = c.in-Err.ensures.worn.worn_log.0 says in (sym (ap (forces c.args.log.now) facts.chosen_are.first) ∙ both.0, both.1));
+      worn_log = λ says. (let both = c.in-Err.ensures.worn.worn_log says in (sym (ap (forces c.args.log.now) facts.chosen_are.first) ∙ both.0, both.1));
       worn_flash = λ says. (c.in-Err.ensures.worn.worn_flash says).1;
       worn_at = c.in-Err.ensures.worn_at;
       never_past = λ past. tt;
@@ -121,7 +123,7 @@ returns-in-Ok-clause-stands g c list ready =
     let after = stands.ready own.clean own.sound facts.chosen_are.are_changed in
     let saved : PageStore = record mid { pool = record mid.pool { frames = cleared_all pages mid.pool.frames } } in
     let P = λ (content : List ℕ). IsLogged (end_forced log') content in
-    subst (λ (s : PageStore). Stands log log' store s old new list (forces log (flushed_first store)) (push_changes (standing log list store) (chosen store.pool.frames))) (sym c.clear_all.ensures.cleared)
+    subst (λ (s : PageStore). Stands log log' store s old new list (forces log (flushed_first store)) (push_changes (standing log list store) (saved_next store))) (sym c.clear_all.ensures.cleared)
     (stands_as {pages' = saved} (ap (forces log) facts.chosen_are.first) (facts.changes log list)
     (stands_given own push.works.geometry
     (record { pages = saved_fits c.frames_of_pages.ensures.cleared store mid pages contents old new c.push.ensures.pool push.works.geometry stands.gives facts.chosen_are.each after.pages; blocks = after.blocks; records = after.records })
@@ -140,7 +142,7 @@ returns-in-Ok-clause-saves g c =
       machine = ap cache_of c.clear_all.ensures.cleared
           ∙ ap (λ (p : Pool). let k : Cache = record { pool = map pool_page (cleared_all pages p.frames); queue = queue } in k) c.push.ensures.pool
           ∙ ap (λ (l : List ℕ). let k : Cache = record { pool = map pool_page (cleared_all l frames); queue = queue } in k) c.requires.pages
-          ∙ machine_saved store queue (after ∙ ap (λ (l : List Known). pushed_queue store.flash l) (sym (known_pages (chosen frames))));
+          ∙ machine_saved store queue (after ∙ ap (λ (l : List Known). pushed_queue store.flash l) (sym (known_pages (saved_next store))));
       frames = ap (λ (s : PageStore). s.pool.frames) c.clear_all.ensures.cleared ∙ ap (λ (p : Pool). cleared_all pages p.frames) c.push.ensures.pool ∙ ap (λ (l : List ℕ). cleared_all l frames) c.requires.pages;
       directory = ap (λ (s : PageStore). s.flash.directory) c.clear_all.ensures.cleared ∙ after;
       reads = c.push.ensures.reads;

@@ -76,7 +76,8 @@ returns-then-is_some-clause-worn g c =
     let frame = front_of c.touch.new.self.frames in
     let is : frame_of store.pool.frames page ≡ Some frame = c.touch.ensures.front (search rules) in
     record {
-      worn_log = ((λ says. absurd cc), (λ p. absurd (true≢false (sym p.0 ∙ nothing_forced store page frame is c.args.log.now))));
+      worn_log = λ says. absurd cc;
+      at_log_end = λ forced end. absurd (true≢false (sym forced ∙ nothing_forced store page frame is c.args.log.now));
       worn_flash = search rules;
       never_past = λ pushed past. true≢false (sym pushed ∙ nothing_pushed store page frame is);
     }

@@ -1,0 +1,162 @@
+// Pages are taken out of the pool, to be pushed together.
+ghost use Rattle.std.specs.Prelude.{◌≡◌, ◌<◌, ◌≤◌, ◌++◌, ◌∷◌, [], List, length, map, if◌then◌else◌, IfOk, OnOk, IfErr};
+ghost use Rattle.site.specs.declared.outside.Stop.{Stop};
+ghost use Rattle.buffer_pool.specs.declared.frame.Frame.{Frame};
+ghost use Rattle.flash_cache.specs.Pushed.{staged_marks};
+ghost use Rattle.second_chance.specs.Machine.{pool_mark, must_be_pushed};
+ghost use Rattle.page_store.specs.Held.{IsStore};
+ghost use Rattle.page_store.specs.Pulling.{mark_for, without_all, LeavesOut, candidates, pulled};
+ghost use Rattle.page_store.specs.Taking.{Has};
+
+use crate::pushing::{NO_MARK, leaving, must_be_pushed};
+use crate::store::PageStore;
+use buffer_pool::frames_of_pages;
+use second_chance::{Places, Plan, PoolMark, plan_evict};
+use site::Stop;
+use slotted_page::Page;
+use std::alloc::Global;
+
+/// The most pages that are pulled from the pool with an evicted one.
+const MOST_PULLED: usize = 7;
+
+/// Pages that were taken out of the pool, place by place: their numbers, whether they were changed, and what they hold.
+#[derive(Drop)]
+pub struct Taken {
+    pub pages: Vec<u32>,
+    pub changed: Vec<bool>,
+    pub contents: Vec<Page>,
+}
+
+impl Taken {
+    // No page.
+    fn new(alloc: Global) -> Taken
+        ensures { Has result [] }
+    {
+        Taken {
+            pages: Vec::new(alloc),
+            changed: Vec::new(alloc),
+            contents: Vec::new(alloc),
+        }
+    }
+
+    // One page more.
+    fn push(&mut self, page: u32, changed: bool, content: Page) -> Result<(), Stop>
+        ensures has { (frames : List Frame) → Has self.old frames → OnOk result
+            (Has self.new (frames ++ record { page = page; changed = changed; content = content } ∷ [])) }
+        ensures memory { IfErr result (λ stop. stop ≡ Stop.Memory) }
+    {
+        self.pages.push(page)?;
+        self.changed.push(changed)?;
+        self.contents.push(content)?;
+        Ok(())
+    }
+}
+
+impl PageStore {
+    // Adds what a plan knows of a page to others, where the page is changed or has no frame in the queue.
+    fn add_movable(&self, found: &mut Vec<PoolMark>, page: u32, changed: bool) -> Result<(), Stop>
+        ensures found { OnOk result (found.new.items ≡ found.old.items
+            ++ (if must_be_pushed self.now.flash.directory (record { page = page; changed = changed })
+            then pool_mark self.now.flash.directory (record { page = page; changed = changed }) ∷ [] else [])) }
+        ensures memory { IfErr result (λ stop. stop ≡ Stop.Memory) }
+    {
+        if must_be_pushed(&self.flash, page, changed) {
+            let framed = self.flash.holds(page);
+            found.push(PoolMark {
+                page,
+                changed,
+                framed,
+            })?;
+        }
+        Ok(())
+    }
+
+    // The pages that may be pulled from the pool, the coldest in front: seven at most of those that are changed or have no frame in
+    // the queue.
+    fn candidates(&self) -> Result<Vec<PoolMark>, Stop>
+        ensures marks { IfOk result (λ marks. marks.items
+            ≡ map (mark_for self.now.flash.directory) (candidates self.now)) }
+        ensures memory { IfErr result (λ stop. stop ≡ Stop.Memory) }
+    {
+        let mut marks = self.pool.marks(self.alloc)?;
+        marks.reverse();
+        let mut found = Vec::new(self.alloc);
+        for (page, changed) in &marks {
+            if found.len() == MOST_PULLED {
+                return Ok(found);
+            }
+            self.add_movable(&mut found, *page, *changed)?;
+        }
+        Ok(found)
+    }
+
+    // The plan of a push with a page that the pool has not any more.
+    fn plan_for_evicted(&self) -> Result<Plan, Stop>
+        requires groups { 2 ≤ self.now.flash.geometry.groups }
+        requires few { length self.now.flash.directory.groups < self.now.flash.geometry.groups }
+        ensures chances { IfOk result (λ plan. plan.chances ≡ []) }
+        ensures staged { IfOk result (λ plan. plan.staged ≡ map (λ f. f.0) (staged_marks self.now.flash)) }
+        ensures pulled { IfOk result (λ plan. plan.pulled ≡ map (λ f. f.page) (pulled self.now)) }
+        ensures memory { IfErr result (λ stop. stop ≡ Stop.Memory) }
+    {
+        let found = self.candidates()?;
+        let mut marks = [NO_MARK; 8];
+        let count = leaving(&self.flash, &mut marks);
+        Ok(plan_evict(Some(&marks[..count]), found.as_slice()))
+    }
+
+    // Takes the pages out of the pool that a push with an evicted page pulls.
+    fn pull(&mut self, pages: &Places, taken: &mut Taken) -> Result<(), Stop>
+        requires store { IsStore self.old }
+        requires pages { pages.now ≡ map (λ f. f.page) (pulled self.old) }
+        ensures taken { (frames : List Frame) → Has taken.old frames
+            → OnOk result (Has taken.new (frames ++ pulled self.old)) }
+        ensures pool { OnOk result (self.new.pool ≡ record self.old.pool {
+          frames = without_all (map (λ f. f.page) (pulled self.old)) self.old.pool.frames;
+        }) }
+        ensures part { LeavesOut self.old.pool.frames self.new.pool.frames }
+        ensures kept { self.new ≡ record self.old { pool = self.new.pool } }
+        ensures size { self.new.pool.size ≡ self.old.pool.size }
+        ensures memory { IfErr result (λ stop. stop ≡ Stop.Memory) }
+    {
+        frames_of_pages();
+        for place in 0..pages.len() {
+            let page = pages.at(place);
+            let Some((changed, content)) = self.pool.take_page(page) else {
+                unreachable!();
+            };
+            taken.push(page, changed, content)?;
+        }
+        Ok(())
+    }
+
+    /// The plan of a push with a page that the pool has not any more, and that page with those that the plan pulls, which are taken
+    /// out of the pool.
+    pub(crate) fn take_with(
+        &mut self,
+        page: u32,
+        changed: bool,
+        content: Page,
+    ) -> Result<(Plan, Taken), Stop>
+        requires store { IsStore self.old }
+        requires groups { 2 ≤ self.old.flash.geometry.groups }
+        requires few { length self.old.flash.directory.groups < self.old.flash.geometry.groups }
+        ensures chances { IfOk result (λ both. both.0.chances ≡ []) }
+        ensures staged { IfOk result (λ both. both.0.staged ≡ map (λ f. f.0) (staged_marks self.old.flash)) }
+        ensures taken { IfOk result (λ both. Has both.1
+            (record { page = page; changed = changed; content = content } ∷ pulled self.old)) }
+        ensures pool { OnOk result (self.new.pool ≡ record self.old.pool {
+          frames = without_all (map (λ f. f.page) (pulled self.old)) self.old.pool.frames;
+        }) }
+        ensures part { LeavesOut self.old.pool.frames self.new.pool.frames }
+        ensures kept { self.new ≡ record self.old { pool = self.new.pool } }
+        ensures size { self.new.pool.size ≡ self.old.pool.size }
+        ensures memory { IfErr result (λ stop. stop ≡ Stop.Memory) }
+    {
+        let plan = self.plan_for_evicted()?;
+        let mut taken = Taken::new(self.alloc);
+        taken.push(page, changed, content)?;
+        self.pull(&plan.pulled, &mut taken)?;
+        Ok((plan, taken))
+    }
+}
