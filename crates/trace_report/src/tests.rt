@@ -1,0 +1,3 @@
+use crate::simulate;
+use site::{Geometry, MemSite};
+use std::test::Fail;
