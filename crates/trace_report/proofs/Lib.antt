@@ -1,0 +1,5 @@
+mod Spelled
+mod Heard
+mod Cut
+mod Told
+pub mod Lacking

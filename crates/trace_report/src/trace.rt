@@ -1,5 +1,5 @@
 // The lines of the input.
-ghost use Rattle.std.specs.Prelude.{◌≡◌, ◌↔◌, [], IsTrue, IfOk, OnOk, OnErr, IfSome, IfNone};
+ghost use Rattle.std.specs.Prelude.{◌≡◌, ◌<◌, true, false, IsTrue, IfOk, OnOk, OnErr, IfSome, IfNone};
 ghost use Rattle.site.specs.Calls.{Goes, Rose, SameReads};
 ghost use Rattle.site.specs.Faults.{TakeFaults};
 ghost use Rattle.trace_report.specs.Hearing.{IsUsable, HasEnded, to_hear, HearsOnly, HearsOctet, Hears};
