@@ -2,7 +2,7 @@
 use Rattle.std.proofs.Common.{◌≡◌, ◌⊎◌, ℕ, ◌+◌, ◌≤◌, ◌<◌, Bool, true, List, [], ◌∷◌, ◌++◌, length, refl, sym, ◌∙◌, ap, subst, arith, append_assoc, length-append, inl, inr}
 use Rattle.std.specs.Prelude.{map, All}
 use Rattle.std.proofs.lemmas.List.{append-nil, map-append, length-map}
-use Rattle.std.proofs.lemmas.List.Elements.{All-append, All-nil}
+use Rattle.std.proofs.lemmas.List.Elements.{All-append, All-cons, All-head, All-nil, All-tail}
 use Rattle.shell_text.specs.Runs.{lines_of}
 use Rattle.trace_report.specs.Traces.{Touch, touch_text, IsPage, IsTouch, AreTouches, IsTrace, IsFirstWrong, most}
 use Rattle.trace_report.specs.Hearing.{IsWrong, Hears}
@@ -19,7 +19,7 @@ pub uncut : (octets : List ℕ) → IsCut octets octets []
 uncut octets = record { lines = refl; pages = All-nil IsPage }
 
 one_page : (t : Touch) → IsPage t → All IsPage (t ∷ [])
-one_page t p = search rules
+one_page t p = All-cons IsPage t [] p (All-nil IsPage)
 
 pub cut_more : (octets rest next line : List ℕ) (touches : List Touch) (t : Touch) → IsCut octets rest touches → lines_of true rest ≡ line ∷ lines_of true next → IsTouch line t → IsCut octets next (touches ++ t ∷ [])
 cut_more octets rest next line touches t cut is touch = record {
@@ -63,7 +63,7 @@ record IsAt (touches : List Touch) (before : List (List ℕ)) (line : List ℕ) 
   pub more : length before < length touches
 
 first_is : (t : Touch) (touches : List Touch) → All IsPage (t ∷ touches) → IsPage t × All IsPage touches
-first_is t touches all = search rules
+first_is t touches all = (All-head IsPage t touches all, All-tail IsPage t touches all)
 
 line_at : (touches : List Touch) (before : List (List ℕ)) (line : List ℕ) (behind : List (List ℕ)) → map touch_text touches ≡ before ++ line ∷ behind → All IsPage touches → IsAt touches before line
 line_at [] before line behind is all = let none : 0 ≡ length before + length (line ∷ behind) = ap length is ∙ length-append before (line ∷ behind) in absurd (omega (arith, none))

@@ -10,7 +10,8 @@ use Rattle.shell_text.specs.Runs.{in_front, lines_of}
 use Rattle.shell_text.proofs.Lines.{lines_of-newline, lines_of-end}
 use Rattle.trace_report.specs.declared.trace.Heard.{Heard}
 use Rattle.trace_report.specs.declared.trace.Heard.TheVariants as heard
-use Rattle.trace_report.specs.Hearing.{HearsOctet, HearsOnly, Hears, IsSaid}
+use Rattle.trace_report.specs.declared.trace.Trace.{Trace}
+use Rattle.trace_report.specs.Hearing.{HearsOctet, HearsOnly, Hears, IsSaid, to_hear}
 use Rattle.trace_report.proofs.Spelled.{too_long}
 
 -- what was heard of a line so far
@@ -110,3 +111,12 @@ first_of (x ∷ buffer) (suc from) to less fits =
 
 pub octet_first : (buffer : List ℕ) (from to : ℕ) → from < to → to ≤ length buffer → take (to - from) (drop from buffer) ≡ get_or buffer from 0 ∷ take (to - (from + 1)) (drop (from + 1) buffer)
 octet_first buffer from to less fits = first_of buffer from to less fits ∙ ap (λ (n : ℕ). get_or buffer from 0 ∷ take (to - n) (drop n buffer)) (sym (add-one from))
+
+pub hears_as : (said is : Heard) (before after : List ℕ) → Hears said before after → said ≡ is → Hears is before after
+hears_as said is before after h same = subst (λ (x : Heard). Hears x before after) same h
+
+-- a trace of which nothing was taken
+pub nothing_pending : (trace : Trace) (site : State) → trace.from ≡ trace.to → to_hear trace site ≡ site.left
+nothing_pending trace site empty =
+    let none : trace.to - trace.from ≡ 0 = omega (arith, empty) in
+    ap (λ (n : ℕ). take n (drop trace.from trace.buffer) ++ site.left) none

@@ -1,5 +1,5 @@
 mod Spelled
 mod Heard
 mod Cut
-mod Told
+pub mod Told
 pub mod Lacking

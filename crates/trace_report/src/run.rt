@@ -45,9 +45,9 @@ fn work<S: Site>(alloc: Global, groups: u32, pool: u32, site: &mut S) -> Result<
                 if number == LINES {
                     return Err(Halt::Trace(number + 1));
                 }
-                if machines.touch(page, change).is_err() {
+                let Ok(()) = machines.touch(page, change) else {
                     return Err(Halt::Memory);
-                }
+                };
             }
         }
     }

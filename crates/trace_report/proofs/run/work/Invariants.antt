@@ -1,8 +1,7 @@
-use Rattle.std.proofs.Common.{◌≡◌, ◌≤◌, length, List, IsTrue}
+use Rattle.std.proofs.Common.{◌≡◌, ◌≤◌, IsTrue}
 use Rattle.site.specs.Calls.{Goes, SameReads}
 use Rattle.site.specs.Faults.{faults_in}
-use Rattle.trace_report.specs.Traces.{Touch}
-use Rattle.trace_report.specs.Counting.{HaveMade, HaveServed}
+use Rattle.trace_report.specs.Counting.{HaveMade}
 use Rattle.trace_report.specs.Hearing.{IsUsable, HasEnded, to_hear, HearsOnly}
 use Rattle.trace_report.proofs.Cut.{IsServed}
 use Rattle.trace_report.proofs.run.work.Given as goal
