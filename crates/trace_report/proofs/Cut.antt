@@ -4,7 +4,7 @@ use Rattle.std.specs.Prelude.{map, All}
 use Rattle.std.proofs.lemmas.List.{append-nil, map-append, length-map}
 use Rattle.std.proofs.lemmas.List.Elements.{All-append, All-cons, All-head, All-nil, All-tail}
 use Rattle.shell_text.specs.Runs.{lines_of}
-use Rattle.trace_report.specs.Traces.{Touch, touch_text, IsPage, IsTouch, AreTouches, IsTrace, IsFirstWrong, most}
+use Rattle.trace_report.specs.Traces.{Touch, touch_text, IsPage, IsTouch, IsTrace, IsFirstWrong, most}
 use Rattle.trace_report.specs.Hearing.{IsWrong, Hears}
 use Rattle.trace_report.specs.declared.trace.Heard.TheVariants as heard
 use Rattle.trace_report.specs.declared.machines.Machines.{Machines}

@@ -1,8 +1,8 @@
 -- Lines that are touches, and lines that are none.
-use Rattle.std.proofs.Common.{◌≡◌, ℕ, ◌+◌, ◌^◌, ◌≤◌, ◌<◌, Bool, true, false, List, [], ◌∷◌, ◌++◌, length, drop, slice_index_or, refl, sym, ◌∙◌, ap, subst, arith, length-append}
-use Rattle.std.specs.Prelude.{decimal, codes, IfNone, Option, Some, None}
+use Rattle.std.proofs.Common.{◌≡◌, ℕ, ◌^◌, ◌≤◌, ◌<◌, Bool, true, false, List, ◌++◌, length, drop, slice_index_or, refl, sym, ◌∙◌, ap, arith, length-append}
+use Rattle.std.specs.Prelude.{decimal}
 use Rattle.std.proofs.lemmas.Fmt.{decimal_injective, length-decimal-le}
-use Rattle.trace_report.specs.Traces.{Touch, letter, touch_text, IsTouch}
+use Rattle.trace_report.specs.Traces.{letter}
 use Rattle.trace_report.specs.Hearing.{IsWrong}
 
 -- the two letters differ

@@ -1,6 +1,6 @@
 -- What is told, once the trace was heard.
-use Rattle.std.proofs.Common.{◌≡◌, ◌⊎◌, ℕ, List, [], ◌++◌, take, refl, sym, ◌∙◌, ap, arith, inl, inr, IsTrue}
-use Rattle.std.specs.Prelude.{Result, Ok, Err, OnOk, OnErr, codes}
+use Rattle.std.proofs.Common.{◌≡◌, ◌⊎◌, ℕ, List, [], ◌++◌, take, refl, ◌∙◌, ap, arith, inl, inr, IsTrue}
+use Rattle.std.specs.Prelude.{Result, Ok, Err, OnOk, OnErr}
 use Rattle.std.proofs.lemmas.List.{take_all}
 use Rattle.site.specs.State.{State, Moment, now_of}
 use Rattle.site.specs.Calls.{Goes, Rose, SameReads}
@@ -11,7 +11,7 @@ use Rattle.site.specs.declared.outside.Failed.{Failed}
 use Rattle.trace_report.specs.declared.halt.Halt.{Halt}
 use Rattle.trace_report.specs.declared.halt.Halt.TheVariants as halt
 use Rattle.trace_report.specs.Traces.{Touch, IsTrace, IsFirstWrong}
-use Rattle.trace_report.specs.Reports.{report, wrong_line}
+use Rattle.trace_report.specs.Reports.{report}
 use Rattle.trace_report.specs.Hearing.{HearsOnly}
 use Rattle.trace_report.specs.Contract.{HasCause, IsAnswer, SimulateContract, halt_line, halt_status}
 use Rattle.trace_report.proofs.Cut.{never_both}

@@ -1,7 +1,6 @@
 -- How the lines of a trace are heard.
-use Rattle.std.specs.Prelude.{◌≡◌, ◌-◌, ℕ, ◌≤◌, Bool, true, List, [], ◌∷◌, ◌++◌, length, take, drop, Option, Some, None}
+use Rattle.std.specs.Prelude.{◌≡◌, ◌-◌, ℕ, ◌≤◌, true, List, [], ◌∷◌, ◌++◌, length, take, drop, Option, Some, None}
 use Rattle.site.specs.State.{State}
-use Rattle.site.specs.Calls.{SameReads}
 use Rattle.shell_text.specs.Runs.{lines_of}
 use Rattle.trace_report.specs.declared.trace.Trace.{Trace}
 use Rattle.trace_report.specs.declared.trace.Heard.{Heard}
