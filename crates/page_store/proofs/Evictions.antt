@@ -1,35 +1,19 @@
 -- The coldest page leaves the pool.
-use Rattle.std.proofs.Common.{◌≡◌, ◌≢◌, ◌⊎◌, inl, inr, ℕ, zero, suc, ◌<◌, ◌≤◌, ◌==◌, Bool, true, false, not, ◌&&◌, ◌||◌, cond, List, [], ◌∷◌, ◌++◌, length, get_or, map, reverse, Option, Some, None, arith, refl, sym, ap, subst, ◌∙◌, length-append}
-use Rattle.std.specs.Prelude.{Contains}
+use Rattle.std.proofs.Common.{◌≡◌, ◌≢◌, inl, ℕ, Bool, true, false, ◌&&◌, List, [], ◌∷◌, ◌++◌, reverse, refl, sym, subst}
 use Rattle.std.specs.List.{AllByRecursion}
-use Rattle.std.proofs.lemmas.Option.{none-some}
-use Rattle.std.proofs.lemmas.Bool.{cases_eq, eqb-false, eq-eqb}
-use Rattle.std.proofs.lemmas.List.{map-append, reverse-append, reverse-reverse}
+use Rattle.std.proofs.lemmas.List.{reverse-append}
 use Rattle.site.specs.declared.geometry.Geometry.{Geometry}
-use Rattle.site.specs.State.{State, Image, IsQuiet, snapshot_of}
+use Rattle.site.specs.State.{State, IsQuiet, snapshot_of}
 use Rattle.site.specs.Moments.{Leaves, LeavesOnly}
 use Rattle.site.specs.Laws.{no_call, quiet_leaves}
-use Rattle.flash_cache.specs.Held.{version_on}
-use Rattle.flash_cache.specs.Pushed.{known_given, pushed_queue}
-use Rattle.flash_cache.specs.Kept.{AreCleanGiven}
-use Rattle.flash_cache.specs.Laws.{UnframedIsDisk}
 use Rattle.buffer_pool.specs.declared.frame.Frame.{Frame}
-use Rattle.buffer_pool.specs.Frames.{State as Pool, AreDistinct, frame_of}
-use Rattle.buffer_pool.specs.Laws.{IsLast, WithoutTakesOne}
-use Rattle.second_chance.specs.declared.plan.PoolMark.{PoolMark}
-use Rattle.second_chance.specs.declared.frame.Frame.{Frame as Known}
-use Rattle.second_chance.specs.Queue.{Queue, has_frame, frame_of as known_of}
-use Rattle.second_chance.specs.Plans.{pulled_at_eviction}
-use Rattle.second_chance.specs.Machine.{Rules, PoolPage, Cache, leaving, pool_marks, pool_frame, must_be_pushed, evict_first, evict_coldest, after_eviction, push_evicted, without, is_pulled}
+use Rattle.buffer_pool.specs.Frames.{AreDistinct}
 use Rattle.log_store.specs.declared.store.LogStore.{LogStore}
 use Rattle.log_store.specs.LogList.{LogList}
 use Rattle.log_store.specs.Held.{has_tail, HasBlocks}
 use Rattle.page_store.specs.declared.store.PageStore.{PageStore}
-use Rattle.page_store.specs.Held.{IsPage, IsStore, MayGoOn, Fits, content_by, current}
-use Rattle.page_store.specs.Caching.{pool_page, cache_of, rules}
-use Rattle.page_store.specs.Ahead.{IsLogged, AreSealed, LeavesSealed, forces, evicted}
-use Rattle.page_store.specs.Pulling.{mark_for, without_all, pulled, evicted_of, evicted_frames}
-use Rattle.page_store.specs.Leaves.{AreReady, LeavesPages, AreGiven, Gives, AreChanged, KeepsCurrent}
+use Rattle.page_store.specs.Ahead.{AreSealed, LeavesSealed, forces}
+use Rattle.page_store.specs.Leaves.{AreReady, LeavesPages}
 
 -- a site that stays as it is
 pub same_pages : (store : PageStore) (log : LogStore) (given : ℕ → List ℕ) (sealing : Bool) (list : LogList) (site : State) → log.geometry ≡ store.flash.geometry → AreReady store log list site

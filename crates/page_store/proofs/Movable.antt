@@ -1,7 +1,7 @@
 -- Which pages a push at an eviction pulls, and how a walk from the coldest page on finds them.
 use Rattle.std.proofs.Common.{◌≡◌, ℕ, zero, suc, ◌+◌, ◌<◌, ◌≤◌, Bool, true, false, not, ◌||◌, cond, List, [], ◌∷◌, ◌++◌, length, get_or, take, drop, map, filter, reverse, take-append-drop, arith, refl, sym, ap, ◌∙◌, length-append}
 use Rattle.std.specs.List.{AllByRecursion}
-use Rattle.std.proofs.lemmas.List.{map-append, reverse-append, take_all, take-append-le, length-map, length-take}
+use Rattle.std.proofs.lemmas.List.{map-append, reverse-append, take_all, take-append-le, length-map}
 use Rattle.std.proofs.lemmas.List.Elements.{filter_more, filter-append}
 use Rattle.buffer_pool.specs.declared.frame.Frame.{Frame}
 use Rattle.buffer_pool.specs.Frames.{mark_of}

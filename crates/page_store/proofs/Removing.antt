@@ -1,10 +1,10 @@
 -- Pages leave the pool together.
-use Rattle.std.proofs.Common.{◌≡◌, ◌≢◌, ◌⊎◌, inl, inr, ℕ, zero, suc, ◌+◌, ◌-◌, ◌<◌, ◌≤◌, ◌==◌, Bool, true, false, not, ◌&&◌, ◌||◌, cond, List, [], ◌∷◌, ◌++◌, length, get_or, take, map, filter, reverse, Option, Some, None, arith, refl, sym, ap, subst, ◌∙◌}
+use Rattle.std.proofs.Common.{◌≡◌, ◌≢◌, ℕ, zero, suc, ◌-◌, ◌<◌, ◌≤◌, ◌==◌, Bool, true, false, not, ◌||◌, cond, List, [], ◌∷◌, ◌++◌, length, get_or, take, map, filter, reverse, Option, Some, None, arith, refl, sym, ap, subst, ◌∙◌}
 use Rattle.std.specs.Prelude.{slice_get}
 use Rattle.std.specs.List.{AllByRecursion}
 use Rattle.std.proofs.lemmas.Option.{slice_get-get_or}
 use Rattle.std.proofs.lemmas.Bool.{eqb-true, eqb-false, eq-eqb, ne_eqb}
-use Rattle.std.proofs.lemmas.List.{map-append, take_more, length-map, length-take}
+use Rattle.std.proofs.lemmas.List.{length-map, length-take}
 use Rattle.buffer_pool.specs.declared.frame.Frame.{Frame}
 use Rattle.buffer_pool.specs.Frames as pool
 use Rattle.buffer_pool.specs.Frames.{State as Pool, AreDistinct, IsPool, frame_of}
@@ -19,7 +19,7 @@ use Rattle.page_store.specs.Pulling.{mark_for, movable, without_all, LeavesOut, 
 use Rattle.page_store.proofs.Pools.{pages_without}
 use Rattle.page_store.proofs.Clearing.{is_among}
 use Rattle.page_store.proofs.Choosing.{all_pass, all_take}
-use Rattle.page_store.proofs.Saving.{all_filter, all_reverse, all_index, all_map, distinct_filter, distinct_take, distinct_reverse, found_all}
+use Rattle.page_store.proofs.Saving.{all_filter, all_reverse, all_index, distinct_filter, distinct_take, distinct_reverse, found_all}
 use Rattle.page_store.proofs.Touching.{all_without}
 
 abbrev pub page_of : Frame → ℕ

@@ -1,5 +1,5 @@
 -- Which pages of the pool a push takes.
-use Rattle.std.specs.Prelude.{◌≡◌, ℕ, ◌-◌, List, [], ◌∷◌, length, map, filter, take, reverse, if◌then◌else◌}
+use Rattle.std.specs.Prelude.{◌≡◌, ℕ, ◌-◌, List, [], ◌∷◌, length, filter, take, reverse, if◌then◌else◌}
 use Rattle.buffer_pool.specs.declared.frame.Frame.{Frame}
 use Rattle.buffer_pool.specs.Frames.{without}
 use Rattle.second_chance.specs.declared.plan.PoolMark.{PoolMark}

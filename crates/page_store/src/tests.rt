@@ -235,13 +235,19 @@ const MIXED: [(u32, Work); 60] = [
 
 // The frames that are in the queue then: the place of the group, the frame's own in it, its page, and whether it is valid, dirty
 // and referenced.
-const FRAMES: [(usize, usize, u32, bool, bool, bool); 9] = [
-    (0, 0, 5, false, false, true),
-    (1, 0, 6, true, true, false),
-    (2, 0, 8, true, true, false),
-    (3, 0, 3, false, true, true),
-    (4, 0, 2, true, true, false),
-    (5, 0, 5, true, true, false),
+const FRAMES: [(usize, usize, u32, bool, bool, bool); 15] = [
+    (0, 0, 1, false, true, true),
+    (0, 1, 7, false, true, true),
+    (0, 2, 4, false, true, true),
+    (1, 0, 8, false, true, true),
+    (2, 0, 1, true, true, false),
+    (3, 0, 4, false, true, true),
+    (4, 0, 5, false, false, true),
+    (4, 1, 6, true, true, false),
+    (4, 2, 8, true, true, false),
+    (5, 0, 3, false, true, true),
+    (5, 1, 2, true, true, false),
+    (5, 2, 5, true, true, false),
     (6, 0, 7, true, true, false),
     (6, 1, 4, true, true, false),
     (6, 2, 3, true, true, false),
@@ -254,7 +260,7 @@ fn a_mixed_script(rt: HostRuntime) -> Result<(), Fail> {
     let reads = site.reads(Dev::Flash);
     assert!(rt; play(&mut pages, &mut log, &mut site, &MIXED)?);
     assert!(rt; has_pool(&pages, &[(3, false), (4, false), (7, false)]));
-    assert_eq!(rt; pages.flash.first(), 19);
+    assert_eq!(rt; pages.flash.first(), 7);
     assert_eq!(rt; pages.flash.groups(), 7);
     for (group, index, page, valid, dirty, referenced) in &FRAMES {
         let wanted = Mark {
@@ -265,10 +271,10 @@ fn a_mixed_script(rt: HostRuntime) -> Result<(), Fail> {
         };
         assert!(rt; has_frame(&pages, *group, *index, wanted));
     }
-    assert_eq!(rt; site.changes(), 214);
-    assert_eq!(rt; site.reads(Dev::Disk), 15);
-    assert_eq!(rt; site.reads(Dev::Flash).saturating_sub(reads), 32);
-    assert_eq!(rt; log.sealed_end(), 6656);
+    assert_eq!(rt; site.changes(), 142);
+    assert_eq!(rt; site.reads(Dev::Disk), 11);
+    assert_eq!(rt; site.reads(Dev::Flash).saturating_sub(reads), 29);
+    assert_eq!(rt; log.sealed_end(), 7168);
     Ok(())
 }
 

@@ -1,7 +1,7 @@
 use Rattle.std.proofs.Common.{◌≡◌, ◌++◌, ◌∷◌, [], cond, ℕ, Bool, List, ◌∙◌, reverse, map, length, arith, sym, ap, get_or, false}
 use Rattle.buffer_pool.specs.Frames.{mark_of}
 use Rattle.second_chance.specs.declared.plan.PoolMark.{PoolMark}
-use Rattle.page_store.proofs.Movable.{moves, mark_at, found_in, found_more, found_enough, found_all, found_are, few_more}
+use Rattle.page_store.proofs.Movable.{moves, mark_at, found_more, found_enough, found_all, found_are, few_more}
 use Rattle.page_store.proofs.store.PageStore.candidates.Goals as goal
 
 pub returns-then-len-eq-MOST_PULLED-clause-marks : goal.returns-then-len-eq-MOST_PULLED-clause-marks

@@ -1,23 +1,22 @@
-use Rattle.std.proofs.Common.{rules, ◌≡◌, ◌≢◌, ◌⊎◌, inl, inr, ◌<◌, true, false, zero, suc, ℕ, List, [], ◌∷◌, ◌++◌, length, map, None, sym, subst, ◌∙◌, ap, arith, reverse, refl, length-append}
-use Rattle.std.specs.Prelude.{All, AllPairs}
-use Rattle.std.proofs.lemmas.Bool.{cases_eq}
+use Rattle.std.proofs.Common.{rules, ◌≡◌, inr, ◌<◌, true, false, ℕ, List, [], ◌∷◌, ◌++◌, length, map, sym, subst, ◌∙◌, ap, arith, reverse, refl, length-append}
+use Rattle.std.specs.Prelude.{All}
 use Rattle.buffer_pool.specs.declared.frame.Frame.{Frame}
 use Rattle.buffer_pool.specs.Frames.{State as Pool, AreDistinct, frame_of}
 use Rattle.second_chance.specs.Machine.{Cache, must_be_pushed, evict_coldest}
 use Rattle.site.proofs.Working.{ok_as}
 use Rattle.page_store.specs.declared.store.PageStore.{PageStore}
-use Rattle.page_store.specs.Held.{IsStore, MayGoOn}
+use Rattle.page_store.specs.Held.{MayGoOn}
 use Rattle.page_store.specs.Caching.{pool_page, cache_of, rules as rules_for}
 use Rattle.page_store.specs.Pulling.{evicted_of, evicted_frames}
 use Rattle.page_store.specs.Ahead.{end_forced, forces, evicted}
-use Rattle.page_store.specs.Changing.{standing, changes_if_any, given_changes, eviction_changes}
+use Rattle.page_store.specs.Changing.{given_changes, eviction_changes}
 use Rattle.page_store.specs.Leaves.{AreReady}
 use Rattle.flash_cache.specs.Pushed.{known_given, pushed_queue}
-use Rattle.page_store.specs.Calls.{MayWork, Pushes, KeepsGiven, Stands, StandsGiven, StopsAtEnd}
+use Rattle.page_store.specs.Calls.{MayWork, Pushes, KeepsGiven, Stands, StandsGiven}
 use Rattle.page_store.proofs.Evictions.{not_forced}
-use Rattle.page_store.proofs.Removing.{store_part, absent_part, few_part}
-use Rattle.page_store.proofs.Departures.{Departs, departs, going_left, logged_left, rest_current, rest_ready, rest_going, rest_logged, none_evicted, none_forced, absent_rest}
-use Rattle.page_store.proofs.Calling.{forces_nothing, pushes_as, pushes_failed, stops_as, keeps_as, keeps_still, stands_as, keeps_nothing, stands_still, keeps_given, stands_given}
+use Rattle.page_store.proofs.Removing.{absent_part, few_part}
+use Rattle.page_store.proofs.Departures.{departs, going_left, logged_left, rest_current, rest_ready, rest_going, rest_logged, none_evicted, none_forced, absent_rest}
+use Rattle.page_store.proofs.Calling.{forces_nothing, pushes_as, keeps_as, keeps_still, stands_as, keeps_nothing, stands_still, keeps_given, stands_given}
 use Rattle.page_store.proofs.Changing.{eviction_is}
 use Rattle.page_store.proofs.PushLaws.{ok_under}
 use Rattle.page_store.proofs.Bringing.{ok_two}

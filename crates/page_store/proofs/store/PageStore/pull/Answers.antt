@@ -1,13 +1,13 @@
-use Rattle.std.proofs.Common.{◌≡◌, ℕ, ◌+◌, ◌<◌, ◌++◌, ◌∷◌, [], List, false, Some, None, get_or, length, map, take, arith, sym, ap, subst, ◌∙◌, append_assoc}
+use Rattle.std.proofs.Common.{◌≡◌, ℕ, ◌+◌, ◌<◌, ◌++◌, ◌∷◌, [], List, false, Some, get_or, length, map, take, arith, sym, ap, subst, ◌∙◌, append_assoc}
 use Rattle.std.specs.Prelude.{slice_get}
 use Rattle.std.proofs.lemmas.Option.{none-some, slice_get-get_or}
 use Rattle.std.proofs.lemmas.List.{take_more, length-map}
 use Rattle.buffer_pool.specs.declared.frame.Frame.{Frame}
 use Rattle.buffer_pool.specs.Frames.{State as Pool, frame_of, without}
 use Rattle.page_store.specs.declared.store.PageStore.{PageStore}
-use Rattle.page_store.specs.Pulling.{LeavesOut, without_all, pulled}
+use Rattle.page_store.specs.Pulling.{without_all, pulled}
 use Rattle.page_store.specs.Taking.{Has}
-use Rattle.page_store.proofs.Removing.{page_of, without_push, next_page, next_pulled}
+use Rattle.page_store.proofs.Removing.{page_of, without_push, next_pulled}
 use Rattle.page_store.proofs.store.PageStore.pull.Goals as goal
 
 abbrev no_frame : Frame

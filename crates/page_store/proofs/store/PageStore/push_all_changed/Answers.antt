@@ -87,8 +87,8 @@ push_changed-requires-clause-some g c = some_left c.loop-rest.self.pool.frames c
 pub push_changed-requires-clause-pages : goal.push_changed-requires-clause-pages
 push_changed-requires-clause-pages g c =
     let frames = c.loop-rest.self.pool.frames in
-    c.split_at.ensures.front ∙ front_pages frames c.loop-rest.rest.now c.loop-rest.invariant.pages c.room_for_pages.result c.min.result c.min.ensures
-    ∙ ap (λ (n : ℕ). map (λ (f : Frame). f.page) (first_changed n frames)) c.room_for_pages.ensures.room
+    c.split_at.ensures.front ∙ front_pages frames c.loop-rest.rest.now c.loop-rest.invariant.pages c.room_for_pages-room.result c.min.result c.min.ensures
+    ∙ ap (λ (n : ℕ). map (λ (f : Frame). f.page) (first_changed n frames)) c.room_for_pages-room.ensures.room
 
 -- a push ends it
 
@@ -206,8 +206,8 @@ loop-rest-preserved g c =
           ∙ ap (flushed (rules_for first)) (ap (λ (r : Rules). push_changed r (cache_of store)) (sym same) ∙ sym save.machine);
       reads = omega (arith, inv.reads, save.reads, saves, count);
       asked = (let one = ap next_group save.machine in let groups : 1 ≤ (rules_for store).groups = omega (arith, inv.going.pages_going.flash.limits.groups) in let next = changed_next (rules_for store) (cache_of store) groups in omega (arith, inv.asked, save.reads, one, next));
-      pages = c.split_at.ensures.back ∙ back_pages store.pool.frames c.loop-rest.rest.now inv.pages c.room_for_pages.result c.min.result c.min.ensures store'.pool.frames inv.going.pages_going.own.pool.distinct
-          (save.frames ∙ ap (λ (n : ℕ). cleared_all (map (λ (f : Frame). f.page) (first_changed n store.pool.frames)) store.pool.frames) (sym c.room_for_pages.ensures.room));
+      pages = c.split_at.ensures.back ∙ back_pages store.pool.frames c.loop-rest.rest.now inv.pages c.room_for_pages-room.result c.min.result c.min.ensures store'.pool.frames inv.going.pages_going.own.pool.distinct
+          (save.frames ∙ ap (λ (n : ℕ). cleared_all (map (λ (f : Frame). f.page) (first_changed n store.pool.frames)) store.pool.frames) (sym c.room_for_pages-room.ensures.room));
     }
 
 -- no page is changed
