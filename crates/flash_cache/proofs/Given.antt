@@ -59,3 +59,11 @@ all_more P (y ∷ xs) x all p = (all.0, all_more P xs x all.1 p)
 pub all_behind : {X : Type 0} (P : X → Type 0) (xs : List X) → AllByRecursion P xs → AllByRecursion P (drop 1 xs)
 all_behind P [] all = tt
 all_behind P (x ∷ xs) all = all.1
+
+pub all_append : {X : Type 0} (P : X → Type 0) (xs ys : List X) → AllByRecursion P xs → AllByRecursion P ys → AllByRecursion P (xs ++ ys)
+all_append P [] ys all others = others
+all_append P (x ∷ xs) ys all others = (all.0, all_append P xs ys all.1 others)
+
+pub same_map : {X Y : Type 0} (f g : X → Y) (xs : List X) → AllByRecursion (λ x. f x ≡ g x) xs → map f xs ≡ map g xs
+same_map f g [] all = refl
+same_map f g (x ∷ xs) all = λ i. all.0 i ∷ same_map f g xs all.1 i

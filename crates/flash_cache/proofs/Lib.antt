@@ -1,5 +1,6 @@
 pub mod Gathering
 pub mod Given
+pub mod Heads
 pub mod PushLaws
 pub mod Pushing
 pub mod PushedImages

@@ -1,8 +1,9 @@
 -- The images that a push leaves: its changes, the groups that stand there, and the versions of pages.
-use Rattle.std.proofs.Common.{◌≡◌, ℕ, ◌+◌, ◌-◌, ◌<◌, ◌≤◌, Bool, true, false, cond, List, [], ◌∷◌, ◌++◌, length, get_or, map, drop, Some, None, arith, refl, sym, ap, subst, ◌∙◌, length-append, append_assoc, append-nil}
+use Rattle.std.proofs.Common.{◌≡◌, ℕ, zero, suc, ◌+◌, ◌-◌, ◌<◌, ◌≤◌, ◌==◌, Bool, true, false, cond, List, [], ◌∷◌, ◌++◌, length, get_or, map, drop, Option, Some, None, arith, refl, sym, ap, subst, ◌∙◌, length-append, append_assoc, append-nil}
 use Rattle.std.specs.List.{AllByRecursion, Contains}
 use Rattle.std.proofs.lemmas.List.{map-append, get_or-map, length-map}
-use Rattle.std.proofs.lemmas.Option.{none-some}
+use Rattle.std.proofs.lemmas.Option.{none-some, same_Some, cond_some}
+use Rattle.std.proofs.lemmas.List.Elements.{recursion_from_All}
 use Rattle.site.specs.declared.outside.Dev.TheVariants.{Disk}
 use Rattle.site.specs.declared.geometry.Geometry.{Geometry}
 use Rattle.site.specs.State.{Image}
@@ -12,21 +13,22 @@ use Rattle.image_changes.specs.Changes.{Change, RewritesPages, AppendsGroup, Rew
 use Rattle.image_changes.specs.Reached.{IsFrontOf}
 use Rattle.stage_out.specs.Staged.{changes_of}
 use Rattle.frame_group.specs.Groups.{Frame, group}
-use Rattle.frame_group.specs.Versions.{frames_of, last_frame}
+use Rattle.frame_group.specs.Versions.{frames_of, last_frame, version, version_by}
 use Rattle.second_chance.specs.declared.frame.Frame.{Frame as Known}
 use Rattle.second_chance.specs.Queue.{group_marks, front_marks, pushed}
-use Rattle.second_chance.specs.Plans.{Placed, staged_of}
+use Rattle.second_chance.specs.Plans.{Placed, chances_of, staged_of}
+use Rattle.second_chance.proofs.Apart.{staged_stand_in}
 use Rattle.flash_cache.specs.declared.cache.FlashCache.{FlashCache}
 use Rattle.flash_cache.specs.Held.{HasGroups, HasFrames, AllTogether, Shows, frames_on}
-use Rattle.flash_cache.specs.Pushed.{no_frame, front_leaves}
-use Rattle.flash_cache.proofs.Given.{all_more}
+use Rattle.flash_cache.specs.Pushed.{no_frame, front_leaves, chance_given}
+use Rattle.flash_cache.proofs.Given.{all_more, same_map}
 use Rattle.flash_cache.proofs.Queues.{joined, frames_of_groups, together_length}
 use Rattle.flash_cache.proofs.Pushing.{leaves_when, stays_when}
 use Rattle.flash_cache.proofs.Standing.{length-mapped}
-use Rattle.flash_cache.proofs.StagedFrames.{each_staged, found_staged}
+use Rattle.flash_cache.proofs.StagedFrames.{Stands, frames_at, each_staged, each_chance, found_staged}
 use Rattle.flash_cache.proofs.PushedVersions.{IsBeside, AreStaged, some_is_some}
 use Rattle.flash_cache.specs.Leaving.{no_mark}
-use Rattle.frame_group.proofs.LastFrames.{last_of_both}
+use Rattle.frame_group.proofs.LastFrames.{last_of_both, last_is_of_page}
 use Rattle.std.specs.Option.{option_or}
 
 -- changes that rewrite these pages alone
@@ -157,23 +159,48 @@ module _ (cache : FlashCache) (groups : List (List Frame)) (shown : AllTogether 
       let less = stays_when cache is in let n = many in
       grown_behind cache.geometry cache.directory.first groups frames old new has own grown (omega (arith, less, n))
 
--- the staged pages
+-- a last frame is one of the frames
+pub last_stands : (page : ℕ) (frames : List Frame) (frame : Frame) → last_frame page frames ≡ Some frame → (i : ℕ) × (i < length frames) × (get_or frames i no_frame ≡ frame)
+last_stands page [] frame last = absurd (none-some frame last)
+last_stands page (f ∷ fs) frame last = by (last_frame page fs) refl last (λ x is. last_stands page fs x is)
+  where
+    by : (o : Option Frame) → last_frame page fs ≡ o → option_or o (cond (f.page == page) (Some f) None) ≡ Some frame
+        → ((x : Frame) → last_frame page fs ≡ Some x → (i : ℕ) × (i < length fs) × (get_or fs i no_frame ≡ x)) → (i : ℕ) × (i < suc (length fs)) × (get_or (f ∷ fs) i no_frame ≡ frame)
+    by None none is rest = (zero, omega arith, (cond_some (f.page == page) f frame is).1)
+    by (Some x) some is rest = let r = rest x some in (suc r.0, (let lt = r.1 in omega (arith, lt)), r.2 ∙ same_Some x frame is)
 
-nothing_staged : (rest : List Frame) (contents : List (List ℕ)) → AreStaged [] rest [] contents
-nothing_staged rest contents = record {
+-- the staged pages and the second chances
+
+none_placed : Placed
+none_placed = (0, no_mark)
+
+nothing_staged : (rest chances : List Frame) (contents : List (List ℕ)) → ((page : ℕ) → last_frame page chances ≡ None) → AreStaged [] rest chances [] contents
+nothing_staged rest chances contents out = record {
   dirty = λ page listed. absurd (let lt = listed.1 in omega (arith, lt));
   found = λ page frame none last dirty. absurd (none-some frame last);
+  chosen = λ page frame last. absurd (none-some frame (sym (out page) ∙ last));
 }
 
-module _ (known : List Known) (later : List (List Known)) (frames : List Frame) (rest : List (List Frame)) (shown : AllTogether Shows known frames) (others : AllTogether (AllTogether Shows) later rest) where
-  abbrev marks : List Placed
-  marks = staged_of false (group_marks known later)
+no_chances : (given : Bool) (frames : List Frame) (page : ℕ) → last_frame page (frames_at frames (chances_of given [])) ≡ None
+no_chances true frames page = refl
+no_chances false frames page = refl
 
-  none_placed : Placed
-  none_placed = (0, no_mark)
+module _ (given : Bool) (known : List Known) (later : List (List Known)) (frames : List Frame) (rest : List (List Frame)) (shown : AllTogether Shows known frames) (others : AllTogether (AllTogether Shows) later rest) where
+  abbrev marks : List Placed
+  marks = staged_of given (group_marks known later)
+
+  abbrev again : List Placed
+  again = chances_of given (group_marks known later)
 
   page_is : (j page : ℕ) → j < length marks → get_or (map (λ (f : Placed). f.1.page) marks) j page ≡ page → (get_or marks j none_placed).1.page ≡ page
   page_is j page lt is = sym (get_or-map (λ (f : Placed). f.1.page) marks j none_placed page lt) ∙ is
+
+  -- a frame that stands is the last one of its page
+  last_standing : (f : Placed) (page : ℕ) → Stands frames rest f → f.1.page ≡ page → last_frame page (frames ++ joined rest) ≡ Some (get_or frames f.0 no_frame)
+  last_standing f page s same =
+      let none : last_frame page (joined rest) ≡ None = ap (λ (p : ℕ). last_frame p (joined rest)) (sym same) ∙ s.alone in
+      let last : last_frame page frames ≡ Some (get_or frames f.0 no_frame) = ap (λ (p : ℕ). last_frame p frames) (sym same) ∙ s.last in
+      last_of_both page frames (joined rest) ∙ (λ i. option_or (none i) (last i))
 
   staged_dirty : (page : ℕ) → Contains (map (λ (f : Placed). f.1.page) marks) page → (frame : Frame) × (last_frame page (frames ++ joined rest) ≡ Some frame) × (frame.dirty ≡ true)
   staged_dirty page listed =
@@ -181,32 +208,66 @@ module _ (known : List Known) (later : List (List Known)) (frames : List Frame) 
       let many = length-map marks (λ (f : Placed). f.1.page) in
       let low : j < length marks = let lt = listed.1 in omega (arith, lt, many) in
       let f : Placed = get_or marks j none_placed in
-      let s = each_staged known later frames rest shown others j none_placed low in
-      let same = page_is j page low listed.2 in
-      let frame : Frame = get_or frames f.0 no_frame in
-      let none : last_frame page (joined rest) ≡ None = ap (λ (p : ℕ). last_frame p (joined rest)) (sym same) ∙ s.alone in
-      let last : last_frame page frames ≡ Some frame = ap (λ (p : ℕ). last_frame p frames) (sym same) ∙ s.last in
-      (frame, last_of_both page frames (joined rest) ∙ (λ i. option_or (none i) (last i)), s.dirty)
+      let s = each_staged known later frames rest shown others given j none_placed low in
+      (get_or frames f.0 no_frame, last_standing f page s (page_is j page low listed.2), sym s.dirty ∙ (staged_stand_in given (group_marks known later) j none_placed low).dirty)
 
-  staged_found : (page : ℕ) (frame : Frame) → last_frame page (joined rest) ≡ None → last_frame page frames ≡ Some frame → frame.dirty ≡ true
+  staged_found : (page : ℕ) (frame : Frame) → last_frame page (joined rest) ≡ None → last_frame page frames ≡ Some frame → frame.dirty ≡ true → last_frame page (frames_at frames again) ≡ None
       → (k : ℕ) × (k < length (map (λ (f : Placed). f.1.page) marks)) × (get_or (map (λ (f : Placed). f.1.page) marks) k 0 ≡ page)
       × (get_or (map (λ (f : Placed). (get_or frames f.0 no_frame).octets) marks) k [] ≡ frame.octets)
-  staged_found page frame none last dirty =
-      let r = found_staged known later frames rest shown others page frame none last dirty in
+  staged_found page frame none last dirty unchosen =
+      let r = found_staged known later frames rest shown others given page frame none last dirty unchosen in
       let k : ℕ = r.k in
       let many = length-map marks (λ (f : Placed). f.1.page) in
       let low : k < length marks = let lt = r.below in omega (arith, lt, many) in
       let f : Placed = get_or marks k none_placed in
-      let s = each_staged known later frames rest shown others k none_placed low in
+      let s = each_staged known later frames rest shown others given k none_placed low in
       let same : f.1.page ≡ page = sym (get_or-map (λ (p : Placed). p.1.page) marks k none_placed 0 low) ∙ r.is in
       let own : last_frame page frames ≡ Some (get_or frames f.0 no_frame) = ap (λ (p : ℕ). last_frame p frames) (sym same) ∙ s.last in
       let is : get_or frames f.0 no_frame ≡ frame = some_is_some (get_or frames f.0 no_frame) frame (last_frame page frames) own last in
       (k, r.below, r.is, get_or-map (λ (p : Placed). (get_or frames p.0 no_frame).octets) marks k none_placed [] low ∙ ap (λ (x : Frame). x.octets) is)
 
-pub are_staged : (b : Bool) (known : List (List Known)) (groups : List (List Frame)) → AllTogether (AllTogether Shows) known groups
-    → AreStaged (front_of b groups) (joined (rest_of b groups)) (map (λ f. f.1.page) (staged_of false (cond b (front_marks known) []))) (map (λ f. (get_or (get_or groups 0 []) f.0 no_frame).octets) (staged_of false (cond b (front_marks known) [])))
-are_staged false known groups shown = nothing_staged (joined groups) []
-are_staged true [] [] shown = nothing_staged [] []
-are_staged true [] (f ∷ fs) shown = absurd shown
-are_staged true (k ∷ ks) [] shown = absurd shown
-are_staged true (k ∷ ks) (f ∷ fs) shown = record { dirty = staged_dirty k ks f fs shown.0 shown.1; found = staged_found k ks f fs shown.0 shown.1 }
+  chance_last : (page : ℕ) (frame : Frame) → last_frame page (frames_at frames again) ≡ Some frame → last_frame page (frames ++ joined rest) ≡ Some frame
+  chance_last page frame last =
+      let at = last_stands page (frames_at frames again) frame last in
+      let j : ℕ = at.0 in
+      let many = length-map again (λ (f : Placed). get_or frames f.0 no_frame) in
+      let low : j < length again = let lt = at.1 in omega (arith, lt, many) in
+      let f : Placed = get_or again j none_placed in
+      let s = each_chance known later frames rest shown others given j none_placed low in
+      let is : get_or frames f.0 no_frame ≡ frame = sym (get_or-map (λ (p : Placed). get_or frames p.0 no_frame) again j none_placed no_frame low) ∙ at.2 in
+      let same : f.1.page ≡ page = sym (last_is_of_page f.1.page frames (get_or frames f.0 no_frame) s.last) ∙ ap (λ (x : Frame). x.page) is ∙ last_is_of_page page (frames_at frames again) frame last in
+      last_standing f page s same ∙ ap (λ (x : Frame). Some x) is
+
+  -- a second chance has its page's version
+  chance_is : (versions disk : ℕ → List ℕ) (f : Placed) → Stands frames rest f → ((page : ℕ) → versions page ≡ version disk (frames ++ joined rest) page) → chance_given versions f ≡ get_or frames f.0 no_frame
+  chance_is versions disk f s are =
+      let x : Frame = get_or frames f.0 no_frame in
+      let page : f.1.page ≡ x.page = sym (last_is_of_page f.1.page frames x s.last) in
+      let octets : versions f.1.page ≡ x.octets = are f.1.page ∙ ap (λ (o : Option Frame). version_by o (disk f.1.page)) (last_standing f f.1.page s refl) in
+      λ i. record { page = page i; dirty = s.dirty i; octets = octets i }
+
+  chances_are : (versions disk : ℕ → List ℕ) → ((page : ℕ) → versions page ≡ version disk (frames ++ joined rest) page) → map (chance_given versions) again ≡ frames_at frames again
+  chances_are versions disk are =
+      same_map (chance_given versions) (λ (f : Placed). get_or frames f.0 no_frame) again
+      (recursion_from_All (λ (f : Placed). chance_given versions f ≡ get_or frames f.0 no_frame) again (λ j d lt. chance_is versions disk (get_or again j d) (each_chance known later frames rest shown others given j d lt) are))
+
+pub are_staged : (given b : Bool) (known : List (List Known)) (groups : List (List Frame)) → AllTogether (AllTogether Shows) known groups
+    → AreStaged (front_of b groups) (joined (rest_of b groups)) (frames_at (get_or groups 0 []) (chances_of given (cond b (front_marks known) [])))
+    (map (λ f. f.1.page) (staged_of given (cond b (front_marks known) []))) (map (λ f. (get_or (get_or groups 0 []) f.0 no_frame).octets) (staged_of given (cond b (front_marks known) [])))
+are_staged given false known groups shown = nothing_staged (joined groups) _ [] (no_chances given (get_or groups 0 []))
+are_staged given true [] [] shown = nothing_staged [] _ [] (no_chances given [])
+are_staged given true [] (f ∷ fs) shown = absurd shown
+are_staged given true (k ∷ ks) [] shown = absurd shown
+are_staged given true (k ∷ ks) (f ∷ fs) shown = record { dirty = staged_dirty given k ks f fs shown.0 shown.1; found = staged_found given k ks f fs shown.0 shown.1; chosen = chance_last given k ks f fs shown.0 shown.1 }
+
+-- the second chances, where pages have the versions of these groups
+pub chances_stored : (given b : Bool) (known : List (List Known)) (groups : List (List Frame)) (versions disk : ℕ → List ℕ) → AllTogether (AllTogether Shows) known groups
+    → ((page : ℕ) → versions page ≡ version disk (front_of b groups ++ joined (rest_of b groups)) page)
+    → map (chance_given versions) (chances_of given (cond b (front_marks known) [])) ≡ frames_at (get_or groups 0 []) (chances_of given (cond b (front_marks known) []))
+chances_stored true false known groups versions disk shown are = refl
+chances_stored false false known groups versions disk shown are = refl
+chances_stored true true [] [] versions disk shown are = refl
+chances_stored false true [] [] versions disk shown are = refl
+chances_stored given true [] (f ∷ fs) versions disk shown are = absurd shown
+chances_stored given true (k ∷ ks) [] versions disk shown are = absurd shown
+chances_stored given true (k ∷ ks) (f ∷ fs) versions disk shown are = chances_are given k ks f fs shown.0 shown.1 versions disk are

@@ -1,9 +1,7 @@
 -- What a push keeps and gives, of each image that it leaves and of the cache.
-use Rattle.std.proofs.Common.{◌≡◌, ◌≢◌, inl, inr, ℕ, zero, suc, ◌<◌, ◌≤◌, ◌==◌, Bool, true, false, cond, List, [], ◌∷◌, ◌++◌, length, get_or, drop, Option, Some, None, arith, refl, sym, ap, subst, ◌∙◌}
+use Rattle.std.proofs.Common.{◌≡◌, ◌≢◌, inl, inr, ℕ, ◌<◌, ◌≤◌, Bool, true, false, cond, List, [], ◌∷◌, ◌++◌, length, get_or, map, drop, Option, Some, None, arith, refl, sym, ap, subst, ◌∙◌, append_assoc}
 use Rattle.std.specs.List.{AllPairs, Contains}
-use Rattle.std.specs.Option.{option_or}
 use Rattle.std.proofs.lemmas.List.{get_or_default}
-use Rattle.std.proofs.lemmas.Option.{none-some, same_Some, cond_some}
 use Rattle.site.specs.declared.geometry.Geometry.{Geometry}
 use Rattle.site.specs.State.{State, Image, Snapshot}
 use Rattle.site.specs.Moments.{LeavesOnly}
@@ -15,26 +13,18 @@ use Rattle.frame_group.specs.Groups.{Frame, group}
 use Rattle.frame_group.specs.Versions.{last_frame, version, version_by, CleanAsDisk}
 use Rattle.frame_group.proofs.LastFrames.{last_by_index, none_by_index, last_is_of_page, new_version, other_versions, push_keeps_clean}
 use Rattle.second_chance.specs.Queue.{Queue, has_frame}
+use Rattle.second_chance.specs.Plans.{Placed, chances_given}
+use Rattle.second_chance.specs.Machine.{chance_frame}
 use Rattle.flash_cache.specs.declared.cache.FlashCache.{FlashCache}
-use Rattle.flash_cache.specs.Held.{HasGroups, HasFrames, Holds, AllTogether, Shows, frames_on, disk_on, IsCleanOn}
+use Rattle.flash_cache.specs.Held.{HasGroups, HasFrames, Holds, AllTogether, Shows, frames_on, disk_on, version_on, IsCleanOn}
 use Rattle.flash_cache.specs.Kept.{KeepsVersions, GivesVersions, LeavesVersions, AreCleanGiven, LeavesClean}
 use Rattle.flash_cache.specs.Laws.{UnframedIsDisk}
-use Rattle.flash_cache.specs.Pushed.{no_frame, front_leaves, staged_pages, staged_contents, frames_given, known_given, pushed_groups, pushed_queue, changes_of_push, LeavesPush}
+use Rattle.flash_cache.specs.Pushed.{no_frame, front_leaves, staged_pages, staged_contents, chance_marks, chance_given, frames_given, known_given, frames_pushed, known_pushed, pushed_groups, pushed_queue, changes_of_push, LeavesPush}
 use Rattle.flash_cache.proofs.Given.{length-given, given_at}
 use Rattle.flash_cache.proofs.Queues.{joined}
-use Rattle.flash_cache.proofs.StagedFrames.{not_in_groups}
+use Rattle.flash_cache.proofs.StagedFrames.{frames_at, not_in_groups}
 use Rattle.flash_cache.proofs.PushedVersions.{AreStaged, page_beside, unframed, staged_versions, staged_clean, dropped_version, dropped_clean}
-use Rattle.flash_cache.proofs.PushedImages.{Keeps, Grown, front_of, rest_of, joined_parts, joined_more, frames_are, kept_groups, grown_groups, are_staged, keeps_by, grown_by, front_only, staging_only}
-
--- a last frame is one of the frames
-last_stands : (page : ℕ) (frames : List Frame) (frame : Frame) → last_frame page frames ≡ Some frame → (i : ℕ) × (i < length frames) × (get_or frames i no_frame ≡ frame)
-last_stands page [] frame last = absurd (none-some frame last)
-last_stands page (f ∷ fs) frame last = by (last_frame page fs) refl last (λ x is. last_stands page fs x is)
-  where
-    by : (o : Option Frame) → last_frame page fs ≡ o → option_or o (cond (f.page == page) (Some f) None) ≡ Some frame
-        → ((x : Frame) → last_frame page fs ≡ Some x → (i : ℕ) × (i < length fs) × (get_or fs i no_frame ≡ x)) → (i : ℕ) × (i < suc (length fs)) × (get_or (f ∷ fs) i no_frame ≡ frame)
-    by None none is rest = (zero, omega arith, (cond_some (f.page == page) f frame is).1)
-    by (Some x) some is rest = let r = rest x some in (suc r.0, (let lt = r.1 in omega (arith, lt)), r.2 ∙ same_Some x frame is)
+use Rattle.flash_cache.proofs.PushedImages.{Keeps, Grown, front_of, rest_of, joined_parts, joined_more, frames_are, kept_groups, grown_groups, last_stands, are_staged, chances_stored, keeps_by, grown_by, front_only, staging_only}
 
 -- a page without a frame
 pub unframed_is_disk : UnframedIsDisk
@@ -78,11 +68,18 @@ module _ (cache : FlashCache) (groups : List (List Frame)) (old : Image) (few : 
   abbrev rest : List Frame
   rest = joined (rest_of leaves groups)
 
-  are : AreStaged front rest (staged_pages cache) (staged_contents cache groups)
-  are = are_staged leaves cache.directory.groups groups holds.shown
+  -- the second chances
+  abbrev chances : List Frame
+  chances = frames_at (get_or groups 0 []) (chance_marks cache)
+
+  are : AreStaged front rest chances (staged_pages cache) (staged_contents cache groups)
+  are = are_staged chances_given leaves cache.directory.groups groups holds.shown
 
   old_frames : frames_on g old ≡ front ++ rest
   old_frames = frames_are g cache.directory.first groups old holds.has ∙ sym (joined_parts leaves groups)
+
+  pub stored : map (chance_given (version_on g old)) (chance_marks cache) ≡ chances
+  stored = chances_stored chances_given leaves cache.directory.groups groups (version_on g old) (disk_on old) holds.shown (λ page. ap (λ (l : List Frame). version (disk_on old) l page) old_frames)
 
   -- before the append
   module _ (new : Image) (keeps : Keeps g (staged_pages cache) old new) where
@@ -100,72 +97,77 @@ module _ (cache : FlashCache) (groups : List (List Frame)) (old : Image) (few : 
       has = has_still;
       versions = λ page.
           ap (λ (l : List Frame). version (disk_on new) l page) new_frames
-          ∙ staged_versions front rest (staged_pages cache) (staged_contents cache groups) are (disk_on old) (disk_on new) same page
+          ∙ staged_versions front rest chances (staged_pages cache) (staged_contents cache groups) are (disk_on old) (disk_on new) same page
           ∙ ap (λ (l : List Frame). version (disk_on old) l page) (sym old_frames);
     }
 
     pub keeps_clean : IsCleanOn g old → IsCleanOn g new
     keeps_clean clean =
         subst (CleanAsDisk (disk_on new)) (sym new_frames)
-        (staged_clean front rest (staged_pages cache) (staged_contents cache groups) are (disk_on old) (disk_on new) same (subst (CleanAsDisk (disk_on old)) old_frames clean))
+        (staged_clean front rest chances (staged_pages cache) (staged_contents cache groups) are (disk_on old) (disk_on new) same (subst (CleanAsDisk (disk_on old)) old_frames clean))
 
   -- behind it
   module _ (pages : List ℕ) (changed : List Bool) (contents : List (List ℕ)) (marks : length changed ≡ length pages) (lists : length contents ≡ length pages) (differ : AllPairs (λ a b. a ≢ b) pages)
-      (own : HasFrames g (frames_given pages changed contents) (group (frames_given pages changed contents))) (new : Image)
-      (staged : HasStaged (staged_pages cache) (staged_contents cache groups) old.disk new.disk) (grown : Grown g (group (frames_given pages changed contents)) old new) where
+      (own : HasFrames g (frames_pushed cache old pages changed contents) (group (frames_pushed cache old pages changed contents))) (new : Image)
+      (staged : HasStaged (staged_pages cache) (staged_contents cache groups) old.disk new.disk) (grown : Grown g (group (frames_pushed cache old pages changed contents)) old new) where
     abbrev given : List Frame
     given = frames_given pages changed contents
+
+    abbrev new_group : List Frame
+    new_group = frames_pushed cache old pages changed contents
 
     same_then : (page : ℕ) → (Contains (staged_pages cache) page → ⊥) → disk_on new page ≡ disk_on old page
     same_then page out = page_beside (staged_pages cache) old.disk new.disk page (record { size = staged.size; beside = staged.beside }) out
 
-    pub has_then : HasGroups g (pushed_queue cache (known_given pages changed)).first (pushed_groups cache groups given) new
-    has_then = grown_groups cache groups holds.shown few room (known_given pages changed) given old new leaves refl holds.has own grown
+    pub has_then : HasGroups g (pushed_queue cache (known_pushed cache pages changed)).first (pushed_groups cache groups new_group) new
+    has_then = grown_groups cache groups holds.shown few room (known_pushed cache pages changed) new_group old new leaves refl holds.has own grown
 
-    frames_then : frames_on g new ≡ rest ++ given
-    frames_then = frames_are g (pushed_queue cache (known_given pages changed)).first (pushed_groups cache groups given) new has_then ∙ joined_more (rest_of leaves groups) given
+    frames_then : frames_on g new ≡ (rest ++ chances) ++ given
+    frames_then =
+        frames_are g (pushed_queue cache (known_pushed cache pages changed)).first (pushed_groups cache groups new_group) new has_then ∙ joined_more (rest_of leaves groups) new_group
+        ∙ ap (λ (l : List Frame). rest ++ (l ++ given)) stored ∙ sym (append_assoc rest chances given)
 
-    pub gives_versions : IsCleanOn g old → GivesVersions g (pushed_queue cache (known_given pages changed)).first (pushed_groups cache groups given) pages contents old new
+    pub gives_versions : IsCleanOn g old → GivesVersions g (pushed_queue cache (known_pushed cache pages changed)).first (pushed_groups cache groups new_group) pages contents old new
     gives_versions clean = record {
       has = has_then;
       given = λ k lt.
           ap (λ (l : List Frame). version (disk_on new) l (get_or pages k 0)) frames_then
-          ∙ new_version (disk_on new) rest given (get_or pages k 0) (get_or given k no_frame) (given_last pages changed contents marks lists differ k lt)
+          ∙ new_version (disk_on new) (rest ++ chances) given (get_or pages k 0) (get_or given k no_frame) (given_last pages changed contents marks lists differ k lt)
           ∙ ap (λ (f : Frame). f.octets) (given_at pages changed contents k no_frame marks lists lt);
       others = λ page out.
           ap (λ (l : List Frame). version (disk_on new) l page) frames_then
-          ∙ other_versions (disk_on new) rest given page (given_none pages changed contents marks lists differ page out)
-          ∙ dropped_version front rest (staged_pages cache) (staged_contents cache groups) are (disk_on old) (disk_on new) same_then staged.here (subst (CleanAsDisk (disk_on old)) old_frames clean) page
+          ∙ other_versions (disk_on new) (rest ++ chances) given page (given_none pages changed contents marks lists differ page out)
+          ∙ dropped_version front rest chances (staged_pages cache) (staged_contents cache groups) are (disk_on old) (disk_on new) same_then staged.here (subst (CleanAsDisk (disk_on old)) old_frames clean) page
           ∙ ap (λ (l : List Frame). version (disk_on old) l page) (sym old_frames);
     }
 
     given_clean : AreCleanGiven cache pages changed contents old → CleanAsDisk (disk_on new) given
-    given_clean all page frame last clean =
+    given_clean are_clean page frame last clean =
         let found = last_stands page given frame last in
         let k : ℕ = found.0 in
         let long = length-given pages changed contents marks lists in
         let low : k < length pages = let lt = found.1 in omega (arith, lt, long) in
         let is = sym (given_at pages changed contents k no_frame marks lists low) ∙ found.2 in
         let page_is : get_or pages k 0 ≡ page = ap (λ (f : Frame). f.page) is ∙ last_is_of_page page given frame last in
-        let facts = all k low (ap (λ (f : Frame). f.dirty) is ∙ clean) in
+        let facts = are_clean k low (ap (λ (f : Frame). f.dirty) is ∙ clean) in
         let none : last_frame page (front ++ rest) ≡ None =
         ap (last_frame page) (joined_parts leaves groups) ∙ not_in_groups cache.directory.groups groups page holds.shown (ap (has_frame cache.directory) (sym page_is) ∙ facts.0) in
         ap (λ (f : Frame). f.octets) (sym is) ∙ facts.1 ∙ ap (disk_on old) page_is
-        ∙ sym (same_then page (unframed front rest (staged_pages cache) (staged_contents cache groups) are (disk_on old) (disk_on new) same_then page none))
+        ∙ sym (same_then page (unframed front rest chances (staged_pages cache) (staged_contents cache groups) are (disk_on old) (disk_on new) same_then page none))
 
     pub gives_clean : IsCleanOn g old → AreCleanGiven cache pages changed contents old → IsCleanOn g new
-    gives_clean clean all =
+    gives_clean clean are_clean =
         subst (CleanAsDisk (disk_on new)) (sym frames_then)
-        (push_keeps_clean (disk_on new) rest given
-        (dropped_clean front rest (staged_pages cache) (staged_contents cache groups) are (disk_on old) (disk_on new) same_then staged.here (subst (CleanAsDisk (disk_on old)) old_frames clean))
-        (given_clean all))
+        (push_keeps_clean (disk_on new) (rest ++ chances) given
+        (dropped_clean front rest chances (staged_pages cache) (staged_contents cache groups) are (disk_on old) (disk_on new) same_then staged.here (subst (CleanAsDisk (disk_on old)) old_frames clean))
+        (given_clean are_clean))
 
 -- of each snapshot, and of the cache
 module _ (cache : FlashCache) (groups : List (List Frame)) (old : State) (few : length cache.directory.groups < cache.geometry.groups) (room : 8 ≤ cache.geometry.groups) (holds : Holds cache old.image groups)
     (pages : List ℕ) (changed : List Bool) (contents : List (List ℕ)) (marks : length changed ≡ length pages) (lists : length contents ≡ length pages) (differ : AllPairs (λ a b. a ≢ b) pages)
-    (own : HasFrames cache.geometry (frames_given pages changed contents) (group (frames_given pages changed contents))) where
+    (own : HasFrames cache.geometry (frames_pushed cache old.image pages changed contents) (group (frames_pushed cache old.image pages changed contents))) where
   abbrev pushed_content : List ℕ
-  pushed_content = group (frames_given pages changed contents)
+  pushed_content = group (frames_pushed cache old.image pages changed contents)
 
   abbrev Pushes : Snapshot → Type 0
   Pushes = LeavesPush cache.geometry (staged_pages cache) (staged_contents cache groups) pushed_content old
@@ -210,15 +212,27 @@ given_shown (p ∷ pages) [] contents marks lists = absurd (omega (arith, marks)
 given_shown (p ∷ pages) (c ∷ changed) [] marks lists = absurd (omega (arith, lists))
 given_shown (p ∷ pages) (c ∷ changed) (o ∷ contents) marks lists = (record { page = refl; dirty = refl }, given_shown pages changed contents (omega (arith, marks)) (omega (arith, lists)))
 
+together_append : {A B : Type 0} (R : A → B → Type 0) (xs xs' : List A) (ys ys' : List B) → AllTogether R xs ys → AllTogether R xs' ys' → AllTogether R (xs ++ xs') (ys ++ ys')
+together_append R [] xs' [] ys' all others = others
+together_append R [] xs' (b ∷ bs) ys' all others = absurd all
+together_append R (a ∷ as') xs' [] ys' all others = absurd all
+together_append R (a ∷ as') xs' (b ∷ bs) ys' all others = (all.0, together_append R as' xs' bs ys' all.1 others)
+
+chances_shown : (versions : ℕ → List ℕ) (marks : List Placed) → AllTogether Shows (map chance_frame marks) (map (chance_given versions) marks)
+chances_shown versions [] = tt
+chances_shown versions (f ∷ marks) = (record { page = refl; dirty = refl }, chances_shown versions marks)
+
 pub holds_pushed : (cache : FlashCache) (groups : List (List Frame)) (old : Image) (pages : List ℕ) (changed : List Bool) (contents : List (List ℕ)) (later : FlashCache) (new : Image) → Holds cache old groups
-    → length changed ≡ length pages → length contents ≡ length pages → later.geometry ≡ cache.geometry → later.directory ≡ pushed_queue cache (known_given pages changed)
-    → HasGroups cache.geometry (pushed_queue cache (known_given pages changed)).first (pushed_groups cache groups (frames_given pages changed contents)) new
-    → Holds later new (pushed_groups cache groups (frames_given pages changed contents))
+    → length changed ≡ length pages → length contents ≡ length pages → later.geometry ≡ cache.geometry → later.directory ≡ pushed_queue cache (known_pushed cache pages changed)
+    → HasGroups cache.geometry (pushed_queue cache (known_pushed cache pages changed)).first (pushed_groups cache groups (frames_pushed cache old pages changed contents)) new
+    → Holds later new (pushed_groups cache groups (frames_pushed cache old pages changed contents))
 holds_pushed cache groups old pages changed contents later new holds marks lists geometry queue has =
-    let pushed : List (List Frame) = pushed_groups cache groups (frames_given pages changed contents) in
+    let pushed : List (List Frame) = pushed_groups cache groups (frames_pushed cache old pages changed contents) in
     record {
       has = subst (λ (g : Geometry). HasGroups g later.directory.first pushed new) (sym geometry)
           (subst (λ (q : Queue). HasGroups cache.geometry q.first pushed new) (sym queue) has);
       shown = subst (λ (q : Queue). AllTogether (AllTogether Shows) q.groups pushed) (sym queue)
-          (together_more (AllTogether Shows) _ _ _ _ (together_behind (AllTogether Shows) (front_leaves cache) cache.directory.groups groups holds.shown) (given_shown pages changed contents marks lists));
+          (together_more (AllTogether Shows) _ _ _ _ (together_behind (AllTogether Shows) (front_leaves cache) cache.directory.groups groups holds.shown)
+          (together_append Shows (map chance_frame (chance_marks cache)) (known_given pages changed) (map (chance_given (version_on cache.geometry old)) (chance_marks cache)) (frames_given pages changed contents)
+          (chances_shown (version_on cache.geometry old) (chance_marks cache)) (given_shown pages changed contents marks lists)));
     }

@@ -1,6 +1,7 @@
 -- What a push makes of the versions of pages.
 use Rattle.std.proofs.Common.{◌≡◌, ◌≢◌, inl, inr, ℕ, ◌+◌, ◌*◌, ◌<◌, ◌≤◌, true, false, true≢false, List, [], ◌++◌, length, get_or, drop, Option, Some, None, arith, refl, sym, ap, subst, ◌∙◌}
 use Rattle.std.specs.List.{Contains}
+use Rattle.std.specs.Option.{option_or}
 use Rattle.std.proofs.lemmas.Bool.{cases_order}
 use Rattle.std.proofs.lemmas.List.{same_lists, get_or_default, get_or-take, get_or-drop, length-take, length-drop}
 use Rattle.disk_pages.specs.Pages.{page_on}
@@ -8,7 +9,7 @@ use Rattle.disk_pages.specs.Laws.{IsBesidePage}
 use Rattle.stage_out.specs.Staged.{IsBesideAll}
 use Rattle.frame_group.specs.Groups.{Frame}
 use Rattle.frame_group.specs.Versions.{last_frame, version, version_by, CleanAsDisk}
-use Rattle.frame_group.proofs.LastFrames.{drop_keeps_version, drop_keeps_clean}
+use Rattle.frame_group.proofs.LastFrames.{last_of_both, drop_keeps_version, drop_keeps_clean, push_keeps_clean}
 
 -- the octets of a disk beside some pages are as they were
 pub record IsBeside (pages : List ℕ) (old new : List ℕ) : Type 0 where
@@ -49,18 +50,21 @@ page_beside pages old new page is out =
     let all : IsBesideAll pages (4096 * page + k) = λ other listed. apart page other (4096 * page + k) (λ same. out (subst (Contains pages) same listed)) (omega arith) (omega (arith, low)) in
     octet_is page new k d lt ∙ is.beside (4096 * page + k) all ∙ sym (octet_is page old k d (subst (λ (n : ℕ). k < n) size lt)))
 
--- Staged pages are pages of the front group's frames, and those that must be.
+-- Staged pages are pages of the front group's frames, and those that must be; of its second chances each is the last of its page.
 
-pub record AreStaged (front rest : List Frame) (pages : List ℕ) (contents : List (List ℕ)) : Type 0 where
+pub record AreStaged (front rest chances : List Frame) (pages : List ℕ) (contents : List (List ℕ)) : Type 0 where
   -- each staged page has a last frame, which is dirty
   pub dirty : (page : ℕ) → Contains pages page → (frame : Frame) × (last_frame page (front ++ rest) ≡ Some frame) × (frame.dirty ≡ true)
-  -- and each page whose last frame is in the front group and dirty is staged, with what that frame has
-  pub found : (page : ℕ) (frame : Frame) → last_frame page rest ≡ None → last_frame page front ≡ Some frame → frame.dirty ≡ true → (k : ℕ) × (k < length pages) × (get_or pages k 0 ≡ page) × (get_or contents k [] ≡ frame.octets)
+  -- and each page whose last frame is in the front group and dirty and has no second chance is staged, with what that frame has
+  pub found : (page : ℕ) (frame : Frame) → last_frame page rest ≡ None → last_frame page front ≡ Some frame → frame.dirty ≡ true → last_frame page chances ≡ None
+      → (k : ℕ) × (k < length pages) × (get_or pages k 0 ≡ page) × (get_or contents k [] ≡ frame.octets)
+  -- a second chance is the last frame of its page
+  pub chosen : (page : ℕ) (frame : Frame) → last_frame page chances ≡ Some frame → last_frame page (front ++ rest) ≡ Some frame
 
 pub some_is_some : (a b : Frame) (o : Option Frame) → o ≡ Some a → o ≡ Some b → a ≡ b
 some_is_some a b o first second = cc
 
-module _ (front rest : List Frame) (pages : List ℕ) (contents : List (List ℕ)) (are : AreStaged front rest pages contents) (old new : ℕ → List ℕ) (same : (page : ℕ) → (Contains pages page → ⊥) → new page ≡ old page) where
+module _ (front rest chances : List Frame) (pages : List ℕ) (contents : List (List ℕ)) (are : AreStaged front rest chances pages contents) (old new : ℕ → List ℕ) (same : (page : ℕ) → (Contains pages page → ⊥) → new page ≡ old page) where
   abbrev frames : List Frame
   frames = front ++ rest
 
@@ -85,11 +89,20 @@ module _ (front rest : List Frame) (pages : List ℕ) (contents : List (List ℕ
   staged_clean before page frame last clean = before page frame last clean ∙ sym (same page (undirty page frame last clean))
 
   module _ (here : (k : ℕ) → k < length pages → new (get_or pages k 0) ≡ get_or contents k []) (before : CleanAsDisk old frames) where
-    pub dropped_version : (page : ℕ) → version new rest page ≡ version old frames page
-    dropped_version page =
-        drop_keeps_version new front rest page (staged_clean before) (λ frame none last dirty.
-        let f = are.found page frame none last dirty in ap new (sym f.2) ∙ here f.0 f.1 ∙ f.3)
-        ∙ staged_versions page
+    -- with the second chances behind the rest
 
-    pub dropped_clean : CleanAsDisk new rest
-    dropped_clean = drop_keeps_clean new front rest (staged_clean before)
+    of_chance : (page : ℕ) → last_frame page (rest ++ chances) ≡ option_or (last_frame page chances) (last_frame page rest)
+    of_chance page = last_of_both page rest chances
+
+    pub dropped_version : (page : ℕ) → version new (rest ++ chances) page ≡ version old frames page
+    dropped_version page = ap (λ (o : Option Frame). version_by o (new page)) (of_chance page) ∙ by (last_frame page chances) refl
+      where
+        by : (o : Option Frame) → last_frame page chances ≡ o → version_by (option_or o (last_frame page rest)) (new page) ≡ version old frames page
+        by None unchosen =
+            drop_keeps_version new front rest page (staged_clean before) (λ frame none last dirty.
+            let f = are.found page frame none last dirty unchosen in ap new (sym f.2) ∙ here f.0 f.1 ∙ f.3)
+            ∙ staged_versions page
+        by (Some x) is = sym (ap (λ (o : Option Frame). version_by o (old page)) (are.chosen page x is))
+
+    pub dropped_clean : CleanAsDisk new (rest ++ chances)
+    dropped_clean = push_keeps_clean new rest chances (drop_keeps_clean new front rest (staged_clean before)) (λ page frame last clean. staged_clean before page frame (are.chosen page frame last) clean)

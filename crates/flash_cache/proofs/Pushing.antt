@@ -5,7 +5,7 @@ use Rattle.std.specs.List.{AllByRecursion}
 use Rattle.std.proofs.lemmas.Bool.{leb-true, leb-false, le-leb}
 use Rattle.std.proofs.lemmas.List.{length-append}
 use Rattle.site.specs.declared.outside.Dev.TheVariants.{Flash}
-use Rattle.site.specs.State.{State, IsSettled}
+use Rattle.site.specs.State.{State}
 use Rattle.site.specs.Calls.{Goes}
 use Rattle.site.specs.Moments.{OnlyDevice}
 use Rattle.sealed_ring.specs.declared.slots.Shape.{Shape}

@@ -1,7 +1,8 @@
--- What the frames have that a push stages, and the group that it appends.
-use Rattle.std.proofs.Common.{◌≡◌, ℕ, suc, ◌+◌, ◌-◌, ◌<◌, ◌≤◌, Bool, List, [], ◌∷◌, length, get_or, map, arith, refl, ap, subst, ◌∙◌}
+-- What a push reads of the front group, and the group that it appends.
+use Rattle.std.proofs.Common.{◌≡◌, ℕ, suc, ◌+◌, ◌-◌, ◌<◌, ◌≤◌, Bool, List, [], ◌∷◌, ◌++◌, length, get_or, map, arith, refl, sym, ap, subst, ◌∙◌}
 use Rattle.std.specs.List.{All, AllByRecursion}
-use Rattle.std.proofs.lemmas.List.Elements.{recursion_from_All}
+use Rattle.std.proofs.lemmas.List.Elements.{recursion_from_All, All-from_recursion}
+use Rattle.std.proofs.lemmas.List.{map-append, length-append}
 use Rattle.std.proofs.lemmas.Option.{slice_get_within}
 use Rattle.site.specs.declared.geometry.Geometry.{Geometry}
 use Rattle.site.specs.State.{State}
@@ -12,17 +13,30 @@ use Rattle.byte_fields.specs.declared.frame_head.FrameHead.{FrameHead}
 use Rattle.frame_group.specs.Groups.{Frame, IsFrame, group, heads_of}
 use Rattle.frame_group.proofs.Pages.{pages_stand}
 use Rattle.second_chance.specs.declared.frame.Frame.{Frame as Known}
-use Rattle.second_chance.specs.Queue.{front_marks}
+use Rattle.second_chance.specs.Queue.{front_marks, frame_of as known_of}
 use Rattle.second_chance.specs.Plans.{Placed}
+use Rattle.second_chance.specs.Machine.{chance_frame}
+use Rattle.byte_fields.specs.declared.frame_head.Mark.{Mark}
 use Rattle.flash_directory.specs.Heads.{frames_in}
 use Rattle.flash_cache.specs.declared.cache.FlashCache.{FlashCache}
-use Rattle.flash_cache.specs.Held.{MayGoOn, Holds, HasFrames, AllTogether, Shows}
-use Rattle.flash_cache.specs.Leaving.{page_at}
-use Rattle.flash_cache.specs.Pushed.{no_frame, staged_marks, staged_contents, frames_given, known_given}
-use Rattle.flash_cache.proofs.Given.{length-given, known_of_given}
+use Rattle.flash_cache.specs.Held.{MayGoOn, Holds, HasFrames, AllTogether, Shows, version_on}
+use Rattle.flash_cache.specs.declared.leaving.FrontFrames.{FrontFrames}
+use Rattle.flash_cache.specs.Leaving.{page_at, AreAt, again}
+use Rattle.flash_cache.specs.Pushed.{no_frame, staged_marks, staged_pages, chance_marks, chance_given, pages_pushed, frames_given, known_given, frames_pushed, known_pushed}
+use Rattle.flash_cache.proofs.Given.{length-given, known_of_given, all_append}
+use Rattle.flash_cache.proofs.StagedFrames.{frames_at}
+use Rattle.flash_cache.proofs.PushedOutcome.{stored}
 use Rattle.flash_cache.proofs.Queues.{together_length, has_at}
-use Rattle.flash_cache.proofs.Standing.{stands, known_heads}
-use Rattle.flash_cache.proofs.StagedMarks.{length-marks, stand_in_front}
+use Rattle.flash_cache.proofs.Standing.{stands, known_heads, length-mapped}
+use Rattle.flash_cache.proofs.StagedMarks.{AreNumbered, length-marks, read_at, marks_exist, staged_numbered, chances_numbered}
+
+-- the pages given exist
+
+given_exist : (count : ℕ) (pages : List ℕ) (changed : List Bool) (contents : List (List ℕ)) → All (λ page. page < count) pages → AllByRecursion (λ frame. frame.page < count) (frames_given pages changed contents)
+given_exist count [] changed contents all = tt
+given_exist count (p ∷ pages) [] contents all = tt
+given_exist count (p ∷ pages) (c ∷ changed) [] all = tt
+given_exist count (p ∷ pages) (c ∷ changed) (o ∷ contents) all = (all 0 0 (omega arith), given_exist count pages changed contents (λ k d lt. all (suc k) d (omega (arith, lt))))
 
 -- the front group
 
@@ -57,34 +71,158 @@ module _ (cache : FlashCache) (site : State) (groups : List (List Frame)) (going
       ∙ stands cache.geometry cache.directory.first groups site.image holds.has cache.directory.first 0 at some in
       ap (λ (u : List ℕ). page_at u i) is ∙ pages_stand (group front) front i no_frame (has_at cache.geometry groups 0 holds.has.are_groups some).is_group lt
 
-  pub contents_are : (places : List ℕ) → places ≡ map (λ f. f.0) (staged_marks cache) → map (page_at unit) places ≡ staged_contents cache groups
-  contents_are places is =
+  -- numbered marks stand at places of the front group
+  pub inside : (marks : List Placed) → AreNumbered (front_marks cache.directory.groups) marks → AllByRecursion (λ f. f.0 < length front) marks
+  inside marks numbered =
       let long = front_long cache.directory.groups groups holds.shown in
-      ap (map (page_at unit)) is
-      ∙ contents_of unit front (staged_marks cache) each
-      (recursion_from_All (λ (f : Placed). f.0 < length front) (staged_marks cache) (λ k d lt.
-      let f : Placed = get_or (staged_marks cache) k d in
-      let low = slice_get_within (front_marks cache.directory.groups) f.0 f.1 (stand_in_front cache k d lt) in omega (arith, low, long)))
+      recursion_from_All (λ (f : Placed). f.0 < length front) marks (λ k d lt.
+      let f : Placed = get_or marks k d in
+      let low = slice_get_within (front_marks cache.directory.groups) f.0 f.1 (numbered k d lt) in omega (arith, low, long))
 
--- the group of the pages given
+  pub contents_are : (marks : List Placed) (places : List ℕ) → AreNumbered (front_marks cache.directory.groups) marks → places ≡ map (λ f. f.0) marks
+      → map (page_at unit) places ≡ map (λ f. (get_or front f.0 no_frame).octets) marks
+  contents_are marks places numbered is = ap (map (page_at unit)) is ∙ contents_of unit front marks each (inside marks numbered)
 
-given_exist : (count : ℕ) (pages : List ℕ) (changed : List Bool) (contents : List (List ℕ)) → All (λ page. page < count) pages → AllByRecursion (λ frame. frame.page < count) (frames_given pages changed contents)
-given_exist count [] changed contents all = tt
-given_exist count (p ∷ pages) [] contents all = tt
-given_exist count (p ∷ pages) (c ∷ changed) [] all = tt
-given_exist count (p ∷ pages) (c ∷ changed) (o ∷ contents) all = (all 0 0 (omega arith), given_exist count pages changed contents (λ k d lt. all (suc k) d (omega (arith, lt))))
+-- the pages of the frames that are staged
+pub pages_are : (cache : FlashCache) (places : List ℕ) (staged : FrontFrames) → AreAt cache.directory.groups places staged → places ≡ map (λ f. f.0) (staged_marks cache) → staged.pages.items ≡ staged_pages cache
+pages_are cache places staged are is = are.pages ∙ read_at (λ (m : Mark). m.page) cache.directory.groups (staged_marks cache) places (staged_numbered cache) is
 
-module _ (pages : List ℕ) (changed : List Bool) (contents : List (List ℕ)) (marks : length changed ≡ length pages) (lists : length contents ≡ length pages) where
-  pub given_group : (g : Geometry) (content : List ℕ) → 1 ≤ length pages → length pages ≤ 8 → All (λ page. page < g.pages) pages → AllByRecursion IsFrame (frames_given pages changed contents) → content ≡ group (frames_given pages changed contents)
-      → HasFrames g (frames_given pages changed contents) content
-  given_group g content some few exist are is =
-      let long = length-given pages changed contents marks lists in
-      record { is_group = record { some = omega (arith, some, long); room = omega (arith, few, long); are_frames = are; spelled = is }; exist = given_exist g.pages pages changed contents exist }
+-- the second chances, as they were read
 
-  pub given_known : (heads : List FrameHead) → heads ≡ heads_of (frames_given pages changed contents) → frames_in heads ≡ known_given pages changed
-  given_known heads is =
-      let frames = frames_given pages changed contents in
-      ap frames_in is ∙ known_heads frames (8 - length frames) ∙ known_of_given pages changed contents marks lists
+map_map : {X Y Z : Type 0} (g : Y → Z) (f : X → Y) (xs : List X) → map g (map f xs) ≡ map (λ x. g (f x)) xs
+map_map g f [] = refl
+map_map g f (x ∷ xs) = ap (λ l. g (f x) ∷ l) (map_map g f xs)
+
+of_marks : (versions : ℕ → List ℕ) (marks : List Placed) → frames_given (map (λ f. f.1.page) marks) (map (λ f. f.1.dirty) marks) (map (λ f. versions f.1.page) marks) ≡ map (chance_given versions) marks
+of_marks versions [] = refl
+of_marks versions (f ∷ marks) = ap (λ (l : List Frame). chance_given versions f ∷ l) (of_marks versions marks)
+
+known_marks : (marks : List Placed) → known_given (map (λ f. f.1.page) marks) (map (λ f. f.1.dirty) marks) ≡ map chance_frame marks
+known_marks [] = refl
+known_marks (f ∷ marks) = ap (λ (l : List Known). chance_frame f ∷ l) (known_marks marks)
+
+module _ (cache : FlashCache) (places : List ℕ) (chances : FrontFrames) (are : AreAt cache.directory.groups places chances) (planned : places ≡ map (λ f. f.0) (chance_marks cache)) where
+  pub chance_pages : chances.pages.items ≡ map (λ f. f.1.page) (chance_marks cache)
+  chance_pages = are.pages ∙ read_at (λ (m : Mark). m.page) cache.directory.groups (chance_marks cache) places (chances_numbered cache) planned
+
+  pub chance_dirty : chances.dirty.items ≡ map (λ f. f.1.dirty) (chance_marks cache)
+  chance_dirty = are.dirty ∙ read_at (λ (m : Mark). m.dirty) cache.directory.groups (chance_marks cache) places (chances_numbered cache) planned
+
+  many : length places ≡ length (chance_marks cache)
+  many = ap length planned ∙ length-mapped (λ (f : Placed). f.0) (chance_marks cache)
+
+  pages_long : length chances.pages.items ≡ length (chance_marks cache)
+  pages_long = ap length chance_pages ∙ length-mapped (λ (f : Placed). f.1.page) (chance_marks cache)
+
+  pub dirty_long : length chances.dirty.items ≡ length chances.pages.items
+  dirty_long = ap length chance_dirty ∙ length-mapped (λ (f : Placed). f.1.dirty) (chance_marks cache) ∙ sym pages_long
+
+  pub contents_long : length chances.contents.items ≡ length chances.pages.items
+  contents_long = are.count ∙ many ∙ sym pages_long
+
+  -- with the pages given they are as many as the group has
+  pub all_long : (pages : List ℕ) → length chances.pages.items + length pages ≡ length (pages_pushed cache pages)
+  all_long pages =
+      let both = length-append (map (λ (f : Placed). f.1.page) (chance_marks cache)) pages in
+      let same = ap length chance_pages in omega (arith, both, same)
+
+  again_known : map (λ frame. known_of frame.page frame.dirty) (again chances) ≡ map chance_frame (chance_marks cache)
+  again_known =
+      known_of_given chances.pages.items chances.dirty.items chances.contents.items dirty_long contents_long
+      ∙ (λ i. known_given (chance_pages i) (chance_dirty i)) ∙ known_marks (chance_marks cache)
+
+  again_exist : AllByRecursion (λ frames. AllByRecursion (λ (frame : Known). frame.page < cache.geometry.pages) frames) cache.directory.groups → AllByRecursion (λ frame. frame.page < cache.geometry.pages) (again chances)
+  again_exist exist =
+      given_exist cache.geometry.pages chances.pages.items chances.dirty.items chances.contents.items
+      (subst (All (λ (page : ℕ). page < cache.geometry.pages)) (sym chance_pages) (marks_exist cache.geometry.pages cache.directory.groups (chance_marks cache) (chances_numbered cache) exist))
+
+  -- where groups stand on flash, they are the second chances of the push
+  pub again_is : (site : State) (groups : List (List Frame)) → MayGoOn cache site → Holds cache site.image groups
+      → chances.contents.items ≡ map (page_at (unit_at cache.ring.shape (units_in cache.ring.shape site) cache.directory.first)) places
+      → again chances ≡ map (chance_given (version_on cache.geometry site.image)) (chance_marks cache)
+  again_is site groups going holds read =
+      let marks = chance_marks cache in
+      let versions : ℕ → List ℕ = version_on cache.geometry site.image in
+      let octets : List Frame → List (List ℕ) = λ (l : List Frame). map (λ (x : Frame). x.octets) l in
+      let contents : chances.contents.items ≡ map (λ f. versions f.1.page) marks =
+      read ∙ contents_are cache site groups going holds marks places (chances_numbered cache) planned
+      ∙ sym (map_map (λ (x : Frame). x.octets) (λ (f : Placed). get_or (get_or groups 0 []) f.0 no_frame) marks)
+      ∙ sym (ap octets (stored cache groups site.image going.few going.limits.groups holds))
+      ∙ map_map (λ (x : Frame). x.octets) (chance_given versions) marks in
+      (λ i. frames_given (chance_pages i) (chance_dirty i) (contents i)) ∙ of_marks versions marks
+
+  -- the group of them and the pages given
+  module _ (pages : List ℕ) (changed : List Bool) (contents : List (List ℕ)) (marks : length changed ≡ length pages) (lists : length contents ≡ length pages) (some : 1 ≤ length (pages_pushed cache pages)) (few : length (pages_pushed cache pages) ≤ 8) where
+    abbrev new_group : List Frame
+    new_group = again chances ++ frames_given pages changed contents
+
+    frames_long : length new_group ≡ length (pages_pushed cache pages)
+    frames_long =
+        let both = length-append (again chances) (frames_given pages changed contents) in
+        let first = length-given chances.pages.items chances.dirty.items chances.contents.items dirty_long contents_long in
+        let second = length-given pages changed contents marks lists in
+        let all = all_long pages in omega (arith, both, first, second, all)
+
+    pub group_has : (content : List ℕ) → AllByRecursion (λ groups. AllByRecursion (λ (frame : Known). frame.page < cache.geometry.pages) groups) cache.directory.groups → All (λ page. page < cache.geometry.pages) pages
+        → AllByRecursion IsFrame new_group → content ≡ group new_group → HasFrames cache.geometry new_group content
+    group_has content exist given are_frames is =
+        let long = frames_long in
+        record {
+          is_group = record { some = omega (arith, some, long); room = omega (arith, few, long); are_frames = are_frames; spelled = is };
+          exist = all_append (λ (frame : Frame). frame.page < cache.geometry.pages) (again chances) (frames_given pages changed contents) (again_exist exist) (given_exist cache.geometry.pages pages changed contents given);
+        }
+
+    pub group_known : (heads : List FrameHead) → heads ≡ heads_of new_group → frames_in heads ≡ known_pushed cache pages changed
+    group_known heads is =
+        ap frames_in is ∙ known_heads new_group (8 - length new_group)
+        ∙ map-append (λ (frame : Frame). known_of frame.page frame.dirty) (again chances) (frames_given pages changed contents)
+        ∙ (λ i. again_known i ++ known_of_given pages changed contents marks lists i)
+
+-- the group that stands behind a push, by what stands on flash before it
+
+front_has : (g : Geometry) (groups : List (List Frame)) → AllByRecursion (λ frames. HasFrames g frames (group frames)) groups → AllByRecursion IsFrame (get_or groups 0 [])
+front_has g [] all = tt
+front_has g (frames ∷ groups) all = all.0.is_group.are_frames
+
+front_of_pages : (g : Geometry) (groups : List (List Frame)) → AllByRecursion (λ frames. HasFrames g frames (group frames)) groups → AllByRecursion (λ frame. frame.page < g.pages) (get_or groups 0 [])
+front_of_pages g [] all = tt
+front_of_pages g (frames ∷ groups) all = all.0.exist
+
+all_at : (P : Frame → Type 0) (frames : List Frame) (marks : List Placed) → AllByRecursion P frames → AllByRecursion (λ f. f.0 < length frames) marks → AllByRecursion P (frames_at frames marks)
+all_at P frames [] all low = tt
+all_at P frames (f ∷ marks) all low = (All-from_recursion P frames all f.0 no_frame low.0, all_at P frames marks all low.1)
+
+pub pushed_has : (cache : FlashCache) (site : State) (groups : List (List Frame)) → MayGoOn cache site → Holds cache site.image groups
+    → (pages : List ℕ) (changed : List Bool) (contents : List (List ℕ)) → length changed ≡ length pages → length contents ≡ length pages → 1 ≤ length (pages_pushed cache pages) → length (pages_pushed cache pages) ≤ 8
+    → All (λ page. page < cache.geometry.pages) pages → AllByRecursion IsFrame (frames_given pages changed contents)
+    → HasFrames cache.geometry (frames_pushed cache site.image pages changed contents) (group (frames_pushed cache site.image pages changed contents))
+pushed_has cache site groups going holds pages changed contents marks lists some few exist are =
+    let front : List Frame = get_or groups 0 [] in
+    let versions : ℕ → List ℕ = version_on cache.geometry site.image in
+    let again : List Frame = map (chance_given versions) (chance_marks cache) in
+    let given : List Frame = frames_given pages changed contents in
+    let is = stored cache groups site.image going.few going.limits.groups holds in
+    let low = inside cache site groups going holds (chance_marks cache) (chances_numbered cache) in
+    let both = length-append again given in
+    let first = length-mapped (chance_given versions) (chance_marks cache) in
+    let second = length-given pages changed contents marks lists in
+    let all = length-append (map (λ (f : Placed). f.1.page) (chance_marks cache)) pages in
+    let numbers = length-mapped (λ (f : Placed). f.1.page) (chance_marks cache) in
+    record {
+      is_group = record {
+        some = omega (arith, some, both, first, second, all, numbers);
+        room = omega (arith, few, both, first, second, all, numbers);
+        are_frames = all_append IsFrame again given (subst (AllByRecursion IsFrame) (sym is) (all_at IsFrame front (chance_marks cache) (front_has cache.geometry groups holds.has.are_groups) low)) are;
+        spelled = refl;
+      };
+      exist = all_append (λ (frame : Frame). frame.page < cache.geometry.pages) again given
+          (subst (AllByRecursion (λ (frame : Frame). frame.page < cache.geometry.pages)) (sym is) (all_at (λ (frame : Frame). frame.page < cache.geometry.pages) front (chance_marks cache) (front_of_pages cache.geometry groups holds.has.are_groups) low))
+          (given_exist cache.geometry.pages pages changed contents exist);
+    }
+
+-- the pages given are no more than the group has
+pub given_few : (cache : FlashCache) (pages : List ℕ) → length (pages_pushed cache pages) ≤ 8 → length pages ≤ 8
+given_few cache pages few = let all = length-append (map (λ (f : Placed). f.1.page) (chance_marks cache)) pages in omega (arith, all, few)
 
 -- two lists and a content in a statement are those that they are equal to
 pub with_parts : (P : List ℕ → List (List ℕ) → List ℕ → Type 0) (a a' : List ℕ) (b b' : List (List ℕ)) (c c' : List ℕ) → a ≡ a' → b ≡ b' → c ≡ c' → P a b c → P a' b' c'

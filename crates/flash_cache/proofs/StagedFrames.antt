@@ -1,15 +1,17 @@
--- The frames that a push stages, as they stand on flash: each is the last one of its page, and dirty.
-use Rattle.std.proofs.Common.{◌≡◌, ℕ, zero, suc, ◌+◌, ◌<◌, ◌==◌, Bool, true, false, true≢false, not, ◌&&◌, ◌||◌, cond, List, [], ◌∷◌, length, get_or, map, filter, Option, Some, None, is_some, arith, refl, sym, ap, ◌∙◌}
+-- The frames that a push stages and those that it gives a second chance, as they stand on flash: each is the last one of its page.
+use Rattle.std.proofs.Common.{◌≡◌, ℕ, zero, suc, ◌+◌, ◌<◌, ◌==◌, Bool, true, false, true≢false, not, ◌&&◌, ◌||◌, cond, List, [], ◌∷◌, length, get_or, map, filter, Option, Some, None, is_some, arith, refl, sym, ap, subst, ◌∙◌}
 use Rattle.std.specs.List.{enumerate_from}
 use Rattle.std.specs.Option.{option_or}
-use Rattle.std.proofs.lemmas.Bool.{and_parts, eqb-true, eq-eqb}
+use Rattle.std.proofs.lemmas.Bool.{and_parts, eqb-true, eq-eqb, ne_eqb}
+use Rattle.std.proofs.lemmas.List.{get_or-take, length-take}
 use Rattle.std.proofs.lemmas.Option.{none-some, same_Some, cond_some}
 use Rattle.frame_group.specs.Groups.{Frame}
 use Rattle.frame_group.specs.Versions.{last_frame}
-use Rattle.frame_group.proofs.LastFrames.{last_of_both}
+use Rattle.frame_group.proofs.LastFrames.{last_of_both, last_is_of_page}
 use Rattle.second_chance.specs.declared.frame.Frame.{Frame as Known}
 use Rattle.second_chance.specs.Queue.{in_group, in_groups, is_last, mark_of, group_marks}
-use Rattle.second_chance.specs.Plans.{Placed, staged_of}
+use Rattle.byte_fields.specs.declared.frame_head.Mark.{Mark}
+use Rattle.second_chance.specs.Plans.{Placed, chances_of, staged_of, is_among}
 use Rattle.flash_cache.specs.Held.{AllTogether, Shows}
 use Rattle.flash_cache.specs.Pushed.{no_frame}
 use Rattle.flash_cache.proofs.Queues.{joined}
@@ -50,33 +52,39 @@ none_is (Some x) is = absurd (true≢false is)
 pub not_in_groups : (known : List (List Known)) (groups : List (List Frame)) (page : ℕ) → AllTogether (AllTogether Shows) known groups → in_groups known page ≡ false → last_frame page (joined groups) ≡ None
 not_in_groups known groups page shown out = none_is (last_frame page (joined groups)) (sym (in_groups_is known groups page shown) ∙ out)
 
--- the staged frames from a place on
+-- the frames from a place on whose marks pass a test
 
-abbrev staged_from : ℕ → List Known → List (List Known) → List Placed
-staged_from n group later = filter (λ f. (f.1.valid && f.1.dirty) && true) (enumerate_from n (group_marks group later))
+abbrev Test : Type 0
+Test = Placed → Bool
 
-pub record StagesFrom (n : ℕ) (frames : List Frame) (later : List (List Known)) (f : Placed) : Type 0 where
+abbrev TakesValid : Test → Type 0
+TakesValid test = (f : Placed) → test f ≡ true → f.1.valid ≡ true
+
+abbrev tested_from : Test → ℕ → List Known → List (List Known) → List Placed
+tested_from test n group later = filter test (enumerate_from n (group_marks group later))
+
+pub record StandsFrom (n : ℕ) (frames : List Frame) (later : List (List Known)) (f : Placed) : Type 0 where
   pub i : ℕ
   pub place : f.0 ≡ n + i
   pub last : last_frame f.1.page frames ≡ Some (get_or frames i no_frame)
-  pub dirty : (get_or frames i no_frame).dirty ≡ true
+  pub dirty : f.1.dirty ≡ (get_or frames i no_frame).dirty
   pub alone : in_groups later f.1.page ≡ false
 
--- a frame that is chosen
 either_false : (a b : Bool) → not (a || b) ≡ true → (a ≡ false) × (b ≡ false)
 either_false true b is = absurd (true≢false (sym is))
 either_false false true is = absurd (true≢false (sym is))
 either_false false false is = (refl, refl)
 
-chosen : (a b : Bool) → ((a && b) && true) ≡ true → (a ≡ true) × (b ≡ true)
-chosen a b is = let parts = and_parts (a && b) true is in and_parts a b parts.0
-
-each_from : (n : ℕ) (known : List Known) (frames : List Frame) (later : List (List Known)) (j : ℕ) (d : Placed) → AllTogether Shows known frames → j < length (staged_from n known later) → StagesFrom n frames later (get_or (staged_from n known later) j d)
-each_from n [] frames later j d shown lt = absurd (omega (arith, lt))
-each_from n (k ∷ ks) [] later j d shown lt = absurd shown
-each_from n (k ∷ ks) (f ∷ fs) later j d shown lt = by ((is_last ks later k && k.dirty) && true) refl j lt (λ j' lt'. each_from (n + 1) ks fs later j' d shown.1 lt')
+each_from : (test : Test) → TakesValid test → (n : ℕ) (known : List Known) (frames : List Frame) (later : List (List Known)) (j : ℕ) (d : Placed) → AllTogether Shows known frames → j < length (tested_from test n known later)
+    → StandsFrom n frames later (get_or (tested_from test n known later) j d)
+each_from test takes n [] frames later j d shown lt = absurd (omega (arith, lt))
+each_from test takes n (k ∷ ks) [] later j d shown lt = absurd shown
+each_from test takes n (k ∷ ks) (f ∷ fs) later j d shown lt = by (test own_mark) refl j lt (λ j' lt'. each_from test takes (n + 1) ks fs later j' d shown.1 lt')
   where
-    further : (p : Placed) → StagesFrom (n + 1) fs later p → StagesFrom n (f ∷ fs) later p
+    own_mark : Placed
+    own_mark = (n, mark_of (is_last ks later k) k)
+
+    further : (p : Placed) → StandsFrom (n + 1) fs later p → StandsFrom n (f ∷ fs) later p
     further p s = record {
       i = suc s.i;
       place = let at = s.place in omega (arith, at);
@@ -85,88 +93,142 @@ each_from n (k ∷ ks) (f ∷ fs) later j d shown lt = by ((is_last ks later k &
       alone = s.alone;
     }
 
-    own : (((is_last ks later k && k.dirty) && true) ≡ true) → StagesFrom n (f ∷ fs) later (n, mark_of (is_last ks later k) k)
+    own : test own_mark ≡ true → StandsFrom n (f ∷ fs) later own_mark
     own is =
-        let parts = chosen (is_last ks later k) k.dirty is in
-        let out = either_false (in_group ks k.page) (in_groups later k.page) parts.0 in
+        let out = either_false (in_group ks k.page) (in_groups later k.page) (takes own_mark is) in
         let none : last_frame k.page fs ≡ None = none_is (last_frame k.page fs) (sym (in_group_is ks fs k.page shown.1) ∙ out.0) in
         let same : (f.page == k.page) ≡ true = eq-eqb f.page k.page (sym shown.0.page) in
         record {
           i = zero;
           place = omega arith;
           last = λ i. option_or (none i) (cond (same i) (Some f) None);
-          dirty = sym shown.0.dirty ∙ parts.1;
+          dirty = shown.0.dirty;
           alone = out.1;
         }
 
-    by : (b : Bool) → ((is_last ks later k && k.dirty) && true) ≡ b → (j : ℕ) → j < length (cond b ((n, mark_of (is_last ks later k) k) ∷ staged_from (n + 1) ks later) (staged_from (n + 1) ks later))
-        → ((j' : ℕ) → j' < length (staged_from (n + 1) ks later) → StagesFrom (n + 1) fs later (get_or (staged_from (n + 1) ks later) j' d))
-        → StagesFrom n (f ∷ fs) later (get_or (cond b ((n, mark_of (is_last ks later k) k) ∷ staged_from (n + 1) ks later) (staged_from (n + 1) ks later)) j d)
+    by : (b : Bool) → test own_mark ≡ b → (j : ℕ) → j < length (cond b (own_mark ∷ tested_from test (n + 1) ks later) (tested_from test (n + 1) ks later))
+        → ((j' : ℕ) → j' < length (tested_from test (n + 1) ks later) → StandsFrom (n + 1) fs later (get_or (tested_from test (n + 1) ks later) j' d))
+        → StandsFrom n (f ∷ fs) later (get_or (cond b (own_mark ∷ tested_from test (n + 1) ks later) (tested_from test (n + 1) ks later)) j d)
     by true is zero lt rest = own is
     by true is (suc j) lt rest = further _ (rest j (omega (arith, lt)))
     by false is j lt rest = further _ (rest j lt)
 
--- a dirty last frame of the front group is staged
+-- a last frame of the front group whose mark passes wherever such a frame stands is among them
 
 pub record IsFoundIn (pages : List ℕ) (page : ℕ) : Type 0 where
   pub k : ℕ
   pub below : k < length pages
   pub is : get_or pages k 0 ≡ page
 
-abbrev pages_from : ℕ → List Known → List (List Known) → List ℕ
-pages_from n known later = map (λ f. f.1.page) (staged_from n known later)
+abbrev pages_from : Test → ℕ → List Known → List (List Known) → List ℕ
+pages_from test n known later = map (λ f. f.1.page) (tested_from test n known later)
 
-found_from : (n : ℕ) (known : List Known) (frames : List Frame) (later : List (List Known)) (page : ℕ) (frame : Frame) → AllTogether Shows known frames → in_groups later page ≡ false
-    → last_frame page frames ≡ Some frame → frame.dirty ≡ true → IsFoundIn (pages_from n known later) page
-found_from n [] [] later page frame shown alone last dirty = absurd (none-some frame last)
-found_from n [] (f ∷ fs) later page frame shown alone last dirty = absurd shown
-found_from n (k ∷ ks) [] later page frame shown alone last dirty = absurd shown
-found_from n (k ∷ ks) (f ∷ fs) later page frame shown alone last dirty =
-    by (last_frame page fs) refl last (λ x is dirty'. found_from (n + 1) ks fs later page x shown.1 alone is dirty')
+abbrev Passes : Test → ℕ → List Frame → Frame → Type 0
+Passes test n frames frame = (i : ℕ) (mark : Mark) → get_or frames i no_frame ≡ frame → mark.valid ≡ true → mark.dirty ≡ frame.dirty → test (n + i, mark) ≡ true
+
+found_from : (test : Test) (n : ℕ) (known : List Known) (frames : List Frame) (later : List (List Known)) (page : ℕ) (frame : Frame) → AllTogether Shows known frames → in_groups later page ≡ false
+    → last_frame page frames ≡ Some frame → Passes test n frames frame → IsFoundIn (pages_from test n known later) page
+found_from test n [] [] later page frame shown alone last passes = absurd (none-some frame last)
+found_from test n [] (f ∷ fs) later page frame shown alone last passes = absurd shown
+found_from test n (k ∷ ks) [] later page frame shown alone last passes = absurd shown
+found_from test n (k ∷ ks) (f ∷ fs) later page frame shown alone last passes =
+    by (last_frame page fs) refl last (λ x is passes'. found_from test (n + 1) ks fs later page x shown.1 alone is passes')
   where
-    with_first : (b : Bool) → IsFoundIn (pages_from (n + 1) ks later) page
-        → IsFoundIn (map (λ (p : Placed). p.1.page) (cond b ((n, mark_of (is_last ks later k) k) ∷ staged_from (n + 1) ks later) (staged_from (n + 1) ks later))) page
+    own_mark : Placed
+    own_mark = (n, mark_of (is_last ks later k) k)
+
+    with_first : (b : Bool) → IsFoundIn (pages_from test (n + 1) ks later) page
+        → IsFoundIn (map (λ (p : Placed). p.1.page) (cond b (own_mark ∷ tested_from test (n + 1) ks later) (tested_from test (n + 1) ks later))) page
     with_first true found = record { k = suc found.k; below = let low = found.below in omega (arith, low); is = found.is }
     with_first false found = found
 
     first_one : (b : Bool) → b ≡ true → k.page ≡ page
-        → IsFoundIn (map (λ (p : Placed). p.1.page) (cond b ((n, mark_of (is_last ks later k) k) ∷ staged_from (n + 1) ks later) (staged_from (n + 1) ks later))) page
+        → IsFoundIn (map (λ (p : Placed). p.1.page) (cond b (own_mark ∷ tested_from test (n + 1) ks later) (tested_from test (n + 1) ks later))) page
     first_one true is same = record { k = zero; below = omega arith; is = same }
     first_one false is same = absurd (true≢false (sym is))
 
-    own : last_frame page fs ≡ None → f.page ≡ page → f.dirty ≡ true → IsFoundIn (pages_from n (k ∷ ks) later) page
-    own none same dirty =
+    own : last_frame page fs ≡ None → f.page ≡ page → f ≡ frame → IsFoundIn (pages_from test n (k ∷ ks) later) page
+    own none same is =
         let page_is : k.page ≡ page = shown.0.page ∙ same in
         let out : in_group ks k.page ≡ false = ap (in_group ks) page_is ∙ in_group_is ks fs page shown.1 ∙ ap is_some none in
         let rest : in_groups later k.page ≡ false = ap (in_groups later) page_is ∙ alone in
         let valid : is_last ks later k ≡ true = λ i. not (out i || rest i) in
-        first_one ((is_last ks later k && k.dirty) && true) (λ i. (valid i && (shown.0.dirty ∙ dirty) i) && true) page_is
+        let here : n + 0 ≡ n = omega arith in
+        first_one (test own_mark) (ap (λ (m : ℕ). test (m, own_mark.1)) (sym here) ∙ passes 0 own_mark.1 is valid (shown.0.dirty ∙ ap (λ (x : Frame). x.dirty) is)) page_is
+
+    next : Passes test (n + 1) fs frame
+    next i mark is valid dirty = let at : (n + 1) + i ≡ n + suc i = omega arith in ap (λ (m : ℕ). test (m, mark)) at ∙ passes (suc i) mark is valid dirty
 
     by : (o : Option Frame) → last_frame page fs ≡ o → option_or o (cond (f.page == page) (Some f) None) ≡ Some frame
-        → ((x : Frame) → last_frame page fs ≡ Some x → x.dirty ≡ true → IsFoundIn (pages_from (n + 1) ks later) page) → IsFoundIn (pages_from n (k ∷ ks) later) page
+        → ((x : Frame) → last_frame page fs ≡ Some x → Passes test (n + 1) fs x → IsFoundIn (pages_from test (n + 1) ks later) page) → IsFoundIn (pages_from test n (k ∷ ks) later) page
     by None none is rest =
         let c = cond_some (f.page == page) f frame is in
-        own none (eqb-true f.page page c.0) (ap (λ (x : Frame). x.dirty) c.1 ∙ dirty)
-    by (Some x) some is rest = with_first ((is_last ks later k && k.dirty) && true) (rest x some (ap (λ (y : Frame). y.dirty) (same_Some x frame is) ∙ dirty))
+        own none (eqb-true f.page page c.0) c.1
+    by (Some x) some is rest = with_first (test own_mark) (rest x some (subst (Passes test (n + 1) fs) (sym (same_Some x frame is)) next))
 
 -- the whole front group
 
-pub record Stages (frames : List Frame) (rest : List (List Frame)) (f : Placed) : Type 0 where
+pub record Stands (frames : List Frame) (rest : List (List Frame)) (f : Placed) : Type 0 where
   pub last : last_frame f.1.page frames ≡ Some (get_or frames f.0 no_frame)
-  pub dirty : (get_or frames f.0 no_frame).dirty ≡ true
+  pub dirty : f.1.dirty ≡ (get_or frames f.0 no_frame).dirty
   pub alone : last_frame f.1.page (joined rest) ≡ None
 
+-- the frames that numbered marks stand for
+abbrev pub frames_at : List Frame → List Placed → List Frame
+frames_at frames marks = map (λ f. get_or frames f.0 no_frame) marks
+
+-- a page that is none of these frames' has no mark among them
+not_among : (frames : List Frame) (marks : List Placed) (i page : ℕ) → last_frame page (frames_at frames marks) ≡ None → (get_or frames i no_frame).page ≡ page → is_among marks i ≡ false
+not_among frames [] i page none is = refl
+not_among frames (f ∷ marks) i page none is = by (last_frame page (frames_at frames marks)) refl none (λ rest. not_among frames marks i page rest is)
+  where
+    x : Frame
+    x = get_or frames f.0 no_frame
+
+    other : (b : Bool) → (x.page == page) ≡ b → cond b (Some x) None ≡ None → is_among marks i ≡ false → ((f.0 == i) || is_among marks i) ≡ false
+    other true same none' rest = absurd (none-some x (sym none'))
+    other false same none' rest =
+        let ne : (f.0 == i) ≡ false = ne_eqb f.0 i (λ e. true≢false (sym (eq-eqb x.page page (ap (λ (j : ℕ). (get_or frames j no_frame).page) e ∙ is)) ∙ same)) in
+        λ j. ne j || rest j
+
+    by : (o : Option Frame) → last_frame page (frames_at frames marks) ≡ o → option_or o (cond (x.page == page) (Some x) None) ≡ None → (last_frame page (frames_at frames marks) ≡ None → is_among marks i ≡ false)
+        → ((f.0 == i) || is_among marks i) ≡ false
+    by None is' none' rest = other (x.page == page) refl none' (rest is')
+    by (Some y) is' none' rest = absurd (none-some y (sym none'))
+
 module _ (known : List Known) (later : List (List Known)) (frames : List Frame) (rest : List (List Frame)) (shown : AllTogether Shows known frames) (others : AllTogether (AllTogether Shows) later rest) where
-  pub each_staged : (j : ℕ) (d : Placed) → j < length (staged_of false (group_marks known later)) → Stages frames rest (get_or (staged_of false (group_marks known later)) j d)
-  each_staged j d lt =
-      let f : Placed = get_or (staged_from 0 known later) j d in
-      let s = each_from 0 known frames later j d shown lt in
+  abbrev marks : List Mark
+  marks = group_marks known later
+
+  stands_at : (test : Test) → TakesValid test → (j : ℕ) (d : Placed) → j < length (filter test (enumerate_from 0 marks)) → Stands frames rest (get_or (filter test (enumerate_from 0 marks)) j d)
+  stands_at test takes j d lt =
+      let f : Placed = get_or (tested_from test 0 known later) j d in
+      let s = each_from test takes 0 known frames later j d shown lt in
       let at : s.i ≡ f.0 = let place = s.place in omega (arith, place) in
       record {
         last = s.last ∙ ap (λ (i : ℕ). Some (get_or frames i no_frame)) at;
-        dirty = ap (λ (i : ℕ). (get_or frames i no_frame).dirty) (sym at) ∙ s.dirty;
+        dirty = s.dirty ∙ ap (λ (i : ℕ). (get_or frames i no_frame).dirty) at;
         alone = not_in_groups later rest f.1.page others s.alone;
       }
 
-  pub found_staged : (page : ℕ) (frame : Frame) → last_frame page (joined rest) ≡ None → last_frame page frames ≡ Some frame → frame.dirty ≡ true → IsFoundIn (map (λ f. f.1.page) (staged_of false (group_marks known later))) page
-  found_staged page frame none last dirty = found_from 0 known frames later page frame shown (in_groups_is later rest page others ∙ ap is_some none) last dirty
+  pub each_staged : (given : Bool) (j : ℕ) (d : Placed) → j < length (staged_of given marks) → Stands frames rest (get_or (staged_of given marks) j d)
+  each_staged given j d lt =
+      stands_at (λ f. (f.1.valid && f.1.dirty) && not (is_among (chances_of given marks) f.0))
+      (λ f is. (and_parts f.1.valid f.1.dirty (and_parts (f.1.valid && f.1.dirty) _ is).0).0) j d lt
+
+  pub each_chance : (given : Bool) (j : ℕ) (d : Placed) → j < length (chances_of given marks) → Stands frames rest (get_or (chances_of given marks) j d)
+  each_chance true j d lt =
+      let all : List Placed = filter (λ f. f.1.valid && f.1.referenced) (enumerate_from 0 marks) in
+      let long = length-take 7 all in
+      subst (Stands frames rest) (sym (get_or-take 7 all j d (omega (arith, lt, long))))
+      (stands_at (λ f. f.1.valid && f.1.referenced) (λ f is. (and_parts f.1.valid f.1.referenced is).0) j d (omega (arith, lt, long)))
+  each_chance false j d lt = absurd (omega (arith, lt))
+
+  pub found_staged : (given : Bool) (page : ℕ) (frame : Frame) → last_frame page (joined rest) ≡ None → last_frame page frames ≡ Some frame → frame.dirty ≡ true → last_frame page (frames_at frames (chances_of given marks)) ≡ None
+      → IsFoundIn (map (λ f. f.1.page) (staged_of given marks)) page
+  found_staged given page frame none last dirty unchosen =
+      found_from (λ f. (f.1.valid && f.1.dirty) && not (is_among (chances_of given marks) f.0)) 0 known frames later page frame shown (in_groups_is later rest page others ∙ ap is_some none) last
+      (λ i mark is valid marked.
+      let at : 0 + i ≡ i = omega arith in
+      let out = not_among frames (chances_of given marks) i page unchosen (ap (λ (x : Frame). x.page) is ∙ last_is_of_page page frames frame last) in
+      λ k. (valid k && (marked ∙ dirty) k) && not ((ap (is_among (chances_of given marks)) at ∙ out) k))

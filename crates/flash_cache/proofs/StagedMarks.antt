@@ -1,19 +1,19 @@
--- The frames that a push stages, by the marks of the front group.
-use Rattle.std.proofs.Common.{◌≡◌, ◌≢◌, ℕ, zero, suc, ◌<◌, ◌≤◌, Bool, true, false, cond, List, [], ◌∷◌, length, get_or, map, filter, Some, slice_get, arith, refl, sym, ap, subst, ◌∙◌}
-use Rattle.std.specs.List.{All, AllPairs, AllByRecursion, enumerate_from}
+-- The frames that a push stages, and its second chances, by the marks of the front group.
+use Rattle.std.proofs.Common.{◌≡◌, ◌≢◌, ℕ, zero, suc, ◌+◌, ◌<◌, ◌≤◌, Bool, true, false, cond, List, [], ◌∷◌, length, get_or, map, Some, slice_get, arith, refl, sym, ap, subst, ◌∙◌}
+use Rattle.std.specs.List.{All, AllPairs, AllByRecursion}
 use Rattle.std.proofs.lemmas.List.{get_or-map, length-map}
 use Rattle.std.proofs.lemmas.List.Elements.{All-map, recursion_from_All}
-use Rattle.std.proofs.lemmas.List.FromFn.{length-enumerate_from}
 use Rattle.std.proofs.lemmas.Option.{get_or_from_slice_get, slice_get_within, same_Some}
 use Rattle.byte_fields.specs.declared.frame_head.Mark.{Mark}
 use Rattle.second_chance.specs.declared.frame.Frame.{Frame as Known}
 use Rattle.second_chance.specs.Queue.{group_marks, front_marks}
-use Rattle.second_chance.specs.Plans.{Placed, staged_of}
+use Rattle.second_chance.specs.Plans.{Placed, chances_given, staged_of}
 use Rattle.second_chance.specs.Machine.{rules_of, leaving}
 use Rattle.second_chance.proofs.Apart.{staged_stand_in, staged_apart}
+use Rattle.second_chance.proofs.Chances.{chances_stand_in, chances_are_not_staged}
 use Rattle.flash_cache.specs.declared.cache.FlashCache.{FlashCache}
-use Rattle.flash_cache.specs.Leaving.{no_mark}
-use Rattle.flash_cache.specs.Pushed.{front_leaves, staged_marks, staged_pages}
+use Rattle.flash_cache.specs.Leaving.{no_mark, mark_at}
+use Rattle.flash_cache.specs.Pushed.{front_leaves, staged_marks, staged_pages, chance_marks}
 
 -- marks of a group
 
@@ -34,68 +34,65 @@ pub front_exists : (pages : ℕ) (groups : List (List Known)) (i : ℕ) (mark : 
 front_exists pages [] i mark all is = absurd cc
 front_exists pages (group ∷ later) i mark all is = mark_exists pages group later i mark all.0 is
 
--- no more frames are chosen than there are
+-- numbered marks that stand at their places in a group's marks
+abbrev pub AreNumbered : List Mark → List Placed → Type 0
+AreNumbered front marks = All (λ f. slice_get front f.0 ≡ Some f.1) marks
 
-filter_le : {X : Type 0} (test : X → Bool) (xs : List X) → length (filter test xs) ≤ length xs
-filter_le test [] = omega arith
-filter_le test (x ∷ xs) = by (test x) (filter_le test xs)
-  where
-    by : (b : Bool) → length (filter test xs) ≤ length xs → length (cond b (x ∷ filter test xs) (filter test xs)) ≤ suc (length xs)
-    by true rest = omega (arith, rest)
-    by false rest = omega (arith, rest)
+module _ (front : List Mark) (marks : List Placed) (stand : AreNumbered front marks) where
+  pub places_inside : (places : List ℕ) → places ≡ map (λ f. f.0) marks → All (λ place. place < length front) places
+  places_inside places is =
+      subst (All (λ place. place < length front)) (sym is)
+      (All-map (λ (place : ℕ). place < length front) (λ (f : Placed). f.0) marks (λ k d lt. slice_get_within front _ _ (stand k d lt)))
+
+read_by : {Y : Type 0} (f : Mark → Y) (front : List Mark) (xs : List Placed) → AllByRecursion (λ x. slice_get front x.0 ≡ Some x.1) xs → map (λ place. f (get_or front place no_mark)) (map (λ x. x.0) xs) ≡ map (λ x. f x.1) xs
+read_by f front [] all = refl
+read_by f front (x ∷ xs) all = λ i. f (get_or_from_slice_get front x.0 x.1 no_mark all.0 i) ∷ read_by f front xs all.1 i
+
+-- what is read of marks by their places
+pub read_at : {Y : Type 0} (f : Mark → Y) (groups : List (List Known)) (marks : List Placed) (places : List ℕ) → AreNumbered (front_marks groups) marks → places ≡ map (λ x. x.0) marks → map (λ place. f (mark_at groups place)) places ≡ map (λ x. f x.1) marks
+read_at f groups marks places stand is =
+    ap (map (λ place. f (mark_at groups place))) is
+    ∙ read_by f (front_marks groups) marks (recursion_from_All (λ (x : Placed). slice_get (front_marks groups) x.0 ≡ Some x.1) marks stand)
+
+pub marks_exist : (pages : ℕ) (groups : List (List Known)) (marks : List Placed) → AreNumbered (front_marks groups) marks → AllByRecursion (λ frames. AllByRecursion (λ (frame : Known). frame.page < pages) frames) groups → All (λ page. page < pages) (map (λ f. f.1.page) marks)
+marks_exist pages groups marks stand exist = All-map (λ (page : ℕ). page < pages) (λ (f : Placed). f.1.page) marks (λ k d lt. front_exists pages groups _ _ exist (stand k d lt))
 
 module _ (cache : FlashCache) where
   abbrev front : List Mark
   front = front_marks cache.directory.groups
+
+  abbrev out : List Mark
+  out = leaving (rules_of 0 cache.geometry.groups) cache.directory
 
   -- what stands in the marks of what leaves stands in the front group
   leaving_is : (b : Bool) (place : ℕ) (mark : Mark) → slice_get (cond b front []) place ≡ Some mark → slice_get front place ≡ Some mark
   leaving_is true place mark is = is
   leaving_is false place mark is = absurd cc
 
-  pub stand_in_front : All (λ f. slice_get front f.0 ≡ Some f.1) (staged_marks cache)
-  stand_in_front k d lt = leaving_is (front_leaves cache) _ _ (staged_stand_in false (leaving (rules_of 0 cache.geometry.groups) cache.directory) k d lt).stands
+  pub staged_numbered : AreNumbered front (staged_marks cache)
+  staged_numbered k d lt = leaving_is (front_leaves cache) _ _ (staged_stand_in chances_given out k d lt).stands
 
-  pub places_inside : (places : List ℕ) → places ≡ map (λ f. f.0) (staged_marks cache) → All (λ place. place < length front) places
-  places_inside places is =
-      subst (All (λ place. place < length front)) (sym is)
-      (All-map (λ (place : ℕ). place < length front) (λ (f : Placed). f.0) (staged_marks cache) (λ k d lt. slice_get_within front _ _ (stand_in_front k d lt)))
-
-  pub places_low : (places : List ℕ) → AllByRecursion (λ frames. (1 ≤ length frames) × (length frames ≤ 8)) cache.directory.groups → places ≡ map (λ f. f.0) (staged_marks cache) → All (λ place. place < 8) places
-  places_low places sizes is k d lt = let low = places_inside places is k d lt in let few = front_few cache.directory.groups sizes in omega (arith, low, few)
+  pub chances_numbered : AreNumbered front (chance_marks cache)
+  chances_numbered k d lt = leaving_is (front_leaves cache) _ _ (chances_stand_in chances_given out k d lt).stands
 
   marks_few : (b : Bool) → length (cond b front []) ≤ length front
   marks_few true = omega arith
   marks_few false = omega arith
 
-  pub places_few : (places : List ℕ) → AllByRecursion (λ frames. (1 ≤ length frames) × (length frames ≤ 8)) cache.directory.groups → places ≡ map (λ f. f.0) (staged_marks cache) → length places ≤ 8
-  places_few places sizes is =
-      let all = leaving (rules_of 0 cache.geometry.groups) cache.directory in
-      let same = ap length is ∙ length-map (staged_marks cache) (λ (f : Placed). f.0) in
-      let chosen : length (staged_marks cache) ≤ length (enumerate_from 0 all) = filter_le _ (enumerate_from 0 all) in
-      let numbered = length-enumerate_from 0 all in
+  -- no more frames are read than the front group has
+  pub reads_few : (staged chances : List ℕ) → AllByRecursion (λ frames. (1 ≤ length frames) × (length frames ≤ 8)) cache.directory.groups → staged ≡ map (λ f. f.0) (staged_marks cache) → chances ≡ map (λ f. f.0) (chance_marks cache) → length staged + length chances ≤ 8
+  reads_few staged chances sizes is are =
+      let first = ap length is ∙ length-map (staged_marks cache) (λ (f : Placed). f.0) in
+      let second = ap length are ∙ length-map (chance_marks cache) (λ (f : Placed). f.0) in
+      let apart = chances_are_not_staged chances_given out in
       let some = marks_few (front_leaves cache) in
       let few = front_few cache.directory.groups sizes in
-      omega (arith, same, chosen, numbered, some, few)
+      omega (arith, first, second, apart, some, few)
 
-  pages_of : (xs : List Placed) → AllByRecursion (λ f. slice_get front f.0 ≡ Some f.1) xs → map (λ place. (get_or front place no_mark).page) (map (λ f. f.0) xs) ≡ map (λ f. f.1.page) xs
-  pages_of [] all = refl
-  pages_of (f ∷ xs) all =
-      ap (λ (m : Mark). m.page ∷ map (λ place. (get_or front place no_mark).page) (map (λ (g : Placed). g.0) xs)) (get_or_from_slice_get front f.0 f.1 no_mark all.0)
-      ∙ ap (λ (l : List ℕ). f.1.page ∷ l) (pages_of xs all.1)
-
-  pub pages_are : (places : List ℕ) → places ≡ map (λ f. f.0) (staged_marks cache) → map (λ place. (get_or front place no_mark).page) places ≡ staged_pages cache
-  pages_are places is =
-      ap (map (λ place. (get_or front place no_mark).page)) is
-      ∙ pages_of (staged_marks cache) (recursion_from_All (λ (f : Placed). slice_get front f.0 ≡ Some f.1) (staged_marks cache) stand_in_front)
-
-  pub pages_exist : AllByRecursion (λ frames. AllByRecursion (λ (frame : Known). frame.page < cache.geometry.pages) frames) cache.directory.groups → All (λ page. page < cache.geometry.pages) (staged_pages cache)
-  pages_exist exist = All-map (λ (page : ℕ). page < cache.geometry.pages) (λ (f : Placed). f.1.page) (staged_marks cache) (λ k d lt. front_exists cache.geometry.pages cache.directory.groups _ _ exist (stand_in_front k d lt))
-
-  apart_by : (b : Bool) (groups : List (List Known)) → AllPairs (λ x y. x.1.page ≢ y.1.page) (staged_of false (cond b (front_marks groups) []))
-  apart_by false groups = λ i j d before within. absurd (omega (arith, within))
-  apart_by true [] = λ i j d before within. absurd (omega (arith, within))
-  apart_by true (group ∷ later) = staged_apart false group later
+  apart_by : (given b : Bool) (groups : List (List Known)) → AllPairs (λ x y. x.1.page ≢ y.1.page) (staged_of given (cond b (front_marks groups) []))
+  apart_by given false groups = λ i j d before within. absurd (omega (arith, within))
+  apart_by given true [] = λ i j d before within. absurd (omega (arith, within))
+  apart_by given true (group ∷ later) = staged_apart given group later
 
   pub pages_apart : AllPairs (λ a b. a ≢ b) (staged_pages cache)
   pages_apart i j d before within =
@@ -104,5 +101,5 @@ module _ (cache : FlashCache) where
       let e : Placed = (0, no_mark) in
       let low : i < length marks = omega (arith, before, within, many) in
       let high : j < length marks = omega (arith, within, many) in
-      λ same. apart_by (front_leaves cache) cache.directory.groups i j e before high
+      λ same. apart_by chances_given (front_leaves cache) cache.directory.groups i j e before high
       (sym (get_or-map (λ (f : Placed). f.1.page) marks i e d low) ∙ same ∙ get_or-map (λ (f : Placed). f.1.page) marks j e d high)

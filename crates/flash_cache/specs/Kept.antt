@@ -6,7 +6,7 @@ use Rattle.frame_group.specs.Groups.{Frame}
 use Rattle.second_chance.specs.Queue.{has_frame}
 use Rattle.flash_cache.specs.declared.cache.FlashCache.{FlashCache}
 use Rattle.flash_cache.specs.Held.{HasGroups, version_on, disk_on, IsCleanOn}
-use Rattle.flash_cache.specs.Pushed.{frames_given, known_given, pushed_groups, pushed_queue}
+use Rattle.flash_cache.specs.Pushed.{frames_pushed, known_pushed, pushed_groups, pushed_queue}
 
 -- an image has these live groups, from a number on, and each page has the version that it had
 pub record KeepsVersions (g : Geometry) (first : ℕ) (groups : List (List Frame)) (old new : Image) : Type 0 where
@@ -24,7 +24,7 @@ pub record GivesVersions (g : Geometry) (first : ℕ) (groups : List (List Frame
 pub record LeavesVersions (cache : FlashCache) (groups : List (List Frame)) (pages : List ℕ) (changed : List Bool) (contents : List (List ℕ)) (old : State) (snapshot : Snapshot) : Type 0 where
   pub told : snapshot.told ≡ old.told
   pub either : KeepsVersions cache.geometry cache.directory.first groups old.image snapshot.image
-      ⊎ GivesVersions cache.geometry (pushed_queue cache (known_given pages changed)).first (pushed_groups cache groups (frames_given pages changed contents)) pages contents old.image snapshot.image
+      ⊎ GivesVersions cache.geometry (pushed_queue cache (known_pushed cache pages changed)).first (pushed_groups cache groups (frames_pushed cache old.image pages changed contents)) pages contents old.image snapshot.image
 
 -- each page given as not changed has no frame in the queue, and its disk page has the content given
 abbrev pub AreCleanGiven : FlashCache → List ℕ → List Bool → List (List ℕ) → Image → Type 0

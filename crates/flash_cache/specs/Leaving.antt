@@ -1,10 +1,34 @@
 -- The frames of a group, by their places in it.
-use Rattle.std.specs.Prelude.{ℕ, ◌+◌, ◌*◌, false, List, take, drop}
+use Rattle.std.specs.Prelude.{◌≡◌, ℕ, ◌+◌, ◌*◌, false, List, length, map, zip, take, drop, slice_index_or}
+use Rattle.byte_fields.specs.declared.frame_head.FrameHead.{FrameHead}
 use Rattle.byte_fields.specs.declared.frame_head.Mark.{Mark}
+use Rattle.frame_group.specs.Groups.{Frame, frame_of}
+use Rattle.second_chance.specs.declared.frame.Frame.{Frame as Known}
+use Rattle.second_chance.specs.Queue.{front_marks}
+use Rattle.flash_cache.specs.declared.leaving.FrontFrames.{FrontFrames}
+use Rattle.flash_cache.specs.Pushed.{frames_given}
 
 abbrev pub no_mark : Mark
 no_mark = record { page = 0; valid = false; dirty = false; referenced = false }
 
+-- the mark at a place of the front group
+abbrev pub mark_at : List (List Known) → ℕ → Mark
+mark_at groups place = slice_index_or (front_marks groups) place no_mark
+
 -- the page at a place of a group's content
 abbrev pub page_at : List ℕ → ℕ → List ℕ
 page_at content place = take 4096 (drop (128 + 4096 * place) content)
+
+-- the pages and marks of frames are those at these places of the front group, and each has a content
+pub record AreAt (groups : List (List Known)) (places : List ℕ) (frames : FrontFrames) : Type 0 where
+  pub pages : frames.pages.items ≡ map (λ place. (mark_at groups place).page) places
+  pub dirty : frames.dirty.items ≡ map (λ place. (mark_at groups place).dirty) places
+  pub count : length frames.contents.items ≡ length places
+
+-- the frames that are put into a group again
+abbrev pub again : FrontFrames → List Frame
+again frames = frames_given frames.pages.items frames.dirty.items frames.contents.items
+
+-- the frames that heads and contents make
+abbrev pub frames_with : List FrameHead → List (List ℕ) → List Frame
+frames_with heads contents = map (λ f. frame_of f.0 f.1) (zip heads contents)

@@ -2,7 +2,7 @@
 use Rattle.std.specs.Prelude.{◌≡◌, ◌⊎◌, ℕ, Bool, false, List, [], ◌∷◌, ◌++◌, map, drop, zip, slice_index_or, if◌then◌else◌}
 use Rattle.site.specs.declared.geometry.Geometry.{Geometry}
 use Rattle.site.specs.declared.outside.Dev.TheVariants.{Log}
-use Rattle.site.specs.State.{State, Snapshot}
+use Rattle.site.specs.State.{State, Image, Snapshot}
 use Rattle.site.specs.Moments.{Untouched}
 use Rattle.image_changes.specs.Changes.{Change, AppendsGroup, Reaches}
 use Rattle.image_changes.specs.Reached.{IsFrontOf}
@@ -10,9 +10,10 @@ use Rattle.stage_out.specs.Staged.{HasStaged, changes_of}
 use Rattle.frame_group.specs.Groups.{Frame}
 use Rattle.second_chance.specs.declared.frame.Frame.{Frame as Known}
 use Rattle.second_chance.specs.Queue.{Queue, pushed, frame_of as known_of}
-use Rattle.second_chance.specs.Plans.{Placed, staged_of, chances_given}
-use Rattle.second_chance.specs.Machine.{rules_of, is_full, leaving}
+use Rattle.second_chance.specs.Plans.{Placed, chances_of, staged_of, chances_given}
+use Rattle.second_chance.specs.Machine.{rules_of, is_full, leaving, chance_frame}
 use Rattle.flash_cache.specs.declared.cache.FlashCache.{FlashCache}
+use Rattle.flash_cache.specs.Held.{version_on}
 
 -- whether the front group leaves with a push: the queue has as many groups as can be
 abbrev pub front_leaves : FlashCache → Bool
@@ -32,6 +33,14 @@ no_frame = record { page = 0; dirty = false; octets = [] }
 abbrev pub staged_contents : FlashCache → List (List Frame) → List (List ℕ)
 staged_contents cache groups = map (λ f. (slice_index_or (slice_index_or groups 0 []) f.0 no_frame).octets) (staged_marks cache)
 
+-- the frames of the front group that the machine's push gives a second chance
+abbrev pub chance_marks : FlashCache → List Placed
+chance_marks cache = chances_of chances_given (leaving (rules_of 0 cache.geometry.groups) cache.directory)
+
+-- a second chance in the new group, where pages have these versions: its page's version, dirty as it was
+abbrev pub chance_given : (ℕ → List ℕ) → Placed → Frame
+chance_given versions f = record { page = f.1.page; dirty = f.1.dirty; octets = versions f.1.page }
+
 -- the frames of the pages given, each dirty where it was changed
 abbrev pub given_frame : (ℕ × Bool) × List ℕ → Frame
 given_frame f = record { page = f.0.0; dirty = f.0.1; octets = f.1 }
@@ -42,6 +51,17 @@ frames_given pages changed contents = map given_frame (zip (zip pages changed) c
 -- and as the directory knows them
 abbrev pub known_given : List ℕ → List Bool → List Known
 known_given pages changed = map (λ f. known_of f.0 f.1) (zip pages changed)
+
+-- The new group: the second chances in their order, then the pages given. Its pages, its frames, and these as the directory knows
+-- them.
+abbrev pub pages_pushed : FlashCache → List ℕ → List ℕ
+pages_pushed cache pages = map (λ f. f.1.page) (chance_marks cache) ++ pages
+
+abbrev pub frames_pushed : FlashCache → Image → List ℕ → List Bool → List (List ℕ) → List Frame
+frames_pushed cache image pages changed contents = map (chance_given (version_on cache.geometry image)) (chance_marks cache) ++ frames_given pages changed contents
+
+abbrev pub known_pushed : FlashCache → List ℕ → List Bool → List Known
+known_pushed cache pages changed = map chance_frame (chance_marks cache) ++ known_given pages changed
 
 -- the groups with one more, and without the front one where that leaves
 abbrev pub pushed_groups : FlashCache → List (List Frame) → List Frame → List (List Frame)

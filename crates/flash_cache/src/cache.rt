@@ -21,11 +21,11 @@ ghost use Rattle.second_chance.specs.Machine.{rules_of, leaving};
 ghost use Rattle.stage_out.specs.Staged.{HasStaged};
 ghost use Rattle.flash_directory.specs.Heads.{frames_in};
 ghost use Rattle.flash_cache.specs.Held.{MayGoOn, Fits, IsWorn, HasGroups, HasFrames, Holds, queue_of, version_on, group_on, PagesExist, IsCleanOn};
-ghost use Rattle.flash_cache.specs.Pushed.{staged_marks, staged_pages, staged_contents, frames_given, known_given, pushed_groups, pushed_queue, changes_of_push, LeavesPush, ChangesPages};
+ghost use Rattle.flash_cache.specs.Pushed.{staged_marks, staged_pages, staged_contents, chance_marks, pages_pushed, frames_pushed, known_pushed, pushed_groups, pushed_queue, changes_of_push, LeavesPush, ChangesPages};
 ghost use Rattle.flash_cache.specs.Kept.{GivesVersions, LeavesVersions, AreCleanGiven, LeavesClean};
 
-use crate::leaving::{contents_at, pages_at};
-use crate::making::group_content;
+use crate::leaving::frames_leaving;
+use crate::making::{group_content, heads_given};
 use byte_fields::{FrameHead, Mark};
 use flash_directory::{Directory, HeadView};
 use frame_group::{GROUP_LEN, HEADS_LEN, PAGE_LEN, group_heads};
@@ -273,16 +273,18 @@ impl FlashCache {
         Ok(true)
     }
 
-    /// Pushes a group with the pages given, each dirty where it was changed. Where the queue is full its front group leaves,
-    /// and the frames of it that the plan stages, those that are valid and dirty, are read, written to the disk, and synced
-    /// there before the group is appended.
+    /// Pushes a group with the second chances of the plan, and behind them the pages given, each dirty where it was changed.
+    /// Where the queue is full its front group leaves. The frames of it that have a second chance are read, and stand in the
+    /// new group as they were, dirty or not, but not referenced. Those that the plan stages, the others that are valid and
+    /// dirty, are read, written to the disk, and synced there before the group is appended.
     ///
     /// At each moment of the call the queue has its old groups, and the staged pages may have any octets on the disk; or it
     /// has the new group, and the staged pages stand on the disk. So each page has the version that it had, or all pages
-    /// given have their contents.
+    /// given have their contents, and every other page the version that it had.
     ///
-    /// `plan` is that of the machine for the front group. The lists are 1 to 8 pages, of which none is given twice, whether
-    /// each was changed, and the content of each.
+    /// `plan` is that of the machine for the front group. The lists are the pages given, of which none is given twice,
+    /// whether each was changed, and the content of each. With the second chances they are 1 to 8 pages; a page that has a
+    /// second chance may be given, too, and has the content given then.
     pub fn push_group<S: Site>(
         &mut self,
         site: &mut S,
@@ -292,12 +294,12 @@ impl FlashCache {
         contents: &[Page],
     ) -> Result<(), Stop>
         requires going { MayGoOn self.old (S.state site.old) }
-        requires chances { plan.now.chances ≡ [] }
+        requires chances { plan.now.chances ≡ map (λ f. f.0) (chance_marks self.old) }
         requires staged { plan.now.staged ≡ map (λ f. f.0) (staged_marks self.old) }
         requires marks { length changed.now ≡ length pages.now }
         requires lists { length contents.now ≡ length pages.now }
-        requires some { 1 ≤ length pages.now }
-        requires few { length pages.now ≤ 8 }
+        requires some { 1 ≤ length (pages_pushed self.old pages.now) }
+        requires few { length (pages_pushed self.old pages.now) ≤ 8 }
         requires exist { All (λ page. page < self.old.geometry.pages) pages.now }
         requires apart { AllPairs (λ a b. a ≢ b) pages.now }
 
@@ -307,22 +309,29 @@ impl FlashCache {
             → IsQuiet (S.state site.old)
             → LeavesOnly (S.state site.old) (S.state site.new) (LeavesPush self.old.geometry
             (staged_pages self.old) (staged_contents self.old groups)
-            (group (frames_given pages.now changed.now contents.now)) (S.state site.old)) }
+            (group (frames_pushed self.old (S.state site.old).image
+            pages.now changed.now contents.now)) (S.state site.old)) }
         ensures front { (groups : List (List Frame))
             → Fits self.old (S.state site.old) → Holds self.old (S.state site.old).image groups
             → IsQuiet (S.state site.old) → LeavesFront self.old.geometry
             (changes_of_push (staged_pages self.old)
-            (group (frames_given pages.now changed.now contents.now)))
+            (group (frames_pushed self.old (S.state site.old).image
+            pages.now changed.now contents.now)))
             (S.state site.old) (S.state site.new) }
         ensures reaches { (groups : List (List Frame))
             → Fits self.old (S.state site.old) → Holds self.old (S.state site.old).image groups
             → OnOk result (Reaches self.old.geometry (changes_of_push (staged_pages self.old)
-            (group (frames_given pages.now changed.now contents.now)))
+            (group (frames_pushed self.old (S.state site.old).image
+            pages.now changed.now contents.now)))
             (S.state site.old).image (S.state site.new).image) }
         ensures staged { (groups : List (List Frame))
             → Fits self.old (S.state site.old) → Holds self.old (S.state site.old).image groups
             → OnOk result (HasStaged (staged_pages self.old) (staged_contents self.old groups)
             (S.state site.old).image.disk (S.state site.new).image.disk) }
+        ensures frames { (groups : List (List Frame))
+            → Fits self.old (S.state site.old) → Holds self.old (S.state site.old).image groups
+            → let frames = frames_pushed self.old (S.state site.old).image pages.now changed.now contents.now in
+            HasFrames self.old.geometry frames (group frames) }
         ensures changes { IsTrue (S.state site.old).honest
             → ChangesPages (S.state site.old) (S.state site.new) }
         ensures alone { IsTrue (S.state site.old).honest → staged_pages self.old ≡ []
@@ -338,7 +347,8 @@ impl FlashCache {
             → Fits self.old (S.state site.old) → Holds self.old (S.state site.old).image groups
             → IsCleanOn self.old.geometry (S.state site.old).image
             → OnOk result (GivesVersions self.old.geometry self.new.directory.first
-            (pushed_groups self.old groups (frames_given pages.now changed.now contents.now))
+            (pushed_groups self.old groups
+            (frames_pushed self.old (S.state site.old).image pages.now changed.now contents.now))
             pages.now contents.now (S.state site.old).image (S.state site.new).image) }
         ensures clean_moment { (groups : List (List Frame))
             → Fits self.old (S.state site.old) → Holds self.old (S.state site.old).image groups
@@ -353,11 +363,12 @@ impl FlashCache {
 
         // The cache.
         ensures directory { OnOk result (self.new.directory
-            ≡ pushed_queue self.old (known_given pages.now changed.now)) }
+            ≡ pushed_queue self.old (known_pushed self.old pages.now changed.now)) }
         ensures holds { (groups : List (List Frame))
             → Fits self.old (S.state site.old) → Holds self.old (S.state site.old).image groups
             → OnOk result (Holds self.new (S.state site.new).image
-            (pushed_groups self.old groups (frames_given pages.now changed.now contents.now))) }
+            (pushed_groups self.old groups
+            (frames_pushed self.old (S.state site.old).image pages.now changed.now contents.now))) }
         ensures fits { Fits self.old (S.state site.old) → OnOk result (Fits self.new (S.state site.new)) }
         ensures quiet { IsTrue (S.state site.old).honest → IsQuiet (S.state site.old)
             → OnOk result (IsQuiet (S.state site.new)) }
@@ -365,8 +376,6 @@ impl FlashCache {
             → IfErr result (λ stop. ((d : Dev) → stop ≢ Stop.Device d) → IsQuiet (S.state site.new)) }
 
         // Of every site.
-        ensures frames { let frames = frames_given pages.now changed.now contents.now in
-            HasFrames self.old.geometry frames (group frames) }
         ensures going { MayGoOn self.new (S.state site.new) }
         ensures geometry { self.new.geometry ≡ self.old.geometry }
         ensures ended { OnOk result (self.new.ended ≡ self.old.ended) }
@@ -406,11 +415,12 @@ impl FlashCache {
         contents: &[Page],
     ) -> Result<(), Stop>
         requires going { MayGoOn self.old (S.state site.old) }
+        requires chances { plan.now.chances ≡ map (λ f. f.0) (chance_marks self.old) }
         requires staged { plan.now.staged ≡ map (λ f. f.0) (staged_marks self.old) }
         requires marks { length changed.now ≡ length pages.now }
         requires lists { length contents.now ≡ length pages.now }
-        requires some { 1 ≤ length pages.now }
-        requires few { length pages.now ≤ 8 }
+        requires some { 1 ≤ length (pages_pushed self.old pages.now) }
+        requires few { length (pages_pushed self.old pages.now) ≤ 8 }
         requires exist { All (λ page. page < self.old.geometry.pages) pages.now }
 
         ensures any_moment { (groups : List (List Frame))
@@ -418,15 +428,22 @@ impl FlashCache {
             → IsQuiet (S.state site.old)
             → LeavesOnly (S.state site.old) (S.state site.new) (LeavesPush self.old.geometry
             (staged_pages self.old) (staged_contents self.old groups)
-            (group (frames_given pages.now changed.now contents.now)) (S.state site.old)) }
-        ensures reaches { Fits self.old (S.state site.old)
+            (group (frames_pushed self.old (S.state site.old).image
+            pages.now changed.now contents.now)) (S.state site.old)) }
+        ensures reaches { (groups : List (List Frame))
+            → Fits self.old (S.state site.old) → Holds self.old (S.state site.old).image groups
             → OnOk result (Reaches self.old.geometry (changes_of_push (staged_pages self.old)
-            (group (frames_given pages.now changed.now contents.now)))
+            (group (frames_pushed self.old (S.state site.old).image
+            pages.now changed.now contents.now)))
             (S.state site.old).image (S.state site.new).image) }
         ensures staged { (groups : List (List Frame))
             → Fits self.old (S.state site.old) → Holds self.old (S.state site.old).image groups
             → OnOk result (HasStaged (staged_pages self.old) (staged_contents self.old groups)
             (S.state site.old).image.disk (S.state site.new).image.disk) }
+        ensures frames { (groups : List (List Frame))
+            → Fits self.old (S.state site.old) → Holds self.old (S.state site.old).image groups
+            → let frames = frames_pushed self.old (S.state site.old).image pages.now changed.now contents.now in
+            HasFrames self.old.geometry frames (group frames) }
         ensures changes { IsTrue (S.state site.old).honest
             → ChangesPages (S.state site.old) (S.state site.new) }
         ensures alone { IsTrue (S.state site.old).honest → staged_pages self.old ≡ []
@@ -438,10 +455,8 @@ impl FlashCache {
             → IfErr result (λ stop. ((d : Dev) → stop ≢ Stop.Device d) → IsQuiet (S.state site.new)) }
 
         // Of every site.
-        ensures frames { let frames = frames_given pages.now changed.now contents.now in
-            HasFrames self.old.geometry frames (group frames) }
         ensures directory { OnOk result (self.new.directory
-            ≡ pushed_queue self.old (known_given pages.now changed.now)) }
+            ≡ pushed_queue self.old (known_pushed self.old pages.now changed.now)) }
         ensures kept { OnErr result (self.new.directory ≡ self.old.directory) }
         ensures going { MayGoOn self.new (S.state site.new) }
         ensures geometry { self.new.geometry ≡ self.old.geometry }
@@ -463,17 +478,23 @@ impl FlashCache {
             ⊎ ((stop ≡ Stop.Device Dev.Disk)
             ⊎ ((stop ≡ Stop.Memory) ⊎ (stop ≡ Stop.Worn Dev.Flash)))) }
     {
-        let content = group_content(pages, changed, contents);
+        let given = heads_given(pages, changed, contents);
+        let (staged, chances) = match frames_leaving(
+            self.alloc,
+            site,
+            &self.directory,
+            &self.ring,
+            plan,
+        ) {
+            Ok(both) => both,
+            Err(stop) => return Err(stop),
+        };
+        let content = group_content(&chances, &given, contents);
         let Ok(heads) = group_heads(&content) else {
             unreachable!()
         };
-        let staged = pages_at(self.alloc, &self.directory, &plan.staged)?;
-        let first = self.directory.first();
-        let octets = match contents_at(self.alloc, site, &self.ring, first, &plan.staged) {
-            Ok(octets) => octets,
-            Err(stop) => return Err(stop),
-        };
-        self.write(site, staged.as_slice(), octets.as_slice(), &content, &heads)
+        let (pages, octets) = (staged.pages.as_slice(), staged.contents.as_slice());
+        self.write(site, pages, octets, &content, &heads)
     }
 
     // Stages pages, and then appends a group; its heads are these.

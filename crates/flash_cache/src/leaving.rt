@@ -1,5 +1,5 @@
 // What leaves the queue with its front group and goes to the disk.
-ghost use Rattle.std.specs.Prelude.{◌≡◌, ◌≢◌, ◌⊎◌, ◌+◌, ◌<◌, ◌≤◌, length, map, slice_index_or, IsTrue, IfOk, OnErr, IfErr, IsErrOf};
+ghost use Rattle.std.specs.Prelude.{◌≡◌, ◌≢◌, ◌⊎◌, ◌+◌, ◌<◌, ◌≤◌, ◌++◌, length, map, IsTrue, IfOk, OnErr, IfErr, IsErrOf};
 ghost use Rattle.std.specs.List.{All};
 ghost use Rattle.site.specs.declared.outside.Dev.{Dev};
 ghost use Rattle.site.specs.declared.outside.Stop.{Stop};
@@ -9,13 +9,13 @@ ghost use Rattle.site.specs.Faults.{WorkFaults};
 ghost use Rattle.sealed_ring.specs.Ring.{IsLive, unit_at};
 ghost use Rattle.sealed_ring.specs.Ready.{units_in, IsUsable, Fits as RingFits};
 ghost use Rattle.second_chance.specs.Queue.{front_marks};
-ghost use Rattle.flash_cache.specs.Leaving.{no_mark, page_at};
+ghost use Rattle.flash_cache.specs.Leaving.{mark_at, page_at, AreAt};
 
 use byte_fields::Mark;
 use flash_directory::Directory;
 use frame_group::{HEADS_LEN, PAGE_LEN};
 use sealed_ring::Ring;
-use second_chance::Places;
+use second_chance::{Places, Plan};
 use site::{Dev, Site, Stop};
 use slotted_page::Page;
 use std::alloc::Global;
@@ -27,28 +27,140 @@ const NO_MARK: Mark = Mark {
     referenced: false,
 };
 
-/// The pages of the front group's frames at these places. The one error is want of memory.
-pub fn pages_at(alloc: Global, directory: &Directory, places: &Places) -> Result<Vec<u32>, Stop>
+/// Frames of the front group.
+#[derive(Drop)]
+pub struct FrontFrames {
+    /// The page of each.
+    pub pages: Vec<u32>,
+    /// Whether each is dirty.
+    pub dirty: Vec<bool>,
+    /// What each has.
+    pub contents: Vec<Page>,
+}
+
+/// The frames of the front group that a plan stages, and those that it gives a second chance, each by one read of one page.
+pub fn frames_leaving<S: Site>(
+    alloc: Global,
+    site: &mut S,
+    directory: &Directory,
+    ring: &Ring,
+    plan: &Plan,
+) -> Result<(FrontFrames, FrontFrames), Stop>
+    requires usable { IsUsable ring.now (S.state site.old) }
+    requires device { ring.now.shape.dev ≡ Dev.Flash }
+    requires room { ring.now.shape.room ≡ 32896 }
+    requires live { 0 < length directory.now.groups → IsLive ring.now.shape ring.now.hi directory.now.first }
+    requires few { length (front_marks directory.now.groups) ≤ 8 }
+    requires staged { All (λ place. place < length (front_marks directory.now.groups)) plan.now.staged }
+    requires chances { All (λ place. place < length (front_marks directory.now.groups)) plan.now.chances }
+
+    ensures staged { IfOk result (λ both. AreAt directory.now.groups plan.now.staged both.0) }
+    ensures chances { IfOk result (λ both. AreAt directory.now.groups plan.now.chances both.1) }
+    ensures staged_contents { IsTrue (S.state site.old).honest → RingFits ring.now (S.state site.old)
+        → IfOk result (λ both. both.0.contents.items ≡ map (page_at (unit_at ring.now.shape
+        (units_in ring.now.shape (S.state site.old)) directory.now.first)) plan.now.staged) }
+    ensures chances_contents { IsTrue (S.state site.old).honest → RingFits ring.now (S.state site.old)
+        → IfOk result (λ both. both.1.contents.items ≡ map (page_at (unit_at ring.now.shape
+        (units_in ring.now.shape (S.state site.old)) directory.now.first)) plan.now.chances) }
+    ensures same { IsTrue (S.state site.old).honest
+        → IsUnchanged (S.state site.old) (S.state site.new) }
+    ensures goes { Goes (S.state site.old) (S.state site.new) }
+    ensures faults { WorkFaults result (S.state site.old) (S.state site.new) }
+    ensures reads { (S.state site.new).flash_reads
+        ≤ (S.state site.old).flash_reads + length plan.now.staged + length plan.now.chances }
+    ensures others { (d : Dev) → d ≢ Dev.Flash
+        → reads_of d (S.state site.new) ≡ reads_of d (S.state site.old) }
+
+    // When each answer comes.
+    ensures device { IsErrOf result (Stop.Device Dev.Flash)
+        → FaultRose Dev.Flash (S.state site.old) (S.state site.new) }
+    ensures stops { IfErr result (λ stop. (stop ≡ Stop.Device Dev.Flash) ⊎ (stop ≡ Stop.Memory)) }
+{
+    let staged = match frames_at(alloc, site, directory, ring, &plan.staged) {
+        Ok(frames) => frames,
+        Err(stop) => return Err(stop),
+    };
+    match frames_at(alloc, site, directory, ring, &plan.chances) {
+        Ok(chances) => Ok((staged, chances)),
+        Err(stop) => Err(stop),
+    }
+}
+
+// The frames of the front group at these places, each by one read of one page.
+fn frames_at<S: Site>(
+    alloc: Global,
+    site: &mut S,
+    directory: &Directory,
+    ring: &Ring,
+    places: &Places,
+) -> Result<FrontFrames, Stop>
+    requires usable { IsUsable ring.now (S.state site.old) }
+    requires device { ring.now.shape.dev ≡ Dev.Flash }
+    requires room { ring.now.shape.room ≡ 32896 }
+    requires live { 0 < length directory.now.groups → IsLive ring.now.shape ring.now.hi directory.now.first }
+    requires few { length (front_marks directory.now.groups) ≤ 8 }
+    requires places { All (λ place. place < length (front_marks directory.now.groups)) places.now }
+
+    ensures are { IfOk result (λ frames. AreAt directory.now.groups places.now frames) }
+    ensures contents { IsTrue (S.state site.old).honest → RingFits ring.now (S.state site.old)
+        → IfOk result (λ frames. frames.contents.items ≡ map (page_at (unit_at ring.now.shape
+        (units_in ring.now.shape (S.state site.old)) directory.now.first)) places.now) }
+    ensures same { IsTrue (S.state site.old).honest
+        → IsUnchanged (S.state site.old) (S.state site.new) }
+    ensures goes { Goes (S.state site.old) (S.state site.new) }
+    ensures faults { WorkFaults result (S.state site.old) (S.state site.new) }
+    ensures reads { (S.state site.new).flash_reads
+        ≤ (S.state site.old).flash_reads + length places.now }
+    ensures others { (d : Dev) → d ≢ Dev.Flash
+        → reads_of d (S.state site.new) ≡ reads_of d (S.state site.old) }
+
+    // When each answer comes.
+    ensures device { IsErrOf result (Stop.Device Dev.Flash)
+        → FaultRose Dev.Flash (S.state site.old) (S.state site.new) }
+    ensures stops { IfErr result (λ stop. (stop ≡ Stop.Device Dev.Flash) ⊎ (stop ≡ Stop.Memory)) }
+{
+    let (pages, dirty) = pages_at(alloc, directory, places)?;
+    match contents_at(alloc, site, ring, directory.first(), places) {
+        Ok(contents) => Ok(FrontFrames {
+            pages,
+            dirty,
+            contents,
+        }),
+        Err(stop) => Err(stop),
+    }
+}
+
+// The pages of the front group's frames at these places, and whether each frame is dirty. The one error is want of memory.
+fn pages_at(
+    alloc: Global,
+    directory: &Directory,
+    places: &Places,
+) -> Result<(Vec<u32>, Vec<bool>), Stop>
     requires { All (λ place. place < length (front_marks directory.now.groups)) places.now }
 
-    ensures pages { IfOk result (λ list. list.items
-        ≡ map (λ place. (slice_index_or (front_marks directory.now.groups) place no_mark).page) places.now) }
+    ensures pages { IfOk result (λ both. both.0.items
+        ≡ map (λ place. (mark_at directory.now.groups place).page) places.now) }
+    ensures dirty { IfOk result (λ both. both.1.items
+        ≡ map (λ place. (mark_at directory.now.groups place).dirty) places.now) }
     ensures stops { IfErr result (λ stop. stop ≡ Stop.Memory) }
 {
     let mut pages = Vec::new(alloc);
+    let mut dirty = Vec::new(alloc);
     if places.is_empty() {
-        return Ok(pages);
+        return Ok((pages, dirty));
     }
     let mut marks = [NO_MARK; 8];
     directory.marks(0, &mut marks);
     for index in 0..places.len() {
-        pages.push(marks[places.at(index) as usize].page)?;
+        let mark = &marks[places.at(index) as usize];
+        pages.push(mark.page)?;
+        dirty.push(mark.dirty)?;
     }
-    Ok(pages)
+    Ok((pages, dirty))
 }
 
-/// What the frames of a live group have at these places, each by one read of one page.
-pub fn contents_at<S: Site>(
+// What the frames of a live group have at these places, each by one read of one page.
+fn contents_at<S: Site>(
     alloc: Global,
     site: &mut S,
     ring: &Ring,

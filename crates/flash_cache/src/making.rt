@@ -1,32 +1,71 @@
 // The content of a group.
-ghost use Rattle.std.specs.Prelude.{◌≡◌, ◌≤◌, length};
+ghost use Rattle.std.specs.Prelude.{◌≡◌, ◌+◌, ◌≤◌, ◌++◌, List, length};
 ghost use Rattle.std.specs.List.{AllByRecursion};
-ghost use Rattle.frame_group.specs.Groups.{IsFrame, group};
+ghost use Rattle.frame_group.specs.Groups.{Frame, IsFrame, heads_of, group};
 ghost use Rattle.flash_cache.specs.Pushed.{frames_given};
+ghost use Rattle.flash_cache.specs.Leaving.{frames_with, again};
 
+use crate::leaving::FrontFrames;
 use byte_fields::FrameHead;
 use frame_group::{GROUP_LEN, put_frame};
 use slotted_page::Page;
 
-/// The content of a group with the frames given, at most eight.
-pub fn group_content(pages: &[u32], changed: &[bool], contents: &[Page]) -> [u8; GROUP_LEN]
+/// The eight heads of a group with the frames given, of which there are at most eight.
+pub fn heads_given(pages: &[u32], changed: &[bool], contents: &[Page]) -> [FrameHead; 8]
     requires marks { length changed.now ≡ length pages.now }
     requires lists { length contents.now ≡ length pages.now }
     requires few { length pages.now ≤ 8 }
 
-    ensures content { result ≡ group (frames_given pages.now changed.now contents.now) }
+    ensures heads { result ≡ heads_of (frames_given pages.now changed.now contents.now) }
     ensures are_frames { AllByRecursion IsFrame (frames_given pages.now changed.now contents.now) }
 {
-    let mut content = [0u8; GROUP_LEN];
+    let mut heads = [FrameHead::BLANK; 8];
     for index in 0..pages.len() {
         let page = &contents[index];
-        let head = FrameHead {
+        // A page is as long as a frame's.
+        let _octets = page.bytes();
+        heads[index] = FrameHead {
             present: true,
             dirty: changed[index],
             page: pages[index],
             lsn: page.lsn(),
         };
-        put_frame(&mut content, index, &head, page.bytes());
     }
+    heads
+}
+
+/// The content of a group with the second chances, and behind them the frames that these heads and contents make.
+pub fn group_content(
+    chances: &FrontFrames,
+    heads: &[FrameHead; 8],
+    contents: &[Page],
+) -> [u8; GROUP_LEN]
+    requires marks { length chances.now.dirty.items ≡ length chances.now.pages.items }
+    requires lists { length chances.now.contents.items ≡ length chances.now.pages.items }
+    requires few { length chances.now.pages.items + length contents.now ≤ 8 }
+    requires heads { heads.now ≡ heads_of (frames_with heads.now contents.now) }
+
+    ensures content { result ≡ group (again chances.now ++ frames_with heads.now contents.now) }
+    ensures are_frames { AllByRecursion IsFrame (again chances.now ++ frames_with heads.now contents.now) }
+{
+    let octets = chances.contents.as_slice();
+    let first = heads_given(chances.pages.as_slice(), chances.dirty.as_slice(), octets);
+    let mut content = [0u8; GROUP_LEN];
+    put_frames(&mut content, 0, &first, octets);
+    put_frames(&mut content, octets.len(), heads, contents);
     content
+}
+
+/// Puts the frames that these heads and contents make behind the first ones of a group.
+fn put_frames(content: &mut [u8; GROUP_LEN], from: usize, heads: &[FrameHead; 8], contents: &[Page])
+    requires few { from + length contents.now ≤ 8 }
+    requires heads { heads.now ≡ heads_of (frames_with heads.now contents.now) }
+
+    ensures grown { (before : List Frame) → length before ≡ from → content.old ≡ group before
+        → content.new ≡ group (before ++ frames_with heads.now contents.now) }
+    ensures are_frames { AllByRecursion IsFrame (frames_with heads.now contents.now) }
+{
+    for (index, page) in contents.iter().enumerate() {
+        put_frame(content, from + index, &heads[index], page.bytes());
+    }
 }

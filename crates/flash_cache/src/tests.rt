@@ -155,7 +155,7 @@ fn filled(octet: u8) -> Page {
     Page::from_bytes(&[octet; 4096])
 }
 
-// Pushes these pages with the plan for the front group.
+// Pushes these pages with the plan for the front group, where the new group has room for them beside its second chances.
 fn push(
     cache: &mut FlashCache,
     site: &mut MemSite,
@@ -167,7 +167,6 @@ fn push(
     requires marks { length changed.now ≡ length pages.now }
     requires lists { length contents.now ≡ length pages.now }
     requires some { 1 ≤ length pages.now }
-    requires few { length pages.now ≤ 8 }
     requires exist { All (λ page. page < cache.old.geometry.pages) pages.now }
     requires apart { AllPairs (λ a b. a ≢ b) pages.now }
 
@@ -179,6 +178,9 @@ fn push(
         Some(count) => plan_evict(Some(&marks[..count]), &[]),
         None => plan_evict(None, &[]),
     };
+    if plan.chances.len() + pages.len() > 8 {
+        return Err(Stop::Memory);
+    }
     cache.push_group(site, &plan, pages, changed, contents)
 }
 

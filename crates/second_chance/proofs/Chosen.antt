@@ -1,6 +1,6 @@
 -- What the loops of a plan have chosen so far.
 use Rattle.std.proofs.Common.{◌≡◌, ℕ, ◌+◌, ◌<◌, ◌≤◌, ◌==◌, Bool, true, false, not, ◌&&◌, ◌||◌, cond, List, [], ◌∷◌, ◌++◌, length, get_or, take, drop, map, filter, take-append-drop, append-nil, arith, refl, sym, ap, ◌∙◌}
-use Rattle.std.specs.List.{enumerate_from, list_any}
+use Rattle.std.specs.List.{enumerate_from}
 use Rattle.std.proofs.lemmas.List.{map-append, take_all, take-append-le, length-map}
 use Rattle.std.proofs.lemmas.List.Elements.{filter_more, filter-append, filter_agree}
 use Rattle.std.proofs.lemmas.List.FromFn.{length-enumerate_from, get_or-enumerate_from}

@@ -3,3 +3,4 @@ pub mod Planned
 mod Pushes
 pub mod Flushes
 pub mod Apart
+pub mod Chances

@@ -8,7 +8,7 @@ use Rattle.std.proofs.lemmas.List.{length-map}
 use Rattle.byte_fields.specs.declared.frame_head.Mark.{Mark}
 use Rattle.second_chance.specs.declared.plan.PoolMark.{PoolMark}
 use Rattle.second_chance.specs.declared.plan.Plan.{Plan}
-use Rattle.second_chance.specs.Plans.{Placed, chances_of, staged_of, pulled_at_eviction, pulled_at_flush, planned, eviction_plan, flush_plan}
+use Rattle.second_chance.specs.Plans.{chances_of, staged_of, eviction_plan, flush_plan}
 use Rattle.second_chance.proofs.Chosen.{place, is_staged, staged_are}
 
 -- the marks of a front group that may be missing

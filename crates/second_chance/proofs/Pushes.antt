@@ -17,7 +17,7 @@ use Rattle.second_chance.specs.Laws.{names, given_again, staged_from, AreApart, 
 abbrev pub StandIn : List Mark → List Placed → Type 0
 StandIn front frames = AllByRecursion (λ f. slice_get front f.0 ≡ Some f.1) frames
 
-all_filter : {X : Type 0} (P : X → Type 0) (test : X → Bool) (xs : List X) → AllByRecursion P xs → AllByRecursion P (filter test xs)
+pub all_filter : {X : Type 0} (P : X → Type 0) (test : X → Bool) (xs : List X) → AllByRecursion P xs → AllByRecursion P (filter test xs)
 all_filter P test [] all = tt
 all_filter P test (x ∷ xs) all = by (test x) (all_filter P test xs all.1)
   where
@@ -25,7 +25,7 @@ all_filter P test (x ∷ xs) all = by (test x) (all_filter P test xs all.1)
     by true rest = (all.0, rest)
     by false rest = rest
 
-all_take : {X : Type 0} (P : X → Type 0) (n : ℕ) (xs : List X) → AllByRecursion P xs → AllByRecursion P (take n xs)
+pub all_take : {X : Type 0} (P : X → Type 0) (n : ℕ) (xs : List X) → AllByRecursion P xs → AllByRecursion P (take n xs)
 all_take P zero xs all = tt
 all_take P (suc n) [] all = tt
 all_take P (suc n) (x ∷ xs) all = (all.0, all_take P n xs all.1)
@@ -66,7 +66,7 @@ numbered before (mark ∷ front) n is = (
 numbered_stand : (front : List Mark) → StandIn front (enumerate_from 0 front)
 numbered_stand front = numbered [] front 0 refl
 
-chances_stand : (given : Bool) (front : List Mark) → StandIn front (chances_of given front)
+pub chances_stand : (given : Bool) (front : List Mark) → StandIn front (chances_of given front)
 chances_stand true front = all_take _ 7 _ (all_filter _ _ _ (numbered_stand front))
 chances_stand false front = tt
 

@@ -1,12 +1,12 @@
 -- What follows from the machine, for those who build on it.
-use Rattle.std.specs.Prelude.{◌≡◌, ◌≢◌, ℕ, ◌<◌, ◌==◌, Bool, true, false, List, [], ◌∷◌, ◌++◌, length, map, filter, filter_map, slice_get, Some, option_map, All, AllPairs}
+use Rattle.std.specs.Prelude.{◌≡◌, ◌≢◌, ℕ, ◌+◌, ◌<◌, ◌≤◌, ◌==◌, Bool, true, false, List, [], ◌∷◌, ◌++◌, length, map, filter, filter_map, slice_get, Some, option_map, All, AllPairs}
 use Rattle.std.specs.List.{list_any}
 use Rattle.byte_fields.specs.declared.frame_head.Mark.{Mark}
 use Rattle.record_model.specs.Touches.{flush}
 use Rattle.second_chance.specs.declared.frame.Frame.{Frame}
 use Rattle.second_chance.specs.declared.plan.Plan.{Plan}
 use Rattle.second_chance.specs.Queue.{pushed, frame_of, group_marks}
-use Rattle.second_chance.specs.Plans.{Placed, staged_of, eviction_plan, flush_plan}
+use Rattle.second_chance.specs.Plans.{Placed, chances_of, staged_of, eviction_plan, flush_plan}
 use Rattle.second_chance.specs.Machine.{Rules, PoolPage, Cache, is_changed, without, saved, pool_marks, is_full, leaving, push_evicted, push_changed, wants_flush, flushed, Staged, staged_in_push, staged_by}
 
 -- whether a page is among those that a plan names
@@ -80,6 +80,23 @@ FlushEnds = (rules : Rules) (cache : Cache) → wants_flush cache ≡ false → 
 
 abbrev pub FlushSavesAll : Type 0
 FlushSavesAll = (rules : Rules) (cache : Cache) → wants_flush (flushed rules cache) ≡ false
+
+-- a second chance stands at its place in the front group, where it is valid and referenced
+pub record IsChanceIn (front : List Mark) (frame : Placed) : Type 0 where
+  pub stands : slice_get front frame.0 ≡ Some frame.1
+  pub valid : frame.1.valid ≡ true
+  pub referenced : frame.1.referenced ≡ true
+
+abbrev pub ChancesStand : Type 0
+ChancesStand = (given : Bool) (front : List Mark) → All (IsChanceIn front) (chances_of given front)
+
+-- A group has at most seven second chances.
+abbrev pub ChancesFew : Type 0
+ChancesFew = (given : Bool) (front : List Mark) → length (chances_of given front) ≤ 7
+
+-- No frame is both staged and a second chance.
+abbrev pub ChancesAreNotStaged : Type 0
+ChancesAreNotStaged = (given : Bool) (front : List Mark) → length (staged_of given front) + length (chances_of given front) ≤ length front
 
 -- a staged frame stands at its place in the front group, where it is valid and dirty
 pub record IsStagedIn (front : List Mark) (frame : Placed) : Type 0 where

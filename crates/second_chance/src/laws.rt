@@ -1,5 +1,5 @@
 // Facts about the machine. The functions do nothing: each states its laws as clauses.
-ghost use Rattle.second_chance.specs.Laws.{EvictionIsPlanned, FlushIsPlanned, StagedIsPlanned, PushSavesAPage, FlushGoesOn, FlushEnds, FlushSavesAll, StagedStand, StagedApart};
+ghost use Rattle.second_chance.specs.Laws.{EvictionIsPlanned, FlushIsPlanned, StagedIsPlanned, PushSavesAPage, FlushGoesOn, FlushEnds, FlushSavesAll, ChancesStand, ChancesFew, ChancesAreNotStaged, StagedStand, StagedApart};
 
 /// To do what a plan says is the push of the machine: its new group, the pages that leave the pool or are saved, and the
 /// frames that are staged.
@@ -21,4 +21,12 @@ pub fn flushes_save_all()
 pub fn staged_frames_are_apart()
     ensures stand { StagedStand }
     ensures apart { StagedApart }
+{}
+
+/// Each second chance stands in the front group, valid and referenced; there are at most seven; and none of them is staged: with
+/// the staged frames they are no more than the front group has.
+pub fn second_chances_stand()
+    ensures stand { ChancesStand }
+    ensures few { ChancesFew }
+    ensures not_staged { ChancesAreNotStaged }
 {}

@@ -1,7 +1,9 @@
-use Rattle.std.proofs.Common.{◌≡◌, map, take, slice_index_or}
-use Rattle.second_chance.specs.Queue.{front_marks}
-use Rattle.flash_cache.specs.Leaving.{no_mark}
+use Rattle.std.proofs.Common.{◌≡◌, map, take}
+use Rattle.flash_cache.specs.Leaving.{mark_at}
 use Rattle.flash_cache.proofs.leaving.pages_at.Given as goal
 
 abbrev pub invariant-loop-index : goal.invariant-loop-index
-invariant-loop-index l = l.pages.items ≡ map (λ place. (slice_index_or (front_marks l.fn.directory.groups) place no_mark).page) (take l.index l.places)
+invariant-loop-index l = record {
+  pages : l.pages.items ≡ map (λ place. (mark_at l.fn.directory.groups place).page) (take l.index l.places);
+  dirty : l.dirty.items ≡ map (λ place. (mark_at l.fn.directory.groups place).dirty) (take l.index l.places);
+}

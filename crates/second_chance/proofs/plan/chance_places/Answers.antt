@@ -1,4 +1,4 @@
-use Rattle.std.proofs.Common.{[], ◌∷◌, ◌++◌, length, length-append, map, arith, sym, subst, ap, ◌∙◌, ◌≡◌, ◌≤◌}
+use Rattle.std.proofs.Common.{[], ◌∷◌, ◌++◌, length, length-append, map, arith, sym, subst, ap, ◌∙◌, ◌≤◌}
 use Rattle.second_chance.specs.Plans.{chances_of}
 use Rattle.second_chance.proofs.Chosen.{is_chance, place, placed_then, placed_else, chances_enough, chances_all}
 use Rattle.second_chance.proofs.plan.chance_places.Goals as goal

@@ -1,0 +1,85 @@
+-- The second chances: each at its place, at most seven, and none of them staged.
+use Rattle.std.proofs.Common.{◌≡◌, ℕ, zero, suc, ◌+◌, ◌≤◌, ◌==◌, Bool, true, false, not, ◌&&◌, ◌||◌, cond, List, [], ◌∷◌, length, take, filter, slice_get, Some, arith, refl, ap}
+use Rattle.std.specs.List.{enumerate_from, AllByRecursion}
+use Rattle.std.proofs.lemmas.Bool.{and_parts, eq-eqb}
+use Rattle.std.proofs.lemmas.List.{length-take}
+use Rattle.std.proofs.lemmas.List.Elements.{All-from_recursion}
+use Rattle.std.proofs.lemmas.List.FromFn.{length-enumerate_from}
+use Rattle.byte_fields.specs.declared.frame_head.Mark.{Mark}
+use Rattle.second_chance.specs.Plans.{Placed, chances_of, is_among}
+use Rattle.second_chance.specs.Laws.{IsChanceIn, ChancesStand, ChancesFew, ChancesAreNotStaged}
+use Rattle.second_chance.proofs.Pushes.{chances_stand, all_take, all_pass, all_both}
+
+-- whether a frame is wanted
+abbrev wanted : Placed → Bool
+wanted f = f.1.valid && f.1.referenced
+
+chances_pass : (given : Bool) (front : List Mark) → AllByRecursion (λ f. wanted f ≡ true) (chances_of given front)
+chances_pass true front = all_take (λ f. wanted f ≡ true) 7 _ (all_pass wanted (enumerate_from 0 front))
+chances_pass false front = tt
+
+pub chances_stand_in : ChancesStand
+chances_stand_in given front = All-from_recursion (IsChanceIn front) (chances_of given front)
+    (all_both (λ f. slice_get front f.0 ≡ Some f.1) (λ f. wanted f ≡ true) (IsChanceIn front)
+    (λ f stands passes. let parts = and_parts f.1.valid f.1.referenced passes in record { stands = stands; valid = parts.0; referenced = parts.1 })
+    (chances_of given front) (chances_stand given front) (chances_pass given front))
+
+pub chances_few : ChancesFew
+chances_few true front = let long = length-take 7 (filter wanted (enumerate_from 0 front)) in omega (arith, long)
+chances_few false front = omega arith
+
+-- Of the frames that pass one test no more are taken than pass another one that all taken ones pass.
+taken_few : (test other : Placed → Bool) (n : ℕ) (xs : List Placed) → AllByRecursion (λ f. other f ≡ true) (take n (filter test xs)) → length (take n (filter test xs)) ≤ length (filter other xs)
+taken_few test other n [] all = let long = length-take n (filter test []) in omega (arith, long)
+taken_few test other n (x ∷ xs) all = by (test x) (other x) refl n all (λ m rest. taken_few test other m xs rest)
+  where
+    more : (b : Bool) (m : ℕ) → m ≤ length (filter other xs) → m ≤ length (cond b (x ∷ filter other xs) (filter other xs))
+    more true m le = omega (arith, le)
+    more false m le = le
+
+    by : (b c : Bool) → other x ≡ c → (n : ℕ) → AllByRecursion (λ f. other f ≡ true) (take n (cond b (x ∷ filter test xs) (filter test xs)))
+        → ((m : ℕ) → AllByRecursion (λ f. other f ≡ true) (take m (filter test xs)) → length (take m (filter test xs)) ≤ length (filter other xs))
+        → length (take n (cond b (x ∷ filter test xs) (filter test xs))) ≤ length (cond c (x ∷ filter other xs) (filter other xs))
+    by true c is zero all rest = omega arith
+    by true true is (suc n) all rest = let le = rest n all.1 in omega (arith, le)
+    by true false is (suc n) all rest = absurd (let t = all.0 in cc)
+    by false c is n all rest = more c _ (rest n all)
+
+-- each frame of a list is among them
+among_more : (x : Placed) (xs ys : List Placed) → AllByRecursion (λ f. is_among xs f.0 ≡ true) ys → AllByRecursion (λ f. is_among (x ∷ xs) f.0 ≡ true) ys
+among_more x xs [] all = tt
+among_more x xs (y ∷ ys) all = (or_true (x.0 == y.0) all.0, among_more x xs ys all.1)
+  where
+    or_true : {b : Bool} (a : Bool) → b ≡ true → (a || b) ≡ true
+    or_true true is = refl
+    or_true false is = is
+
+own_among : (xs : List Placed) → AllByRecursion (λ f. is_among xs f.0 ≡ true) xs
+own_among [] = tt
+own_among (x ∷ xs) = (ap (λ b. b || is_among xs x.0) (eq-eqb x.0 x.0 refl), among_more x xs xs (own_among xs))
+
+-- of a list no more pass one test and fail another, and pass the other, than there are
+parted : (test other : Placed → Bool) (xs : List Placed) → length (filter (λ f. test f && not (other f)) xs) + length (filter other xs) ≤ length xs
+parted test other [] = omega arith
+parted test other (x ∷ xs) = by (test x) (other x) (parted test other xs)
+  where
+    failing : List Placed
+    failing = filter (λ f. test f && not (other f)) xs
+
+    by : (a b : Bool) → length failing + length (filter other xs) ≤ length xs
+        → length (cond (a && not b) (x ∷ failing) failing) + length (cond b (x ∷ filter other xs) (filter other xs)) ≤ suc (length xs)
+    by true true rest = omega (arith, rest)
+    by true false rest = omega (arith, rest)
+    by false true rest = omega (arith, rest)
+    by false false rest = omega (arith, rest)
+
+among_few : (given : Bool) (front : List Mark) → length (chances_of given front) ≤ length (filter (λ f. is_among (chances_of given front) f.0) (enumerate_from 0 front))
+among_few true front = taken_few wanted (λ f. is_among (chances_of true front) f.0) 7 (enumerate_from 0 front) (own_among (chances_of true front))
+among_few false front = omega arith
+
+pub chances_are_not_staged : ChancesAreNotStaged
+chances_are_not_staged given front =
+    let both = parted (λ f. f.1.valid && f.1.dirty) (λ f. is_among (chances_of given front) f.0) (enumerate_from 0 front) in
+    let few = among_few given front in
+    let all = length-enumerate_from 0 front in
+    omega (arith, both, few, all)
