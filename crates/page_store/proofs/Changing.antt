@@ -1,15 +1,21 @@
 -- Lists of changes, call by call.
-use Rattle.std.proofs.Common.{◌≡◌, ℕ, zero, suc, ◌+◌, ◌*◌, ◌<◌, ◌≤◌, Bool, true, false, not, ◌&&◌, cond, List, [], ◌∷◌, ◌++◌, length, map, refl, sym, ap, ◌∙◌, arith, append_assoc, append-nil}
+use Rattle.std.proofs.Common.{◌≡◌, ℕ, zero, suc, ◌+◌, ◌*◌, ◌<◌, ◌≤◌, ◌==◌, Bool, true, false, not, ◌&&◌, cond, List, [], ◌∷◌, ◌++◌, length, get_or, map, Option, Some, None, subst, refl, sym, ap, ◌∙◌, arith, append_assoc, append-nil}
 use Rattle.std.specs.List.{AllByRecursion}
+use Rattle.std.proofs.lemmas.Option.{none-some}
+use Rattle.std.proofs.lemmas.Bool.{eqb-true, eqb-false}
+use Rattle.page_store.specs.Held.{content_by}
+use Rattle.page_store.specs.Leaves.{Gives}
 use Rattle.std.proofs.lemmas.List.{length-map}
 use Rattle.site.specs.declared.geometry.Geometry.{Geometry}
-use Rattle.site.specs.State.{State}
+use Rattle.site.specs.State.{State, Image}
 use Rattle.site.specs.Laws.{leaves_weaker}
 use Rattle.image_changes.specs.Changes.{Change}
 use Rattle.image_changes.specs.Reached.{IsReached, IsFrontOf, LeavesFront}
 use Rattle.frame_group.specs.Groups.{Frame as Stored, group}
-use Rattle.flash_cache.specs.Pushed.{staged_pages, frames_given, pushed_queue, changes_of_push}
+use Rattle.flash_cache.specs.Pushed.{staged_pages, chance_marks, chance_given, frames_given, pushed_queue, changes_of_push}
+use Rattle.flash_cache.specs.Held.{version_on}
 use Rattle.buffer_pool.specs.declared.frame.Frame.{Frame}
+use Rattle.buffer_pool.specs.Frames.{frame_of}
 use Rattle.log_store.specs.declared.store.LogStore.{LogStore}
 use Rattle.log_store.specs.LogList.{LogList, sealed_if, changes_if}
 use Rattle.page_store.specs.declared.store.PageStore.{PageStore}
@@ -18,7 +24,7 @@ use Rattle.page_store.specs.Ahead.{forces}
 use Rattle.page_store.specs.Flushing.{saved_next, cleared_all, flushed_first}
 use Rattle.second_chance.specs.Queue.{frame_of as known_of}
 use Rattle.second_chance.specs.declared.frame.Frame.{Frame as Known}
-use Rattle.second_chance.specs.Machine.{wants_flush}
+use Rattle.second_chance.specs.Machine.{chance_frame, wants_flush}
 use Rattle.page_store.specs.Changing.{Standing, stored, push_changes, standing, given_changes, changes_if_any, eviction_changes, cache_at, next_saved, after_push, pushes_changes}
 use Rattle.page_store.specs.Pulling.{evicted_frames}
 
@@ -37,10 +43,11 @@ frames_given_are : (xs : List Frame) → frames_given (map (λ (f : Frame). f.pa
 frames_given_are [] = refl
 frames_given_are (x ∷ xs) = ap (λ (l : List Stored). stored x ∷ l) (frames_given_are xs)
 
-pub given_are : (log : LogStore) (list : LogList) (store : PageStore) (xs : List Frame)
-    → given_changes log list store (map (λ (f : Frame). f.page) xs) (map (λ (f : Frame). f.changed) xs) (map (λ (f : Frame). f.content) xs) ≡ push_changes (standing log list store) xs
-given_are log list store xs =
-    ap (λ (l : List Stored). changes_if (forces log (map (λ (f : Frame). f.content) xs)) list ++ changes_of_push (staged_pages store.flash) (group l)) (frames_given_are xs)
+pub given_are : (log : LogStore) (list : LogList) (store : PageStore) (image : Image) (xs : List Frame)
+    → given_changes log list store image (map (λ (f : Frame). f.page) xs) (map (λ (f : Frame). f.changed) xs) (map (λ (f : Frame). f.content) xs) ≡ push_changes (standing log list store image) xs
+given_are log list store image xs =
+    ap (λ (l : List Stored). changes_if (forces log (map (λ (f : Frame). f.content) xs)) list
+    ++ changes_of_push (staged_pages store.flash) (group (map (chance_given (version_on store.flash.geometry image)) (chance_marks store.flash) ++ l))) (frames_given_are xs)
 
 -- Pages that are given as changed, with what the pool has of them, are frames of the pool.
 frames_changed : (xs : List Frame) (changed : List Bool) → length changed ≡ length xs → AllByRecursion (λ (b : Bool). b ≡ true) changed → AllByRecursion (λ (f : Frame). f.changed ≡ true) xs
@@ -50,17 +57,57 @@ frames_changed (x ∷ xs) [] lists marks all = absurd (omega (arith, lists))
 frames_changed (x ∷ xs) (b ∷ bs) lists marks all =
     λ i. (let f : Stored = record { page = x.page; dirty = (marks.0 ∙ sym all.0) i; octets = x.content } in f) ∷ frames_changed xs bs (omega (arith, lists)) marks.1 all.1 i
 
-pub given_is : (log : LogStore) (list : LogList) (store : PageStore) (pages : List ℕ) (changed : List Bool) (contents : List (List ℕ)) (xs : List Frame) → pages ≡ map (λ (f : Frame). f.page) xs
+pub given_is : (log : LogStore) (list : LogList) (store : PageStore) (image : Image) (pages : List ℕ) (changed : List Bool) (contents : List (List ℕ)) (xs : List Frame) → pages ≡ map (λ (f : Frame). f.page) xs
     → contents ≡ map (λ (f : Frame). f.content) xs → length changed ≡ length pages → AllByRecursion (λ (b : Bool). b ≡ true) changed → AllByRecursion (λ (f : Frame). f.changed ≡ true) xs
-    → given_changes log list store pages changed contents ≡ push_changes (standing log list store) xs
-given_is log list store pages changed contents xs are have lists marks all =
-    (λ i. given_changes log list store (are i) changed (have i))
-    ∙ ap (λ (l : List Stored). changes_if (forces log (map (λ (f : Frame). f.content) xs)) list ++ changes_of_push (staged_pages store.flash) (group l))
+    → given_changes log list store image pages changed contents ≡ push_changes (standing log list store image) xs
+given_is log list store image pages changed contents xs are have lists marks all =
+    (λ i. given_changes log list store image (are i) changed (have i))
+    ∙ ap (λ (l : List Stored). changes_if (forces log (map (λ (f : Frame). f.content) xs)) list
+    ++ changes_of_push (staged_pages store.flash) (group (map (chance_given (version_on store.flash.geometry image)) (chance_marks store.flash) ++ l)))
     (frames_changed xs changed (let count = ap length are in omega (arith, lists, count, length-map xs (λ (f : Frame). f.page))) marks all)
 
 -- An eviction pushes some pages, or none.
-pub eviction_is : (log : LogStore) (list : LogList) (store : PageStore) (frames : List Frame) → evicted_frames store ≡ frames → eviction_changes log list store ≡ changes_if_any (standing log list store) frames
-eviction_is log list store frames is = ap (changes_if_any (standing log list store)) is
+pub eviction_is : (log : LogStore) (list : LogList) (store : PageStore) (image : Image) (frames : List Frame) → evicted_frames store ≡ frames
+    → eviction_changes log list store image ≡ changes_if_any (standing log list store image) frames
+eviction_is log list store image frames is = ap (changes_if_any (standing log list store image)) is
+
+-- What is pushed is the pages' versions then.
+
+abbrev pages_in : List Frame → List ℕ
+pages_in xs = map (λ (f : Frame). f.page) xs
+
+none_listed : (n : ℕ) (ys : List Frame) → frame_of ys n ≡ None → (k : ℕ) → k < length (pages_in ys) → get_or (pages_in ys) k n ≡ n → ⊥
+none_listed n [] none k less found = omega (arith, less)
+none_listed n (y ∷ ys) none k less found = at (y.page == n) refl none k less found (λ rest. none_listed n ys rest)
+  where
+    at : (b : Bool) → (y.page == n) ≡ b → cond b (Some y) (frame_of ys n) ≡ None → (k : ℕ) → k < length (pages_in (y ∷ ys)) → get_or (pages_in (y ∷ ys)) k n ≡ n
+        → (frame_of ys n ≡ None → (j : ℕ) → j < length (pages_in ys) → get_or (pages_in ys) j n ≡ n → ⊥) → ⊥
+    at true is none k less found rest = none-some y (sym none)
+    at false is none zero less found rest = eqb-false _ _ is found
+    at false is none (suc k) less found rest = rest none k (omega (arith, less)) found
+
+-- a page's frame stands at a place
+record StandsAt (n : ℕ) (ys : List Frame) (f : Frame) : Type 0 where
+  place : ℕ
+  within : place < length (pages_in ys)
+  page : get_or (pages_in ys) place 0 ≡ n
+  content : get_or (map (λ (x : Frame). x.content) ys) place [] ≡ f.content
+
+stands_at : (n : ℕ) (ys : List Frame) (f : Frame) → frame_of ys n ≡ Some f → StandsAt n ys f
+stands_at n [] f found = absurd (none-some f found)
+stands_at n (y ∷ ys) f found = at (y.page == n) refl found (stands_at n ys f)
+  where
+    at : (b : Bool) → (y.page == n) ≡ b → cond b (Some y) (frame_of ys n) ≡ Some f → (frame_of ys n ≡ Some f → StandsAt n ys f) → StandsAt n (y ∷ ys) f
+    at true is found rest = let same : y ≡ f = cc in record { place = 0; within = omega arith; page = eqb-true _ _ is; content = ap (λ (x : Frame). x.content) same }
+    at false is found rest = let there = rest found in record { place = suc there.place; within = (let less = there.within in omega (arith, less)); page = there.page; content = there.content }
+
+pub gives_versions : (g : Geometry) (xs : List Frame) (old new : Image) → Gives g (map (λ (f : Frame). f.page) xs) (map (λ (f : Frame). f.content) xs) old new
+    → (n : ℕ) → version_on g new n ≡ content_by (frame_of xs n) (version_on g old n)
+gives_versions g xs old new gives n = by (frame_of xs n) refl
+  where
+    by : (o : Option Frame) → frame_of xs n ≡ o → version_on g new n ≡ content_by o (version_on g old n)
+    by None none = gives.others n (λ there. none_listed n xs none there.0 there.1 there.2)
+    by (Some f) found = let there = stands_at n xs f found in subst (λ (page : ℕ). version_on g new page ≡ f.content) there.page (gives.given there.place there.within ∙ there.content)
 
 -- A flush, push by push.
 
@@ -78,15 +125,19 @@ tail_after true false false next next' is end = absurd (omega (arith, is, end))
 tail_after false true any next next' is end = absurd (omega (arith, is, end))
 tail_after false false any next next' is end = refl
 
-pub standing_after : (log log' : LogStore) (list list' : LogList) (store store' : PageStore) (any : Bool) → forces log (flushed_first store) ≡ (has_tail log && any)
+pub standing_after : (log log' : LogStore) (list list' : LogList) (store store' : PageStore) (image image' : Image) (any : Bool) → forces log (flushed_first store) ≡ (has_tail log && any)
     → log'.ring.hi ≡ cond (forces log (flushed_first store)) (log.ring.hi + 1) log.ring.hi → 512 * (log'.ring.hi + cond (has_tail log') 1 0) ≡ 512 * (log.ring.hi + cond (has_tail log) 1 0)
     → list' ≡ sealed_if (forces log (flushed_first store)) list → store'.flash.geometry ≡ store.flash.geometry
-    → store'.flash.directory ≡ pushed_queue store.flash (map (λ (f : Frame). known_of f.page true) (saved_next store))
-    → store'.pool.frames ≡ cleared_all (map (λ (f : Frame). f.page) (saved_next store)) store.pool.frames → standing log' list' store' ≡ after_push (standing log list store)
-standing_after log log' list list' store store' any is next end sealed geometry queue frames =
+    → store'.flash.directory ≡ pushed_queue store.flash (map chance_frame (chance_marks store.flash) ++ map (λ (f : Frame). known_of f.page true) (saved_next store))
+    → store'.pool.frames ≡ cleared_all (map (λ (f : Frame). f.page) (saved_next store)) store.pool.frames
+    → ((n : ℕ) → version_on store.flash.geometry image' n ≡ content_by (frame_of (saved_next store) n) (version_on store.flash.geometry image n))
+    → standing log' list' store' image' ≡ after_push (standing log list store image)
+standing_after log log' list list' store store' image image' any is next end sealed geometry queue frames versions =
     let tail : has_tail log' ≡ (has_tail log && not (forces log (flushed_first store))) =
     tail_after (has_tail log) (has_tail log') any log.ring.hi log'.ring.hi (next ∙ ap {B = ℕ} (λ (b : Bool). cond b (log.ring.hi + 1) log.ring.hi) is) end ∙ sym (ap (λ (b : Bool). has_tail log && not b) is) in
-    λ i. record { tail = tail i; next = next i; list = sealed i; groups = (geometry i).groups; queue = queue i; frames = frames i }
+    let same : version_on store'.flash.geometry image' ≡ (λ n. content_by (frame_of (saved_next store) n) (version_on store.flash.geometry image n)) =
+    ap (λ (g : Geometry). version_on g image') geometry ∙ (λ i n. versions n i) in
+    λ i. record { tail = tail i; next = next i; list = sealed i; groups = (geometry i).groups; queue = queue i; frames = frames i; versions = same i }
 
 -- What the pushes so far have made: the first of all changes, with those left that are still to come.
 pub record HasMade (all made : List Change) (s : Standing) (count : ℕ) : Type 0 where

@@ -7,7 +7,7 @@ use Rattle.std.proofs.lemmas.Bool.{cases_eq, eqb-false, eq-eqb}
 use Rattle.std.proofs.lemmas.List.{map-append, reverse-reverse}
 use Rattle.site.specs.State.{State, Image}
 use Rattle.flash_cache.specs.Held.{version_on}
-use Rattle.flash_cache.specs.Pushed.{known_given, pushed_queue}
+use Rattle.flash_cache.specs.Pushed.{chance_marks, known_given, known_pushed, pages_pushed, pushed_queue}
 use Rattle.flash_cache.specs.Kept.{AreCleanGiven}
 use Rattle.flash_cache.specs.Laws.{UnframedIsDisk}
 use Rattle.buffer_pool.specs.declared.frame.Frame.{Frame}
@@ -15,8 +15,8 @@ use Rattle.buffer_pool.specs.Frames.{State as Pool, AreDistinct, frame_of}
 use Rattle.buffer_pool.specs.Laws.{IsLast, WithoutTakesOne}
 use Rattle.second_chance.specs.declared.frame.Frame.{Frame as Known}
 use Rattle.second_chance.specs.Queue.{Queue, has_frame, frame_of as known_of}
-use Rattle.second_chance.specs.Plans.{group_size, chances_of, pulled_at_eviction}
-use Rattle.second_chance.specs.Machine.{Rules, PoolPage, Cache, leaving, pool_marks, pool_frame, must_be_pushed, evict_first, evict_coldest, after_eviction, push_evicted, without, is_pulled}
+use Rattle.second_chance.specs.Plans.{Placed, group_size, chances_of, pulled_at_eviction}
+use Rattle.second_chance.specs.Machine.{Rules, PoolPage, Cache, chance_frame, leaving, pool_marks, pool_frame, must_be_pushed, evict_first, evict_coldest, after_eviction, push_evicted, without, is_pulled}
 use Rattle.log_store.specs.declared.store.LogStore.{LogStore}
 use Rattle.log_store.specs.LogList.{LogList}
 use Rattle.page_store.specs.declared.store.PageStore.{PageStore}
@@ -30,6 +30,7 @@ use Rattle.page_store.proofs.Pools.{absent}
 use Rattle.page_store.proofs.Clearing.{is_among}
 use Rattle.page_store.proofs.Saving.{all_both, all_weaker, all_reverse, distinct_reverse, found_all}
 use Rattle.page_store.proofs.Removing.{store_part, page_of, frames_without, all_left, pulled_few, all_pulled, pulled_move, pulled_apart, pool_left}
+use Rattle.page_store.proofs.Choosing.{room_some}
 use Rattle.page_store.proofs.Movable.{pulled_of}
 use Rattle.std.specs.List.{All}
 use Rattle.std.proofs.lemmas.List.{length-map}
@@ -59,7 +60,7 @@ evicts_last r frames last queue =
 
 -- the machine behind the push of the coldest page and those that are pulled with it
 pub evicts_pushed : (store : PageStore) (rest : Pool) (last : Frame) (queue : Queue) → store.pool.frames ≡ rest.frames ++ last ∷ [] → must_be_pushed store.flash.directory (pool_page last) ≡ true
-    → queue ≡ pushed_queue store.flash (map (λ (f : Frame). known_of f.page f.changed) (last ∷ pulled (record store { pool = rest })))
+    → queue ≡ pushed_queue store.flash (map chance_frame (chance_marks store.flash) ++ map (λ (f : Frame). known_of f.page f.changed) (last ∷ pulled (record store { pool = rest })))
     → ◌≡◌ {A = Cache} (record { pool = map pool_page (without_all (map (λ (f : Frame). f.page) (pulled (record store { pool = rest }))) rest.frames); queue = queue }) (evict_coldest (rules store) (cache_of store))
 evicts_pushed store rest last queue is must after =
     let r : Rules = rules store in
@@ -70,10 +71,10 @@ evicts_pushed store rest last queue is must after =
     let marks : pulled_at_eviction r.pulls r.chances (leaving r before) (pool_marks small) ≡ map (mark_for before) gone =
     ap (pulled_at_eviction r.pulls r.chances (leaving r before)) (marks_turned before rest.frames) ∙ pulled_of r.pulls (group_size - 1 - length (chances_of r.chances (leaving r before))) before (reverse rest.frames) in
     (λ i. let c : Cache = record { pool = pool_left before gone rest.frames i; queue = after i } in c)
-    ∙ (λ i. let c : Cache = record { pool = without (is_pulled (sym marks i)) (map pool_page rest.frames); queue = pushed_queue store.flash (known_marks before (last ∷ gone) i) } in c)
+    ∙ (λ i. let c : Cache = record { pool = without (is_pulled (sym marks i)) (map pool_page rest.frames); queue = pushed_queue store.flash (map chance_frame (chance_marks store.flash) ++ known_marks before (last ∷ gone) i) } in c)
     ∙ (λ i. let c : Cache = record {
       pool = without (is_pulled (pulled_at_eviction r.pulls r.chances (leaving r before) (pool_marks small))) (map pool_page rest.frames);
-      queue = pushed_queue store.flash (pool_frame (mark_for before last) ∷ map pool_frame (sym marks i));
+      queue = pushed_queue store.flash (map chance_frame (chance_marks store.flash) ++ pool_frame (mark_for before last) ∷ map pool_frame (sym marks i));
     } in c)
     ∙ sym (ap (λ b. cond b (push_evicted r (pool_page last) small) small) must)
     ∙ sym (evicts_last r rest.frames last before)
@@ -351,19 +352,19 @@ with_parts P {a = a} {a' = a'} {b = b} {b' = b'} {c = c} first second third p =
 
 pub record Departs (store : PageStore) (pool : Pool) (pages : List ℕ) (changed : List Bool) (contents : List (List ℕ)) : Type 0 where
   pub some : 1 ≤ length pages
-  pub few : length pages ≤ 8
+  pub few : length (pages_pushed store.flash pages) ≤ 8
   pub marks : length changed ≡ length pages
   pub lists : length contents ≡ length pages
   pub exist : All (λ (page : ℕ). page < store.flash.geometry.pages) pages
   pub apart : AllPairs (λ (a b : ℕ). a ≢ b) pages
   pub forced : (log : LogStore) → forces log contents ≡ forces log (evicted store)
-  pub changes : (log : LogStore) (list : LogList) → given_changes log list store pages changed contents ≡ eviction_changes log list store
+  pub changes : (log : LogStore) (list : LogList) (image : Image) → given_changes log list store image pages changed contents ≡ eviction_changes log list store image
   pub own : (log : LogStore) (site : State) → Fits store site → AreItsOwn log store pages changed contents site.image
   pub ready : (log : LogStore) (list : LogList) (site : State) → AreReady store log list site → AreReady (record store { pool = pool }) log list site
   pub are_changed : AreChanged (record store { pool = pool }) pages
   pub current : (store' : PageStore) (old new : Image) → store'.pool ≡ pool → store'.flash.geometry ≡ store.flash.geometry → Gives store.flash.geometry pages contents old new → KeepsCurrent store old store' new
   pub logged : (end : ℕ) → AreLogged end store.pool.frames → AreLogged end pool.frames
-  pub machine : (queue : Queue) → queue ≡ pushed_queue store.flash (known_given pages changed) → ◌≡◌ {A = Cache} (record { pool = map pool_page pool.frames; queue = queue }) (evict_coldest (rules store) (cache_of store))
+  pub machine : (queue : Queue) → queue ≡ pushed_queue store.flash (known_pushed store.flash pages changed) → ◌≡◌ {A = Cache} (record { pool = map pool_page pool.frames; queue = queue }) (evict_coldest (rules store) (cache_of store))
 
 -- both may go on
 pub going_left : (log : LogStore) (store : PageStore) (rest : Pool) (last : Frame) (site : State) (pool : Pool) → store.pool.frames ≡ rest.frames ++ last ∷ [] → IsLast rest.frames last → rest.size ≡ store.pool.size
@@ -400,24 +401,26 @@ module _ (store : PageStore) (rest : Pool) (last : Frame) (is : store.pool.frame
       let found = gone_found store rest last is one rest_distinct in
       let move = gone_move store rest last is one rest_distinct must in
       let out = gone_without store rest last is one rest_distinct law in
-      let count : length xs ≤ 8 = omega (arith, pulled_few (rules store) store.flash.directory (reverse rest.frames)) in
+      let chances : List Placed = chance_marks store.flash in
+      let few = pulled_few (rules store) store.flash.directory (reverse rest.frames) in
+      let least = room_some (rules store) store.flash.directory in
       let evicted_are = some_evicted store rest last is one must in
       record {
         some = omega arith;
-        few = omega (arith, count, length-map xs page_of);
+        few = omega (arith, few, least, length-append (map (λ (f : Placed). f.1.page) chances) (map page_of xs), length-map chances (λ (f : Placed). f.1.page), length-map xs page_of);
         marks = omega (arith, length-map xs page_of, length-map xs (λ (f : Frame). f.changed));
         lists = omega (arith, length-map xs page_of, length-map xs (λ (f : Frame). f.content));
         exist = own_exist store xs found whole;
         apart = pages_apart xs (gone_apart store rest last is one rest_distinct);
         forced = λ log. ap (λ (l : List Frame). forces log (map (λ (f : Frame). f.content) l)) (sym evicted_are);
-        changes = λ log list. given_are log list store xs ∙ sym (eviction_is log list store xs evicted_are);
+        changes = λ log list image. given_are log list store image xs ∙ sym (eviction_is log list store image xs evicted_are);
         own = λ log site fits. own_push store xs found disk log site whole fits move;
         ready = λ log list site ready. without_ready store pool_then xs out log list site ready;
         are_changed = without_changed store pool_then xs out;
         current = λ store' old new pool geometry gives. without_current store pool_then xs out store' old new pool geometry (own_given store xs found old) gives;
         logged = λ end all. all_left (λ (f : Frame). IsLogged end f.content) (map page_of (pulled (record store { pool = rest }))) rest.frames
             (all_front (λ (f : Frame). IsLogged end f.content) rest.frames last (subst (AllByRecursion (λ (f : Frame). IsLogged end f.content)) is all));
-        machine = λ queue after. evicts_pushed store rest last queue is must (after ∙ ap (pushed_queue store.flash) (known_own xs));
+        machine = λ queue after. evicts_pushed store rest last queue is must (after ∙ ap (λ (l : List Known). pushed_queue store.flash (map chance_frame (chance_marks store.flash) ++ l)) (known_own xs));
       }
 
   pub departs : (pool : Pool) (taken : Taken) (pages : List ℕ) (changed : List Bool) (contents : List (List ℕ)) → pool ≡ pool_then → Has taken all_gone_now

@@ -8,13 +8,13 @@ use Rattle.std.proofs.lemmas.List.{get_or_default, reverse-append, map-append, l
 use Rattle.site.specs.declared.geometry.Geometry.{Geometry}
 use Rattle.site.specs.State.{State, Image}
 use Rattle.flash_cache.specs.Held.{version_on}
-use Rattle.flash_cache.specs.Pushed.{known_given}
+use Rattle.flash_cache.specs.Pushed.{chance_marks, known_given}
 use Rattle.buffer_pool.specs.declared.frame.Frame.{Frame}
 use Rattle.buffer_pool.specs.Frames.{State as Pool, frame_of}
 use Rattle.buffer_pool.specs.Laws.{ClearedKeepsFrames}
 use Rattle.second_chance.specs.declared.plan.PoolMark.{PoolMark}
 use Rattle.second_chance.specs.Queue.{Queue, pushed, frame_of as known_of}
-use Rattle.second_chance.specs.Machine.{Cache, pool_mark, pool_frame, is_pulled, saved, push_changed, is_full}
+use Rattle.second_chance.specs.Machine.{Cache, chance_frame, pool_mark, pool_frame, is_pulled, saved, push_changed, is_full}
 use Rattle.page_store.specs.declared.store.PageStore.{PageStore}
 use Rattle.page_store.specs.Held.{IsPage, IsStore, Fits, content_by, current}
 use Rattle.page_store.specs.Caching.{pool_page, cache_of, rules}
@@ -163,7 +163,7 @@ pulled_frames : (queue : Queue) (xs : List Frame) → AllByRecursion (λ (f : Fr
 pulled_frames queue [] all = refl
 pulled_frames queue (x ∷ xs) all = λ i. known_of x.page (all.0 i) ∷ pulled_frames queue xs all.1 i
 
-pub machine_saved : (store : PageStore) (queue : Queue) → queue ≡ pushed (is_full (rules store) store.flash.directory) (map (λ page. known_of page true) (map (λ (f : Frame). f.page) (saved_next store))) store.flash.directory
+pub machine_saved : (store : PageStore) (queue : Queue) → queue ≡ pushed (is_full (rules store) store.flash.directory) (map chance_frame (chance_marks store.flash) ++ map (λ page. known_of page true) (map (λ (f : Frame). f.page) (saved_next store))) store.flash.directory
     → ◌≡◌ {A = Cache} (record { pool = map pool_page (cleared_all (map (λ (f : Frame). f.page) (saved_next store)) store.pool.frames); queue = queue }) (push_changed (rules store) (cache_of store))
 machine_saved store queue is =
     let before = store.flash.directory in
@@ -175,8 +175,8 @@ machine_saved store queue is =
     let names : is_among pages ≡ is_pulled (map (mark_for before) first) = λ i n. sym (pulled_pages before first n) i in
     let full : Bool = is_full (rules store) before in
     (λ i. let k : Cache = record { pool = pages_saved pages frames i; queue = is i } in k)
-    ∙ (λ i. let k : Cache = record { pool = saved (names i) (map pool_page frames); queue = pushed full (sym (pulled_frames before first (chosen_changed room frames)) i) before } in k)
-    ∙ (λ i. let k : Cache = record { pool = saved (is_pulled (sym pulled i)) (map pool_page frames); queue = pushed full (map pool_frame (sym pulled i)) before } in k)
+    ∙ (λ i. let k : Cache = record { pool = saved (names i) (map pool_page frames); queue = pushed full (map chance_frame (chance_marks store.flash) ++ sym (pulled_frames before first (chosen_changed room frames)) i) before } in k)
+    ∙ (λ i. let k : Cache = record { pool = saved (is_pulled (sym pulled i)) (map pool_page frames); queue = pushed full (map chance_frame (chance_marks store.flash) ++ map pool_frame (sym pulled i)) before } in k)
 
 -- The pages of the pool are sound and exist still.
 pub pages_cleared : (most : ℕ) (ps : List ℕ) (frames : List Frame) → AllByRecursion (IsPage most) frames → AllByRecursion (IsPage most) (cleared_all ps frames)
@@ -193,7 +193,7 @@ marked pages = take (length pages) (replicate 8 true)
 pub record IsSaving (store : PageStore) (pages : List ℕ) (contents : List (List ℕ)) : Type 0 where
   pub own : (log : LogStore) (image : Image) → AreItsOwn log store pages (marked pages) contents image
   pub chosen_are : HasChosen store pages (marked pages) contents
-  pub changes : (log : LogStore) (list : LogList) → given_changes log list store pages (marked pages) contents ≡ push_changes (standing log list store) (saved_next store)
+  pub changes : (log : LogStore) (list : LogList) (image : Image) → given_changes log list store image pages (marked pages) contents ≡ push_changes (standing log list store image) (saved_next store)
   pub known : known_given pages (marked pages) ≡ map (λ (f : Frame). known_of f.page true) (saved_next store)
 
 pub is_saving : (store : PageStore) (pages : List ℕ) (contents : List (List ℕ)) → IsStore store → pages ≡ map (λ (f : Frame). f.page) (saved_next store) → contents ≡ map (content_in store.pool.frames) pages → IsSaving store pages contents
@@ -212,13 +212,13 @@ is_saving store pages contents is are have =
         logged = chosen_contents (IsLogged (end_forced log)) room frames pages contents is.pool.distinct are have;
       };
       chosen_are = facts;
-      changes = λ log list. given_is log list store pages (marked pages) contents first are facts.first lists (all_true (length pages)) (chosen_changed room frames);
+      changes = λ log list image. given_is log list store image pages (marked pages) contents first are facts.first lists (all_true (length pages)) (chosen_changed room frames);
       known = known_changed pages (marked pages) lists (all_true (length pages)) ∙ ap (map (λ page. known_of page true)) are ∙ known_pages first;
     }
 
 -- A flush, push by push: what its pushes so far leave, with the changes that are made and those still to come.
 pub record SoFar (all : List Change) (log0 log : LogStore) (first store : PageStore) (old now : State) (list : LogList) (b : Bool) : Type 0 where
   pub made : List Change
-  pub has : HasMade all made (standing log (sealed_if b list) store) (changed_count (cache_of store).pool)
+  pub has : HasMade all made (standing log (sealed_if b list) store now.image) (changed_count (cache_of store).pool)
   pub keeps : Keeps {T = Unit {0}} (Ok tt) log0 first old now list b made
   pub stands : Stands log0 log first store old now list b made

@@ -1,5 +1,5 @@
 -- A force of the log, and a push behind it.
-use Rattle.std.proofs.Common.{◌≡◌, ◌≢◌, ◌⊎◌, inl, inr, IsTrue, ℕ, zero, suc, ◌*◌, ◌<◌, ◌≤◌, Bool, true, false, List, [], ◌∷◌, ◌++◌, length, get_or, Some, arith, refl, sym, ap, subst, ◌∙◌, length-append, append-nil}
+use Rattle.std.proofs.Common.{◌≡◌, ◌≢◌, ◌⊎◌, inl, inr, IsTrue, ℕ, zero, suc, ◌*◌, ◌<◌, ◌≤◌, Bool, true, false, List, [], ◌∷◌, ◌++◌, length, get_or, map, Some, arith, refl, sym, ap, subst, ◌∙◌, length-append, append-nil}
 use Rattle.std.specs.Prelude.{Result, Ok, Err, OnOk, OnErr, IsErrOf, slice_index, Contains}
 use Rattle.std.specs.List.{AllByRecursion}
 use Rattle.std.proofs.lemmas.Bool.{cases_eq, true≢false}
@@ -17,7 +17,7 @@ use Rattle.image_changes.specs.Rings.{RingName, Blocks, Groups, log_shape, group
 use Rattle.image_changes.specs.Changes.{Change, Reaches, ring_of}
 use Rattle.image_changes.specs.Reached.{IsReached, IsFrontOf, LeavesFront}
 use Rattle.image_changes.specs.Laws.{RingKept}
-use Rattle.flash_cache.specs.Pushed.{changes_of_push, pushed_queue, pushed_groups, known_given, frames_given}
+use Rattle.flash_cache.specs.Pushed.{chance_marks, chance_given, changes_of_push, pushed_queue, pushed_groups, known_pushed, frames_given, frames_pushed}
 use Rattle.frame_group.specs.Groups.{Frame as Stored}
 use Rattle.frame_group.specs.Versions.{frames_of, version, CleanAsDisk}
 use Rattle.disk_pages.specs.Pages.{page_on}
@@ -221,7 +221,7 @@ module _ (cache : FlashCache) (groups : List (List Stored)) (pages : List ℕ) (
   queue_left : (s : Snapshot) → kept.LeavesVersions cache groups pages changed contents mid s → HasQueue g s.image
   queue_left s is = elim is.either [
     | inl keeps ↦ record { first = cache.directory.first; groups = groups; has = keeps.has }
-    | inr gives ↦ record { first = (pushed_queue cache (known_given pages changed)).first; groups = pushed_groups cache groups (frames_given pages changed contents); has = gives.has }
+    | inr gives ↦ record { first = (pushed_queue cache (known_pushed cache pages changed)).first; groups = pushed_groups cache groups (frames_pushed cache mid.image pages changed contents); has = gives.has }
   ]
 
   -- what one snapshot has, behind a front of the push
@@ -261,9 +261,16 @@ module _ (cache : FlashCache) (groups : List (List Stored)) (pages : List ℕ) (
   }
 
   -- once it is done
-  pub pushed_now : mid.image.log ≡ new.image.log → new.told ≡ mid.told → GivesVersions g (pushed_queue cache (known_given pages changed)).first (pushed_groups cache groups (frames_given pages changed contents)) pages contents mid.image new.image
+  pub pushed_now : mid.image.log ≡ new.image.log → new.told ≡ mid.told → GivesVersions g (pushed_queue cache (known_pushed cache pages changed)).first (pushed_groups cache groups (frames_pushed cache mid.image pages changed contents)) pages contents mid.image new.image
       → Pushed (snapshot_of new)
   pushed_now log told_since gives = record { log = sym log; pages_are = record { told = told_since; either = inr gives } }
+
+-- the new group is that of the image at first
+pub frames_since : (cache : FlashCache) (pages : List ℕ) (changed : List Bool) (contents : List (List ℕ)) (old mid : Image) → mid.flash ≡ old.flash → mid.disk ≡ old.disk
+    → frames_pushed cache mid pages changed contents ≡ frames_pushed cache old pages changed contents
+frames_since cache pages changed contents old mid flash disk =
+    let same : version_on cache.geometry mid ≡ version_on cache.geometry old = λ i n. version_same cache.geometry old mid n flash disk i in
+    ap (λ (versions : ℕ → List ℕ). map (chance_given versions) (chance_marks cache) ++ frames_given pages changed contents) same
 
 -- all changes of a call were made
 pub reached_all : (g : Geometry) (all : List Change) (old new : State) → new.told ≡ old.told → Reaches g all old.image new.image → IsReached g (IsFrontOf all) old (snapshot_of new)

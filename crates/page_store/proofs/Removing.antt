@@ -11,7 +11,8 @@ use Rattle.buffer_pool.specs.Frames.{State as Pool, AreDistinct, IsPool, frame_o
 use Rattle.buffer_pool.specs.Laws.{WithoutTakesOne}
 use Rattle.second_chance.specs.declared.plan.PoolMark.{PoolMark}
 use Rattle.second_chance.specs.Queue.{Queue}
-use Rattle.second_chance.specs.Machine.{Rules, PoolPage, must_be_pushed, without, is_pulled}
+use Rattle.second_chance.specs.Plans.{chances_of}
+use Rattle.second_chance.specs.Machine.{Rules, leaving, PoolPage, must_be_pushed, without, is_pulled}
 use Rattle.page_store.specs.declared.store.PageStore.{PageStore}
 use Rattle.page_store.specs.Held.{IsPage, IsStore}
 use Rattle.page_store.specs.Caching.{pool_page, rules}
@@ -94,12 +95,12 @@ pulled_apart r queue xs apart = by r.pulls _
     by true n = distinct_take n (movable queue xs) (distinct_filter (λ (f : Frame). must_be_pushed queue (pool_page f)) xs apart)
     by false n = tt
 
-pub pulled_few : (r : Rules) (queue : Queue) (xs : List Frame) → length (pulled_frames r queue xs) ≤ 7
-pulled_few r queue xs = by r.pulls _ (omega arith)
+pub pulled_few : (r : Rules) (queue : Queue) (xs : List Frame) → length (pulled_frames r queue xs) ≤ 8 - 1 - length (chances_of r.chances (leaving r queue))
+pulled_few r queue xs = by r.pulls (8 - 1 - length (chances_of r.chances (leaving r queue)))
   where
-    by : (b : Bool) (k : ℕ) → 8 - 1 - k ≤ 7 → length (cond b (take (8 - 1 - k) (movable queue xs)) []) ≤ 7
-    by true k few = omega (arith, few, length-take (8 - 1 - k) (movable queue xs))
-    by false k few = omega arith
+    by : (b : Bool) (n : ℕ) → length (cond b (take n (movable queue xs)) []) ≤ n
+    by true n = omega (arith, length-take n (movable queue xs))
+    by false n = omega arith
 
 -- The next one is there still.
 

@@ -1,17 +1,20 @@
 -- The rings stay sound at each moment.
-use Rattle.std.proofs.Common.{ℕ, ◌<◌, Bool, true, false, List, [], ◌∷◌, ◌++◌, sym, subst, Option}
+use Rattle.std.proofs.Common.{ℕ, ◌<◌, Bool, true, false, List, [], ◌∷◌, ◌++◌, map, sym, subst, Option}
 use Rattle.std.specs.List.{AllByRecursion}
 use Rattle.site.specs.declared.geometry.Geometry.{Geometry}
-use Rattle.site.specs.State.{State, IsQuiet}
+use Rattle.site.specs.State.{State, Image, IsQuiet}
 use Rattle.site.specs.Moments.{Leaves, LeavesOnly}
 use Rattle.site.specs.Laws.{leaves_weaker, no_call, quiet_leaves}
 use Rattle.slotted_page.specs.Layout.{IsSound}
-use Rattle.frame_group.specs.Groups.{group, IsGroup}
+use Rattle.frame_group.specs.Groups.{Frame as Stored, group, IsGroup}
 use Rattle.image_changes.specs.Changes.{Change}
 use Rattle.image_changes.specs.Reached.{IsReached, IsFrontOf, LeavesFront}
 use Rattle.log_store.specs.LogList.{LogList, changes_if}
 use Rattle.checkpoint.specs.declared.master.Master.{Master}
-use Rattle.flash_cache.specs.Pushed.{frames_given, changes_of_push}
+use Rattle.flash_cache.specs.Pushed.{chance_marks, chance_given, frames_given, frames_pushed, changes_of_push}
+use Rattle.flash_cache.specs.declared.cache.FlashCache.{FlashCache}
+use Rattle.flash_cache.specs.Held.{version_on}
+use Rattle.second_chance.specs.Plans.{Placed}
 use Rattle.image_meaning.specs.Meaning.{IsFrameOf}
 use Rattle.image_meaning.specs.Beside.{AreRingsSoundUnder, KeepsRings, RingsKeptUnder}
 use Rattle.page_store.specs.Leaves.{LeavesRings}
@@ -31,10 +34,20 @@ sound_frames g (page ∷ pages) [] contents sound exist = tt
 sound_frames g (page ∷ pages) (mark ∷ changed) [] sound exist = tt
 sound_frames g (page ∷ pages) (mark ∷ changed) (content ∷ contents) sound exist = (record { exists = exist.0; sound = sound.0 }, sound_frames g pages changed contents sound.1 exist.1)
 
-pub pushing_keeps : (g : Geometry) (staged pages : List ℕ) (changed : List Bool) (contents : List (List ℕ)) → AllByRecursion IsSound contents → AllByRecursion (λ frame. frame.page < g.pages) (frames_given pages changed contents)
-    → IsGroup (group (frames_given pages changed contents)) (frames_given pages changed contents) → AllByRecursion (KeepsRings g) (changes_of_push staged (group (frames_given pages changed contents)))
-pushing_keeps g [] pages changed contents sound exist is = ((frames_given pages changed contents, is, sound_frames g pages changed contents sound exist), tt)
-pushing_keeps g (page ∷ staged) pages changed contents sound exist is = (tt, ((frames_given pages changed contents, is, sound_frames g pages changed contents sound exist), tt))
+-- the second chances are sound where the pages' versions are
+pub sound_pushed : (cache : FlashCache) (image : Image) (pages : List ℕ) (changed : List Bool) (contents : List (List ℕ)) → ((page : ℕ) → page < cache.geometry.pages → IsSound (version_on cache.geometry image page)) →
+    AllByRecursion IsSound contents → AllByRecursion (λ frame. frame.page < cache.geometry.pages) (frames_pushed cache image pages changed contents) →
+    AllByRecursion (IsFrameOf cache.geometry) (frames_pushed cache image pages changed contents)
+sound_pushed cache image pages changed contents versions sound = each (chance_marks cache)
+  where
+    each : (xs : List Placed) → AllByRecursion (λ frame. frame.page < cache.geometry.pages) (map (chance_given (version_on cache.geometry image)) xs ++ frames_given pages changed contents)
+        → AllByRecursion (IsFrameOf cache.geometry) (map (chance_given (version_on cache.geometry image)) xs ++ frames_given pages changed contents)
+    each [] exist = sound_frames cache.geometry pages changed contents sound exist
+    each (x ∷ xs) exist = (record { exists = exist.0; sound = versions x.1.page exist.0 }, each xs exist.1)
+
+pub pushing_keeps : (g : Geometry) (staged : List ℕ) (frames : List Stored) → AllByRecursion (IsFrameOf g) frames → IsGroup (group frames) frames → AllByRecursion (KeepsRings g) (changes_of_push staged (group frames))
+pushing_keeps g [] frames sound is = ((frames, is, sound), tt)
+pushing_keeps g (page ∷ staged) frames sound is = (tt, ((frames, is, sound), tt))
 
 pub rings_front : (newest : Option Master) → RingsKeptUnder newest → (g : Geometry) (changes : List Change) (old new : State) → AreRingsSoundUnder newest g old.image → AllByRecursion (KeepsRings g) changes → LeavesFront g changes old new → LeavesOnly old new (LeavesRings newest g)
 rings_front newest kept g changes old new sound all leaves =

@@ -36,8 +36,8 @@ module _ (store : PageStore) (page : ℕ) (none : frame_of store.pool.frames pag
   pub pushed_same : pushed_for_room store ≡ pushed_by_touch store page
   pushed_same = sym (ap (λ b. cond b (evicted store) []) lacks)
 
-  pub changes_same : (log : LogStore) (list : LogList) → room_changes log list store ≡ touch_changes log list store page
-  changes_same log list = sym (ap (λ b. cond b (eviction_changes log list store) []) lacks)
+  pub changes_same : (log : LogStore) (list : LogList) (image : Image) → room_changes log list store image ≡ touch_changes log list store image page
+  changes_same log list image = sym (ap (λ b. cond b (eviction_changes log list store image) []) lacks)
 
   pub pushes_same : (is_full store && is_pushed (cache_of store)) ≡ pushes (rules store) page (cache_of store)
   pushes_same = ap (λ b. b && is_pushed (cache_of store)) (sym lacks)
@@ -72,8 +72,8 @@ module _ (store : PageStore) (page : ℕ) (frame : Frame) (found : frame_of stor
   pub nothing_forced : (log : LogStore) → forces log (pushed_by_touch store page) ≡ false
   nothing_forced log = ap (forces log) (ap (λ b. cond b (evicted store) []) no_lack) ∙ not_forced log
 
-  pub nothing_changes : (log : LogStore) (list : LogList) → touch_changes log list store page ≡ []
-  nothing_changes log list = ap (λ b. cond b (eviction_changes log list store) []) no_lack
+  pub nothing_changes : (log : LogStore) (list : LogList) (image : Image) → touch_changes log list store image page ≡ []
+  nothing_changes log list image = ap (λ b. cond b (eviction_changes log list store image) []) no_lack
 
   pub nothing_pushed : pushes (rules store) page (cache_of store) ≡ false
   nothing_pushed = ap (λ b. b && is_pushed (cache_of store)) no_lack

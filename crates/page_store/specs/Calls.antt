@@ -1,5 +1,5 @@
 -- What the calls on pages ask and say, each as one record, with the call's result as its index where that matters.
-use Rattle.std.specs.Prelude.{◌≡◌, ◌≢◌, ◌⊎◌, ℕ, ◌+◌, ◌*◌, ◌^◌, ◌≤◌, ◌<◌, Bool, true, if◌then◌else◌, IsTrue, List, map, Option, Result, OnOk, IfErr, IsErrOf}
+use Rattle.std.specs.Prelude.{◌≡◌, ◌≢◌, ◌⊎◌, ℕ, ◌+◌, ◌*◌, ◌^◌, ◌≤◌, ◌<◌, Bool, true, if◌then◌else◌, IsTrue, List, ◌++◌, map, Option, Result, OnOk, IfErr, IsErrOf}
 use Rattle.std.specs.List.{AllByRecursion}
 use Rattle.site.specs.declared.outside.Dev.{Dev}
 use Rattle.site.specs.declared.outside.Dev.TheVariants.{Log, Flash}
@@ -13,10 +13,10 @@ use Rattle.image_changes.specs.Changes.{Change, Reaches}
 use Rattle.image_changes.specs.Reached.{LeavesFront}
 use Rattle.slotted_page.specs.Layout.{IsSound}
 use Rattle.flash_cache.specs.Held.{IsWorn}
-use Rattle.flash_cache.specs.Pushed.{pushed_queue}
+use Rattle.flash_cache.specs.Pushed.{chance_marks, pushed_queue}
 use Rattle.flash_cache.specs.Kept.{AreCleanGiven}
 use Rattle.second_chance.specs.Queue.{has_frame, frame_of as known_of}
-use Rattle.second_chance.specs.Machine.{wants_flush, push_changed, flushed}
+use Rattle.second_chance.specs.Machine.{chance_frame, wants_flush, push_changed, flushed}
 use Rattle.second_chance.specs.Laws.{changed_count}
 use Rattle.log_store.specs.declared.store.LogStore.{LogStore}
 use Rattle.log_store.specs.LogList.{LogList, sealed_if}
@@ -91,7 +91,9 @@ pub record Saves {T : Type 0} (result : Result T Stop) (log : LogStore) (pages p
   pub frames : OnOk result
       (pages'.pool.frames ≡ cleared_all (map (λ f. f.page) (saved_next pages)) pages.pool.frames)
   pub directory : OnOk result
-      (pages'.flash.directory ≡ pushed_queue pages.flash (map (λ f. known_of f.page true) (saved_next pages)))
+      (pages'.flash.directory ≡ pushed_queue pages.flash (map chance_frame (chance_marks pages.flash) ++ map (λ f. known_of f.page true) (saved_next pages)))
+  pub gives : (list : LogList) → AreReady pages log list before →
+      OnOk result (Gives pages.flash.geometry (map (λ f. f.page) (saved_next pages)) (flushed_first pages) before.image now.image)
   pub reads : now.flash_reads ≤ before.flash_reads + 8
   pub worn_log : IsErrOf result (Worn Log) → (forces log (flushed_first pages) ≡ true) × (log.ring.hi ≡ 2 ^ 40)
   pub worn_flash : IsErrOf result (Worn Flash) → pages.flash.ring.hi ≡ 2 ^ 40

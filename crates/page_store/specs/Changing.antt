@@ -3,23 +3,27 @@ use Rattle.std.specs.Prelude.{ℕ, zero, suc, ◌+◌, ◌*◌, Bool, true, not,
 use Rattle.std.specs.List.{list_any}
 use Rattle.image_changes.specs.Changes.{Change}
 use Rattle.frame_group.specs.Groups.{Frame as Stored, group}
-use Rattle.flash_cache.specs.Pushed.{staged_pages, frames_given, changes_of_push}
+use Rattle.flash_cache.specs.Pushed.{staged_pages, chance_given, frames_pushed, changes_of_push}
+use Rattle.flash_cache.specs.Held.{version_on}
+use Rattle.site.specs.State.{Image}
 use Rattle.buffer_pool.specs.declared.frame.Frame.{Frame}
-use Rattle.second_chance.specs.Plans.{chances_given, staged_of}
+use Rattle.buffer_pool.specs.Frames.{frame_of}
+use Rattle.second_chance.specs.Plans.{Placed, chances_given, chances_of, staged_of}
 use Rattle.second_chance.specs.Queue.{Queue, pushed, frame_of as known_of}
-use Rattle.second_chance.specs.Machine.{Cache, rules_of, leaving, is_full as queue_is_full, wants_flush, lacks_room}
+use Rattle.second_chance.specs.Machine.{Cache, chance_frame, rules_of, leaving, is_full as queue_is_full, wants_flush, lacks_room}
 use Rattle.second_chance.specs.Laws.{changed_count}
 use Rattle.log_store.specs.declared.store.LogStore.{LogStore}
 use Rattle.log_store.specs.LogList.{LogList, sealed_if, changes_if}
 use Rattle.log_store.specs.Held.{has_tail}
 use Rattle.page_store.specs.declared.store.PageStore.{PageStore}
+use Rattle.page_store.specs.Held.{content_by}
 use Rattle.page_store.specs.Caching.{pool_page, cache_of, rules, is_full}
 use Rattle.page_store.specs.Ahead.{is_unsealed, forces}
 use Rattle.page_store.specs.Pulling.{evicted_frames}
 use Rattle.page_store.specs.Flushing.{chosen, cleared_all}
 
 -- What the changes of a push depend on: whether the log has a tail, the number of its next block, its records, the queue on a flash of
--- so many groups, and the pool.
+-- so many groups, the pool, and the pages' versions.
 pub record Standing : Type 0 where
   pub tail : Bool
   pub next : ℕ
@@ -27,10 +31,18 @@ pub record Standing : Type 0 where
   pub groups : ℕ
   pub queue : Queue
   pub frames : List Frame
+  pub versions : ℕ → List ℕ
 
-abbrev pub standing : LogStore → LogList → PageStore → Standing
-standing log list store =
-    record { tail = has_tail log; next = log.ring.hi; list = list; groups = store.flash.geometry.groups; queue = store.flash.directory; frames = store.pool.frames }
+abbrev pub standing : LogStore → LogList → PageStore → Image → Standing
+standing log list store image = record {
+  tail = has_tail log;
+  next = log.ring.hi;
+  list = list;
+  groups = store.flash.geometry.groups;
+  queue = store.flash.directory;
+  frames = store.pool.frames;
+  versions = version_on store.flash.geometry image;
+}
 
 -- One push.
 
@@ -42,18 +54,24 @@ is_forced s frames = s.tail && list_any (is_unsealed (512 * s.next)) (map (λ f.
 abbrev pub staged_at : Standing → List ℕ
 staged_at s = map (λ f. f.1.page) (staged_of chances_given (leaving (rules_of 0 s.groups) s.queue))
 
+-- the frames of the front group that are given a second chance, where it leaves
+abbrev pub chances_at : Standing → List Placed
+chances_at s = chances_of chances_given (leaving (rules_of 0 s.groups) s.queue)
+
 -- a page of the pool as a frame of a group, dirty where it is changed
 abbrev pub stored : Frame → Stored
 stored frame = record { page = frame.page; dirty = frame.changed; octets = frame.content }
 
 -- The changes of a push of these pages: the tail is sealed where the log is forced, the staged pages are rewritten if there are any,
--- and the group is appended.
+-- and a group with the second chances and these pages is appended.
 abbrev pub push_changes : Standing → List Frame → List Change
-push_changes s frames = changes_if (is_forced s frames) s.list ++ changes_of_push (staged_at s) (group (map stored frames))
+push_changes s frames =
+    changes_if (is_forced s frames) s.list ++ changes_of_push (staged_at s) (group (map (chance_given s.versions) (chances_at s) ++ map stored frames))
 
 -- the same of pages that are given with their marks and contents
-abbrev pub given_changes : LogStore → LogList → PageStore → List ℕ → List Bool → List (List ℕ) → List Change
-given_changes log list store pages changed contents = changes_if (forces log contents) list ++ changes_of_push (staged_pages store.flash) (group (frames_given pages changed contents))
+abbrev pub given_changes : LogStore → LogList → PageStore → Image → List ℕ → List Bool → List (List ℕ) → List Change
+given_changes log list store image pages changed contents =
+    changes_if (forces log contents) list ++ changes_of_push (staged_pages store.flash) (group (frames_pushed store.flash image pages changed contents))
 
 -- A touch.
 
@@ -62,15 +80,15 @@ abbrev pub changes_if_any : Standing → List Frame → List Change
 changes_if_any s [] = []
 changes_if_any s (coldest ∷ warmer) = push_changes s (coldest ∷ warmer)
 
-abbrev pub eviction_changes : LogStore → LogList → PageStore → List Change
-eviction_changes log list store = changes_if_any (standing log list store) (evicted_frames store)
+abbrev pub eviction_changes : LogStore → LogList → PageStore → Image → List Change
+eviction_changes log list store image = changes_if_any (standing log list store image) (evicted_frames store)
 
 -- what changes where room is made for a page, and by a touch
-abbrev pub room_changes : LogStore → LogList → PageStore → List Change
-room_changes log list store = if is_full store then eviction_changes log list store else []
+abbrev pub room_changes : LogStore → LogList → PageStore → Image → List Change
+room_changes log list store image = if is_full store then eviction_changes log list store image else []
 
-abbrev pub touch_changes : LogStore → LogList → PageStore → ℕ → List Change
-touch_changes log list store page = if lacks_room (rules store) page (cache_of store) then eviction_changes log list store else []
+abbrev pub touch_changes : LogStore → LogList → PageStore → Image → ℕ → List Change
+touch_changes log list store image page = if lacks_room (rules store) page (cache_of store) then eviction_changes log list store image else []
 
 -- A flush.
 
@@ -81,16 +99,17 @@ cache_at s = record { pool = map pool_page s.frames; queue = s.queue }
 abbrev pub next_saved : Standing → List Frame
 next_saved s = chosen (rules_of 0 s.groups) s.queue s.frames
 
--- Behind a push of the coldest changed pages: where the log was forced it has one block more and no tail, the queue has the group, and
--- the pages count as unchanged.
+-- Behind a push of the coldest changed pages: where the log was forced it has one block more and no tail, the queue has the group, the
+-- pages count as unchanged, and what they have are their versions.
 abbrev pub after_push : Standing → Standing
 after_push s = record {
   tail = s.tail && not (is_forced s (next_saved s));
   next = if is_forced s (next_saved s) then s.next + 1 else s.next;
   list = sealed_if (is_forced s (next_saved s)) s.list;
   groups = s.groups;
-  queue = pushed (queue_is_full (rules_of 0 s.groups) s.queue) (map (λ f. known_of f.page true) (next_saved s)) s.queue;
+  queue = pushed (queue_is_full (rules_of 0 s.groups) s.queue) (map chance_frame (chances_at s) ++ map (λ f. known_of f.page true) (next_saved s)) s.queue;
   frames = cleared_all (map (λ f. f.page) (next_saved s)) s.frames;
+  versions = λ page. content_by (frame_of (next_saved s) page) (s.versions page);
 }
 
 -- the changes of a flush, push by push; each push saves at least one changed page
@@ -98,5 +117,5 @@ abbrev pub pushes_changes : ℕ → Standing → List Change
 pushes_changes zero s = []
 pushes_changes (suc pushes) s = if wants_flush (cache_at s) then push_changes s (next_saved s) ++ pushes_changes pushes (after_push s) else []
 
-abbrev pub flush_changes : LogStore → LogList → PageStore → List Change
-flush_changes log list store = pushes_changes (changed_count (cache_of store).pool) (standing log list store)
+abbrev pub flush_changes : LogStore → LogList → PageStore → Image → List Change
+flush_changes log list store image = pushes_changes (changed_count (cache_of store).pool) (standing log list store image)

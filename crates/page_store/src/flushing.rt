@@ -2,7 +2,7 @@
 ghost use Rattle.std.specs.Prelude.{◌≡◌, ◌<◌, ◌≤◌, [], length, map, true, if◌then◌else◌, IfOk, OnOk, IfErr, IsSome, Some};
 ghost use Rattle.std.specs.List.{All};
 ghost use Rattle.site.specs.declared.outside.Stop.{Stop};
-ghost use Rattle.flash_cache.specs.Pushed.{staged_marks};
+ghost use Rattle.flash_cache.specs.Pushed.{staged_marks, chance_marks};
 ghost use Rattle.second_chance.specs.Machine.{wants_flush, push_changed};
 ghost use Rattle.buffer_pool.specs.Frames.{IsPool, frame_of};
 ghost use Rattle.log_store.specs.declared.store.LogStore.{LogStore};
@@ -51,7 +51,7 @@ impl PageStore {
         requires pages { pages.now ≡ map (λ f. f.page) (saved_next self.now) }
         requires groups { 2 ≤ self.now.flash.geometry.groups }
         requires few { length self.now.flash.directory.groups < self.now.flash.geometry.groups }
-        ensures chances { IfOk result (λ plan. plan.chances ≡ []) }
+        ensures chances { IfOk result (λ plan. plan.chances ≡ map (λ f. f.0) (chance_marks self.now.flash)) }
         ensures staged { IfOk result (λ plan. plan.staged ≡ map (λ f. f.0) (staged_marks self.now.flash)) }
         ensures pulled { IfOk result (λ plan. plan.pulled ≡ map (λ f. f.page) (saved_next self.now)) }
         ensures memory { IfErr result (λ stop. stop ≡ Stop.Memory) }
@@ -113,7 +113,7 @@ impl PageStore {
     ) -> Result<(), Stop>
         requires going { MayWork log.old self.old (S.state site.old) }
         requires some { wants_flush (cache_of self.old) ≡ true }
-        requires chances { plan.now.chances ≡ [] }
+        requires chances { plan.now.chances ≡ map (λ f. f.0) (chance_marks self.old.flash) }
         requires staged { plan.now.staged ≡ map (λ f. f.0) (staged_marks self.old.flash) }
         requires pages { pages.now ≡ map (λ f. f.page) (saved_next self.old) }
         requires contents { contents.now ≡ map (content_in self.old.pool.frames) pages.now }
@@ -122,11 +122,11 @@ impl PageStore {
         ensures keeps { (list : LogList) → AreReady self.old log.old list (S.state site.old)
             → Keeps result log.old self.old (S.state site.old) (S.state site.new) list
             (forces log.old (flushed_first self.old))
-            (push_changes (standing log.old list self.old) (saved_next self.old)) }
+            (push_changes (standing log.old list self.old (S.state site.old).image) (saved_next self.old)) }
         ensures stands { (list : LogList) → AreReady self.old log.old list (S.state site.old)
             → OnOk result (Stands log.old log.new self.old self.new (S.state site.old) (S.state site.new) list
             (forces log.old (flushed_first self.old))
-            (push_changes (standing log.old list self.old) (saved_next self.old))) }
+            (push_changes (standing log.old list self.old (S.state site.old).image) (saved_next self.old))) }
 
         // Of every site.
         ensures pushes { Pushes result log.old log.new self.old self.new (S.state site.old) (S.state site.new)
@@ -159,11 +159,11 @@ impl PageStore {
         ensures keeps { (list : LogList) → AreReady self.old log.old list (S.state site.old)
             → Keeps result log.old self.old (S.state site.old) (S.state site.new) list
             (forces log.old (flushed_first self.old))
-            (push_changes (standing log.old list self.old) (saved_next self.old)) }
+            (push_changes (standing log.old list self.old (S.state site.old).image) (saved_next self.old)) }
         ensures stands { (list : LogList) → AreReady self.old log.old list (S.state site.old)
             → OnOk result (Stands log.old log.new self.old self.new (S.state site.old) (S.state site.new) list
             (forces log.old (flushed_first self.old))
-            (push_changes (standing log.old list self.old) (saved_next self.old))) }
+            (push_changes (standing log.old list self.old (S.state site.old).image) (saved_next self.old))) }
 
         // Of every site.
         ensures pushes { Pushes result log.old log.new self.old self.new (S.state site.old) (S.state site.new)
@@ -186,10 +186,10 @@ impl PageStore {
         // Of an honest site.
         ensures keeps { (list : LogList) → AreReady self.old log.old list (S.state site.old)
             → Keeps result log.old self.old (S.state site.old) (S.state site.new) list
-            (forces log.old (flushed_contents self.old)) (flush_changes log.old list self.old) }
+            (forces log.old (flushed_contents self.old)) (flush_changes log.old list self.old (S.state site.old).image) }
         ensures stands { (list : LogList) → AreReady self.old log.old list (S.state site.old)
             → OnOk result (Stands log.old log.new self.old self.new (S.state site.old) (S.state site.new) list
-            (forces log.old (flushed_contents self.old)) (flush_changes log.old list self.old)) }
+            (forces log.old (flushed_contents self.old)) (flush_changes log.old list self.old (S.state site.old).image)) }
 
         // Of every site.
         ensures pushes { Pushes result log.old log.new self.old self.new (S.state site.old) (S.state site.new)

@@ -3,7 +3,7 @@ ghost use Rattle.std.specs.Prelude.{◌≡◌, ◌≢◌, ◌+◌, ◌^◌, ◌<
 ghost use Rattle.std.specs.List.{All};
 ghost use Rattle.site.specs.declared.outside.Dev.{Dev};
 ghost use Rattle.site.specs.declared.outside.Stop.{Stop};
-ghost use Rattle.flash_cache.specs.Pushed.{staged_marks, known_given, pushed_queue};
+ghost use Rattle.flash_cache.specs.Pushed.{staged_marks, chance_marks, pages_pushed, known_pushed, pushed_queue};
 ghost use Rattle.second_chance.specs.Machine.{rules_of, leaving, evict_coldest, must_be_pushed};
 ghost use Rattle.buffer_pool.specs.Frames.{frame_of};
 ghost use Rattle.log_store.specs.declared.store.LogStore.{LogStore};
@@ -83,12 +83,12 @@ impl PageStore {
         contents: &[Page],
     ) -> Result<(), Stop>
         requires going { MayWork log.old self.old (S.state site.old) }
-        requires chances { plan.now.chances ≡ [] }
+        requires chances { plan.now.chances ≡ map (λ f. f.0) (chance_marks self.old.flash) }
         requires staged { plan.now.staged ≡ map (λ f. f.0) (staged_marks self.old.flash) }
         requires marks { length changed.now ≡ length pages.now }
         requires lists { length contents.now ≡ length pages.now }
         requires some { 1 ≤ length pages.now }
-        requires few { length pages.now ≤ 8 }
+        requires few { length (pages_pushed self.old.flash pages.now) ≤ 8 }
         requires exist { All (λ page. page < self.old.flash.geometry.pages) pages.now }
         requires apart { AllPairs (λ a b. a ≢ b) pages.now }
 
@@ -96,11 +96,11 @@ impl PageStore {
         ensures keeps { (list : LogList) → AreReady self.old log.old list (S.state site.old)
             → KeepsGiven result log.old self.old pages.now changed.now contents.now
             (S.state site.old) (S.state site.new) list
-            (given_changes log.old list self.old pages.now changed.now contents.now) }
+            (given_changes log.old list self.old (S.state site.old).image pages.now changed.now contents.now) }
         ensures stands { (list : LogList) → AreReady self.old log.old list (S.state site.old)
             → OnOk result (StandsGiven log.old log.new self.old self.new pages.now changed.now contents.now
             (S.state site.old) (S.state site.new) list
-            (given_changes log.old list self.old pages.now changed.now contents.now)) }
+            (given_changes log.old list self.old (S.state site.old).image pages.now changed.now contents.now)) }
 
         // Of every site.
         ensures pushes { Pushes result log.old log.new self.old self.new (S.state site.old) (S.state site.new)
@@ -109,7 +109,7 @@ impl PageStore {
         ensures worn_at { IsErrOf result (Stop.Worn Dev.Flash) → self.new.flash.ring.hi ≡ 2 ^ 40 }
         ensures pool { self.new.pool ≡ self.old.pool }
         ensures directory { OnOk result (self.new.flash.directory
-            ≡ pushed_queue self.old.flash (known_given pages.now changed.now)) }
+            ≡ pushed_queue self.old.flash (known_pushed self.old.flash pages.now changed.now)) }
         ensures reads { (S.state site.new).flash_reads ≤ (S.state site.old).flash_reads + 8 }
     {
         stays_beside();
@@ -131,10 +131,10 @@ impl PageStore {
         // Of an honest site.
         ensures keeps { (list : LogList) → AreReady self.old log.old list (S.state site.old)
             → Keeps result log.old self.old (S.state site.old) (S.state site.new) list
-            (forces log.old (evicted self.old)) (eviction_changes log.old list self.old) }
+            (forces log.old (evicted self.old)) (eviction_changes log.old list self.old (S.state site.old).image) }
         ensures stands { (list : LogList) → AreReady self.old log.old list (S.state site.old)
             → OnOk result (Stands log.old log.new self.old self.new (S.state site.old) (S.state site.new) list
-            (forces log.old (evicted self.old)) (eviction_changes log.old list self.old)) }
+            (forces log.old (evicted self.old)) (eviction_changes log.old list self.old (S.state site.old).image)) }
 
         // Of every site.
         ensures pushes { Pushes result log.old log.new self.old self.new (S.state site.old) (S.state site.new)
@@ -181,10 +181,10 @@ impl PageStore {
         // Of an honest site.
         ensures keeps { (list : LogList) → AreReady self.old log.old list (S.state site.old)
             → Keeps result log.old self.old (S.state site.old) (S.state site.new) list
-            (forces log.old (pushed_for_room self.old)) (room_changes log.old list self.old) }
+            (forces log.old (pushed_for_room self.old)) (room_changes log.old list self.old (S.state site.old).image) }
         ensures stands { (list : LogList) → AreReady self.old log.old list (S.state site.old)
             → OnOk result (Stands log.old log.new self.old self.new (S.state site.old) (S.state site.new) list
-            (forces log.old (pushed_for_room self.old)) (room_changes log.old list self.old)) }
+            (forces log.old (pushed_for_room self.old)) (room_changes log.old list self.old (S.state site.old).image)) }
 
         // Of every site.
         ensures pushes { Pushes result log.old log.new self.old self.new (S.state site.old) (S.state site.new)

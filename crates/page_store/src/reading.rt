@@ -126,10 +126,10 @@ impl PageStore {
         // Of an honest site.
         ensures keeps { (list : LogList) → AreReady self.old log.old list (S.state site.old)
             → Keeps result log.old self.old (S.state site.old) (S.state site.new) list
-            (forces log.old (pushed_for_room self.old)) (room_changes log.old list self.old) }
+            (forces log.old (pushed_for_room self.old)) (room_changes log.old list self.old (S.state site.old).image) }
         ensures stands { (list : LogList) → AreReady self.old log.old list (S.state site.old)
             → OnOk result (Stands log.old log.new self.old self.new (S.state site.old) (S.state site.new) list
-            (forces log.old (pushed_for_room self.old)) (room_changes log.old list self.old)) }
+            (forces log.old (pushed_for_room self.old)) (room_changes log.old list self.old (S.state site.old).image)) }
 
         // Of every site.
         ensures works { Works result log.old log.new self.old self.new (S.state site.old) (S.state site.new)

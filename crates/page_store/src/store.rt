@@ -180,10 +180,10 @@ impl PageStore {
         // Of an honest site.
         ensures keeps { (list : LogList) → AreReady self.old log.old list (S.state site.old)
             → Keeps result log.old self.old (S.state site.old) (S.state site.new) list
-            (forces log.old (pushed_by_touch self.old page)) (touch_changes log.old list self.old page) }
+            (forces log.old (pushed_by_touch self.old page)) (touch_changes log.old list self.old (S.state site.old).image page) }
         ensures stands { (list : LogList) → AreReady self.old log.old list (S.state site.old)
             → OnOk result (Stands log.old log.new self.old self.new (S.state site.old) (S.state site.new) list
-            (forces log.old (pushed_by_touch self.old page)) (touch_changes log.old list self.old page)) }
+            (forces log.old (pushed_by_touch self.old page)) (touch_changes log.old list self.old (S.state site.old).image page)) }
 
         // Of every site.
         ensures works { Works result log.old log.new self.old self.new (S.state site.old) (S.state site.new)
@@ -223,10 +223,10 @@ impl PageStore {
         // Of an honest site.
         ensures keeps { (list : LogList) → AreReady self.old log.old list (S.state site.old)
             → Keeps result log.old self.old (S.state site.old) (S.state site.new) list
-            (forces log.old (flushed_contents self.old)) (flush_changes log.old list self.old) }
+            (forces log.old (flushed_contents self.old)) (flush_changes log.old list self.old (S.state site.old).image) }
         ensures stands { (list : LogList) → AreReady self.old log.old list (S.state site.old)
             → OnOk result (Stands log.old log.new self.old self.new (S.state site.old) (S.state site.new) list
-            (forces log.old (flushed_contents self.old)) (flush_changes log.old list self.old)) }
+            (forces log.old (flushed_contents self.old)) (flush_changes log.old list self.old (S.state site.old).image)) }
 
         // Of every site.
         ensures works { Works result log.old log.new self.old self.new (S.state site.old) (S.state site.new)

@@ -2,7 +2,7 @@
 ghost use Rattle.std.specs.Prelude.{◌≡◌, ◌<◌, ◌≤◌, ◌++◌, ◌∷◌, [], List, length, map, if◌then◌else◌, IfOk, OnOk, IfErr};
 ghost use Rattle.site.specs.declared.outside.Stop.{Stop};
 ghost use Rattle.buffer_pool.specs.declared.frame.Frame.{Frame};
-ghost use Rattle.flash_cache.specs.Pushed.{staged_marks};
+ghost use Rattle.flash_cache.specs.Pushed.{staged_marks, chance_marks};
 ghost use Rattle.second_chance.specs.Machine.{pool_mark, must_be_pushed};
 ghost use Rattle.page_store.specs.Held.{IsStore};
 ghost use Rattle.page_store.specs.Pulling.{mark_for, without_all, LeavesOut, candidates, pulled};
@@ -94,7 +94,7 @@ impl PageStore {
     fn plan_for_evicted(&self) -> Result<Plan, Stop>
         requires groups { 2 ≤ self.now.flash.geometry.groups }
         requires few { length self.now.flash.directory.groups < self.now.flash.geometry.groups }
-        ensures chances { IfOk result (λ plan. plan.chances ≡ []) }
+        ensures chances { IfOk result (λ plan. plan.chances ≡ map (λ f. f.0) (chance_marks self.now.flash)) }
         ensures staged { IfOk result (λ plan. plan.staged ≡ map (λ f. f.0) (staged_marks self.now.flash)) }
         ensures pulled { IfOk result (λ plan. plan.pulled ≡ map (λ f. f.page) (pulled self.now)) }
         ensures memory { IfErr result (λ stop. stop ≡ Stop.Memory) }
@@ -141,7 +141,7 @@ impl PageStore {
         requires store { IsStore self.old }
         requires groups { 2 ≤ self.old.flash.geometry.groups }
         requires few { length self.old.flash.directory.groups < self.old.flash.geometry.groups }
-        ensures chances { IfOk result (λ both. both.0.chances ≡ []) }
+        ensures chances { IfOk result (λ both. both.0.chances ≡ map (λ f. f.0) (chance_marks self.old.flash)) }
         ensures staged { IfOk result (λ both. both.0.staged ≡ map (λ f. f.0) (staged_marks self.old.flash)) }
         ensures taken { IfOk result (λ both. Has both.1
             (record { page = page; changed = changed; content = content } ∷ pulled self.old)) }

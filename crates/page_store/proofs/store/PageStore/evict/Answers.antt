@@ -1,4 +1,4 @@
-use Rattle.std.proofs.Common.{rules, ◌≡◌, inr, ◌<◌, true, false, ℕ, List, [], ◌∷◌, ◌++◌, length, map, sym, subst, ◌∙◌, ap, arith, reverse, refl, length-append}
+use Rattle.std.proofs.Common.{rules, ◌≡◌, inr, ◌<◌, ◌≤◌, true, false, ℕ, List, [], ◌∷◌, ◌++◌, length, map, sym, subst, ◌∙◌, ap, arith, reverse, refl, length-append}
 use Rattle.std.specs.Prelude.{All}
 use Rattle.buffer_pool.specs.declared.frame.Frame.{Frame}
 use Rattle.buffer_pool.specs.Frames.{State as Pool, AreDistinct, frame_of}
@@ -11,7 +11,7 @@ use Rattle.page_store.specs.Pulling.{evicted_of, evicted_frames}
 use Rattle.page_store.specs.Ahead.{end_forced, forces, evicted}
 use Rattle.page_store.specs.Changing.{given_changes, eviction_changes}
 use Rattle.page_store.specs.Leaves.{AreReady}
-use Rattle.flash_cache.specs.Pushed.{known_given, pushed_queue}
+use Rattle.flash_cache.specs.Pushed.{pages_pushed, known_pushed, pushed_queue}
 use Rattle.page_store.specs.Calls.{MayWork, Pushes, KeepsGiven, Stands, StandsGiven}
 use Rattle.page_store.proofs.Evictions.{not_forced}
 use Rattle.page_store.proofs.Removing.{absent_part, few_part}
@@ -34,7 +34,7 @@ returns-in_default-clause-stands g c list ready =
     let none : store.pool.frames ≡ [] = c.in_default.ensures.none in
     let nothing : evicted_frames store ≡ [] = ap (λ (frames : List Frame). evicted_of (rules_for store) store.flash.directory (reverse frames)) none in
     stands_still c.requires.going.sizes refl (ap (λ (l : List Frame). forces log (map (λ (f : Frame). f.content) l)) nothing ∙ not_forced log)
-    (eviction_is log list store [] nothing) ready (search rules) (search rules) (search rules)
+    (eviction_is log list store (g.S.Site.state c.args.site.now).image [] nothing) ready (search rules) (search rules) (search rules)
 
 -- the page isn't pushed
 
@@ -51,7 +51,7 @@ returns-then-not-must_be_pushed-clause-stands g c list ready =
     let is : store.pool.frames ≡ rest.frames ++ last ∷ [] = c.in-Some.ensures.some in
     let one = c.frames_of_pages.ensures.last rest.frames last (subst AreDistinct is c.requires.going.pages_going.own.pool.distinct) in
     let must : must_be_pushed store.flash.directory (pool_page last) ≡ false = sym c.must_be_pushed.ensures ∙ c.if-not-must_be_pushed.true in
-    stands_still c.requires.going.sizes refl (none_forced store rest last is one log must) (eviction_is log list store [] (none_evicted store rest last is one must)) ready (rest_ready store rest last is one log list site ready)
+    stands_still c.requires.going.sizes refl (none_forced store rest last is one log must) (eviction_is log list store site.image [] (none_evicted store rest last is one must)) ready (rest_ready store rest last is one log list site ready)
     (rest_current store rest last is one site ready.pages must) (rest_logged store rest last is one (end_forced log))
 
 pub returns-then-not-must_be_pushed-clause-pushes : goal.returns-then-not-must_be_pushed-clause-pushes
@@ -126,6 +126,18 @@ push-requires-clause-apart g c =
     c.in-Ok.ensures.pool c.in-Ok.ensures.taken c.deref.ensures.value c.deref-in-Ok.ensures.value c.deref-in-Ok-2.ensures.value in
     d.apart
 
+pub push-requires-clause-few : goal.push-requires-clause-few
+push-requires-clause-few g c =
+    let store = c.args.self.now in
+    let rest : Pool = c.take_coldest.new.self in
+    let last : Frame = record { page = c.in-Some.page; changed = c.in-Some.changed; content = c.in-Some.content } in
+    let is : store.pool.frames ≡ rest.frames ++ last ∷ [] = c.in-Some.ensures.some in
+    let one = c.frames_of_pages.ensures.last rest.frames last (subst AreDistinct is c.requires.going.pages_going.own.pool.distinct) in
+    let must : must_be_pushed store.flash.directory (pool_page last) ≡ true = sym c.must_be_pushed.ensures ∙ c.if-not-must_be_pushed.false in
+    let d = departs store rest last is one c.unframed_is_disk.ensures c.frames_of_pages.ensures.without c.requires.going.pages_going.own must c.take_with.new.self.pool c.in-Ok.taken _ _ _
+    c.in-Ok.ensures.pool c.in-Ok.ensures.taken c.deref.ensures.value c.deref-in-Ok.ensures.value c.deref-in-Ok-2.ensures.value in
+    subst (λ (s : PageStore). length (pages_pushed s.flash c.deref.result.now) ≤ 8) (sym c.take_with.ensures.kept) d.few
+
 pub returns-in-Ok-clause-keeps : goal.returns-in-Ok-clause-keeps
 returns-in-Ok-clause-keeps g c list ready =
     let store = c.args.self.now in
@@ -144,9 +156,9 @@ returns-in-Ok-clause-keeps g c list ready =
     c.in-Ok.ensures.pool c.in-Ok.ensures.taken c.deref.ensures.value c.deref-in-Ok.ensures.value c.deref-in-Ok-2.ensures.value in
     let kept = c.take_with.ensures.kept in
     let there = subst (λ (s : PageStore). AreReady s log list old) (sym kept) (d.ready log list old ready) in
-    keeps_as (d.forced log) (d.changes log list)
+    keeps_as (d.forced log) (d.changes log list old.image)
     (keeps_given {pool = c.take_with.new.self.pool} (d.own log old ready.pages) c.push.ensures.pushes.foreign
-    (subst (λ (s : PageStore). KeepsGiven c.push.result log s pages changed contents old new list (given_changes log list s pages changed contents)) kept (c.push.ensures.keeps list there)))
+    (subst (λ (s : PageStore). KeepsGiven c.push.result log s pages changed contents old new list (given_changes log list s old.image pages changed contents)) kept (c.push.ensures.keeps list there)))
 
 pub returns-in-Ok-clause-stands : goal.returns-in-Ok-clause-stands
 returns-in-Ok-clause-stands g c list ready =
@@ -172,10 +184,10 @@ returns-in-Ok-clause-stands g c list ready =
     let left : PageStore = record store { pool = c.take_with.new.self.pool } in
     let geometry : after.flash.geometry ≡ store.flash.geometry = c.push.ensures.pushes.works.geometry ∙ ap (λ (s : PageStore). s.flash.geometry) kept in
     let pool : after.pool ≡ c.take_with.new.self.pool = c.push.ensures.pool in
-    ok_two c.push.result _ _ (Stands log log' store after old new list (forces log (evicted store)) (eviction_changes log list store))
+    ok_two c.push.result _ _ (Stands log log' store after old new list (forces log (evicted store)) (eviction_changes log list store old.image))
     (λ given logged.
-    let stands = subst (λ (s : PageStore). StandsGiven log log' s after pages changed contents old new list (given_changes log list s pages changed contents)) kept given in
-    stands_as (d.forced log) (d.changes log list)
+    let stands = subst (λ (s : PageStore). StandsGiven log log' s after pages changed contents old new list (given_changes log list s old.image pages changed contents)) kept given in
+    stands_as (d.forced log) (d.changes log list old.image)
     (stands_given {pool = c.take_with.new.self.pool} own geometry (stands.ready own.clean own.sound d.are_changed) (d.current after old.image new.image pool geometry stands.gives)
     (λ all. logged (logged_left (end_forced log) store rest last c.take_with.new.self.pool is c.take_with.ensures.part all)) stands))
     (c.push.ensures.stands list there) (ok_under c.push.result _ _ c.push.ensures.pushes.logged)
@@ -224,7 +236,7 @@ returns-in-Ok-clause-machine g c =
     let queue = c.push.new.self.flash.directory in
     ok_as c.push.result _ (cache_of c.push.new.self ≡ evict_coldest (rules_for store) (cache_of store))
     (λ after. ap (λ (p : Pool). let k : Cache = record { pool = map pool_page p.frames; queue = queue } in k) c.push.ensures.pool
-    ∙ d.machine queue (after ∙ ap (λ (s : PageStore). pushed_queue s.flash (known_given c.deref.result.now c.deref-in-Ok.result.now)) c.take_with.ensures.kept))
+    ∙ d.machine queue (after ∙ ap (λ (s : PageStore). pushed_queue s.flash (known_pushed s.flash c.deref.result.now c.deref-in-Ok.result.now)) c.take_with.ensures.kept))
     c.push.ensures.directory
 
 pub returns-in-Ok-clause-room_made : goal.returns-in-Ok-clause-room_made

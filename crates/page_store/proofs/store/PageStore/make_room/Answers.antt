@@ -18,7 +18,7 @@ returns-then-not-is_full-clause-stands g c list ready =
     let store = c.args.self.now in
     let log = c.args.log.now in
     let is : nat_le store.pool.size (length store.pool.frames) ≡ false = search rules in
-    stands_still c.requires.going.sizes refl (ap (λ b. forces log (cond b (evicted store) [])) is ∙ not_forced log) (ap (λ b. cond b (eviction_changes log list store) []) is) ready ready (search rules) (λ logged. logged)
+    stands_still c.requires.going.sizes refl (ap (λ b. forces log (cond b (evicted store) [])) is ∙ not_forced log) (ap (λ b. cond b (eviction_changes log list store (g.S.Site.state c.args.site.now).image) []) is) ready ready (search rules) (λ logged. logged)
 
 pub returns-clause-keeps : goal.returns-clause-keeps
 returns-clause-keeps g c list ready =
@@ -26,7 +26,7 @@ returns-clause-keeps g c list ready =
     let log = c.args.log.now in
     let full : length store.pool.frames ≡ store.pool.size = c.is_full.ensures.full.0 c.if-not-is_full.false in
     let is : nat_le store.pool.size (length store.pool.frames) ≡ true = grind (arith, nat_tests) in
-    keeps_as (sym (ap (λ b. forces log (cond b (evicted store) [])) is)) (sym (ap (λ b. cond b (eviction_changes log list store) []) is)) (c.evict.ensures.keeps list ready)
+    keeps_as (sym (ap (λ b. forces log (cond b (evicted store) [])) is)) (sym (ap (λ b. cond b (eviction_changes log list store (g.S.Site.state c.args.site.now).image) []) is)) (c.evict.ensures.keeps list ready)
 
 pub returns-clause-stands : goal.returns-clause-stands
 returns-clause-stands g c list ready =
@@ -34,8 +34,8 @@ returns-clause-stands g c list ready =
     let log = c.args.log.now in
     let full : length store.pool.frames ≡ store.pool.size = c.is_full.ensures.full.0 c.if-not-is_full.false in
     let is : nat_le store.pool.size (length store.pool.frames) ≡ true = grind (arith, nat_tests) in
-    ok_as c.evict.result _ (Stands log c.evict.new.log store c.evict.new.self (g.S.Site.state c.args.site.now) (g.S.Site.state c.evict.new.site) list (forces log (pushed_for_room store)) (room_changes log list store))
-    (λ stands. stands_as (sym (ap (λ b. forces log (cond b (evicted store) [])) is)) (sym (ap (λ b. cond b (eviction_changes log list store) []) is)) stands) (c.evict.ensures.stands list ready)
+    ok_as c.evict.result _ (Stands log c.evict.new.log store c.evict.new.self (g.S.Site.state c.args.site.now) (g.S.Site.state c.evict.new.site) list (forces log (pushed_for_room store)) (room_changes log list store (g.S.Site.state c.args.site.now).image))
+    (λ stands. stands_as (sym (ap (λ b. forces log (cond b (evicted store) [])) is)) (sym (ap (λ b. cond b (eviction_changes log list store (g.S.Site.state c.args.site.now).image) []) is)) stands) (c.evict.ensures.stands list ready)
 
 pub returns-clause-pushes : goal.returns-clause-pushes
 returns-clause-pushes g c =

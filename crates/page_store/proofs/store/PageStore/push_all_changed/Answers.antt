@@ -19,7 +19,7 @@ use Rattle.page_store.proofs.Left.{some_left, none_left, front_pages, back_pages
 use Rattle.page_store.proofs.Unsealed.{next_round, nothing_forced, forced_by_first, or_first, or_second}
 use Rattle.page_store.proofs.Numbers.{changed_next, flushed_next, flushed_more}
 use Rattle.page_store.proofs.Rounds.{kept_block, no_tail, risen, sealed_again, and_left, not_forced}
-use Rattle.page_store.proofs.Changing.{HasMade, standing_after, none_to_come, one_to_come}
+use Rattle.page_store.proofs.Changing.{HasMade, gives_versions, standing_after, none_to_come, one_to_come}
 use Rattle.page_store.proofs.Calling.{forces_nothing, pushes_as, pushes_then, pushes_failed, keeps_as, keeps_still, keeps_nothing, keeps_then, keeps_more, stands_as, stands_still, stands_then}
 use Rattle.page_store.proofs.store.PageStore.push_all_changed.Goals as goal
 
@@ -50,7 +50,7 @@ loop-rest-init g c =
       };
       so_far = λ list ready. record {
         made = [];
-        has = subst (λ (b : Bool). HasMade (flush_changes log list store) [] (standing log (sealed_if b list) store) (changed_count (cache_of store).pool)) (sym none)
+        has = subst (λ (b : Bool). HasMade (flush_changes log list store site.image) [] (standing log (sealed_if b list) store site.image) (changed_count (cache_of store).pool)) (sym none)
             (record { pushes = changed_count (cache_of store).pool; enough = omega arith; split = refl });
         keeps = keeps_nothing sizes ready;
         stands = stands_still sizes refl none refl ready ready (record { each = λ page exists. refl }) (λ all. all);
@@ -104,8 +104,8 @@ returns-in-Err-clause-keeps g c list ready =
     let once : b ≡ true → forced ≡ false = λ is. not_forced (has_tail log) _ (no_tail log0.ring.hi log.ring.hi (has_tail log0) (has_tail log) inv.pushes.works.forces.end is) in
     let wants : wants_flush (cache_of store) ≡ true = some_left store.pool.frames c.loop-rest.rest.now inv.pages (sym c.is_empty.ensures ∙ c.loop-rest-test.true) in
     let saves = c.flushes_save_all.ensures.saves_a_page (rules_for store) (cache_of store) wants in
-    let s = standing log (sealed_if b list) store in
-    let next = one_to_come (flush_changes log0 list c.args.self.now) so_far.made s (changed_count (cache_of store).pool) so_far.has wants 0 (omega (arith, saves)) (after_push s) refl in
+    let s = standing log (sealed_if b list) store (g.S.Site.state c.loop-rest.site).image in
+    let next = one_to_come (flush_changes log0 list c.args.self.now (g.S.Site.state c.args.site.now).image) so_far.made s (changed_count (cache_of store).pool) so_far.has wants 0 (omega (arith, saves)) (after_push s) refl in
     keeps_more (pushes_changes next.pushes (after_push s)) (either b forced (λ is. inv.forced ∙ or_first b _ is) (λ is. inv.forced ∙ or_second b _ (forced_by_first (has_tail log) (is_unsealed (end_now log)) (room_for_pages (rules_for store) store.flash.directory) store.pool.frames is))) next.split
     (keeps_then c.fronts_add_up.ensures once inv.pushes.works.geometry (inv.pushes.works.calls.stays_quiet ready.blocks.honest) so_far.stands so_far.keeps (c.in-Err.ensures.keeps (sealed_if b list) so_far.stands.ready))
   where
@@ -187,14 +187,16 @@ loop-rest-preserved g c =
       so_far = λ list ready.
           let so_far = inv.so_far list ready in
           let list' = sealed_if b list in
-          let more = push_changes (standing log list' store) (saved_next store) in
+          let mid = g.S.Site.state c.loop-rest.site in
+          let more = push_changes (standing log list' store mid.image) (saved_next store) in
           let stands = c.in_default.ensures.stands list' so_far.stands.ready in
           record {
             made = so_far.made ++ more;
-            has = one_to_come (flush_changes log0 list first) so_far.made (standing log list' store) (changed_count (cache_of store).pool) so_far.has wants (changed_count (cache_of store').pool) (omega (arith, saves, count))
-                (standing log' (sealed_if (nat_lt log0.ring.hi log'.ring.hi) list) store')
-                (standing_after log log' list' (sealed_if (nat_lt log0.ring.hi log'.ring.hi) list) store store' _ refl push.works.forces.next push.works.forces.end
-                (sym (sealed_again list b forced once ∙ ap (λ (t : Bool). sealed_if t list) (sym now))) push.works.geometry save.directory save.frames);
+            has = one_to_come (flush_changes log0 list first old.image) so_far.made (standing log list' store mid.image) (changed_count (cache_of store).pool) so_far.has wants (changed_count (cache_of store').pool) (omega (arith, saves, count))
+                (standing log' (sealed_if (nat_lt log0.ring.hi log'.ring.hi) list) store' new.image)
+                (standing_after log log' list' (sealed_if (nat_lt log0.ring.hi log'.ring.hi) list) store store' mid.image new.image _ refl push.works.forces.next push.works.forces.end
+                (sym (sealed_again list b forced once ∙ ap (λ (t : Bool). sealed_if t list) (sym now))) push.works.geometry save.directory save.frames
+                (gives_versions store.flash.geometry (saved_next store) mid.image new.image (save.gives list' so_far.stands.ready)));
             keeps = keeps_as (sym now) refl (keeps_then c.fronts_add_up.ensures once works.geometry (works.calls.stays_quiet ready.blocks.honest) so_far.stands so_far.keeps (c.in_default.ensures.keeps list' so_far.stands.ready));
             stands = stands_as (sym now) refl (stands_then c.changes_add_up.ensures once works.geometry so_far.stands stands);
           };

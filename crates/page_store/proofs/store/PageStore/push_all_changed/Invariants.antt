@@ -21,7 +21,7 @@ invariant-loop-rest g l =
     record {
       going : MayWork l.log l.self now;
       pushes : Pushes {T = Unit {0}} (Ok tt) l.fn.log l.log first l.self old now (nat_lt l.fn.log.ring.hi l.log.ring.hi);
-      so_far : (list : LogList) → AreReady first l.fn.log list old → SoFar (flush_changes l.fn.log list first) l.fn.log l.log first l.self old now list (nat_lt l.fn.log.ring.hi l.log.ring.hi);
+      so_far : (list : LogList) → AreReady first l.fn.log list old → SoFar (flush_changes l.fn.log list first old.image) l.fn.log l.log first l.self old now list (nat_lt l.fn.log.ring.hi l.log.ring.hi);
       forced : forces l.fn.log (flushed_contents first) ≡ (nat_lt l.fn.log.ring.hi l.log.ring.hi || forces l.log (flushed_contents l.self));
       untouched : wants_flush (cache_of first) ≡ true → first.flash.ring.hi ≡ 2 ^ 40 → l.self ≡ first;
       machine : flushed (rules first) (cache_of first) ≡ flushed (rules first) (cache_of l.self);

@@ -1,13 +1,15 @@
-use Rattle.std.proofs.Common.{rules, ◌≢◌, ◌<◌, ℕ, List, length, map, arith, ap, subst, sym, ◌∙◌, refl}
+use Rattle.std.proofs.Common.{rules, ◌≢◌, ◌<◌, ◌++◌, ℕ, List, length, length-append, map, arith, ap, subst, sym, ◌∙◌, refl}
 use Rattle.std.specs.Prelude.{All, AllPairs, IsSome}
 use Rattle.std.specs.List.{AllByRecursion}
 use Rattle.std.proofs.lemmas.List.{length-map}
 use Rattle.site.specs.declared.geometry.Geometry.{Geometry}
 use Rattle.buffer_pool.specs.declared.frame.Frame.{Frame}
 use Rattle.buffer_pool.specs.Frames.{State as Pool, IsPool, frame_of}
-use Rattle.second_chance.specs.Machine.{Cache}
+use Rattle.second_chance.specs.Machine.{Cache, chance_frame}
 use Rattle.second_chance.specs.declared.frame.Frame.{Frame as Known}
-use Rattle.flash_cache.specs.Pushed.{pushed_queue}
+use Rattle.flash_cache.specs.Pushed.{chance_marks, pushed_queue}
+use Rattle.page_store.specs.Leaves.{Gives}
+use Rattle.second_chance.specs.Plans.{Placed}
 use Rattle.page_store.specs.declared.store.PageStore.{PageStore}
 use Rattle.page_store.specs.Held.{IsPage, MayGoOn}
 use Rattle.page_store.specs.Caching.{pool_page, cache_of, rules as rules_for}
@@ -17,7 +19,7 @@ use Rattle.page_store.specs.Changing.{standing, push_changes}
 use Rattle.page_store.specs.Pulling.{room_for_pages}
 use Rattle.page_store.specs.Flushing.{saved_next, flushed_first, cleared_all}
 use Rattle.page_store.proofs.Saving.{pages_there, pages_exist, pages_apart, distinct_chosen, some_chosen}
-use Rattle.page_store.proofs.Choosing.{room_some}
+use Rattle.page_store.proofs.Choosing.{few_chosen, room_some}
 use Rattle.page_store.proofs.Touching.{pool_going}
 use Rattle.page_store.proofs.Clearing.{all_contents}
 use Rattle.page_store.proofs.Flushes.{is_saving, saved_fits, saved_current, machine_saved, pages_cleared}
@@ -30,6 +32,16 @@ push-requires-clause-some g c =
     let some = some_chosen (room_for_pages (rules_for c.args.self.now) c.args.self.now.flash.directory) c.args.self.now.pool.frames (room_some (rules_for c.args.self.now) c.args.self.now.flash.directory) c.requires.some in
     let count = ap length c.requires.pages in
     omega (arith, some, count, length-map (saved_next c.args.self.now) (λ (f : Frame). f.page))
+
+pub push-requires-clause-few : goal.push-requires-clause-few
+push-requires-clause-few g c =
+    let store = c.args.self.now in
+    let room : ℕ = room_for_pages (rules_for store) store.flash.directory in
+    let least = room_some (rules_for store) store.flash.directory in
+    let few = few_chosen room store.pool.frames in
+    let chances : List Placed = chance_marks store.flash in
+    let count = ap length c.requires.pages in
+    omega (arith, few, least, count, length-append (map (λ (f : Placed). f.1.page) chances) c.args.pages.now, length-map chances (λ (f : Placed). f.1.page), length-map (saved_next store) (λ (f : Frame). f.page))
 
 pub push-requires-clause-exist : goal.push-requires-clause-exist
 push-requires-clause-exist g c = subst (All (λ (page : ℕ). page < c.args.self.now.flash.geometry.pages)) (sym c.requires.pages)
@@ -47,7 +59,7 @@ clear_all-requires-clause-there g c =
 pub returns-in-Err-clause-keeps : goal.returns-in-Err-clause-keeps
 returns-in-Err-clause-keeps g c list ready =
     let facts = is_saving c.args.self.now c.args.pages.now c.args.contents.now c.requires.going.pages_going.own c.requires.pages c.requires.contents in
-    keeps_as (ap (forces c.args.log.now) facts.chosen_are.first) (facts.changes c.args.log.now list)
+    keeps_as (ap (forces c.args.log.now) facts.chosen_are.first) (facts.changes c.args.log.now list (g.S.Site.state c.args.site.now).image)
     (keeps_given (facts.own c.args.log.now (g.S.Site.state c.args.site.now).image) c.in-Err.ensures.pushes.foreign (c.in-Err.ensures.keeps list ready))
 
 pub returns-in-Err-clause-pushes : goal.returns-in-Err-clause-pushes
@@ -62,6 +74,7 @@ returns-in-Err-clause-saves g c =
       machine = tt;
       frames = tt;
       directory = tt;
+      gives = λ list ready. tt;
       reads = c.push.ensures.reads;
       worn_log = λ says. (let both = c.in-Err.ensures.worn.worn_log says in (sym (ap (forces c.args.log.now) facts.chosen_are.first) ∙ both.0, both.1));
       worn_flash = λ says. (c.in-Err.ensures.worn.worn_flash says).1;
@@ -72,7 +85,7 @@ returns-in-Err-clause-saves g c =
 pub returns-in-Ok-clause-keeps : goal.returns-in-Ok-clause-keeps
 returns-in-Ok-clause-keeps g c list ready =
     let facts = is_saving c.args.self.now c.args.pages.now c.args.contents.now c.requires.going.pages_going.own c.requires.pages c.requires.contents in
-    keeps_as (ap (forces c.args.log.now) facts.chosen_are.first) (facts.changes c.args.log.now list)
+    keeps_as (ap (forces c.args.log.now) facts.chosen_are.first) (facts.changes c.args.log.now list (g.S.Site.state c.args.site.now).image)
     (keeps_given (facts.own c.args.log.now (g.S.Site.state c.args.site.now).image) c.in-Ok.ensures.pushes.foreign (c.in-Ok.ensures.keeps list ready))
 
 pub returns-in-Ok-clause-pushes : goal.returns-in-Ok-clause-pushes
@@ -123,8 +136,8 @@ returns-in-Ok-clause-stands g c list ready =
     let after = stands.ready own.clean own.sound facts.chosen_are.are_changed in
     let saved : PageStore = record mid { pool = record mid.pool { frames = cleared_all pages mid.pool.frames } } in
     let P = λ (content : List ℕ). IsLogged (end_forced log') content in
-    subst (λ (s : PageStore). Stands log log' store s old new list (forces log (flushed_first store)) (push_changes (standing log list store) (saved_next store))) (sym c.clear_all.ensures.cleared)
-    (stands_as {pages' = saved} (ap (forces log) facts.chosen_are.first) (facts.changes log list)
+    subst (λ (s : PageStore). Stands log log' store s old new list (forces log (flushed_first store)) (push_changes (standing log list store old.image) (saved_next store))) (sym c.clear_all.ensures.cleared)
+    (stands_as {pages' = saved} (ap (forces log) facts.chosen_are.first) (facts.changes log list old.image)
     (stands_given own push.works.geometry
     (record { pages = saved_fits c.frames_of_pages.ensures.cleared store mid pages contents old new c.push.ensures.pool push.works.geometry stands.gives facts.chosen_are.each after.pages; blocks = after.blocks; records = after.records })
     (saved_current c.frames_of_pages.ensures.cleared store mid pages contents old new c.push.ensures.pool push.works.geometry stands.gives facts.chosen_are.each facts.chosen_are.there)
@@ -137,14 +150,20 @@ returns-in-Ok-clause-saves g c =
     let frames = store.pool.frames in
     let queue = c.push.new.self.flash.directory in
     let facts = is_saving store pages c.args.contents.now c.requires.going.pages_going.own c.requires.pages c.requires.contents in
-    let after = c.in-Ok.ensures.directory ∙ ap (λ (l : List Known). pushed_queue store.flash l) facts.known in
+    let after = c.in-Ok.ensures.directory ∙ ap (λ (l : List Known). pushed_queue store.flash (map chance_frame (chance_marks store.flash) ++ l)) facts.known in
     record {
       machine = ap cache_of c.clear_all.ensures.cleared
           ∙ ap (λ (p : Pool). let k : Cache = record { pool = map pool_page (cleared_all pages p.frames); queue = queue } in k) c.push.ensures.pool
           ∙ ap (λ (l : List ℕ). let k : Cache = record { pool = map pool_page (cleared_all l frames); queue = queue } in k) c.requires.pages
-          ∙ machine_saved store queue (after ∙ ap (λ (l : List Known). pushed_queue store.flash l) (sym (known_pages (saved_next store))));
+          ∙ machine_saved store queue (after ∙ ap (λ (l : List Known). pushed_queue store.flash (map chance_frame (chance_marks store.flash) ++ l)) (sym (known_pages (saved_next store))));
       frames = ap (λ (s : PageStore). s.pool.frames) c.clear_all.ensures.cleared ∙ ap (λ (p : Pool). cleared_all pages p.frames) c.push.ensures.pool ∙ ap (λ (l : List ℕ). cleared_all l frames) c.requires.pages;
       directory = ap (λ (s : PageStore). s.flash.directory) c.clear_all.ensures.cleared ∙ after;
+      gives = λ list ready.
+          let h = store.flash.geometry in
+          let old = g.S.Site.state c.args.site.now in
+          let new = g.S.Site.state c.push.new.site in
+          subst (λ (l : List ℕ). Gives h l (flushed_first store) old.image new.image) c.requires.pages
+          (subst (λ (l : List (List ℕ)). Gives h pages l old.image new.image) facts.chosen_are.first (c.in-Ok.ensures.stands list ready).gives);
       reads = c.push.ensures.reads;
       worn_log = search rules;
       worn_flash = search rules;

@@ -30,7 +30,7 @@ returns-then-is_some-clause-stands g c list ready =
     let after = c.touch.ensures.after in
     let order = λ (n : ℕ). ap (λ (p : Pool). frame_of p.frames n) after ∙ c.frames_of_pages.ensures.touched store.pool.frames page n in
     let P = λ (f : Frame). IsLogged (end_forced log) f.content in
-    stands_still c.requires.going.sizes refl (nothing_forced store page frame is log) (nothing_changes store page frame is log list) ready
+    stands_still c.requires.going.sizes refl (nothing_forced store page frame is log) (nothing_changes store page frame is log list site.image) ready
     (record { pages = order_fits store c.touch.new.self site order ready.pages; blocks = ready.blocks; records = ready.records }) (order_current store c.touch.new.self site.image order)
     (λ logged. subst (λ (p : Pool). AllByRecursion P p.frames) (sym after) (all_touched P store.pool.frames page frame is logged))
 
@@ -101,7 +101,7 @@ pub returns-in-Err-clause-keeps : goal.returns-in-Err-clause-keeps
 returns-in-Err-clause-keeps g c list ready =
     let store = c.args.self.now in
     let none : frame_of store.pool.frames c.args.page ≡ None = search rules in
-    keeps_as (ap (forces c.args.log.now) (pushed_same store c.args.page none)) (changes_same store c.args.page none c.args.log.now list) (c.in-Err.ensures.keeps list ready)
+    keeps_as (ap (forces c.args.log.now) (pushed_same store c.args.page none)) (changes_same store c.args.page none c.args.log.now list (g.S.Site.state c.args.site.now).image) (c.in-Err.ensures.keeps list ready)
 
 pub returns-in-Err-clause-held : goal.returns-in-Err-clause-held
 returns-in-Err-clause-held g c there =
@@ -144,13 +144,13 @@ pub returns-clause-keeps : goal.returns-clause-keeps
 returns-clause-keeps g c list ready =
     let store = c.args.self.now in
     let none : frame_of store.pool.frames c.args.page ≡ None = search rules in
-    keeps_as (ap (forces c.args.log.now) (pushed_same store c.args.page none)) (changes_same store c.args.page none c.args.log.now list) (c.in_default.ensures.keeps list ready)
+    keeps_as (ap (forces c.args.log.now) (pushed_same store c.args.page none)) (changes_same store c.args.page none c.args.log.now list (g.S.Site.state c.args.site.now).image) (c.in_default.ensures.keeps list ready)
 
 pub returns-clause-stands : goal.returns-clause-stands
 returns-clause-stands g c list ready =
     let store = c.args.self.now in
     let none : frame_of store.pool.frames c.args.page ≡ None = search rules in
-    stands_as (ap (forces c.args.log.now) (pushed_same store c.args.page none)) (changes_same store c.args.page none c.args.log.now list) (c.in_default.ensures.stands list ready)
+    stands_as (ap (forces c.args.log.now) (pushed_same store c.args.page none)) (changes_same store c.args.page none c.args.log.now list (g.S.Site.state c.args.site.now).image) (c.in_default.ensures.stands list ready)
 
 pub returns-clause-machine : goal.returns-clause-machine
 returns-clause-machine g c =
