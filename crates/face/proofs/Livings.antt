@@ -1,21 +1,19 @@
 -- One life, and the lives of a script under way.
-use Rattle.std.proofs.Common.{◌≡◌, ◌⊎◌, inl, inr, ⊎_elim, ℕ, zero, suc, ◌+◌, ◌-◌, ◌≤◌, ◌<◌, Bool, true, false, List, [], ◌∷◌, ◌++◌, length, take, drop, refl, sym, ◌∙◌, ap, subst, arith, append_assoc, IsTrue}
+use Rattle.std.proofs.Common.{◌≡◌, inl, inr, ⊎_elim, ℕ, ◌-◌, true, List, [], ◌++◌, sym, ◌∙◌, ap, subst, IsTrue}
 use Rattle.std.specs.Prelude.{Option, Some, None, IfSome}
-use Rattle.std.proofs.lemmas.List.{append-nil}
-use Rattle.site.specs.State.{State as Site, Image, Snapshot, MayLeave, now_of, snapshot_of, no_loose}
+use Rattle.site.specs.State.{State as Site, Image, MayLeave, now_of, snapshot_of}
 use Rattle.site.specs.Laws.{holds_now}
 use Rattle.site.specs.declared.geometry.Geometry.{Geometry}
-use Rattle.record_model.specs.State.{State, Content, opened}
+use Rattle.record_model.specs.State.{State, opened}
 use Rattle.record_model.specs.Run.{IsInRange, Line, after_commits, commit_marks}
 use Rattle.engine.specs.Image.{Opens}
-use Rattle.face.specs.Headline.{Durability, IsFaultOf, IsGood, ran}
+use Rattle.face.specs.Headline.{Durability, IsFaultOf, ran}
 use Rattle.face.specs.Lines.{commands_of}
 use Rattle.face.specs.Lives.{LawOfLives, OpensAgain}
 use Rattle.face.specs.Living.{Finds, HasLivedOne, IsFoundAfter}
-use Rattle.face.specs.Range.{IsLeft, IsToldOf, run_of, run_text, texts, turns_of}
+use Rattle.face.specs.Range.{IsLeft, IsToldOf, run_text, texts, turns_of}
 use Rattle.face.specs.Run.{Run}
-use Rattle.face.specs.Texts.{fault_line, status_of}
-use Rattle.face.specs.Trial.{Between, GoesOn, IsLineOf, IsTextOf, life_run}
+use Rattle.face.specs.Trial.{Between, IsLineOf, IsTextOf, life_run}
 use Rattle.face.proofs.Longer.{all_heard, lines_longer, range_all, run_with, table_all, told_all}
 use Rattle.face.proofs.Ranges.{IsFault}
 

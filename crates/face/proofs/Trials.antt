@@ -1,20 +1,18 @@
 -- The lives of a script, one after the other.
-use Rattle.std.proofs.Common.{◌≡◌, ◌≢◌, ◌⊎◌, inl, inr, ⊎_elim, ℕ, zero, suc, ◌+◌, ◌-◌, ◌≤◌, ◌<◌, Bool, true, false, List, [], ◌∷◌, ◌++◌, length, take, drop, refl, sym, ◌∙◌, ap, subst, arith, add-one, append_assoc, length-append, take-append-drop, IsTrue}
-use Rattle.std.specs.Prelude.{Option, Some, None, min, Result, Ok, Err, OnOk, OnErr, slice_get, slice_range}
-use Rattle.std.proofs.lemmas.List.{append-nil, length-take-le, take_all, take_at}
-use Rattle.site.specs.State.{State as Site, Image, MayLeave, Moment, no_loose, now_of, snapshot_of}
-use Rattle.site.specs.Calls.{Goes, Rose, SameReads}
+use Rattle.std.proofs.Common.{◌≡◌, ◌≢◌, ◌⊎◌, inl, inr, ⊎_elim, ℕ, zero, suc, ◌+◌, ◌-◌, ◌≤◌, ◌<◌, List, [], ◌∷◌, ◌++◌, length, take, drop, refl, sym, ◌∙◌, ap, subst, arith, add-one, append_assoc, length-append, take-append-drop, IsTrue}
+use Rattle.std.specs.Prelude.{Option, Some, None, min, Result, Ok, Err, OnErr, slice_get, slice_range}
+use Rattle.std.proofs.lemmas.List.{append-nil, take_all, take_at}
+use Rattle.site.specs.State.{State as Site, Image, MayLeave, no_loose, now_of}
+use Rattle.site.specs.Calls.{Goes, Rose}
 use Rattle.site.specs.Crash.{image_left, started}
-use Rattle.site.specs.Geometry.{blank_image}
-use Rattle.site.specs.Laws.{calm, each_weaker, goes_in_sequence, in_sequence, no_call, now_leaves, now_same, rose_then, stays_honest}
-use Rattle.site.specs.MemState.{IsFresh, limits_of, lives_of, state_of}
+use Rattle.site.specs.Laws.{calm, each_weaker, in_sequence, no_call, now_leaves, now_same, rose_then}
+use Rattle.site.specs.MemState.{limits_of, lives_of, state_of}
 use Rattle.site.specs.Moments.{EachMoment}
 use Rattle.site.specs.Telling.{TellsPart}
 use Rattle.site.specs.declared.geometry.Geometry.{Geometry}
 use Rattle.site.specs.declared.mem.MemSite.{MemSite}
 use Rattle.site.specs.declared.outside.Failed.{Failed}
 use Rattle.site.specs.declared.outside.Stop.TheVariants.{Device, Memory, Worn, Foreign}
-use Rattle.record_model.specs.State.{opened}
 use Rattle.workload.specs.declared.scripts.Life.{Life}
 use Rattle.workload.specs.declared.scripts.StopLine.{StopLine}
 use Rattle.workload.specs.Scripts.{lives_between, lives_of as lives_in, stops_from}
@@ -22,11 +20,11 @@ use Rattle.face.specs.declared.halt.Halt.{Halt}
 use Rattle.face.specs.declared.halt.Halt.TheVariants as halt
 use Rattle.face.specs.Image.{BlankLaw, blank_table}
 use Rattle.face.specs.Lines.{HearsOnly}
-use Rattle.face.specs.Living.{Ends, Finds, HasLivedOne, IsFoundAfter, IsGivenUp, IsHaltOfTrial, IsReady}
+use Rattle.face.specs.Living.{Ends, Finds, HasLivedOne, IsGivenUp, IsHaltOfTrial, IsReady}
 use Rattle.face.specs.Run.{IsFront}
 use Rattle.face.specs.Tells.{Tells}
 use Rattle.face.specs.Texts.{fault_line, status_of}
-use Rattle.face.specs.Trial.{Between, HaveLived, IsLife, IsNewSite, IsNext, IsStatus, LeavesDevices, Lives, TellsAll, TellsFirst, TellsSome, TrialCauses, TrialContract, at_first, is_within, life_line, numbers_of, script_limit}
+use Rattle.face.specs.Trial.{Between, HaveLived, IsLife, IsNewSite, IsStatus, LeavesDevices, Lives, TellsAll, TellsSome, TrialCauses, at_first, is_within, life_line, numbers_of, script_limit}
 use Rattle.face.proofs.Endings.{ends_with}
 use Rattle.face.proofs.Longer.{front_more}
 

@@ -1,11 +1,9 @@
-use Rattle.std.proofs.Common.{◌≡◌, ◌∙◌, ◌++◌, ◌+◌, ℕ, List, refl, sym, ap, subst, arith, add-one, ◌<◌, length}
+use Rattle.std.proofs.Common.{◌∙◌, ◌++◌, ◌+◌, ℕ, List, refl, sym, ap, subst, arith, add-one, ◌<◌, length}
 use Rattle.site.specs.Laws.{goes_in_sequence, goes_nowhere, stays_honest}
-use Rattle.std.specs.Prelude.{None}
 use Rattle.face.specs.Run.{IsFront}
-use Rattle.site.specs.MemState.{state_of}
 use Rattle.workload.specs.Scripts.{lives_of as lives_in}
 use Rattle.face.specs.Trial.{life_line}
-use Rattle.face.proofs.Trials.{devices_still, devices_then, few_lives, given_up, goes_on, more_lives, none_yet, some_lives, told_in_part, told_last}
+use Rattle.face.proofs.Trials.{devices_still, devices_then, few_lives, goes_on, more_lives, none_yet, some_lives, told_in_part, told_last}
 use Rattle.face.proofs.trial.live_script.Goals as goal
 
 pub loop-place-init : goal.loop-place-init
