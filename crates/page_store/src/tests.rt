@@ -340,6 +340,18 @@ const NINE: [(u32, Work); 10] = [
     (8, Work::Change),
 ];
 
+// The frames in the queue then, each by its group, its place there, and its page: page 0 has a second chance.
+const LISTED: [(u64, u8, u32); 8] = [
+    (1, 0, 1),
+    (2, 0, 2),
+    (3, 0, 3),
+    (4, 0, 4),
+    (5, 0, 5),
+    (6, 0, 6),
+    (7, 0, 0),
+    (7, 1, 7),
+];
+
 // The listing of a store over a site.
 fn listed(pages: &PageStore, _site: &MemSite) -> Result<Listing, Stop>
     requires going { MayGoOn pages.now (state_of _site.now) }
@@ -358,12 +370,12 @@ fn nine_pages_are_listed(rt: HostRuntime) -> Result<(), Fail> {
     let (mut pages, mut log) = opened(rt.alloc(), &mut site, 1)?;
     assert!(rt; play(&mut pages, &mut log, &mut site, &NINE)?);
     let lines = listed(&pages, &site)?;
-    assert_eq!(rt; lines.len(), 8);
-    for place in 0..7 {
+    assert_eq!(rt; lines.len(), 9);
+    for (place, (group, index, page)) in LISTED.iter().enumerate() {
         let wanted = CacheLine::Frame {
-            group: place as u64 + 1,
-            index: 0,
-            page: place as u32 + 1,
+            group: *group,
+            index: *index,
+            page: *page,
             valid: true,
             dirty: true,
             referenced: false,
@@ -374,7 +386,7 @@ fn nine_pages_are_listed(rt: HostRuntime) -> Result<(), Fail> {
         page: 8,
         changed: true,
     };
-    assert!(rt; has_line(&lines, 7, last));
+    assert!(rt; has_line(&lines, 8, last));
     Ok(())
 }
 
