@@ -5,9 +5,9 @@ use Rattle.byte_fields.specs.declared.frame_head.Mark.{Mark}
 use Rattle.second_chance.specs.declared.plan.PoolMark.{PoolMark}
 use Rattle.second_chance.specs.declared.plan.Plan.{Plan}
 
--- whether second chances are given: not yet
+-- whether second chances are given
 abbrev pub chances_given : Bool
-chances_given = false
+chances_given = true
 
 -- whether an eviction pulls pages
 abbrev pub pages_pulled : Bool

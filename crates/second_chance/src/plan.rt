@@ -45,13 +45,13 @@ pub struct Taking {
     pub pulls: bool,
 }
 
-/// What the pushes of the page cache take: no second chances.
+/// What the pushes of the page cache take.
 const TAKING: Taking = Taking {
-    chances: false,
+    chances: true,
     pulls: true,
 };
 
-/// What the push of an evicted page does in the page cache: `plan_evict_taking`, with no second chances.
+/// What the push of an evicted page does in the page cache: `plan_evict_taking`, with second chances and pulled pages.
 pub fn plan_evict(front: Option<&[Mark]>, pool: &[PoolMark]) -> Plan
     requires { ForSome front (λ marks. length marks.now ≤ 8) }
     ensures { result ≡ eviction_plan pages_pulled chances_given (unwrap_or (option_copied front.entry) []) pool.now }
@@ -59,7 +59,7 @@ pub fn plan_evict(front: Option<&[Mark]>, pool: &[PoolMark]) -> Plan
     plan_evict_taking(TAKING, front, pool)
 }
 
-/// What a push of a flush does in the page cache: `plan_flush_taking`, with no second chances.
+/// What a push of a flush does in the page cache: `plan_flush_taking`, with second chances.
 pub fn plan_flush(front: Option<&[Mark]>, pool: &[PoolMark]) -> Plan
     requires { ForSome front (λ marks. length marks.now ≤ 8) }
     ensures { result ≡ flush_plan chances_given (unwrap_or (option_copied front.entry) []) pool.now }
