@@ -19,7 +19,7 @@ says() {
 mkdir "$folder/db"
 cd "$folder/db" || exit 1
 says 'no words' 2 "face: there are no words, or one of them isn't UTF-8 text"
-says 'help' 2 'face: word 1 is "help", and not new, run or load' help
+says 'help' 2 'face: word 1 is "help", and not new, run, load or simulate' help
 says 'the usage' 2 'usage: face new PAGES GROUPS BLOCKS .*' --help
 [ "$(grep -v -c '^face: ' "$folder/said")" -eq 8 ] && [ "$(cat "$folder/out")" = 'fault words' ]
 verdict 'the usage has eight lines' $?
