@@ -309,7 +309,7 @@ const NEW: [&[u8]; 5] = [b"face", b"new", b"16", b"8", b"64"];
 
 const RUN: [&[u8]; 3] = [b"face", b"run", b"1"];
 
-// Wrong words are said by their place and what they aren't; the usage behind them takes eight lines.
+// Wrong words are said by their place and what they aren't; the usage behind them takes nine lines.
 #[test]
 fn wrong_words_are_said(rt: HostRuntime) -> Result<(), Fail> {
     says(
@@ -358,7 +358,7 @@ fn wrong_words_are_said(rt: HostRuntime) -> Result<(), Fail> {
             .iter()
             .filter(|octet| **octet == b'\n')
             .count(),
-        9
+        10
     );
     Ok(())
 }
