@@ -309,7 +309,7 @@ const NEW: [&[u8]; 5] = [b"face", b"new", b"16", b"8", b"64"];
 
 const RUN: [&[u8]; 3] = [b"face", b"run", b"1"];
 
-// Wrong words are said by their place and what they aren't; the usage behind them takes eight lines.
+// Wrong words are said by their place and what they aren't; the usage behind them takes nine lines.
 #[test]
 fn wrong_words_are_said(rt: HostRuntime) -> Result<(), Fail> {
     says(
@@ -322,19 +322,19 @@ fn wrong_words_are_said(rt: HostRuntime) -> Result<(), Fail> {
         &rt,
         &[b"face", b"help"],
         2,
-        "face: word 1 is \"help\", and not new, run or load\nusage: face new",
+        "face: word 1 is \"help\", and not new, run, load or simulate\nusage: face new",
     )?;
     says(
         &rt,
         &[b"face", b"--help"],
         2,
-        "face: word 1 is \"--help\", and not new, run or load\n",
+        "face: word 1 is \"--help\", and not new, run, load or simulate\n",
     )?;
     says(
         &rt,
         &[b"face", b"run\n"],
         2,
-        "face: word 1 is \"run\\n\", and not new, run or load\n",
+        "face: word 1 is \"run\\n\", and not new, run, load or simulate\n",
     )?;
     says(&rt, &[b"face", b"run"], 2, "face: POOL is missing\n")?;
     says(
@@ -358,7 +358,7 @@ fn wrong_words_are_said(rt: HostRuntime) -> Result<(), Fail> {
             .iter()
             .filter(|octet| **octet == b'\n')
             .count(),
-        9
+        10
     );
     Ok(())
 }
@@ -366,7 +366,7 @@ fn wrong_words_are_said(rt: HostRuntime) -> Result<(), Fail> {
 // The words, without the program's own name, and what is wrong with them.
 #[test]
 fn the_first_wrong_word_is_found(rt: HostRuntime) -> Result<(), Fail> {
-    let rows: [(&str, Option<Wrong>); 24] = [
+    let rows: [(&str, Option<Wrong>); 27] = [
         ("new 1 8 16", None),
         ("new 65536 16384 1048576", None),
         ("run 1", None),
@@ -393,6 +393,9 @@ fn the_first_wrong_word_is_found(rt: HostRuntime) -> Result<(), Fail> {
             Some(Wrong::Unfit(3, Number::Seed)),
         ),
         ("load 1 1", Some(Wrong::Lacks(Number::Pool))),
+        ("simulate 16384 4096", None),
+        ("simulate 10 1", Some(Wrong::Unfit(2, Number::Groups))),
+        ("simulate 8", Some(Wrong::Lacks(Number::Pool))),
         ("RUN 1", Some(Wrong::Unknown)),
     ];
     for (line, wrong) in rows {
