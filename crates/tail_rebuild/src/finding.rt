@@ -22,7 +22,8 @@ const HI_MAX: u64 = 1 << 40;
 /// the number of the next segment, and reads each segment that has a live group, and the heads of the at most four groups
 /// that aren't in segments. It reads about half as often as there are slots for groups.
 ///
-/// `Foreign` comes only where flash isn't of the form, or its segments don't follow the groups.
+/// `Foreign` comes only where flash isn't of the form, or its segments don't follow the groups; `Memory` where the heads of
+/// the live groups find none.
 pub fn rebuild<S: Site>(alloc: Global, site: &mut S, geometry: &Geometry) -> Result<Heads, Stop>
     requires limits { HasLimits geometry.now }
     requires lengths { HasLengths geometry.now (S.state site.old).image }

@@ -86,6 +86,7 @@ fn a_segment_is_saved_once_it_is_due(rt: HostRuntime) -> Result<(), Fail> {
     let mut site = with_groups(rt.alloc(), &[9, 8, 7, 6])?;
     let mut heads = rebuild(rt.alloc(), &mut site, &SMALL)?;
     assert_eq!(rt; heads.list.len(), 4);
+    assert_eq!(rt; heads.list.at(1)[0].page, 8);
     assert_eq!(rt; heads.segments.hi(), 0);
     save_due(&mut site, &SMALL, &heads.groups, &mut heads.segments)?;
     assert_eq!(rt; heads.segments.hi(), 1);
