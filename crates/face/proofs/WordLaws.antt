@@ -1,12 +1,13 @@
--- The words of `run`, of `new` and of `load` are told apart, and say one thing.
+-- The words of `run`, of `new`, of `load` and of `simulate` are told apart, and say one thing.
 use Rattle.std.proofs.Common.{◌≡◌, ℕ, List, sym, ◌∙◌, ap, arith, length}
 use Rattle.std.specs.Prelude.{decimal}
 use Rattle.std.proofs.lemmas.Fmt.{decimal_injective}
 use Rattle.site.specs.declared.geometry.Geometry.{Geometry}
 use Rattle.face.specs.declared.request.Load.{Load}
-use Rattle.face.specs.Words.{IsRun, IsNew, IsLoad}
-use Rattle.face.proofs.ClapLaws.{differ_load_new}
-use Rattle.face.proofs.WordLists.{first_word, second_word, four_words}
+use Rattle.face.specs.declared.request.Simulation.{Simulation}
+use Rattle.face.specs.Words.{IsRun, IsNew, IsLoad, IsSimulate}
+use Rattle.face.proofs.ClapLaws.{differ_load_new, differ_simulate_load, differ_simulate_new, differ_simulate_run}
+use Rattle.face.proofs.WordLists.{first_word, second_word, three_words, four_words}
 
 pub not_both : (words : List (List ℕ)) (pool : ℕ) (g : Geometry) → IsRun words pool → IsNew words g → ⊥
 not_both words pool g run new =
@@ -55,3 +56,23 @@ one_load words load other first second =
     let seed = decimal_injective load.seed other.seed first.limits.seed second.limits.seed same.third in
     let pool = decimal_injective load.pool other.pool (omega (arith, r)) (omega (arith, s)) same.fourth in
     λ i. record { count = count i; seed = seed i; pool = pool i }
+
+pub no_simulate_run : (words : List (List ℕ)) (pool : ℕ) (s : Simulation) → IsRun words pool → IsSimulate words s → ⊥
+no_simulate_run words pool s run is_simulate = differ_simulate_run (first_word _ _ _ _ (sym is_simulate.words_are ∙ run.words_are))
+
+pub no_simulate_new : (words : List (List ℕ)) (g : Geometry) (s : Simulation) → IsNew words g → IsSimulate words s → ⊥
+no_simulate_new words g s new is_simulate = differ_simulate_new (first_word _ _ _ _ (sym is_simulate.words_are ∙ new.words_are))
+
+pub no_simulate_load : (words : List (List ℕ)) (load : Load) (s : Simulation) → IsLoad words load → IsSimulate words s → ⊥
+no_simulate_load words load s is_load is_simulate = differ_simulate_load (first_word _ _ _ _ (sym is_simulate.words_are ∙ is_load.words_are))
+
+pub one_simulation : (words : List (List ℕ)) (s other : Simulation) → IsSimulate words s → IsSimulate words other → s ≡ other
+one_simulation words s other first second =
+    let same = three_words _ _ _ _ _ _ (sym first.words_are ∙ second.words_are) in
+    let p = first.limits.most in
+    let q = second.limits.most in
+    let r = first.limits.to in
+    let t = second.limits.to in
+    let groups = decimal_injective s.groups other.groups (omega (arith, p)) (omega (arith, q)) same.0 in
+    let pool = decimal_injective s.pool other.pool (omega (arith, r)) (omega (arith, t)) same.1 in
+    λ i. record { groups = groups i; pool = pool i }

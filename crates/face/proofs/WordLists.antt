@@ -1,4 +1,4 @@
--- Lists of two and of four words.
+-- Lists of two, three and four words.
 use Rattle.std.proofs.Common.{◌≡◌, ℕ, ◌≤◌, ◌<◌, List, [], ◌∷◌, length, get_or, sym, arith}
 
 -- a list of two items has these two
@@ -22,6 +22,10 @@ second_word a b c d is = cc
 
 pub first_word : (a b : List ℕ) (xs ys : List (List ℕ)) → a ∷ xs ≡ b ∷ ys → a ≡ b
 first_word a b xs ys is = cc
+
+-- the second and the third word of two lists of three are the same
+pub three_words : (a b c a' b' c' : List ℕ) → a ∷ b ∷ c ∷ [] ≡ a' ∷ b' ∷ c' ∷ [] → (b ≡ b') × (c ≡ c')
+three_words a b c a' b' c' is = (cc, cc)
 
 -- the words of two lists of four are the same, one by one
 pub record SameFour (a b c d a' b' c' d' : List ℕ) : Type 0 where

@@ -12,7 +12,9 @@ ghost use Rattle.face.specs.TopCall.{LoadContract, NewContract, RunContract};
 ghost use Rattle.face.specs.Run.{Run, Begins};
 ghost use Rattle.face.specs.Working.{Works};
 ghost use Rattle.face.specs.declared.request.Load.{Load};
-ghost use Rattle.face.specs.Words.{IsRun, IsNew, IsLoad, IsRight, HasDash, words_of};
+ghost use Rattle.face.specs.declared.request.Simulation.{Simulation};
+ghost use Rattle.face.specs.Words.{IsRun, IsNew, IsLoad, IsSimulate, IsRight, HasDash, words_of};
+ghost use Rattle.trace_report.specs.Contract.{SimulateContract};
 ghost use Rattle.face.specs.Words.{RefusesWords, RefusesDevices, LacksMemory};
 
 use crate::answer::answer;
@@ -28,6 +30,7 @@ use record_model::{Command, serial_order};
 use redo_undo::works_add_up;
 use site::Site;
 use std::alloc::Global;
+use trace_report::simulate;
 
 // A run has at most one line more than it takes octets.
 const LINES: u64 = (1 << 40) + 1;
@@ -111,6 +114,7 @@ fn lack_memory<S: Site>(site: &mut S) -> u8
     ensures run { (pool : ℕ) → RunContract pool (S.state site.old) (S.state site.new) result }
     ensures load { (load : Load) → LoadContract load (S.state site.old) (S.state site.new) result }
     ensures new { (g : Geometry) → NewContract g (S.state site.old) (S.state site.new) result }
+    ensures simulate { (s : Simulation) → SimulateContract s.groups s.pool (S.state site.old) (S.state site.new) result }
     ensures lacks { LacksMemory result (S.state site.old) (S.state site.new) }
     ensures goes { Goes (S.state site.old) (S.state site.new) }
 {
@@ -123,7 +127,9 @@ fn lack_memory<S: Site>(site: &mut S) -> u8
 /// The top call: the program's words, without its own name, and the site that it works on. The answer is the status
 /// with which the program ends. The words `run POOL`, with POOL from 1 to 4,096, are the work of `serve`. The words
 /// `new PAGES GROUPS BLOCKS` test that the devices have these sizes and are blank. The words `load COUNT SEED POOL`,
-/// with COUNT from 1 to 100,000 and SEED below 2^64, are the work of `serve_load`. All other words have status 2.
+/// with COUNT from 1 to 100,000 and SEED below 2^64, are the work of `serve_load`. The words `simulate GROUPS POOL`, with
+/// GROUPS a multiple of 4 from 8 to 16,384, tell what three page caches do with the trace on the input, and touch no
+/// device. All other words have status 2.
 /// Reading the words may want memory, which has status 4; then nothing is read or changed.
 pub fn face<S: Site>(alloc: Global, words: &[String], site: &mut S) -> u8
     // What each command does, and when each of its statuses comes.
@@ -133,6 +139,8 @@ pub fn face<S: Site>(alloc: Global, words: &[String], site: &mut S) -> u8
         → LoadContract load (S.state site.old) (S.state site.new) result }
     ensures new { (g : Geometry) → IsNew (words_of words.now) g
         → NewContract g (S.state site.old) (S.state site.new) result }
+    ensures simulate { (s : Simulation) → IsSimulate (words_of words.now) s
+        → SimulateContract s.groups s.pool (S.state site.old) (S.state site.new) result }
     // Devices without sizes have status 9, or memory was wanted before anything was done.
     ensures sizes { ((pool : ℕ) × IsRun (words_of words.now) pool) → HasNoSizes (S.state site.old)
         → RefusesDevices result (S.state site.old) (S.state site.new)
@@ -154,6 +162,7 @@ pub fn face<S: Site>(alloc: Global, words: &[String], site: &mut S) -> u8
         Ok(Request::Run(pool)) => serve(alloc, pool, site),
         Ok(Request::New(geometry)) => make_new(&geometry, site),
         Ok(Request::Load(load)) => serve_load(alloc, &load, site),
+        Ok(Request::Simulate(caches)) => simulate(alloc, caches.groups, caches.pool, site),
         Err(Unread::Words) => {
             let _ = tell_words(site);
             2

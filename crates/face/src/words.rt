@@ -1,5 +1,5 @@
 // The words that the program is called with.
-ghost use Rattle.std.specs.Prelude.{◌≡◌, ◌↔◌, ◌≤◌, ◌<◌, ◌^◌, ℕ, IsTrue, IfSome, IfNone, codes, decimal};
+ghost use Rattle.std.specs.Prelude.{◌≡◌, ◌↔◌, ◌≤◌, ◌<◌, ◌^◌, ◌%◌, ℕ, IsTrue, IfSome, IfNone, codes, decimal};
 ghost use Rattle.site.specs.Geometry.{HasLimits};
 ghost use Rattle.site.specs.declared.geometry.Geometry.{Geometry};
 ghost use Rattle.face.specs.Words.{IsNew, words_of};
@@ -67,6 +67,20 @@ pub fn number_in(word: &str) -> Option<u64>
     Some(number)
 }
 
+/// The number of groups that a word writes: a multiple of four within the limits.
+pub fn groups_in(word: &[u8]) -> Option<u32>
+    ensures groups { IfSome result (λ n. (8 ≤ n) × (n ≤ 16384) × (n % 4 ≡ 0) × (word.now ≡ decimal n)) }
+    ensures none { IfNone result ((n : ℕ) → 8 ≤ n → n ≤ 16384 → n % 4 ≡ 0 → word.now ≡ decimal n → ⊥) }
+{
+    let Some(groups) = number_within(word, 8, GROUPS_MAX) else {
+        return None;
+    };
+    if groups % 4 != 0 {
+        return None;
+    }
+    Some(groups)
+}
+
 /// The sizes that three words write, if they are within the limits.
 pub fn geometry_of(pages: &[u8], groups: &[u8], blocks: &[u8]) -> Option<Geometry>
     ensures sizes { IfSome result (λ g. HasLimits g × (pages.now ≡ decimal g.pages) × (groups.now ≡ decimal g.groups)
@@ -77,15 +91,12 @@ pub fn geometry_of(pages: &[u8], groups: &[u8], blocks: &[u8]) -> Option<Geometr
     let Some(pages) = number_within(pages, 1, PAGES_MAX) else {
         return None;
     };
-    let Some(groups) = number_within(groups, 8, GROUPS_MAX) else {
+    let Some(groups) = groups_in(groups) else {
         return None;
     };
     let Some(blocks) = number_within(blocks, 16, BLOCKS_MAX) else {
         return None;
     };
-    if groups % 4 != 0 {
-        return None;
-    }
     Some(Geometry {
         pages,
         groups,
