@@ -1,7 +1,9 @@
 // What is said on standard error where the words are wrong or the work can't be done. No line that is told and no
 // status depends on it, and what can't be said is left unsaid.
 
-use crate::words::{COUNT_MAX, POOL_MAX, geometry_of, groups_in, number_in, number_within, sizes, trial_geometry_of};
+use crate::words::{
+    COUNT_MAX, POOL_MAX, geometry_of, groups_in, number_in, number_within, sizes, trial_geometry_of,
+};
 use file_site::{Absence, Call, Failure, FileSite, LockFile, Watch, path};
 use site::{Dev, Geometry, Site};
 use std::io::{Eprint, Input, Print};

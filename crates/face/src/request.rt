@@ -13,7 +13,9 @@ ghost use Rattle.face.specs.declared.request.TrialSizes.{TrialSizes};
 ghost use Rattle.face.specs.declared.request.Unread.{Unread};
 ghost use Rattle.site.specs.declared.geometry.Geometry.{Geometry};
 
-use crate::words::{COUNT_MAX, POOL_MAX, geometry_of, groups_in, number_in, number_within, trial_geometry_of};
+use crate::words::{
+    COUNT_MAX, POOL_MAX, geometry_of, groups_in, number_in, number_within, trial_geometry_of,
+};
 use clap::error::ErrorKind;
 use clap::{Arg, ArgMatches, Command, Error};
 use site::Geometry;
