@@ -1,4 +1,4 @@
--- Lists of two and of four words.
+-- Lists of two, three and four words.
 use Rattle.std.proofs.Common.{◌≡◌, ℕ, ◌≤◌, ◌<◌, List, [], ◌∷◌, length, get_or, sym, arith}
 
 -- a list of two items has these two
@@ -17,11 +17,26 @@ four_items (x ∷ y ∷ z ∷ []) a b c d many few first second third fourth = a
 four_items (x ∷ y ∷ z ∷ w ∷ []) a b c d many few first second third fourth = λ i. sym first i ∷ sym second i ∷ sym third i ∷ sym fourth i ∷ []
 four_items (x ∷ y ∷ z ∷ w ∷ v ∷ xs) a b c d many few first second third fourth = absurd (omega (arith, few))
 
+-- the words of two lists of five are the same, one by one
+pub record SameFive (a b c d e a' b' c' d' e' : List ℕ) : Type 0 where
+  pub first : a ≡ a'
+  pub second : b ≡ b'
+  pub third : c ≡ c'
+  pub fourth : d ≡ d'
+  pub fifth : e ≡ e'
+
+pub five_words : (a b c d e a' b' c' d' e' : List ℕ) → a ∷ b ∷ c ∷ d ∷ e ∷ [] ≡ a' ∷ b' ∷ c' ∷ d' ∷ e' ∷ [] → SameFive a b c d e a' b' c' d' e'
+five_words a b c d e a' b' c' d' e' is = record { first = cc; second = cc; third = cc; fourth = cc; fifth = cc }
+
 pub second_word : (a b c d : List ℕ) → a ∷ b ∷ [] ≡ c ∷ d ∷ [] → b ≡ d
 second_word a b c d is = cc
 
 pub first_word : (a b : List ℕ) (xs ys : List (List ℕ)) → a ∷ xs ≡ b ∷ ys → a ≡ b
 first_word a b xs ys is = cc
+
+-- the second and the third word of two lists of three are the same
+pub three_words : (a b c a' b' c' : List ℕ) → a ∷ b ∷ c ∷ [] ≡ a' ∷ b' ∷ c' ∷ [] → (b ≡ b') × (c ≡ c')
+three_words a b c a' b' c' is = (cc, cc)
 
 -- the words of two lists of four are the same, one by one
 pub record SameFour (a b c d a' b' c' d' : List ℕ) : Type 0 where

@@ -1,7 +1,9 @@
 use Rattle.std.proofs.Common.{refl, rules}
 use Rattle.face.specs.Words.{LacksMemory}
+use Rattle.trace_report.proofs.Lacking.{lacked}
 use Rattle.face.proofs.Endings.{only_tells}
 use Rattle.face.proofs.MemoryLaws.{lacked_contract, lacked_load_run, lacked_run}
+use Rattle.face.proofs.Trials.{lacked_trial}
 use Rattle.face.proofs.top.lack_memory.Goals as goal
 
 pub returns : goal.returns
@@ -13,6 +15,14 @@ returns g c =
       run = λ pool. lacked_run c.serial_order.ensures c.works_add_up.ensures.rise c.works_add_up.ensures.overflow pool old new c.tell_memory.result c.tell_memory.ensures;
       load = λ load. lacked_load_run c.works_add_up.ensures.rise c.works_add_up.ensures.overflow load old new c.tell_memory.result c.tell_memory.ensures;
       new = λ geometry. lacked_contract 4 old new lacks geometry;
+      simulate = λ s. lacked s.groups s.pool old new c.tell_memory.result (record {
+        any_moment = c.tell_memory.ensures.any_moment;
+        told = c.tell_memory.ensures.told;
+        reads = c.tell_memory.ensures.reads;
+        goes = c.tell_memory.ensures.goes;
+        cause = c.tell_memory.ensures.cause;
+      });
+      trial = λ geometry. lacked_trial geometry old new c.tell_memory.result c.tell_memory.ensures;
       lacks = lacks;
       goes = search rules;
     }

@@ -1,0 +1,121 @@
+-- The octets of a line, one after the other.
+use Rattle.std.proofs.Common.{◌≡◌, ◌≢◌, ℕ, zero, suc, ◌+◌, ◌-◌, ◌≤◌, ◌<◌, Bool, true, List, [], ◌∷◌, ◌++◌, length, take, drop, get_or, refl, sym, ◌∙◌, ap, subst, arith, append_assoc, add-one, length-append}
+use Rattle.std.specs.Prelude.{◌==◌, false, Option, Some, None, if◌then◌else◌}
+use Rattle.std.proofs.lemmas.List.{append-nil}
+use Rattle.std.proofs.lemmas.Bool.{ne_eqb}
+use Rattle.site.specs.State.{State}
+use Rattle.shell_text.specs.Laws.{HasNoNewline}
+use Rattle.shell_text.specs.Runs.{in_front, lines_of}
+use Rattle.shell_text.proofs.Lines.{lines_of-newline, lines_of-end}
+use Rattle.trace_report.specs.declared.trace.Heard.{Heard}
+use Rattle.trace_report.specs.declared.trace.Heard.TheVariants as heard
+use Rattle.trace_report.specs.declared.trace.Trace.{Trace}
+use Rattle.trace_report.specs.Hearing.{HearsOctet, HearsOnly, Hears, IsSaid, to_hear}
+use Rattle.trace_report.proofs.Spelled.{too_long}
+
+-- what was heard of a line so far
+pub record SoFar (before after line : List ℕ) : Type 0 where
+  pub all : before ≡ line ++ after
+  pub none : HasNoNewline line
+
+pub nothing_yet : (before : List ℕ) → SoFar before before []
+nothing_yet before = record { all = refl; none = tt }
+
+all_more : (x : ℕ) (ne : x ≢ 10) (xs : List ℕ) → HasNoNewline xs → HasNoNewline (xs ++ x ∷ [])
+all_more x ne [] a = (ne, tt)
+all_more x ne (y ∷ xs) a = (a.0, all_more x ne xs a.1)
+
+pub octet_more : (before after line : List ℕ) (x : ℕ) → SoFar before (x ∷ after) line → x ≢ 10 → SoFar before after (line ++ x ∷ [])
+octet_more before after line x h ne = record { all = h.all ∙ sym (append_assoc line (x ∷ []) after); none = all_more x ne line h.none }
+
+pub octet_is : (o : Option ℕ) (x : ℕ) (before after : List ℕ) → HearsOctet o before after → o ≡ Some x → before ≡ x ∷ after
+octet_is o x before after h is = subst (λ (p : Option ℕ). HearsOctet p before after) is h
+
+pub none_is : (o : Option ℕ) (before after : List ℕ) → HearsOctet o before after → o ≡ None → (before ≡ []) × (after ≡ [])
+none_is o before after h is = subst (λ (p : Option ℕ). HearsOctet p before after) is h
+
+pub then_rest : (before mid rest line : List ℕ) → SoFar before mid line → mid ≡ rest → SoFar before rest line
+then_rest before mid rest line h is = subst (λ (l : List ℕ). SoFar before l line) is h
+
+-- what a line says that is the first
+says : (said : Heard) (before after line : List ℕ) → lines_of true before ≡ line ∷ lines_of true after → IsSaid said line → Hears said before after
+says (heard.Touch page change) before after line is touch = (line, is, touch)
+says heard.Wrong before after line is wrong = (line, lines_of true after, is, wrong)
+says heard.End before after line is never = absurd never
+
+-- a line that ends in a newline
+pub line_heard : (said : Heard) (before after line : List ℕ) → SoFar before (10 ∷ after) line → IsSaid said line → Hears said before after
+line_heard said before after line h is = says said before after line (ap (lines_of true) h.all ∙ lines_of-newline true line after h.none) is
+
+-- a last line, which the end of the input ends
+pub last_heard : (said : Heard) (before after line : List ℕ) → SoFar before [] line → after ≡ [] → 0 < length line → IsSaid said line → Hears said before after
+last_heard said before after [] h nothing some is = absurd (omega (arith, some))
+last_heard said before after (x ∷ line) h nothing some is =
+    says said before after (x ∷ line)
+    (ap (lines_of true) (h.all ∙ append-nil (x ∷ line)) ∙ lines_of-end x line h.none ∙ ap (λ (l : List ℕ). (x ∷ line) ∷ lines_of true l) (sym nothing)) is
+
+-- where a line isn't empty
+pub some_octet : (n : ℕ) (empty : Bool) → empty ≡ (n == 0) → empty ≡ false → 0 < n
+some_octet zero empty is not_empty = let bad : true ≡ false = sym is ∙ not_empty in cc
+some_octet (suc n) empty is not_empty = omega arith
+
+-- no line
+pub no_more : (before : List ℕ) (line : List ℕ) → SoFar before [] line → length line ≡ 0 → before ≡ []
+no_more before [] h none = h.all
+no_more before (x ∷ line) h none = absurd (omega (arith, none))
+
+-- octets with no newline among them begin the first line
+record Begins (line : List ℕ) (lines : List (List ℕ)) : Type 0 where
+  pub more : List ℕ
+  pub behind : List (List ℕ)
+  pub is : lines ≡ (line ++ more) ∷ behind
+
+in_front_begins : (x : ℕ) (lines : List (List ℕ)) → Begins (x ∷ []) (in_front true x lines)
+in_front_begins x [] = record { more = []; behind = []; is = refl }
+in_front_begins x (line ∷ lines) = record { more = line; behind = lines; is = refl }
+
+begins : (x : ℕ) (line after : List ℕ) → HasNoNewline (x ∷ line) → Begins (x ∷ line) (lines_of true (x ∷ line ++ after))
+begins x [] after none =
+    let is : lines_of true (x ∷ after) ≡ in_front true x (lines_of true after) = λ i. if ne_eqb x 10 none.0 i then [] ∷ lines_of true after else in_front true x (lines_of true after) in
+    let b = in_front_begins x (lines_of true after) in
+    record { more = b.more; behind = b.behind; is = is ∙ b.is }
+begins x (y ∷ line) after none =
+    let rest : List ℕ = y ∷ line ++ after in
+    let is : lines_of true (x ∷ rest) ≡ in_front true x (lines_of true rest) = λ i. if ne_eqb x 10 none.0 i then [] ∷ lines_of true rest else in_front true x (lines_of true rest) in
+    let b = begins y line after none.1 in
+    record { more = b.more; behind = b.behind; is = is ∙ ap (in_front true x) b.is }
+
+-- so eight of them are no touch, whatever comes behind them
+pub long_heard : (before after line : List ℕ) → SoFar before after line → length line ≡ 8 → Hears heard.Wrong before after
+long_heard before after [] h long = absurd (omega (arith, long))
+long_heard before after (x ∷ line) h long =
+    let b = begins x line after h.none in (
+      (x ∷ line) ++ b.more,
+      b.behind,
+      ap (lines_of true) h.all ∙ b.is,
+      too_long ((x ∷ line) ++ b.more) (let all = length-append (x ∷ line) b.more in omega (arith, all, long)),
+    )
+
+pub hears_then : (a b c : State) → HearsOnly a b → HearsOnly b c → HearsOnly a c
+hears_then a b c f s = record { image = s.image ∙ f.image; loose = s.loose ∙ f.loose; told = s.told ∙ f.told; past = s.past ∙ f.past }
+
+-- the octets that were taken
+first_of : (buffer : List ℕ) (from to : ℕ) → from < to → to ≤ length buffer → take (to - from) (drop from buffer) ≡ get_or buffer from 0 ∷ take (to - suc from) (drop (suc from) buffer)
+first_of [] from to less fits = absurd (omega (arith, less, fits))
+first_of (x ∷ buffer) zero to less fits = let some : to - 0 ≡ suc (to - 1) = omega (arith, less) in ap (λ (n : ℕ). take n (x ∷ buffer)) some
+first_of (x ∷ buffer) (suc from) to less fits =
+    let one : to - suc from ≡ (to - 1) - from = omega arith in
+    let two : (to - 1) - suc from ≡ to - suc (suc from) = omega arith in
+    ap (λ (n : ℕ). take n (drop from buffer)) one ∙ first_of buffer from (to - 1) (omega (arith, less)) (omega (arith, fits)) ∙ ap (λ (n : ℕ). get_or buffer from 0 ∷ take n (drop (suc from) buffer)) two
+
+pub octet_first : (buffer : List ℕ) (from to : ℕ) → from < to → to ≤ length buffer → take (to - from) (drop from buffer) ≡ get_or buffer from 0 ∷ take (to - (from + 1)) (drop (from + 1) buffer)
+octet_first buffer from to less fits = first_of buffer from to less fits ∙ ap (λ (n : ℕ). get_or buffer from 0 ∷ take (to - n) (drop n buffer)) (sym (add-one from))
+
+pub hears_as : (said is : Heard) (before after : List ℕ) → Hears said before after → said ≡ is → Hears is before after
+hears_as said is before after h same = subst (λ (x : Heard). Hears x before after) same h
+
+-- a trace of which nothing was taken
+pub nothing_pending : (trace : Trace) (site : State) → trace.from ≡ trace.to → to_hear trace site ≡ site.left
+nothing_pending trace site empty =
+    let none : trace.to - trace.from ≡ 0 = omega (arith, empty) in
+    ap (λ (n : ℕ). take n (drop trace.from trace.buffer) ++ site.left) none

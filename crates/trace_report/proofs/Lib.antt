@@ -1,0 +1,5 @@
+mod Spelled
+mod Heard
+mod Cut
+pub mod Told
+pub mod Lacking

@@ -1,0 +1,49 @@
+-- Lines that are touches, and lines that are none.
+use Rattle.std.proofs.Common.{◌≡◌, ℕ, ◌^◌, ◌≤◌, ◌<◌, Bool, true, false, List, ◌++◌, length, drop, slice_index_or, refl, sym, ◌∙◌, ap, arith, length-append}
+use Rattle.std.specs.Prelude.{decimal}
+use Rattle.std.proofs.lemmas.Fmt.{decimal_injective, length-decimal-le}
+use Rattle.trace_report.specs.Traces.{letter}
+use Rattle.trace_report.specs.Hearing.{IsWrong}
+
+-- the two letters differ
+apart : (x y : List ℕ) → letter true ++ x ≡ letter false ++ y → ⊥
+apart x y is = let bad : 119 ≡ 114 = ap (λ (l : List ℕ). slice_index_or l 0 0) is in absurd (omega (arith, bad))
+
+-- what stands behind the letter
+behind_letter : (a b : Bool) (x y : List ℕ) → letter a ++ x ≡ letter b ++ y → (a ≡ b) × (x ≡ y)
+behind_letter true true x y is = (refl, ap (λ (l : List ℕ). drop 2 l) is)
+behind_letter false false x y is = (refl, ap (λ (l : List ℕ). drop 2 l) is)
+behind_letter true false x y is = absurd (apart x y is)
+behind_letter false true x y is = absurd (apart y x (sym is))
+
+-- the page's text is a number's that is too great
+pub too_great : (line text : List ℕ) (change : Bool) (page : ℕ) → line ≡ letter change ++ text → text ≡ decimal page → 65535 < page → page < 2 ^ 64 → IsWrong line
+too_great line text change page is number great fits t touch =
+    let here = behind_letter change t.1 text (decimal t.0) (sym is ∙ touch.text) in
+    let small = touch.page in
+    let same : page ≡ t.0 = decimal_injective page t.0 fits (omega (arith, small)) (sym number ∙ here.1) in
+    absurd (omega (arith, same, small, great))
+
+-- the page's text is no number's
+pub no_number : (line text : List ℕ) (change : Bool) → line ≡ letter change ++ text → ((n : ℕ) → n < 10 ^ 9 → text ≡ decimal n → ⊥) → IsWrong line
+no_number line text change is none t touch =
+    let here = behind_letter change t.1 text (decimal t.0) (sym is ∙ touch.text) in
+    let small = touch.page in
+    none t.0 (omega (arith, small)) here.1
+
+-- there is no letter
+pub no_letter : (line : List ℕ) → ((change : Bool) (page : List ℕ) → line ≡ letter change ++ page → ⊥) → IsWrong line
+no_letter line none t touch = none t.1 (decimal t.0) touch.text
+
+length-letter : (b : Bool) → length (letter b) ≡ 2
+length-letter true = refl
+length-letter false = refl
+
+-- a line of eight octets or more is no touch
+pub too_long : (line : List ℕ) → 8 ≤ length line → IsWrong line
+too_long line long t touch =
+    let small = touch.page in
+    let digits = length-decimal-le 5 t.0 (omega arith) (omega (arith, small)) (omega (arith, small)) in
+    let all = ap length touch.text ∙ length-append (letter t.1) (decimal t.0) in
+    let two = length-letter t.1 in
+    absurd (omega (arith, long, all, two, digits))

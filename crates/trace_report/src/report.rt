@@ -1,0 +1,48 @@
+// What is told of a trace.
+ghost use Rattle.std.specs.Prelude.{◌≡◌, ◌+◌, ◌≤◌, ◌++◌, ℕ, List, length, decimal};
+ghost use Rattle.trace_report.specs.Traces.{Touch};
+ghost use Rattle.trace_report.specs.Reports.{counts_line, report};
+ghost use Rattle.trace_report.specs.Counting.{HaveServed};
+
+use crate::machines::Machines;
+use policy_sim::Counts;
+use shell_text::Line;
+
+// Appends a line with a machine's name and what it has counted.
+fn push_counts(line: &mut Line, name: &[u8], counts: &Counts)
+    requires name { length name.now ≤ 6 }
+    requires room { length line.old + 171 ≤ 540 }
+    ensures text { line.new ≡ line.old ++ counts_line name.now counts.now }
+    ensures len { length line.new ≤ length line.old + 171 }
+{
+    line.push(name);
+    push_count(line, b" touches ", counts.touches);
+    push_count(line, b" pool ", counts.pool);
+    push_count(line, b" flash ", counts.flash);
+    push_count(line, b" disk ", counts.disk);
+    push_count(line, b" staged ", counts.staged);
+    push_count(line, b" pushed ", counts.pushed);
+    line.push(b"\n");
+}
+
+// Appends a word with its spaces, and a count.
+fn push_count(line: &mut Line, word: &[u8], count: u64)
+    requires room { length line.old + length word.now + 20 ≤ 540 }
+    ensures text { line.new ≡ line.old ++ word.now ++ decimal count }
+    ensures len { length line.new ≤ length line.old + length word.now + 20 }
+{
+    line.push(word);
+    line.push_number(count);
+}
+
+/// A line for each of three machines.
+pub fn report_of(machines: &Machines) -> Line
+    ensures { (groups pool : ℕ) → (touches : List Touch) → HaveServed groups pool touches machines.now
+        → result ≡ report groups pool touches }
+{
+    let mut line = Line::new();
+    push_counts(&mut line, b"fifo", &machines.fifo.counts());
+    push_counts(&mut line, b"group", &machines.group.counts());
+    push_counts(&mut line, b"chance", &machines.chance.counts());
+    line
+}
