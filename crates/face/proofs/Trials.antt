@@ -24,7 +24,7 @@ use Rattle.face.specs.Living.{Ends, Finds, HasLivedOne, IsGivenUp, IsHaltOfTrial
 use Rattle.face.specs.Run.{IsFront}
 use Rattle.face.specs.Tells.{Tells}
 use Rattle.face.specs.Texts.{fault_line, status_of}
-use Rattle.face.specs.Trial.{Between, HaveLived, IsLife, IsNewSite, IsStatus, LeavesDevices, Lives, TellsAll, TellsSome, TrialCauses, at_first, is_within, life_line, numbers_of, script_limit}
+use Rattle.face.specs.Trial.{Between, HaveLived, IsLife, IsNewSite, IsStatus, LeavesDevices, Lives, TellsAll, TellsSome, TrialCauses, TrialContract, at_first, is_within, life_line, numbers_of, script_limit}
 use Rattle.face.proofs.Endings.{ends_with}
 use Rattle.face.proofs.Longer.{front_more}
 
@@ -276,7 +276,7 @@ told_all_lives g script old new numbers all = record {
   none = λ which. ⊎_elim (λ e. absurd (omega (arith, e))) (λ e. absurd (omega (arith, e))) which;
 }
 
-module _ {T U : Type 0} (g : Geometry) (script : List ℕ) (old mid new : Site) (numbers : List ℕ) (status : ℕ) (result : Result U Failed) (goes : Goes old mid) (honest : IsTrue mid.honest) where
+module _ {T : Type 0} (g : Geometry) (script : List ℕ) (old mid new : Site) (numbers : List ℕ) (status : ℕ) (result : Result T Failed) (goes : Goes old mid) (honest : IsTrue mid.honest) where
   told_first : (h : Halt) → status ≡ status_of h → (status_of h ≢ 0) → (status_of h ≢ 6) → ((status_of h ≡ 5) ⊎ (status_of h ≡ 7) → numbers ≡ 0 ∷ []) → IsGivenUp g script old mid numbers → Tells (fault_line h) mid new result → Lives g script old new status numbers
   told_first h is nonzero nonsix none u tells = record {
     all = λ e. absurd (nonzero (sym is ∙ e));
@@ -402,7 +402,7 @@ caused_by h status old mid new is t goes left = ⊎_elim memory (⊎_elim input 
 -- where memory was wanted before the script was read
 pub lacked_trial : {T : Type 0} (g : Geometry) (old new : Site) (result : Result T Failed) → Tells (fault_line (halt.Stop Memory)) old new result → TrialContract g old new 4 (0 ∷ [])
 lacked_trial {T} g old new result tells = record {
-  lives = λ honest. told_and_fault {T = Unit {0}} g old.left old old new (0 ∷ []) 4 result (goes_nowhere old) honest (halt.Stop Memory) refl
+  lives = λ honest. told_and_fault {T = T} g old.left old old new (0 ∷ []) 4 result (goes_nowhere old) honest (halt.Stop Memory) refl
       (record { lives = 0; before = at_first g; lived = refl; told = sym (append-nil old.told); changes = 0; numbers_are = refl }) (λ which. refl) tells;
   causes = caused_by (halt.Stop Memory) 4 old old new refl (record {
     is = inl refl;

@@ -1,7 +1,5 @@
-use Rattle.std.proofs.Common.{ℕ, List, [], ◌∷◌}
-use Rattle.site.specs.Calls.{Goes}
-use Rattle.face.specs.Trial.{IsNewSite, numbers_of}
+use Rattle.std.proofs.Common.{[], ◌∷◌}
 use Rattle.face.proofs.top.serve_trial.Goals as goal
 
-pub trial-requires : goal.trial-requires
-trial-requires g c = ?
+pub returns-in-Err-clause-trial : goal.returns-in-Err-clause-trial
+returns-in-Err-clause-trial g c = (0 ∷ [], c.lack_memory.ensures.trial c.args.sizes.now.geometry)
