@@ -1,5 +1,5 @@
 -- What words are that `clap` has read.
-use Rattle.std.proofs.Common.{◌≡◌, ◌||◌, ◌++◌, ◌∙◌, ap, refl, sym, subst, inl, inr, ◌⊎◌, ⊎_elim, ℕ, Bool, true, false, List, [], ◌∷◌, codes, fold, arith, append_assoc}
+use Rattle.std.proofs.Common.{◌≡◌, ◌||◌, ◌++◌, ◌∙◌, ap, refl, sym, subst, inl, inr, ◌⊎◌, ℕ, Bool, true, false, List, [], ◌∷◌, codes, fold, arith, append_assoc}
 use Rattle.std.specs.Prelude.{Option, Some, None, option_map}
 use Rattle.std.specs.Str.{bytes_eq}
 use Rattle.std.specs.List.{list_any}
