@@ -19,10 +19,10 @@ says() {
 mkdir "$folder/db"
 cd "$folder/db" || exit 1
 says 'no words' 2 "face: there are no words, or one of them isn't UTF-8 text"
-says 'help' 2 'face: word 1 is "help", and not new, run or load' help
+says 'help' 2 'face: word 1 is "help", and not new, run, load or simulate' help
 says 'the usage' 2 'usage: face new PAGES GROUPS BLOCKS .*' --help
-[ "$(grep -v -c '^face: ' "$folder/said")" -eq 8 ] && [ "$(cat "$folder/out")" = 'fault words' ]
-verdict 'the usage has eight lines' $?
+[ "$(grep -v -c '^face: ' "$folder/said")" -eq 9 ] && [ "$(cat "$folder/out")" = 'fault words' ]
+verdict 'the usage has nine lines' $?
 says 'a number that is none' 2 'face: word 3 is "10", which is no GROUPS' new 16 10 64
 says 'a word that is missing' 2 'face: SEED is missing' load 1
 says 'a word too many' 2 'face: word 3 is "2", which is one too many' run 1 2

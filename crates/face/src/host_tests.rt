@@ -365,7 +365,7 @@ fn wrong_words_are_said(rt: HostRuntime) -> Result<(), Fail> {
             .iter()
             .filter(|octet| **octet == b'\n')
             .count(),
-        9
+        10
     );
     Ok(())
 }
@@ -373,7 +373,7 @@ fn wrong_words_are_said(rt: HostRuntime) -> Result<(), Fail> {
 // The words, without the program's own name, and what is wrong with them.
 #[test]
 fn the_first_wrong_word_is_found(rt: HostRuntime) -> Result<(), Fail> {
-    let rows: [(&str, Option<Wrong>); 24] = [
+    let rows: [(&str, Option<Wrong>); 27] = [
         ("new 1 8 16", None),
         ("new 65536 16384 1048576", None),
         ("run 1", None),
@@ -413,6 +413,9 @@ fn the_first_wrong_word_is_found(rt: HostRuntime) -> Result<(), Fail> {
             Some(Wrong::Unfit(4, Number::TrialBlocks)),
         ),
         ("trial 1 8 16", Some(Wrong::Lacks(Number::Pool))),
+        ("simulate 16384 4096", None),
+        ("simulate 10 1", Some(Wrong::Unfit(2, Number::Groups))),
+        ("simulate 8", Some(Wrong::Lacks(Number::Pool))),
         ("RUN 1", Some(Wrong::Unknown)),
     ];
     for (line, wrong) in rows {

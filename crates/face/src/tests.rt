@@ -358,7 +358,7 @@ fn large_devices_are_tested(rt: HostRuntime) -> Result<(), Fail> {
 
 #[test]
 fn other_words_are_refused(rt: HostRuntime) -> Result<(), Fail> {
-    let lists: [&[&str]; 42] = [
+    let lists: [&[&str]; 48] = [
         &[],
         &["help", "run"],
         &["run", "help"],
@@ -401,6 +401,12 @@ fn other_words_are_refused(rt: HostRuntime) -> Result<(), Fail> {
         &["trial", "16", "8", "4097", "1"],
         &["trial", "16", "8", "64", "4097"],
         &["trial", "16", "8", "64", "1", "1"],
+        &["simulate", "8"],
+        &["simulate", "8", "1", "1"],
+        &["simulate", "4", "1"],
+        &["simulate", "10", "1"],
+        &["simulate", "16388", "1"],
+        &["simulate", "8", "4097"],
     ];
     for words in lists {
         let mut site = MemSite::new(rt.alloc(), &STANDARD)?;
@@ -410,6 +416,38 @@ fn other_words_are_refused(rt: HostRuntime) -> Result<(), Fail> {
     }
     let mut site = MemSite::new(rt.alloc(), &STANDARD)?;
     assert_eq!(rt; call(rt.alloc(), &["run", "4096"], &mut site)?, 0);
+    Ok(())
+}
+
+// The words, the input, the status and what is told. No device is touched.
+#[test]
+fn a_trace_is_reported(rt: HostRuntime) -> Result<(), Fail> {
+    let rows: [(&[&str], &[u8], u8, &[u8]); 2] = [
+        (
+            &["simulate", "16384", "4096"],
+            b"r 0\nr 0\n",
+            0,
+            b"\
+fifo touches 2 pool 1 flash 0 disk 1 staged 0 pushed 0
+group touches 2 pool 1 flash 0 disk 1 staged 0 pushed 0
+chance touches 2 pool 1 flash 0 disk 1 staged 0 pushed 0
+",
+        ),
+        (
+            &["simulate", "8", "1"],
+            b"r 0\nx 1\n",
+            16,
+            b"fault trace 2\n",
+        ),
+    ];
+    for (words, input, status, told) in rows {
+        let mut site = MemSite::new(rt.alloc(), &STANDARD)?;
+        site.feed(input)?;
+        assert_eq!(rt; call(rt.alloc(), words, &mut site)?, status);
+        assert!(rt; site.told() == told);
+        assert_eq!(rt; site.reads(Dev::Log), 0);
+        assert_eq!(rt; site.changes(), 1);
+    }
     Ok(())
 }
 
