@@ -373,7 +373,7 @@ fn wrong_words_are_said(rt: HostRuntime) -> Result<(), Fail> {
 // The words, without the program's own name, and what is wrong with them.
 #[test]
 fn the_first_wrong_word_is_found(rt: HostRuntime) -> Result<(), Fail> {
-    let rows: [(&str, Option<Wrong>); 27] = [
+    let rows: [(&str, Option<Wrong>); 31] = [
         ("new 1 8 16", None),
         ("new 65536 16384 1048576", None),
         ("run 1", None),
