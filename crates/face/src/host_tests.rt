@@ -211,7 +211,7 @@ impl<'a> Eprint for Caller<'a> {
 // the drafts of those that are missing.
 #[test]
 fn words_open_their_files(rt: HostRuntime) -> Result<(), Fail> {
-    let rows: [(&[&[u8]], &'static [u8], u8, &[u8], u64); 12] = [
+    let rows: [(&[&[u8]], &'static [u8], u8, &[u8], u64); 13] = [
         (&[b"face", b"run", b"1"], b"", 9, b"fault foreign\n", 3),
         (
             &[b"face", b"new", b"16", b"8", b"64"],
