@@ -365,7 +365,7 @@ fn wrong_words_are_said(rt: HostRuntime) -> Result<(), Fail> {
             .iter()
             .filter(|octet| **octet == b'\n')
             .count(),
-        10
+        13
     );
     Ok(())
 }
