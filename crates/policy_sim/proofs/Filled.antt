@@ -24,7 +24,7 @@ filled frames n = map head_of frames ++ blanks n
 abbrev pub filled_to : List Frame → ℕ → List FrameHead
 filled_to frames i = filled (take i frames) (8 - i)
 
-take_more : {X : Type 0} (xs : List X) (i : ℕ) (d : X) → i < length xs → take (suc i) xs ≡ take i xs ++ get_or xs i d ∷ []
+pub take_more : {X : Type 0} (xs : List X) (i : ℕ) (d : X) → i < length xs → take (suc i) xs ≡ take i xs ++ get_or xs i d ∷ []
 take_more [] i d less = absurd (omega (arith, less))
 take_more (x ∷ xs) zero d less = refl
 take_more (x ∷ xs) (suc i) d less = ap (λ l. x ∷ l) (take_more xs i d (omega (arith, less)))

@@ -1,13 +1,13 @@
 -- A touch, step by step.
-use Rattle.std.proofs.Common.{◌≡◌, ℕ, suc, ◌+◌, ◌==◌, Bool, true, false, not, ◌&&◌, ◌||◌, nat_le, cond, List, [], ◌∷◌, ◌++◌, length, filter, reverse, refl, sym, ap, ◌∙◌}
+use Rattle.std.proofs.Common.{◌≡◌, ℕ, suc, ◌+◌, ◌==◌, Bool, true, false, not, ◌&&◌, ◌||◌, nat_le, cond, List, [], ◌∷◌, ◌++◌, length, filter, reverse, refl, sym, ap, ◌∙◌, if◌then◌else◌}
 use Rattle.std.specs.List.{list_any}
 use Rattle.std.proofs.lemmas.Grind.{reverse_onto}
-use Rattle.std.proofs.lemmas.List.{reverse-append}
+use Rattle.std.proofs.lemmas.List.{reverse-append, reverse-reverse}
 use Rattle.std.proofs.lemmas.List.Folds.{list_any-append}
 use Rattle.second_chance.specs.declared.frame.Frame.{Frame}
 use Rattle.record_model.specs.Touches.{touch}
 use Rattle.second_chance.specs.Queue.{Queue, in_group, in_groups, has_frame, is_last, group_read, groups_read, with_read}
-use Rattle.second_chance.specs.Machine.{Rules, PoolPage, Cache, holds, is_changed, without, in_front, push_evicted, evict_first, evict_coldest, with_room, touched, must_be_pushed, staged_in_eviction, staged_by}
+use Rattle.second_chance.specs.Machine.{Rules, PoolPage, Cache, holds, is_changed, without, in_front, push_evicted, evict_first, evict_coldest, after_eviction, staged_in_push, with_room, touched, must_be_pushed, staged_in_eviction, staged_by}
 use Rattle.policy_sim.specs.Machines.{one_where, eviction_pushes, pushes, made_by}
 use Rattle.policy_sim.specs.declared.counts.Counts.{Counts}
 
@@ -75,6 +75,22 @@ not_in_room rules page cache none = not_in_evicted rules page (reverse cache.poo
 pub reversed : (front : List PoolPage) (coldest : PoolPage) → reverse (front ++ coldest ∷ []) ≡ coldest ∷ reverse front
 reversed front coldest = reverse-append front (coldest ∷ [])
 
+-- The eviction of the coldest page, by the pool without it.
+module _ (rules : Rules) (pool front : List PoolPage) (coldest : PoolPage) (queue : Queue) (split : pool ≡ front ++ coldest ∷ []) where
+  colder : reverse pool ≡ coldest ∷ reverse front
+  colder = ap reverse split ∙ reversed front coldest
+
+  pub coldest_evicted : evict_coldest rules (record { pool = pool; queue = queue }) ≡ after_eviction rules coldest (record { pool = front; queue = queue })
+  coldest_evicted =
+      ap (λ (l : List PoolPage). evict_first rules l (record { pool = pool; queue = queue })) colder
+      ∙ ap (λ (l : List PoolPage). after_eviction rules coldest (record { pool = l; queue = queue })) (reverse-reverse front)
+
+  pub coldest_pushes : eviction_pushes (reverse pool) queue ≡ must_be_pushed queue coldest
+  coldest_pushes = ap (λ (l : List PoolPage). eviction_pushes l queue) colder
+
+  pub coldest_stages : staged_in_eviction rules (reverse pool) queue ≡ (if must_be_pushed queue coldest then staged_in_push rules queue else [])
+  coldest_stages = ap (λ (l : List PoolPage). staged_in_eviction rules l queue) colder
+
 -- A touch of a page that isn't in the pool.
 
 -- the cache once there is room for a page that isn't there
@@ -85,7 +101,7 @@ room_is : (rules : Rules) (page : ℕ) (cache : Cache) → holds cache.pool page
 room_is rules page cache none =
     ap (λ b. cond (not b && nat_le rules.pages (length cache.pool)) (evict_coldest rules cache) cache) none
 
-still_none : (rules : Rules) (page : ℕ) (cache : Cache) → holds cache.pool page ≡ false → holds (room_in rules cache).pool page ≡ false
+pub still_none : (rules : Rules) (page : ℕ) (cache : Cache) → holds cache.pool page ≡ false → holds (room_in rules cache).pool page ≡ false
 still_none rules page cache none = by (nat_le rules.pages (length cache.pool))
   where
     by : (b : Bool) → holds (cond b (evict_coldest rules cache) cache).pool page ≡ false

@@ -2,5 +2,6 @@ pub mod Machines
 pub mod Rows
 pub mod Bounds
 pub mod Pools
+pub mod Listing
 pub mod Steps
 pub mod Sims

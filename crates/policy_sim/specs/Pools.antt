@@ -8,16 +8,22 @@ use Rattle.second_chance.specs.Queue.{Queue, frame_of}
 use Rattle.second_chance.specs.Machine.{PoolPage, pool_mark, is_changed}
 use Rattle.second_chance.specs.Laws.{given_again}
 use Rattle.policy_sim.specs.declared.entry.Entry.{Entry}
+use Rattle.policy_sim.specs.declared.entry.Kept.{Kept}
+use Rattle.policy_sim.specs.declared.pool.Pool.{Pool}
 
 abbrev pub page_of : Entry → PoolPage
 page_of entry = record { page = entry.page; changed = entry.changed }
 
 -- an entry of the cache that holds the pool
-abbrev pub entry_page : ℕ × Bool → PoolPage
-entry_page e = record { page = e.0; changed = e.1 }
+abbrev pub entry_page : ℕ × Kept → PoolPage
+entry_page e = record { page = e.0; changed = e.1.changed }
 
-abbrev pub pages_in : List (ℕ × Bool) → List PoolPage
+abbrev pub pages_in : List (ℕ × Kept) → List PoolPage
 pages_in entries = map entry_page entries
+
+-- the pages of the pool, the one that was touched last in front
+abbrev pub pages_of : Pool → List PoolPage
+pages_of pool = pages_in pool.pages.entries
 
 -- a page that a push may take from the pool: it is changed or has no frame
 abbrev pub is_movable : PoolMark → Bool

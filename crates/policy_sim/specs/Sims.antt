@@ -4,7 +4,7 @@ use Rattle.policy_sim.specs.declared.counts.Counts.{Counts}
 use Rattle.policy_sim.specs.declared.machine.Machine.{Machine}
 use Rattle.policy_sim.specs.Machines.{State}
 use Rattle.policy_sim.specs.Bounds.{IsBounded}
-use Rattle.policy_sim.specs.Steps.{cache_of, rules_in, next_group}
+use Rattle.policy_sim.specs.Steps.{cache_of, rules_in, next_group, IsOrdered}
 
 abbrev pub state_of : Machine → Counts → State
 state_of m counts = record { rules = rules_in m; cache = cache_of m; counts = counts }
@@ -12,6 +12,7 @@ state_of m counts = record { rules = rules_in m; cache = cache_of m; counts = co
 pub record IsRunning (m : Machine) (counts : Counts) : Type 0 where
   pub some : 1 ≤ m.groups
   pub number : next_group m ≤ counts.touches
+  pub ordered : IsOrdered m
   pub bounded : IsBounded counts
 
 -- nothing is known of the machine once the cache is ended

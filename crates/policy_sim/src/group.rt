@@ -5,7 +5,7 @@ ghost use Rattle.second_chance.specs.Queue.{frame_of};
 ghost use Rattle.second_chance.specs.Machine.{unread};
 ghost use Rattle.second_chance.specs.Laws.{given_again};
 ghost use Rattle.flash_directory.specs.Heads.{frames_in};
-ghost use Rattle.policy_sim.specs.Pools.{page_of, pulled_frames, group_of};
+ghost use Rattle.policy_sim.specs.Pools.{page_of, pages_of, pulled_frames, group_of};
 
 use crate::entry::Entry;
 use crate::pool::Pool;
@@ -17,7 +17,7 @@ use second_chance::{Frame, Places, Plan};
 /// with these marks, then the evicted page, then the pages that are pulled from the pool.
 pub fn new_group(front: &[Mark], plan: &Plan, own: &Entry, pool: &Pool) -> ArrayVec<Frame, 8>
     requires { length plan.now.chances + length plan.now.pulled ≤ 7 }
-    ensures frames { result.items ≡ group_of front.now plan.now (page_of own.now) pool.now }
+    ensures frames { result.items ≡ group_of front.now plan.now (page_of own.now) (pages_of pool.now) }
 {
     let mut frames = given_again(front, &plan.chances);
     frames.push(unread(own.page, own.changed));
@@ -42,7 +42,7 @@ fn given_again(front: &[Mark], chances: &Places) -> ArrayVec<Frame, 8>
 /// Adds the pages that are pulled from the pool.
 fn add_pulled(frames: &mut ArrayVec<Frame, 8>, pulled: &Places, pool: &Pool)
     requires { length frames.old.items + length pulled.now ≤ 8 }
-    ensures { frames.new.items ≡ frames.old.items ++ pulled_frames pool.now pulled.now }
+    ensures { frames.new.items ≡ frames.old.items ++ pulled_frames (pages_of pool.now) pulled.now }
 {
     for place in 0..pulled.len() {
         let page = pulled.at(place);

@@ -1,12 +1,13 @@
-ghost use Rattle.std.specs.Prelude.{◌≡◌, ◌+◌, ◌<◌, ◌≤◌, not, [], List, length, take, IsTrue, IfOk, IfErr, if◌then◌else◌};
+ghost use Rattle.std.specs.Prelude.{◌≡◌, ◌+◌, ◌<◌, ◌≤◌, ◌&&◌, ◌||◌, not, false, ℕ, Bool, [], List, length, take, IsTrue, IfOk, IfErr, OnOk, if◌then◌else◌};
 ghost use Rattle.byte_fields.specs.declared.frame_head.Mark.{Mark};
 ghost use Rattle.second_chance.specs.Queue.{has_frame, with_read, front_marks};
 ghost use Rattle.second_chance.specs.Plans.{eviction_plan};
-ghost use Rattle.second_chance.specs.Machine.{must_be_pushed, is_full, pool_marks};
+ghost use Rattle.second_chance.specs.Machine.{holds, must_be_pushed, is_full, pool_marks};
 ghost use Rattle.policy_sim.specs.Bounds.{IsBounded};
 ghost use Rattle.policy_sim.specs.Machines.{rules_of_policy, blank, one_where};
-ghost use Rattle.policy_sim.specs.Pools.{page_of};
-ghost use Rattle.policy_sim.specs.Steps.{cache_of, rules_in, IsUsable, HasPushed, HasEvicted, HasRoom, HasTouched};
+ghost use Rattle.policy_sim.specs.Pools.{page_of, pages_of};
+ghost use Rattle.policy_sim.specs.Listing.{IsPool, IsListedBy, unless};
+ghost use Rattle.policy_sim.specs.Steps.{cache_of, rules_in, IsOrdered, IsUsable, HasPushed, HasEvicted, HasRoom, HasTouched};
 
 use crate::counts::Counts;
 use crate::entry::Entry;
@@ -66,6 +67,7 @@ impl Machine {
         ensures rules { IfOk result (λ machine. rules_in machine ≡ rules_of_policy kind groups pages) }
         ensures blank { IfOk result (λ machine. cache_of machine ≡ blank) }
         ensures some { IfOk result (λ machine. 1 ≤ machine.groups) }
+        ensures pool { IfOk result (λ machine. IsOrdered machine) }
         ensures memory { IfErr result (λ stop. stop ≡ Stop.Memory) }
     {
         let queue = Directory::of_groups(
@@ -96,6 +98,7 @@ impl Machine {
     /// Writes what a push knows of the pages that it may take into the first places of `into`, and answers how many there are:
     /// the first seven from the cold end, and none where it takes none at all.
     fn candidates(&self, into: &mut [PoolMark; 7]) -> usize
+        requires { IsOrdered self.now }
         ensures candidates { (front : List Mark) → eviction_plan self.now.taking.pulls self.now.taking.chances front (take result into.new)
             ≡ eviction_plan self.now.taking.pulls self.now.taking.chances front (pool_marks (cache_of self.now)) }
         ensures few { result ≤ 7 }
@@ -109,7 +112,8 @@ impl Machine {
 
     /// What a push does where a group with these marks leaves, or no group where there are none.
     fn plan(&self, front: &[Mark]) -> Plan
-        requires { length front.now ≤ 8 }
+        requires few { length front.now ≤ 8 }
+        requires ordered { IsOrdered self.now }
         ensures plan { result ≡ eviction_plan self.now.taking.pulls self.now.taking.chances front.now (pool_marks (cache_of self.now)) }
         ensures fits { length result.chances + length result.pulled ≤ 7 }
     {
@@ -127,7 +131,8 @@ impl Machine {
 
     /// Pushes a group with a page that has left the pool. It answers how many frames are written to disk.
     fn push(&mut self, own: &Entry) -> Result<usize, Stop>
-        requires { IsUsable self.old }
+        requires usable { IsUsable self.old }
+        requires gone { holds (pages_of self.old.pool) own.now.page ≡ false }
         ensures ok { IfOk result (λ staged. HasPushed self.old self.new (page_of own.now) staged) }
         ensures memory { IfErr result (λ stop. stop ≡ Stop.Memory) }
     {
@@ -141,6 +146,12 @@ impl Machine {
         let frames = new_group(&marks[..count], &plan, own, &self.pool);
         self.pool.remove_all(&plan.pulled);
         self.queue.push_group(&heads_of(&frames), full)?;
+        list_unframed(
+            &mut self.pool,
+            &self.queue,
+            &marks[..count],
+            self.taking.pulls,
+        )?;
         Ok(plan.staged.len())
     }
 
@@ -191,12 +202,14 @@ impl Machine {
         ensures memory { IfErr result (λ stop. stop ≡ Stop.Memory) }
     {
         if self.pool.holds(page) {
-            self.pool.touch(page, change)?;
+            self.pool
+                .touch(page, change, lists(self.taking.pulls, change, false))?;
             return Ok(in_pool());
         }
         let made = self.make_room()?;
         let found = read(&mut self.queue, page);
-        self.pool.touch(page, change)?;
+        self.pool
+            .touch(page, change, lists(self.taking.pulls, change, !found))?;
         Ok(not_in_pool(found, &made))
     }
 }
@@ -210,10 +223,44 @@ fn marks_of_front(queue: &Directory, leaves: bool, into: &mut [Mark; 8]) -> usiz
     if leaves { queue.marks(0, into) } else { 0 }
 }
 
+/// Whether a touch lists a page: a page that a push may take, where pushes take any.
+fn lists(pulls: bool, change: bool, unframed: bool) -> bool
+    ensures { result ≡ (pulls && (change || unframed)) }
+{
+    pulls && (change || unframed)
+}
+
+/// Lists the pages of a group that has left the queue, where they are in the pool and have no frame any more. It does nothing
+/// where pushes take no pages.
+fn list_unframed(
+    pool: &mut Pool,
+    queue: &Directory,
+    front: &[Mark],
+    pulls: bool,
+) -> Result<(), Stop>
+    requires { IsPool pool.old }
+    ensures pages { OnOk result (pages_of pool.new ≡ pages_of pool.old) }
+    ensures pool { OnOk result (IsPool pool.new) }
+    ensures listed { IsTrue pulls → (framed : ℕ → Bool) → IsListedBy framed pool.old.pages.entries
+        → OnOk result (IsListedBy (unless front.now queue.now framed) pool.new.pages.entries) }
+    ensures memory { IfErr result (λ stop. stop ≡ Stop.Memory) }
+{
+    if !pulls {
+        return Ok(());
+    }
+    for mark in front {
+        if queue.newest(mark.page).is_none() {
+            pool.list(mark.page)?;
+        }
+    }
+    Ok(())
+}
+
 /// Reads a page from its last frame, which becomes referenced. It says false where there is none.
 fn read(queue: &mut Directory, page: u32) -> bool
     ensures found { result ≡ has_frame queue.old page }
     ensures after { queue.new ≡ with_read page queue.old }
+    ensures frames { (n : ℕ) → has_frame queue.new n ≡ has_frame queue.old n }
 {
     if queue.newest(page).is_none() {
         return false;

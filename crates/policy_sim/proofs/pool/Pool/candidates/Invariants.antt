@@ -1,13 +1,13 @@
 use Rattle.std.proofs.Common.{◌≡◌, ◌≤◌, length}
-use Rattle.policy_sim.proofs.Pooled.{IsWalked}
+use Rattle.policy_sim.proofs.Looked.{IsLooked}
 use Rattle.policy_sim.proofs.pool.Pool.candidates.Given as goal
 
-abbrev pub invariant-loop-page : goal.invariant-loop-page
-invariant-loop-page l = record {
-  walked : IsWalked l.queue l.self l.warmer l.into l.count;
+abbrev pub invariant-loop-entry : goal.invariant-loop-entry
+invariant-loop-entry l = record {
+  looked : IsLooked l.queue l.self.listed.entries l.coldest l.into l.count;
   few : l.count ≤ 7;
   seven : length l.into ≡ 7;
 }
 
-abbrev pub decreases-loop-page : goal.decreases-loop-page
-decreases-loop-page l = length l.warmer
+abbrev pub decreases-loop-entry : goal.decreases-loop-entry
+decreases-loop-entry l = length l.coldest
