@@ -1,5 +1,5 @@
 -- What words are that `clap` has read.
-use Rattle.std.proofs.Common.{◌≡◌, ◌||◌, ◌++◌, ◌∙◌, ap, refl, sym, subst, inl, inr, ◌⊎◌, ⊎_elim, ℕ, Bool, true, false, List, [], ◌∷◌, codes, fold, arith, append_assoc}
+use Rattle.std.proofs.Common.{◌≡◌, ◌||◌, ◌++◌, ◌∙◌, ap, refl, sym, subst, inl, inr, ◌⊎◌, ℕ, Bool, true, false, List, [], ◌∷◌, codes, fold, arith, append_assoc}
 use Rattle.std.specs.Prelude.{Option, Some, None, option_map}
 use Rattle.std.specs.Str.{bytes_eq}
 use Rattle.std.specs.List.{list_any}
@@ -22,10 +22,11 @@ use Rattle.clap.proofs.WalkLemmas.{first_value-rows}
 use Rattle.site.specs.declared.geometry.Geometry.{Geometry}
 use Rattle.face.specs.declared.request.Load.{Load}
 use Rattle.face.specs.declared.request.Simulation.{Simulation}
-use Rattle.face.specs.Words.{IsRun, IsNew, IsLoad, IsSimulate, IsRight}
-use Rattle.face.specs.Program.{AreSizes, IsLoadOf, IsPool, IsReadFrom, IsSimulationOf, program}
-use Rattle.face.proofs.WordLists.{first_word, second_word, three_words, four_words}
-use Rattle.face.proofs.ClapLaws.{named_load, named_new, named_run, named_simulate, differ, differ_load_new, differ_load_run, differ_simulate_load, differ_simulate_new, differ_simulate_run, no_long, no_short, no_dashes}
+use Rattle.face.specs.declared.request.TrialSizes.{TrialSizes}
+use Rattle.face.specs.Words.{IsRun, IsNew, IsLoad, IsSimulate, IsTrial, IsRight}
+use Rattle.face.specs.Program.{AreSizes, IsLoadOf, IsPool, IsReadFrom, IsSimulationOf, IsTrialOf, program}
+use Rattle.face.proofs.WordLists.{first_word, second_word, three_words, four_words, five_words}
+use Rattle.face.proofs.ClapLaws.{named_load, named_new, named_run, named_simulate, named_trial, differ_load_new, differ_simulate_load, differ_simulate_new, differ_simulate_run, differ_trial_load, differ_trial_new, differ_trial_run, differ_trial_simulate, no_long, no_short, no_dashes}
 
 -- the words are `run` and a text, and the rows have it
 pub record IsRunLine (words : List Text) (rows : List Row) : Type 0 where
@@ -61,6 +62,18 @@ pub record IsSimulateLine (words : List Text) (rows : List Row) : Type 0 where
   pub groups_are : first_of (codes "groups") rows ≡ Some groups
   pub pool_is : first_of (codes "pool") rows ≡ Some pool
 
+-- the words are `trial` and four texts, and the rows have them
+pub record IsTrialLine (words : List Text) (rows : List Row) : Type 0 where
+  pub pages : Text
+  pub groups : Text
+  pub blocks : Text
+  pub pool : Text
+  pub words_are : words ≡ codes "trial" ∷ pages ∷ groups ∷ blocks ∷ pool ∷ []
+  pub pages_are : first_of (codes "pages") rows ≡ Some pages
+  pub groups_are : first_of (codes "groups") rows ≡ Some groups
+  pub blocks_are : first_of (codes "blocks") rows ≡ Some blocks
+  pub pool_is : first_of (codes "pool") rows ≡ Some pool
+
 neither : (a b : Bool) → (a || b) ≡ false → (a ≡ false) × (b ≡ false)
 neither true b e = let bad : true ≡ false = e in cc
 neither false b e = (refl, e)
@@ -83,10 +96,10 @@ dashes (x ∷ xs) e = no_dashes x xs e
 
 -- a first word that is no subcommand is refused
 module _ (w : Text) (rest : List Text) (plain : is_dashed w ≡ false) where
-  stray : bytes_eq (codes "new") w ≡ false → bytes_eq (codes "run") w ≡ false → bytes_eq (codes "load") w ≡ false → bytes_eq (codes "simulate") w ≡ false → fault_of program (w ∷ rest) ≡ [] → ⊥
+  stray : bytes_eq (codes "new") w ≡ false → bytes_eq (codes "run") w ≡ false → bytes_eq (codes "load") w ≡ false → bytes_eq (codes "simulate") w ≡ false → bytes_eq (codes "trial") w ≡ false → fault_of program (w ∷ rest) ≡ [] → ⊥
   unfolding clap_on_literals
-  stray new_not run_not load_not simulate_not none =
-      let some : is_none (fault_of program (w ∷ rest)) ≡ false = rw (new_not, run_not, load_not, simulate_not, dashes w plain, long w plain, short w plain) refl in
+  stray new_not run_not load_not simulate_not trial_not none =
+      let some : is_none (fault_of program (w ∷ rest)) ≡ false = rw (new_not, run_not, load_not, simulate_not, trial_not, dashes w plain, long w plain, short w plain) refl in
       let bad : true ≡ false = sym (ap is_none none) ∙ some in
       cc
     where
@@ -137,6 +150,10 @@ stop_load rest = stop_at (codes "load") rest _ refl refl
 stop_simulate : (rest : List Text) → stop_after [] names (codes "simulate" ∷ rest) ≡ Some (codes "simulate", rest)
 unfolding clap_on_literals
 stop_simulate rest = stop_at (codes "simulate") rest _ refl refl
+
+stop_trial : (rest : List Text) → stop_after [] names (codes "trial" ∷ rest) ≡ Some (codes "trial", rest)
+unfolding clap_on_literals
+stop_trial rest = stop_at (codes "trial") rest _ refl refl
 
 after : (a b : Kinds) → or_else a b ≡ [] → b ≡ []
 after [] b e = e
@@ -305,19 +322,84 @@ simulate_line (t ∷ u ∷ v ∷ rest) rows plain none same =
     let r = neither (is_dashed v) (list_any is_dashed rest) q.1 in
     absurd (simulate_more t u v rest p.0 q.0 r.0 (below (codes "simulate") (t ∷ u ∷ v ∷ rest) (stop_simulate (t ∷ u ∷ v ∷ rest)) none))
 
+-- what `trial` takes
+trial_none : fault_of program (codes "trial" ∷ []) ≡ [] → ⊥
+unfolding clap_on_literals
+trial_none none = let bad : true ≡ false = sym (ap is_none none) in cc
+
+trial_one : (t : Text) → is_dashed t ≡ false → fault_of program (codes "trial" ∷ t ∷ []) ≡ [] → ⊥
+unfolding clap_on_literals
+trial_one t a none =
+    let some : is_none (fault_of program (codes "trial" ∷ t ∷ [])) ≡ false = rw (dashes t a, long t a, short t a) refl in
+    let bad : true ≡ false = sym (ap is_none none) ∙ some in
+    cc
+
+trial_two : (t u : Text) → is_dashed t ≡ false → is_dashed u ≡ false → fault_of program (codes "trial" ∷ t ∷ u ∷ []) ≡ [] → ⊥
+unfolding clap_on_literals
+trial_two t u a b none =
+    let some : is_none (fault_of program (codes "trial" ∷ t ∷ u ∷ [])) ≡ false = rw (dashes t a, long t a, short t a, dashes u b, long u b, short u b) refl in
+    let bad : true ≡ false = sym (ap is_none none) ∙ some in
+    cc
+
+trial_three : (t u v : Text) → is_dashed t ≡ false → is_dashed u ≡ false → is_dashed v ≡ false → fault_of program (codes "trial" ∷ t ∷ u ∷ v ∷ []) ≡ [] → ⊥
+unfolding clap_on_literals
+trial_three t u v a b c none =
+    let some : is_none (fault_of program (codes "trial" ∷ t ∷ u ∷ v ∷ [])) ≡ false = rw (dashes t a, long t a, short t a, dashes u b, long u b, short u b, dashes v c, long v c, short v c) refl in
+    let bad : true ≡ false = sym (ap is_none none) ∙ some in
+    cc
+
+trial_more : (t u v w x : Text) (rest : List Text) → is_dashed t ≡ false → is_dashed u ≡ false → is_dashed v ≡ false → is_dashed w ≡ false → is_dashed x ≡ false → entered_fault (built program) (Some (codes "trial", t ∷ u ∷ v ∷ w ∷ x ∷ rest)) ≡ [] → ⊥
+unfolding clap_on_literals
+trial_more t u v w x rest a b c d e none =
+    let some : is_none (entered_fault (built program) (Some (codes "trial", t ∷ u ∷ v ∷ w ∷ x ∷ rest))) ≡ false = rw (dashes t a, long t a, short t a, dashes u b, long u b, short u b, dashes v c, long v c, short v c, dashes w d, long w d, short w d, dashes x e, long x e, short x e) refl in
+    let bad : true ≡ false = sym (ap is_none none) ∙ some in
+    cc
+
+abbrev trial_texts_in : Option (Text × List Row) → Option (Option Text × Option Text × Option Text × Option Text)
+trial_texts_in = option_map (λ p. (first_of (codes "pages") p.1, first_of (codes "groups") p.1, first_of (codes "blocks") p.1, first_of (codes "pool") p.1))
+
+trial_four : (t u v w : Text) → is_dashed t ≡ false → is_dashed u ≡ false → is_dashed v ≡ false → is_dashed w ≡ false → trial_texts_in (subcommand_of program (codes "trial" ∷ t ∷ u ∷ v ∷ w ∷ [])) ≡ Some (Some t, Some u, Some v, Some w)
+unfolding clap_on_literals
+trial_four t u v w a b c d = rw (dashes t a, long t a, short t a, dashes u b, long u b, short u b, dashes v c, long v c, short v c, dashes w d, long w d, short w d) refl
+
+trial_line : (rest : List Text) (rows : List Row) → list_any is_dashed rest ≡ false → fault_of program (codes "trial" ∷ rest) ≡ [] → subcommand_of program (codes "trial" ∷ rest) ≡ Some (codes "trial", rows) → IsTrialLine (codes "trial" ∷ rest) rows
+trial_line [] rows plain none same = absurd (trial_none none)
+trial_line (t ∷ []) rows plain none same = absurd (trial_one t (neither _ _ plain).0 none)
+trial_line (t ∷ u ∷ []) rows plain none same = absurd (trial_two t u (neither _ _ plain).0 (neither _ _ (neither (is_dashed t) _ plain).1).0 none)
+trial_line (t ∷ u ∷ v ∷ []) rows plain none same =
+    let p = neither (is_dashed t) (list_any is_dashed (u ∷ v ∷ [])) plain in
+    let q = neither (is_dashed u) (list_any is_dashed (v ∷ [])) p.1 in
+    let r = neither (is_dashed v) false q.1 in
+    absurd (trial_three t u v p.0 q.0 r.0 none)
+trial_line (t ∷ u ∷ v ∷ w ∷ []) rows plain none same =
+    let p = neither (is_dashed t) (list_any is_dashed (u ∷ v ∷ w ∷ [])) plain in
+    let q = neither (is_dashed u) (list_any is_dashed (v ∷ w ∷ [])) p.1 in
+    let r = neither (is_dashed v) (list_any is_dashed (w ∷ [])) q.1 in
+    let s = neither (is_dashed w) false r.1 in
+    let four = only _ _ (ap trial_texts_in (sym same) ∙ trial_four t u v w p.0 q.0 r.0 s.0) in
+    record { pages = t; groups = u; blocks = v; pool = w; words_are = refl; pages_are = ap (λ x. x.0) four; groups_are = ap (λ x. x.1) four; blocks_are = ap (λ x. x.2) four; pool_is = ap (λ x. x.3) four }
+trial_line (t ∷ u ∷ v ∷ w ∷ x ∷ rest) rows plain none same =
+    let p = neither (is_dashed t) (list_any is_dashed (u ∷ v ∷ w ∷ x ∷ rest)) plain in
+    let q = neither (is_dashed u) (list_any is_dashed (v ∷ w ∷ x ∷ rest)) p.1 in
+    let r = neither (is_dashed v) (list_any is_dashed (w ∷ x ∷ rest)) q.1 in
+    let s = neither (is_dashed w) (list_any is_dashed (x ∷ rest)) r.1 in
+    let y = neither (is_dashed x) (list_any is_dashed rest) s.1 in
+    absurd (trial_more t u v w x rest p.0 q.0 r.0 s.0 y.0 (below (codes "trial") (t ∷ u ∷ v ∷ w ∷ x ∷ rest) (stop_trial (t ∷ u ∷ v ∷ w ∷ x ∷ rest)) none))
+
 -- the first word names a subcommand, and it is that one which is found
 abbrev IsName : Text → Type 0
-IsName w = (w ≡ codes "new") ⊎ ((w ≡ codes "run") ⊎ ((w ≡ codes "load") ⊎ (w ≡ codes "simulate")))
+IsName w = (w ≡ codes "new") ⊎ ((w ≡ codes "run") ⊎ ((w ≡ codes "load") ⊎ ((w ≡ codes "simulate") ⊎ (w ≡ codes "trial"))))
 
 names_one : (w : Text) (rest : List Text) → is_dashed w ≡ false → fault_of program (w ∷ rest) ≡ [] → IsName w
-names_one w rest plain none = go (bytes_eq (codes "new") w) refl (bytes_eq (codes "run") w) refl (bytes_eq (codes "load") w) refl (bytes_eq (codes "simulate") w) refl
+names_one w rest plain none = go (bytes_eq (codes "new") w) refl (bytes_eq (codes "run") w) refl (bytes_eq (codes "load") w) refl (bytes_eq (codes "simulate") w) refl (bytes_eq (codes "trial") w) refl
   where
-    go : (a : Bool) → bytes_eq (codes "new") w ≡ a → (b : Bool) → bytes_eq (codes "run") w ≡ b → (c : Bool) → bytes_eq (codes "load") w ≡ c → (d : Bool) → bytes_eq (codes "simulate") w ≡ d → IsName w
-    go true e b f c h d k = inl (sym ((bytes_eq-Decides (codes "new") w).0 e))
-    go false e true f c h d k = inr (inl (sym ((bytes_eq-Decides (codes "run") w).0 f)))
-    go false e false f true h d k = inr (inr (inl (sym ((bytes_eq-Decides (codes "load") w).0 h))))
-    go false e false f false h true k = inr (inr (inr (sym ((bytes_eq-Decides (codes "simulate") w).0 k))))
-    go false e false f false h false k = absurd (stray w rest plain e f h k none)
+    go : (a : Bool) → bytes_eq (codes "new") w ≡ a → (b : Bool) → bytes_eq (codes "run") w ≡ b → (c : Bool) → bytes_eq (codes "load") w ≡ c → (d : Bool) → bytes_eq (codes "simulate") w ≡ d → (x : Bool) → bytes_eq (codes "trial") w ≡ x → IsName w
+    go true e b f c h d k x l = inl (sym ((bytes_eq-Decides (codes "new") w).0 e))
+    go false e true f c h d k x l = inr (inl (sym ((bytes_eq-Decides (codes "run") w).0 f)))
+    go false e false f true h d k x l = inr (inr (inl (sym ((bytes_eq-Decides (codes "load") w).0 h))))
+    go false e false f false h true k x l = inr (inr (inr (inl (sym ((bytes_eq-Decides (codes "simulate") w).0 k)))))
+    go false e false f false h false k true l = inr (inr (inr (inr (sym ((bytes_eq-Decides (codes "trial") w).0 l)))))
+    go false e false f false h false k false l = absurd (stray w rest plain e f h k l none)
 
 abbrev name_in : Option (Text × List Row) → Option Text
 name_in = option_map (λ p. p.0)
@@ -338,56 +420,51 @@ simulate_found : (rest : List Text) → name_in (subcommand_of program (codes "s
 unfolding clap_on_literals
 simulate_found rest = ap (λ o. name_in (entered (built program) o)) (stop_simulate rest)
 
-other_name : (found : Option (Text × List Row)) (name a : Text) (rows : List Row) → name_in found ≡ Some name → found ≡ Some (a, rows) → a ≡ name
-other_name found name a rows is same = only _ _ (sym (ap name_in same) ∙ is)
+trial_found : (rest : List Text) → name_in (subcommand_of program (codes "trial" ∷ rest)) ≡ Some (codes "trial")
+unfolding clap_on_literals
+trial_found rest = ap (λ o. name_in (entered (built program) o)) (stop_trial rest)
+
+abbrev found_name : List Text → Text → Option Text
+found_name rest w = name_in (subcommand_of program (w ∷ rest))
+
+own_name : (w : Text) (rest : List Text) → IsName w → found_name rest w ≡ Some w
+own_name w rest (inl e) = ap (found_name rest) e ∙ new_found rest ∙ ap (λ (v : Text). Some v) (sym e)
+own_name w rest (inr (inl e)) = ap (found_name rest) e ∙ run_found rest ∙ ap (λ (v : Text). Some v) (sym e)
+own_name w rest (inr (inr (inl e))) = ap (found_name rest) e ∙ load_found rest ∙ ap (λ (v : Text). Some v) (sym e)
+own_name w rest (inr (inr (inr (inl e)))) = ap (found_name rest) e ∙ simulate_found rest ∙ ap (λ (v : Text). Some v) (sym e)
+own_name w rest (inr (inr (inr (inr e)))) = ap (found_name rest) e ∙ trial_found rest ∙ ap (λ (v : Text). Some v) (sym e)
 
 no_words : (a : Text) (rows : List Row) → subcommand_of program [] ≡ Some (a, rows) → ⊥
 unfolding clap_on_literals
 no_words a rows same = cc
 
+-- the words behind the first one, which is the name that was found
+module _ (w : Text) (rest : List Text) (rows : List Row) (plain : list_any is_dashed (w ∷ rest) ≡ false) (none : fault_of program (w ∷ rest) ≡ []) (name : Text) (same : subcommand_of program (w ∷ rest) ≡ Some (name, rows)) where
+  is_it : w ≡ name
+  is_it = only _ _ (sym (own_name w rest (names_one w rest (neither (is_dashed w) _ plain).0 none)) ∙ ap name_in same)
+
+  behind : (Line : List Text → List Row → Type 0) → (list_any is_dashed rest ≡ false → fault_of program (name ∷ rest) ≡ [] → subcommand_of program (name ∷ rest) ≡ Some (name, rows) → Line (name ∷ rest) rows) → Line (w ∷ rest) rows
+  behind Line line = subst (λ (v : Text). Line (v ∷ rest) rows) (sym is_it) (line (neither (is_dashed w) _ plain).1 (ap (λ (v : Text). fault_of program (v ∷ rest)) (sym is_it) ∙ none) (ap (λ (v : Text). subcommand_of program (v ∷ rest)) (sym is_it) ∙ same))
+
 pub run_lines : (words : List Text) (rows : List Row) → list_any is_dashed words ≡ false → fault_of program words ≡ [] → subcommand_of program words ≡ Some (codes "run", rows) → IsRunLine words rows
 run_lines [] rows plain none same = absurd (no_words _ rows same)
-run_lines (w ∷ rest) rows plain none same = ⊎_elim
-    (λ e. absurd (differ (other_name _ (codes "new") (codes "run") rows (ap (λ (v : Text). name_in (subcommand_of program (v ∷ rest))) e ∙ new_found rest) same)))
-    (λ others. ⊎_elim
-    (λ e. subst (λ (v : Text). IsRunLine (v ∷ rest) rows) (sym e) (run_line rest rows (neither (is_dashed w) _ plain).1 (ap (λ (v : Text). fault_of program (v ∷ rest)) (sym e) ∙ none) (ap (λ (v : Text). subcommand_of program (v ∷ rest)) (sym e) ∙ same)))
-    (λ rest_of. ⊎_elim
-    (λ e. absurd (differ_load_run (sym (other_name _ (codes "load") (codes "run") rows (ap (λ (v : Text). name_in (subcommand_of program (v ∷ rest))) e ∙ load_found rest) same))))
-    (λ e. absurd (differ_simulate_run (sym (other_name _ (codes "simulate") (codes "run") rows (ap (λ (v : Text). name_in (subcommand_of program (v ∷ rest))) e ∙ simulate_found rest) same)))) rest_of) others)
-    (names_one w rest (neither (is_dashed w) _ plain).0 none)
+run_lines (w ∷ rest) rows plain none same = behind w rest rows plain none (codes "run") same IsRunLine (run_line rest rows)
 
 pub new_lines : (words : List Text) (rows : List Row) → list_any is_dashed words ≡ false → fault_of program words ≡ [] → subcommand_of program words ≡ Some (codes "new", rows) → IsNewLine words rows
 new_lines [] rows plain none same = absurd (no_words _ rows same)
-new_lines (w ∷ rest) rows plain none same = ⊎_elim
-    (λ e. subst (λ (v : Text). IsNewLine (v ∷ rest) rows) (sym e) (new_line rest rows (neither (is_dashed w) _ plain).1 (ap (λ (v : Text). fault_of program (v ∷ rest)) (sym e) ∙ none) (ap (λ (v : Text). subcommand_of program (v ∷ rest)) (sym e) ∙ same)))
-    (λ others. ⊎_elim
-    (λ e. absurd (differ (sym (other_name _ (codes "run") (codes "new") rows (ap (λ (v : Text). name_in (subcommand_of program (v ∷ rest))) e ∙ run_found rest) same))))
-    (λ rest_of. ⊎_elim
-    (λ e. absurd (differ_load_new (sym (other_name _ (codes "load") (codes "new") rows (ap (λ (v : Text). name_in (subcommand_of program (v ∷ rest))) e ∙ load_found rest) same))))
-    (λ e. absurd (differ_simulate_new (sym (other_name _ (codes "simulate") (codes "new") rows (ap (λ (v : Text). name_in (subcommand_of program (v ∷ rest))) e ∙ simulate_found rest) same)))) rest_of) others)
-    (names_one w rest (neither (is_dashed w) _ plain).0 none)
+new_lines (w ∷ rest) rows plain none same = behind w rest rows plain none (codes "new") same IsNewLine (new_line rest rows)
 
 pub load_lines : (words : List Text) (rows : List Row) → list_any is_dashed words ≡ false → fault_of program words ≡ [] → subcommand_of program words ≡ Some (codes "load", rows) → IsLoadLine words rows
 load_lines [] rows plain none same = absurd (no_words _ rows same)
-load_lines (w ∷ rest) rows plain none same = ⊎_elim
-    (λ e. absurd (differ_load_new (other_name _ (codes "new") (codes "load") rows (ap (λ (v : Text). name_in (subcommand_of program (v ∷ rest))) e ∙ new_found rest) same)))
-    (λ others. ⊎_elim
-    (λ e. absurd (differ_load_run (other_name _ (codes "run") (codes "load") rows (ap (λ (v : Text). name_in (subcommand_of program (v ∷ rest))) e ∙ run_found rest) same)))
-    (λ rest_of. ⊎_elim
-    (λ e. subst (λ (v : Text). IsLoadLine (v ∷ rest) rows) (sym e) (load_line rest rows (neither (is_dashed w) _ plain).1 (ap (λ (v : Text). fault_of program (v ∷ rest)) (sym e) ∙ none) (ap (λ (v : Text). subcommand_of program (v ∷ rest)) (sym e) ∙ same)))
-    (λ e. absurd (differ_simulate_load (sym (other_name _ (codes "simulate") (codes "load") rows (ap (λ (v : Text). name_in (subcommand_of program (v ∷ rest))) e ∙ simulate_found rest) same)))) rest_of) others)
-    (names_one w rest (neither (is_dashed w) _ plain).0 none)
+load_lines (w ∷ rest) rows plain none same = behind w rest rows plain none (codes "load") same IsLoadLine (load_line rest rows)
 
 pub simulate_lines : (words : List Text) (rows : List Row) → list_any is_dashed words ≡ false → fault_of program words ≡ [] → subcommand_of program words ≡ Some (codes "simulate", rows) → IsSimulateLine words rows
 simulate_lines [] rows plain none same = absurd (no_words _ rows same)
-simulate_lines (w ∷ rest) rows plain none same = ⊎_elim
-    (λ e. absurd (differ_simulate_new (other_name _ (codes "new") (codes "simulate") rows (ap (λ (v : Text). name_in (subcommand_of program (v ∷ rest))) e ∙ new_found rest) same)))
-    (λ others. ⊎_elim
-    (λ e. absurd (differ_simulate_run (other_name _ (codes "run") (codes "simulate") rows (ap (λ (v : Text). name_in (subcommand_of program (v ∷ rest))) e ∙ run_found rest) same)))
-    (λ rest_of. ⊎_elim
-    (λ e. absurd (differ_simulate_load (other_name _ (codes "load") (codes "simulate") rows (ap (λ (v : Text). name_in (subcommand_of program (v ∷ rest))) e ∙ load_found rest) same)))
-    (λ e. subst (λ (v : Text). IsSimulateLine (v ∷ rest) rows) (sym e) (simulate_line rest rows (neither (is_dashed w) _ plain).1 (ap (λ (v : Text). fault_of program (v ∷ rest)) (sym e) ∙ none) (ap (λ (v : Text). subcommand_of program (v ∷ rest)) (sym e) ∙ same))) rest_of) others)
-    (names_one w rest (neither (is_dashed w) _ plain).0 none)
+simulate_lines (w ∷ rest) rows plain none same = behind w rest rows plain none (codes "simulate") same IsSimulateLine (simulate_line rest rows)
+
+pub trial_lines : (words : List Text) (rows : List Row) → list_any is_dashed words ≡ false → fault_of program words ≡ [] → subcommand_of program words ≡ Some (codes "trial", rows) → IsTrialLine words rows
+trial_lines [] rows plain none same = absurd (no_words _ rows same)
+trial_lines (w ∷ rest) rows plain none same = behind w rest rows plain none (codes "trial") same IsTrialLine (trial_line rest rows)
 
 -- what was read
 
@@ -422,7 +499,11 @@ module _ (words : List Text) (m : ArgMatches) (found : Found) (read : IsReadFrom
       from = run.1.from;
       to = run.1.to;
     })
-    run_wrong none (inr (inr (inr simulate))) =
+    run_wrong none (inr (inr (inr (inr trial)))) =
+        let two : length words ≡ 2 = ap length run_read.words_are in
+        let five : length words ≡ 5 = ap length trial.1.words_are in
+        absurd (omega (arith, two, five))
+    run_wrong none (inr (inr (inr (inl simulate)))) =
         let two : length words ≡ 2 = ap length run_read.words_are in
         let three : length words ≡ 3 = ap length simulate.1.words_are in
         absurd (omega (arith, two, three))
@@ -447,7 +528,8 @@ module _ (words : List Text) (m : ArgMatches) (found : Found) (read : IsReadFrom
         record { words_are = new_read.words_are ∙ (λ i. codes "new" ∷ pages i ∷ groups i ∷ blocks i ∷ []); limits = s.limits }
 
     pub new_wrong : ((g : Geometry) → AreSizes found g → ⊥) → IsRight words → ⊥
-    new_wrong none (inr (inr (inr simulate))) = absurd (differ_simulate_new (first_word _ _ _ _ (sym simulate.1.words_are ∙ new_read.words_are)))
+    new_wrong none (inr (inr (inr (inr trial)))) = absurd (differ_trial_new (first_word _ _ _ _ (sym trial.1.words_are ∙ new_read.words_are)))
+    new_wrong none (inr (inr (inr (inl simulate)))) = absurd (differ_simulate_new (first_word _ _ _ _ (sym simulate.1.words_are ∙ new_read.words_are)))
     new_wrong none (inr (inr (inl load))) = absurd (differ_load_new (first_word _ _ _ _ (sym load.1.words_are ∙ new_read.words_are)))
     new_wrong none (inr (inl new)) =
         let same = four_words _ _ _ _ _ _ _ _ (sym new_read.words_are ∙ new.1.words_are) in
@@ -474,7 +556,8 @@ module _ (words : List Text) (m : ArgMatches) (found : Found) (read : IsReadFrom
         record { words_are = load_read.words_are ∙ (λ i. codes "load" ∷ count i ∷ seed i ∷ pool i ∷ []); limits = l.limits }
 
     pub load_wrong : ((load : Load) → IsLoadOf found load → ⊥) → IsRight words → ⊥
-    load_wrong none (inr (inr (inr simulate))) = absurd (differ_simulate_load (first_word _ _ _ _ (sym simulate.1.words_are ∙ load_read.words_are)))
+    load_wrong none (inr (inr (inr (inr trial)))) = absurd (differ_trial_load (first_word _ _ _ _ (sym trial.1.words_are ∙ load_read.words_are)))
+    load_wrong none (inr (inr (inr (inl simulate)))) = absurd (differ_simulate_load (first_word _ _ _ _ (sym simulate.1.words_are ∙ load_read.words_are)))
     load_wrong none (inr (inr (inl load))) =
         let same = four_words _ _ _ _ _ _ _ _ (sym load_read.words_are ∙ load.1.words_are) in
         none load.0 (record {
@@ -500,7 +583,8 @@ module _ (words : List Text) (m : ArgMatches) (found : Found) (read : IsReadFrom
         record { words_are = simulate_read.words_are ∙ (λ i. codes "simulate" ∷ groups i ∷ pool i ∷ []); limits = l.limits }
 
     pub simulate_wrong : ((s : Simulation) → IsSimulationOf found s → ⊥) → IsRight words → ⊥
-    simulate_wrong none (inr (inr (inr simulate))) =
+    simulate_wrong none (inr (inr (inr (inr trial)))) = absurd (differ_trial_simulate (first_word _ _ _ _ (sym trial.1.words_are ∙ simulate_read.words_are)))
+    simulate_wrong none (inr (inr (inr (inl simulate)))) =
         let same = three_words _ _ _ _ _ _ (sym simulate_read.words_are ∙ simulate.1.words_are) in
         none simulate.0 (record {
           groups = first_value-rows found (codes "groups") ∙ simulate_read.groups_are ∙ ap (λ (t : Text). Some t) same.0;
@@ -511,11 +595,40 @@ module _ (words : List Text) (m : ArgMatches) (found : Found) (read : IsReadFrom
     simulate_wrong none (inr (inl new)) = absurd (differ_simulate_new (first_word _ _ _ _ (sym simulate_read.words_are ∙ new.1.words_are)))
     simulate_wrong none (inl run) = absurd (differ_simulate_run (first_word _ _ _ _ (sym simulate_read.words_are ∙ run.1.words_are)))
 
+  module _ (is : subcommand_name_of m ≡ Some (codes "trial")) where
+    trial_read : IsTrialLine words (rows_of found)
+    trial_read = trial_lines words (rows_of found) read.plain read.faultless (its (codes "trial") is)
+
+    pub trial_right : (t : TrialSizes) → IsTrialOf found t → IsTrial words t
+    trial_right t l =
+        let pages = text_is (codes "pages") trial_read.pages (decimal t.geometry.pages) trial_read.pages_are l.pages in
+        let groups = text_is (codes "groups") trial_read.groups (decimal t.geometry.groups) trial_read.groups_are l.groups in
+        let blocks = text_is (codes "blocks") trial_read.blocks (decimal t.geometry.blocks) trial_read.blocks_are l.blocks in
+        let pool = text_is (codes "pool") trial_read.pool (decimal t.pool) trial_read.pool_is l.pool in
+        record { words_are = trial_read.words_are ∙ (λ i. codes "trial" ∷ pages i ∷ groups i ∷ blocks i ∷ pool i ∷ []); limits = l.limits }
+
+    pub trial_wrong : ((t : TrialSizes) → IsTrialOf found t → ⊥) → IsRight words → ⊥
+    trial_wrong none (inr (inr (inr (inr trial)))) =
+        let same = five_words _ _ _ _ _ _ _ _ _ _ (sym trial_read.words_are ∙ trial.1.words_are) in
+        none trial.0 (record {
+          pages = first_value-rows found (codes "pages") ∙ trial_read.pages_are ∙ ap (λ (t : Text). Some t) same.second;
+          groups = first_value-rows found (codes "groups") ∙ trial_read.groups_are ∙ ap (λ (t : Text). Some t) same.third;
+          blocks = first_value-rows found (codes "blocks") ∙ trial_read.blocks_are ∙ ap (λ (t : Text). Some t) same.fourth;
+          pool = first_value-rows found (codes "pool") ∙ trial_read.pool_is ∙ ap (λ (t : Text). Some t) same.fifth;
+          limits = trial.1.limits;
+        })
+    trial_wrong none (inr (inr (inr (inl simulate)))) = absurd (differ_trial_simulate (first_word _ _ _ _ (sym trial_read.words_are ∙ simulate.1.words_are)))
+    trial_wrong none (inr (inr (inl load))) = absurd (differ_trial_load (first_word _ _ _ _ (sym trial_read.words_are ∙ load.1.words_are)))
+    trial_wrong none (inr (inl new)) = absurd (differ_trial_new (first_word _ _ _ _ (sym trial_read.words_are ∙ new.1.words_are)))
+    trial_wrong none (inl run) = absurd (differ_trial_run (first_word _ _ _ _ (sym trial_read.words_are ∙ run.1.words_are)))
+
 -- right words name a subcommand
 pub right_named : (words : List Text) (m : ArgMatches) → IsReadFrom words m → IsRight words
     → (subcommand_name_of m ≡ Some (codes "run")) ⊎ ((subcommand_name_of m ≡ Some (codes "new"))
-    ⊎ ((subcommand_name_of m ≡ Some (codes "load")) ⊎ (subcommand_name_of m ≡ Some (codes "simulate"))))
+    ⊎ ((subcommand_name_of m ≡ Some (codes "load")) ⊎ ((subcommand_name_of m ≡ Some (codes "simulate")) ⊎ (subcommand_name_of m ≡ Some (codes "trial")))))
 right_named words m read (inl run) = inl (sym (has_name m) ∙ ap name_in (read.rows ∙ ap (subcommand_of program) run.1.words_are) ∙ named_run (decimal run.0))
 right_named words m read (inr (inl new)) = inr (inl (sym (has_name m) ∙ ap name_in (read.rows ∙ ap (subcommand_of program) new.1.words_are) ∙ named_new (decimal new.0.pages) (decimal new.0.groups) (decimal new.0.blocks)))
 right_named words m read (inr (inr (inl load))) = inr (inr (inl (sym (has_name m) ∙ ap name_in (read.rows ∙ ap (subcommand_of program) load.1.words_are) ∙ named_load (decimal load.0.count) (decimal load.0.seed) (decimal load.0.pool))))
-right_named words m read (inr (inr (inr simulate))) = inr (inr (inr (sym (has_name m) ∙ ap name_in (read.rows ∙ ap (subcommand_of program) simulate.1.words_are) ∙ named_simulate (decimal simulate.0.groups) (decimal simulate.0.pool))))
+right_named words m read (inr (inr (inr (inr trial)))) =
+    inr (inr (inr (inr (sym (has_name m) ∙ ap name_in (read.rows ∙ ap (subcommand_of program) trial.1.words_are) ∙ named_trial (decimal trial.0.geometry.pages) (decimal trial.0.geometry.groups) (decimal trial.0.geometry.blocks) (decimal trial.0.pool)))))
+right_named words m read (inr (inr (inr (inl simulate)))) = inr (inr (inr (inl (sym (has_name m) ∙ ap name_in (read.rows ∙ ap (subcommand_of program) simulate.1.words_are) ∙ named_simulate (decimal simulate.0.groups) (decimal simulate.0.pool)))))

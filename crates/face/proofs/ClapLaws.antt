@@ -15,9 +15,10 @@ use Rattle.std.specs.declared.string.String.{String}
 use Rattle.std.specs.declared.alloc.Global.{Global}
 use Rattle.std.specs.List.{list_any}
 use Rattle.std.specs.Str.Parse.{IsNumeral}
-use Rattle.face.specs.Words.{HasCacheLimits, HasLoadLimits, IsRight, HasDash, is_dashed, words_of}
+use Rattle.face.specs.Words.{HasCacheLimits, HasLoadLimits, HasTrialLimits, IsRight, HasDash, is_dashed, words_of}
 use Rattle.face.specs.declared.request.Load.{Load}
 use Rattle.face.specs.declared.request.Simulation.{Simulation}
+use Rattle.face.specs.declared.request.TrialSizes.{TrialSizes}
 use Rattle.face.specs.Program.{program}
 
 -- a word whose first octet is no dash is neither a long nor a short flag
@@ -78,6 +79,15 @@ pub taken_simulate : (x : ℕ) (xs : Text) (y : ℕ) (ys : Text) → (x == 45) �
 unfolding clap_on_literals
 taken_simulate x xs y ys a b = rw (no_dashes x xs a, no_long x xs a, no_short x xs a, no_dashes y ys b, no_long y ys b, no_short y ys b) refl
 
+pub named_trial : (t u v w : Text) → option_map (λ p. p.0) (subcommand_of program (codes "trial" ∷ t ∷ u ∷ v ∷ w ∷ [])) ≡ Some (codes "trial")
+unfolding clap_on_literals
+named_trial t u v w = refl
+
+pub taken_trial : (x : ℕ) (xs : Text) (y : ℕ) (ys : Text) (z : ℕ) (zs : Text) (w : ℕ) (ws : Text) → (x == 45) ≡ false → (y == 45) ≡ false → (z == 45) ≡ false → (w == 45) ≡ false → takes program (codes "trial" ∷ (x ∷ xs) ∷ (y ∷ ys) ∷ (z ∷ zs) ∷ (w ∷ ws) ∷ []) ≡ true
+unfolding clap_on_literals
+taken_trial x xs y ys z zs w ws a b c d =
+    rw (no_dashes x xs a, no_long x xs a, no_short x xs a, no_dashes y ys b, no_long y ys b, no_short y ys b, no_dashes z zs c, no_long z zs c, no_short z zs c, no_dashes w ws d, no_long w ws d, no_short w ws d) refl
+
 -- a number in decimal has a first octet, and it is a digit
 record Begins (t : Text) : Type 0 where
   pub first : ℕ
@@ -113,6 +123,11 @@ simulate_taken t u a b =
     (λ i. takes program (codes "simulate" ∷ a.is i ∷ b.is i ∷ []))
     ∙ taken_simulate a.first a.rest b.first b.rest a.no_dash b.no_dash
 
+trial_taken : (t u v w : Text) → Begins t → Begins u → Begins v → Begins w → takes program (codes "trial" ∷ t ∷ u ∷ v ∷ w ∷ []) ≡ true
+trial_taken t u v w a b c d =
+    (λ i. takes program (codes "trial" ∷ a.is i ∷ b.is i ∷ c.is i ∷ d.is i ∷ []))
+    ∙ taken_trial a.first a.rest b.first b.rest c.first c.rest d.first d.rest a.no_dash b.no_dash c.no_dash d.no_dash
+
 -- the three numbers of a load begin with a digit
 record LoadBegins (load : Load) : Type 0 where
   pub count : Begins (decimal load.count)
@@ -136,10 +151,28 @@ cache_begins s limits =
     let to = limits.to in
     record { groups = begins s.groups (omega (arith, most)); pool = begins s.pool (omega (arith, to)) }
 
+-- and the four of a trial
+record TrialBegins (t : TrialSizes) : Type 0 where
+  pub pages : Begins (decimal t.geometry.pages)
+  pub groups : Begins (decimal t.geometry.groups)
+  pub blocks : Begins (decimal t.geometry.blocks)
+  pub pool : Begins (decimal t.pool)
+
+trial_begins : (t : TrialSizes) → HasTrialLimits t → TrialBegins t
+trial_begins t limits =
+    let pages = limits.sizes.few_pages in
+    let groups = limits.sizes.few_groups in
+    let blocks = limits.sizes.few_blocks in
+    let to = limits.to in
+    record { pages = begins t.geometry.pages (omega (arith, pages)); groups = begins t.geometry.groups (omega (arith, groups)); blocks = begins t.geometry.blocks (omega (arith, blocks)); pool = begins t.pool (omega (arith, to)) }
+
 -- `clap` takes all right words
 pub right_taken : (words : List Text) → IsRight words → takes program words ≡ true
 right_taken words (inl run) = let most = run.1.to in ap (takes program) run.1.words_are ∙ run_taken (decimal run.0) (begins run.0 (omega (arith, most)))
-right_taken words (inr (inr (inr simulate))) =
+right_taken words (inr (inr (inr (inr trial)))) =
+    let b = trial_begins trial.0 trial.1.limits in
+    ap (takes program) trial.1.words_are ∙ trial_taken (decimal trial.0.geometry.pages) (decimal trial.0.geometry.groups) (decimal trial.0.geometry.blocks) (decimal trial.0.pool) b.pages b.groups b.blocks b.pool
+right_taken words (inr (inr (inr (inl simulate)))) =
     let b = cache_begins simulate.0 simulate.1.limits in
     ap (takes program) simulate.1.words_are ∙ simulate_taken (decimal simulate.0.groups) (decimal simulate.0.pool) b.groups b.pool
 right_taken words (inr (inr (inl load))) =
@@ -166,11 +199,17 @@ load_undashed t u v a b c dash = let none : list_any is_dashed (codes "load" ∷
 simulate_undashed : (t u : Text) → is_dashed t ≡ false → is_dashed u ≡ false → HasDash (codes "simulate" ∷ t ∷ u ∷ []) → ⊥
 simulate_undashed t u a b dash = let none : list_any is_dashed (codes "simulate" ∷ t ∷ u ∷ []) ≡ false = rw (a, b) refl in cc
 
+trial_undashed : (t u v w : Text) → is_dashed t ≡ false → is_dashed u ≡ false → is_dashed v ≡ false → is_dashed w ≡ false → HasDash (codes "trial" ∷ t ∷ u ∷ v ∷ w ∷ []) → ⊥
+trial_undashed t u v w a b c d dash = let none : list_any is_dashed (codes "trial" ∷ t ∷ u ∷ v ∷ w ∷ []) ≡ false = rw (a, b, c, d) refl in cc
+
 pub right_undashed : (words : List Text) → IsRight words → HasDash words → ⊥
 right_undashed words (inl run) dash =
     let most = run.1.to in
     run_undashed (decimal run.0) (begins_undashed _ (begins run.0 (omega (arith, most)))) (subst HasDash run.1.words_are dash)
-right_undashed words (inr (inr (inr simulate))) dash =
+right_undashed words (inr (inr (inr (inr trial)))) dash =
+    let b = trial_begins trial.0 trial.1.limits in
+    trial_undashed (decimal trial.0.geometry.pages) (decimal trial.0.geometry.groups) (decimal trial.0.geometry.blocks) (decimal trial.0.pool) (begins_undashed _ b.pages) (begins_undashed _ b.groups) (begins_undashed _ b.blocks) (begins_undashed _ b.pool) (subst HasDash trial.1.words_are dash)
+right_undashed words (inr (inr (inr (inl simulate)))) dash =
     let b = cache_begins simulate.0 simulate.1.limits in
     simulate_undashed (decimal simulate.0.groups) (decimal simulate.0.pool) (begins_undashed _ b.groups) (begins_undashed _ b.pool) (subst HasDash simulate.1.words_are dash)
 right_undashed words (inr (inr (inl load))) dash =
@@ -200,6 +239,18 @@ differ_simulate_new e = let bad : 115 ≡ 110 = ap (λ (l : Text). slice_index_o
 
 pub differ_simulate_load : codes "simulate" ≡ codes "load" → ⊥
 differ_simulate_load e = let bad : 115 ≡ 108 = ap (λ (l : Text). slice_index_or l 0 0) e in absurd (omega (arith, bad))
+
+pub differ_trial_run : codes "trial" ≡ codes "run" → ⊥
+differ_trial_run e = let bad : 116 ≡ 114 = ap (λ (l : Text). slice_index_or l 0 0) e in absurd (omega (arith, bad))
+
+pub differ_trial_new : codes "trial" ≡ codes "new" → ⊥
+differ_trial_new e = let bad : 116 ≡ 110 = ap (λ (l : Text). slice_index_or l 0 0) e in absurd (omega (arith, bad))
+
+pub differ_trial_load : codes "trial" ≡ codes "load" → ⊥
+differ_trial_load e = let bad : 116 ≡ 108 = ap (λ (l : Text). slice_index_or l 0 0) e in absurd (omega (arith, bad))
+
+pub differ_trial_simulate : codes "trial" ≡ codes "simulate" → ⊥
+differ_trial_simulate e = let bad : 116 ≡ 115 = ap (λ (l : Text). slice_index_or l 0 0) e in absurd (omega (arith, bad))
 
 any_of : {X Y : Type 0} (p : Y → Bool) (f : X → Y) (xs : List X) → list_any p (map f xs) ≡ list_any (λ x. p (f x)) xs
 any_of p f [] = refl

@@ -5,7 +5,7 @@ use Rattle.std.proofs.lemmas.List.{append-nil, take_all, take_at}
 use Rattle.site.specs.State.{State as Site, Image, MayLeave, no_loose, now_of}
 use Rattle.site.specs.Calls.{Goes, Rose}
 use Rattle.site.specs.Crash.{image_left, started}
-use Rattle.site.specs.Laws.{calm, each_weaker, in_sequence, no_call, now_leaves, now_same, rose_then}
+use Rattle.site.specs.Laws.{calm, each_weaker, goes_nowhere, in_sequence, no_call, now_leaves, now_same, rose_then}
 use Rattle.site.specs.MemState.{limits_of, lives_of, state_of}
 use Rattle.site.specs.Moments.{EachMoment}
 use Rattle.site.specs.Telling.{TellsPart}
@@ -24,7 +24,7 @@ use Rattle.face.specs.Living.{Ends, Finds, HasLivedOne, IsGivenUp, IsHaltOfTrial
 use Rattle.face.specs.Run.{IsFront}
 use Rattle.face.specs.Tells.{Tells}
 use Rattle.face.specs.Texts.{fault_line, status_of}
-use Rattle.face.specs.Trial.{Between, HaveLived, IsLife, IsNewSite, IsStatus, LeavesDevices, Lives, TellsAll, TellsSome, TrialCauses, at_first, is_within, life_line, numbers_of, script_limit}
+use Rattle.face.specs.Trial.{Between, HaveLived, IsLife, IsNewSite, IsStatus, LeavesDevices, Lives, TellsAll, TellsSome, TrialCauses, TrialContract, at_first, is_within, life_line, numbers_of, script_limit}
 use Rattle.face.proofs.Endings.{ends_with}
 use Rattle.face.proofs.Longer.{front_more}
 
@@ -398,3 +398,28 @@ caused_by h status old mid new is t goes left = ⊎_elim memory (⊎_elim input 
           over = λ honest many. inl seven;
           complete = λ honest a b few. let all = over honest in absurd (omega (arith, all, few));
         }
+
+-- where memory was wanted before the script was read
+pub lacked_trial : {T : Type 0} (g : Geometry) (old new : Site) (result : Result T Failed) → Tells (fault_line (halt.Stop Memory)) old new result → TrialContract g old new 4 (0 ∷ [])
+lacked_trial {T} g old new result tells = record {
+  lives = λ honest. told_and_fault {T = T} g old.left old old new (0 ∷ []) 4 result (goes_nowhere old) honest (halt.Stop Memory) refl
+      (record { lives = 0; before = at_first g; lived = refl; told = sym (append-nil old.told); changes = 0; numbers_are = refl }) (λ which. refl) tells;
+  causes = caused_by (halt.Stop Memory) 4 old old new refl (record {
+    is = inl refl;
+    input = λ e. absurd (not_memory_input e);
+    output = λ e. absurd (not_memory_output e);
+    few = λ e. absurd (not_memory_output e);
+    limit = λ e. absurd (not_memory_limit e);
+  }) tells.goes (λ honest. (tells.devices honest).left);
+  devices = λ honest. devices_told (fault_line (halt.Stop Memory)) old new (tells.any_moment honest);
+  reads = tells.reads;
+}
+  where
+    not_memory_input : halt.Stop Memory ≡ halt.Input → ⊥
+    not_memory_input e = cc
+
+    not_memory_output : halt.Stop Memory ≡ halt.Output → ⊥
+    not_memory_output e = cc
+
+    not_memory_limit : halt.Stop Memory ≡ halt.Limit → ⊥
+    not_memory_limit e = cc

@@ -1,13 +1,14 @@
--- The words of `run`, of `new`, of `load` and of `simulate` are told apart, and say one thing.
+-- The words of `run`, of `new`, of `load`, of `simulate` and of `trial` are told apart, and say one thing.
 use Rattle.std.proofs.Common.{◌≡◌, ℕ, List, sym, ◌∙◌, ap, arith, length}
 use Rattle.std.specs.Prelude.{decimal}
 use Rattle.std.proofs.lemmas.Fmt.{decimal_injective}
 use Rattle.site.specs.declared.geometry.Geometry.{Geometry}
 use Rattle.face.specs.declared.request.Load.{Load}
 use Rattle.face.specs.declared.request.Simulation.{Simulation}
-use Rattle.face.specs.Words.{IsRun, IsNew, IsLoad, IsSimulate}
-use Rattle.face.proofs.ClapLaws.{differ_load_new, differ_simulate_load, differ_simulate_new, differ_simulate_run}
-use Rattle.face.proofs.WordLists.{first_word, second_word, three_words, four_words}
+use Rattle.face.specs.declared.request.TrialSizes.{TrialSizes}
+use Rattle.face.specs.Words.{IsRun, IsNew, IsLoad, IsSimulate, IsTrial}
+use Rattle.face.proofs.ClapLaws.{differ_load_new, differ_simulate_load, differ_simulate_new, differ_simulate_run, differ_trial_load, differ_trial_new, differ_trial_run, differ_trial_simulate}
+use Rattle.face.proofs.WordLists.{first_word, second_word, three_words, four_words, five_words}
 
 pub not_both : (words : List (List ℕ)) (pool : ℕ) (g : Geometry) → IsRun words pool → IsNew words g → ⊥
 not_both words pool g run new =
@@ -76,3 +77,32 @@ one_simulation words s other first second =
     let groups = decimal_injective s.groups other.groups (omega (arith, p)) (omega (arith, q)) same.0 in
     let pool = decimal_injective s.pool other.pool (omega (arith, r)) (omega (arith, t)) same.1 in
     λ i. record { groups = groups i; pool = pool i }
+
+pub no_trial_run : (words : List (List ℕ)) (pool : ℕ) (t : TrialSizes) → IsRun words pool → IsTrial words t → ⊥
+no_trial_run words pool t run is_trial = differ_trial_run (first_word _ _ _ _ (sym is_trial.words_are ∙ run.words_are))
+
+pub no_trial_new : (words : List (List ℕ)) (g : Geometry) (t : TrialSizes) → IsNew words g → IsTrial words t → ⊥
+no_trial_new words g t new is_trial = differ_trial_new (first_word _ _ _ _ (sym is_trial.words_are ∙ new.words_are))
+
+pub no_trial_load : (words : List (List ℕ)) (load : Load) (t : TrialSizes) → IsLoad words load → IsTrial words t → ⊥
+no_trial_load words load t is_load is_trial = differ_trial_load (first_word _ _ _ _ (sym is_trial.words_are ∙ is_load.words_are))
+
+pub no_trial_simulate : (words : List (List ℕ)) (s : Simulation) (t : TrialSizes) → IsSimulate words s → IsTrial words t → ⊥
+no_trial_simulate words s t is_simulate is_trial = differ_trial_simulate (first_word _ _ _ _ (sym is_trial.words_are ∙ is_simulate.words_are))
+
+pub one_trial : (words : List (List ℕ)) (t other : TrialSizes) → IsTrial words t → IsTrial words other → t ≡ other
+one_trial words t other first second =
+    let same = five_words _ _ _ _ _ _ _ _ _ _ (sym first.words_are ∙ second.words_are) in
+    let a = first.limits.sizes.few_pages in
+    let b = second.limits.sizes.few_pages in
+    let c = first.limits.sizes.few_groups in
+    let d = second.limits.sizes.few_groups in
+    let e = first.limits.sizes.few_blocks in
+    let f = second.limits.sizes.few_blocks in
+    let p = first.limits.to in
+    let q = second.limits.to in
+    let pages = decimal_injective t.geometry.pages other.geometry.pages (omega (arith, a)) (omega (arith, b)) same.second in
+    let groups = decimal_injective t.geometry.groups other.geometry.groups (omega (arith, c)) (omega (arith, d)) same.third in
+    let blocks = decimal_injective t.geometry.blocks other.geometry.blocks (omega (arith, e)) (omega (arith, f)) same.fourth in
+    let pool = decimal_injective t.pool other.pool (omega (arith, p)) (omega (arith, q)) same.fifth in
+    λ i. record { geometry = record { pages = pages i; groups = groups i; blocks = blocks i }; pool = pool i }

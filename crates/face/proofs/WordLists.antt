@@ -17,6 +17,17 @@ four_items (x ∷ y ∷ z ∷ []) a b c d many few first second third fourth = a
 four_items (x ∷ y ∷ z ∷ w ∷ []) a b c d many few first second third fourth = λ i. sym first i ∷ sym second i ∷ sym third i ∷ sym fourth i ∷ []
 four_items (x ∷ y ∷ z ∷ w ∷ v ∷ xs) a b c d many few first second third fourth = absurd (omega (arith, few))
 
+-- the words of two lists of five are the same, one by one
+pub record SameFive (a b c d e a' b' c' d' e' : List ℕ) : Type 0 where
+  pub first : a ≡ a'
+  pub second : b ≡ b'
+  pub third : c ≡ c'
+  pub fourth : d ≡ d'
+  pub fifth : e ≡ e'
+
+pub five_words : (a b c d e a' b' c' d' e' : List ℕ) → a ∷ b ∷ c ∷ d ∷ e ∷ [] ≡ a' ∷ b' ∷ c' ∷ d' ∷ e' ∷ [] → SameFive a b c d e a' b' c' d' e'
+five_words a b c d e a' b' c' d' e' is = record { first = cc; second = cc; third = cc; fourth = cc; fifth = cc }
+
 pub second_word : (a b c d : List ℕ) → a ∷ b ∷ [] ≡ c ∷ d ∷ [] → b ≡ d
 second_word a b c d is = cc
 

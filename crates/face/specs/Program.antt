@@ -11,7 +11,8 @@ use Rattle.site.specs.declared.geometry.Geometry.{Geometry}
 use Rattle.site.specs.Geometry.{HasLimits}
 use Rattle.face.specs.declared.request.Load.{Load}
 use Rattle.face.specs.declared.request.Simulation.{Simulation}
-use Rattle.face.specs.Words.{HasCacheLimits, HasLoadLimits, is_dashed}
+use Rattle.face.specs.declared.request.TrialSizes.{TrialSizes}
+use Rattle.face.specs.Words.{HasCacheLimits, HasLoadLimits, HasTrialLimits, is_dashed}
 use Rattle.clap.specs.declared.builder.command.Command.TheViews.{out-Command}
 
 -- a text that has to be there
@@ -32,6 +33,10 @@ load_words = with_rule (with_rule (with_rule (new_app (codes "load")) (text (new
 abbrev pub simulate_words : App
 simulate_words = with_rule (with_rule (new_app (codes "simulate")) (text (new_rule (codes "groups")))) (text (new_rule (codes "pool")))
 
+abbrev pub trial_words : App
+trial_words = with_rule (with_rule (with_rule (with_rule (new_app (codes "trial")) (text (new_rule (codes "pages"))))
+    (text (new_rule (codes "groups")))) (text (new_rule (codes "blocks")))) (text (new_rule (codes "pool")))
+
 abbrev pub bare : App
 bare = on_top (λ s. record s {
   no_binary_name = true;
@@ -45,9 +50,9 @@ bare = on_top (λ s. record s {
 abbrev pub database_words : App
 database_words = with_subcommand (with_subcommand (with_subcommand bare new_words.top) run_words.top) load_words.top
 
--- and `simulate` with two
+-- and `simulate` with two, and `trial` with four
 abbrev pub program : App
-program = with_subcommand database_words simulate_words.top
+program = with_subcommand (with_subcommand database_words simulate_words.top) trial_words.top
 
 -- the command is this one, and no argument of it is global
 abbrev pub IsLike : Command → App → Type 0
@@ -84,3 +89,11 @@ pub record IsSimulationOf (found : Found) (s : Simulation) : Type 0 where
   pub groups : first_value found (codes "groups") ≡ Some (decimal s.groups)
   pub pool : first_value found (codes "pool") ≡ Some (decimal s.pool)
   pub limits : HasCacheLimits s
+
+-- the texts behind `trial` ask for this trial
+pub record IsTrialOf (found : Found) (t : TrialSizes) : Type 0 where
+  pub pages : first_value found (codes "pages") ≡ Some (decimal t.geometry.pages)
+  pub groups : first_value found (codes "groups") ≡ Some (decimal t.geometry.groups)
+  pub blocks : first_value found (codes "blocks") ≡ Some (decimal t.geometry.blocks)
+  pub pool : first_value found (codes "pool") ≡ Some (decimal t.pool)
+  pub limits : HasTrialLimits t

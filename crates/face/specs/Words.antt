@@ -8,8 +8,9 @@ use Rattle.site.specs.declared.geometry.Geometry.{Geometry}
 use Rattle.site.specs.Geometry.{HasLimits}
 use Rattle.face.specs.declared.request.Load.{Load as Workload}
 use Rattle.face.specs.declared.request.Simulation.{Simulation}
+use Rattle.face.specs.declared.request.TrialSizes.{TrialSizes}
 use Rattle.face.specs.declared.request.Request.{Request}
-use Rattle.face.specs.declared.request.Request.TheVariants.{Run, New, Load, Simulate}
+use Rattle.face.specs.declared.request.Request.TheVariants.{Run, New, Load, Simulate, Trial}
 use Rattle.site.specs.State.{State}
 use Rattle.site.specs.Calls.{SameReads}
 use Rattle.site.specs.Moments.{EachMoment}
@@ -57,11 +58,30 @@ pub record IsSimulate (words : List (List ℕ)) (s : Simulation) : Type 0 where
   pub words_are : words ≡ codes "simulate" ∷ decimal s.groups ∷ decimal s.pool ∷ []
   pub limits : HasCacheLimits s
 
+-- the devices of a trial have at most 1,024 pages, 256 groups and 4,096 blocks
+pub record HasTrialSizes (g : Geometry) : Type 0 where
+  pub limits : HasLimits g
+  pub few_pages : g.pages ≤ 1024
+  pub few_groups : g.groups ≤ 256
+  pub few_blocks : g.blocks ≤ 4096
+
+pub record HasTrialLimits (t : TrialSizes) : Type 0 where
+  pub sizes : HasTrialSizes t.geometry
+  pub from : 1 ≤ t.pool
+  pub to : t.pool ≤ 4096
+
+-- `trial PAGES GROUPS BLOCKS POOL` in decimal, within the limits
+pub record IsTrial (words : List (List ℕ)) (t : TrialSizes) : Type 0 where
+  pub words_are : words ≡ codes "trial" ∷ decimal t.geometry.pages ∷ decimal t.geometry.groups
+      ∷ decimal t.geometry.blocks ∷ decimal t.pool ∷ []
+  pub limits : HasTrialLimits t
+
 -- the words are in the table
 abbrev pub IsRight : List (List ℕ) → Type 0
 IsRight words =
     ((pool : ℕ) × IsRun words pool) ⊎ (((g : Geometry) × IsNew words g)
-    ⊎ (((load : Workload) × IsLoad words load) ⊎ ((s : Simulation) × IsSimulate words s)))
+    ⊎ (((load : Workload) × IsLoad words load) ⊎ (((s : Simulation) × IsSimulate words s)
+    ⊎ ((t : TrialSizes) × IsTrial words t))))
 
 abbrev pub words_fault : List ℕ
 words_fault = codes "fault words\n"
@@ -90,6 +110,7 @@ IsRequest (Run pool) words = IsRun words pool
 IsRequest (New g) words = IsNew words g
 IsRequest (Load load) words = IsLoad words load
 IsRequest (Simulate s) words = IsSimulate words s
+IsRequest (Trial t) words = IsTrial words t
 
 -- the word begins with a dash
 abbrev pub is_dashed : List ℕ → Bool

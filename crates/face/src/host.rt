@@ -35,8 +35,8 @@ fn words<R: Env + AllocGlobal>(rt: &R) -> Result<Vec<String>, AllocError> {
     Ok(words)
 }
 
-// The site that these words work on: for a new database its files are made where they are missing; a simulation and wrong words
-// open none.
+// The site that these words work on: for a new database its files are made where they are missing; a simulation, a trial and
+// wrong words open none.
 fn site<'a, R>(rt: &'a R, words: &[String]) -> Result<FileSite<&'a R>, Stop>
 where
     R: Files + Input + Print + Eprint + Clock + AllocGlobal,
@@ -47,7 +47,10 @@ where
         return FileSite::fresh(rt, rt.alloc(), log, flash, disk);
     }
     match read_words(rt.alloc(), words) {
-        Ok(Request::Simulate(_)) | Err(Unread::Words) => FileSite::bare(rt, rt.alloc()),
+        Ok(Request::Simulate(_) | Request::Trial(_)) | Err(Unread::Words) => FileSite::bare(
+            rt,
+            rt.alloc(),
+        ),
         Ok(_) => FileSite::existing(rt, rt.alloc()),
         Err(Unread::Memory) => Err(Stop::Memory),
     }

@@ -211,7 +211,7 @@ impl<'a> Eprint for Caller<'a> {
 // the drafts of those that are missing.
 #[test]
 fn words_open_their_files(rt: HostRuntime) -> Result<(), Fail> {
-    let rows: [(&[&[u8]], &'static [u8], u8, &[u8], u64); 12] = [
+    let rows: [(&[&[u8]], &'static [u8], u8, &[u8], u64); 13] = [
         (&[b"face", b"run", b"1"], b"", 9, b"fault foreign\n", 3),
         (
             &[b"face", b"new", b"16", b"8", b"64"],
@@ -259,6 +259,13 @@ fn words_open_their_files(rt: HostRuntime) -> Result<(), Fail> {
             9,
             b"fault foreign\n",
             3,
+        ),
+        (
+            &[b"face", b"trial", b"16", b"8", b"64", b"1"],
+            b"set 5 0a\nstop 12 0\nget 5\n",
+            0,
+            b"open 0\ncommitted 1\nlife 1 status 0\nopen 1\nvalue 0a\nlife 2 status 0\n",
+            0,
         ),
     ];
     for path in ["face.log", "face.flash", "face.disk"] {
@@ -309,7 +316,7 @@ const NEW: [&[u8]; 5] = [b"face", b"new", b"16", b"8", b"64"];
 
 const RUN: [&[u8]; 3] = [b"face", b"run", b"1"];
 
-// Wrong words are said by their place and what they aren't; the usage behind them takes nine lines.
+// Wrong words are said by their place and what they aren't; the usage behind them takes twelve lines.
 #[test]
 fn wrong_words_are_said(rt: HostRuntime) -> Result<(), Fail> {
     says(
@@ -322,19 +329,19 @@ fn wrong_words_are_said(rt: HostRuntime) -> Result<(), Fail> {
         &rt,
         &[b"face", b"help"],
         2,
-        "face: word 1 is \"help\", and not new, run, load or simulate\nusage: face new",
+        "face: word 1 is \"help\", and not new, run, load, simulate or trial\nusage: face new",
     )?;
     says(
         &rt,
         &[b"face", b"--help"],
         2,
-        "face: word 1 is \"--help\", and not new, run, load or simulate\n",
+        "face: word 1 is \"--help\", and not new, run, load, simulate or trial\n",
     )?;
     says(
         &rt,
         &[b"face", b"run\n"],
         2,
-        "face: word 1 is \"run\\n\", and not new, run, load or simulate\n",
+        "face: word 1 is \"run\\n\", and not new, run, load, simulate or trial\n",
     )?;
     says(&rt, &[b"face", b"run"], 2, "face: POOL is missing\n")?;
     says(
@@ -358,7 +365,7 @@ fn wrong_words_are_said(rt: HostRuntime) -> Result<(), Fail> {
             .iter()
             .filter(|octet| **octet == b'\n')
             .count(),
-        10
+        13
     );
     Ok(())
 }
@@ -366,7 +373,7 @@ fn wrong_words_are_said(rt: HostRuntime) -> Result<(), Fail> {
 // The words, without the program's own name, and what is wrong with them.
 #[test]
 fn the_first_wrong_word_is_found(rt: HostRuntime) -> Result<(), Fail> {
-    let rows: [(&str, Option<Wrong>); 27] = [
+    let rows: [(&str, Option<Wrong>); 31] = [
         ("new 1 8 16", None),
         ("new 65536 16384 1048576", None),
         ("run 1", None),
@@ -393,6 +400,19 @@ fn the_first_wrong_word_is_found(rt: HostRuntime) -> Result<(), Fail> {
             Some(Wrong::Unfit(3, Number::Seed)),
         ),
         ("load 1 1", Some(Wrong::Lacks(Number::Pool))),
+        (
+            "trial 1025 8 16 1",
+            Some(Wrong::Unfit(2, Number::TrialPages)),
+        ),
+        (
+            "trial 1 260 16 1",
+            Some(Wrong::Unfit(3, Number::TrialGroups)),
+        ),
+        (
+            "trial 1 8 4097 1",
+            Some(Wrong::Unfit(4, Number::TrialBlocks)),
+        ),
+        ("trial 1 8 16", Some(Wrong::Lacks(Number::Pool))),
         ("simulate 16384 4096", None),
         ("simulate 10 1", Some(Wrong::Unfit(2, Number::Groups))),
         ("simulate 8", Some(Wrong::Lacks(Number::Pool))),

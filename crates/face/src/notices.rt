@@ -1,7 +1,9 @@
 // What is said on standard error where the words are wrong or the work can't be done. No line that is told and no
 // status depends on it, and what can't be said is left unsaid.
 
-use crate::words::{COUNT_MAX, POOL_MAX, geometry_of, groups_in, number_in, number_within, sizes};
+use crate::words::{
+    COUNT_MAX, POOL_MAX, geometry_of, groups_in, number_in, number_within, sizes, trial_geometry_of,
+};
 use file_site::{Absence, Call, Failure, FileSite, LockFile, Watch, path};
 use site::{Dev, Geometry, Site};
 use std::io::{Eprint, Input, Print};
@@ -13,10 +15,13 @@ usage: face new PAGES GROUPS BLOCKS   makes a database in the current folder
        face run POOL                  serves the lines of standard input
        face load COUNT SEED POOL      makes COUNT sets of the numbers that SEED gives, and gets them again
        face simulate GROUPS POOL      counts what three page caches do with the touches on standard input
+       face trial PAGES GROUPS BLOCKS POOL
+                                      plays a script of lives with power cuts in memory
 PAGES  1 to 65536, each of 32 records and 4096 octets of face.disk
 GROUPS a multiple of 4 from 8 to 16384, each of 33536 octets of face.flash
 BLOCKS 16 to 1048576, each of 512 octets of face.log
 POOL   1 to 4096, the pages that memory holds
+A trial has at most 1024 pages, 256 groups and 4096 blocks, and a script of at most 65536 octets
 COUNT  1 to 100000; SEED 0 to 18446744073709551615; numbers are decimal, with no leading zero";
 
 const DEVS: [Dev; 3] = [Dev::Log, Dev::Flash, Dev::Disk];
@@ -30,14 +35,17 @@ pub enum Number {
     Pool,
     Count,
     Seed,
+    TrialPages,
+    TrialGroups,
+    TrialBlocks,
 }
 
 impl Number {
     fn name(self) -> &'static str {
         match self {
-            Number::Pages => "PAGES",
-            Number::Groups => "GROUPS",
-            Number::Blocks => "BLOCKS",
+            Number::Pages | Number::TrialPages => "PAGES",
+            Number::Groups | Number::TrialGroups => "GROUPS",
+            Number::Blocks | Number::TrialBlocks => "BLOCKS",
             Number::Pool => "POOL",
             Number::Count => "COUNT",
             Number::Seed => "SEED",
@@ -54,6 +62,9 @@ impl Number {
             Number::Pool => number_within(text, 1, POOL_MAX).is_some(),
             Number::Count => number_within(text, 1, COUNT_MAX).is_some(),
             Number::Seed => number_in(word).is_some(),
+            Number::TrialPages => trial_geometry_of(text, b"8", b"16").is_some(),
+            Number::TrialGroups => trial_geometry_of(b"1", text, b"16").is_some(),
+            Number::TrialBlocks => trial_geometry_of(b"1", b"8", text).is_some(),
         }
     }
 }
@@ -63,7 +74,7 @@ impl Number {
 pub enum Wrong {
     /// There are none, or one isn't text.
     Nothing,
-    /// The first isn't one of `new`, `run`, `load` and `simulate`.
+    /// The first isn't one of `new`, `run`, `load`, `simulate` and `trial`.
     Unknown,
     /// The word of this place isn't this number.
     Unfit(usize, Number),
@@ -85,6 +96,10 @@ fn number_at(first: &str, place: usize) -> Option<Number> {
         ("load", 4) => Some(Number::Pool),
         ("simulate", 2) => Some(Number::Groups),
         ("simulate", 3) => Some(Number::Pool),
+        ("trial", 2) => Some(Number::TrialPages),
+        ("trial", 3) => Some(Number::TrialGroups),
+        ("trial", 4) => Some(Number::TrialBlocks),
+        ("trial", 5) => Some(Number::Pool),
         _ => None,
     }
 }
@@ -125,7 +140,7 @@ fn say_words<R: Eprint>(rt: &R, words: &[String]) {
         }
         Some(Wrong::Unknown) => {
             let word = word_at(words, 1);
-            eprintln!(rt; "face: word 1 is {word:?}, and not new, run, load or simulate")
+            eprintln!(rt; "face: word 1 is {word:?}, and not new, run, load, simulate or trial")
         }
         Some(Wrong::Unfit(place, number)) => {
             let word = word_at(words, place);

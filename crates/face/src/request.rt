@@ -3,15 +3,19 @@ ghost use Rattle.std.specs.Prelude.{◌≡◌, ◌↔◌, IfSome, IfNone, IfOk, 
 ghost use Rattle.std.specs.List.{list_any};
 ghost use Rattle.clap.specs.Words.{found_of, kind_of, new_rule, rule_of};
 ghost use Rattle.clap.specs.declared.error.kind.ErrorKind.TheVariants.{OutOfMemory};
-ghost use Rattle.face.specs.Program.{AreSizes, IsLike, IsLoadOf, IsPool, IsReadFrom, IsSimulationOf, bare};
-ghost use Rattle.face.specs.Program.{database_words, load_words, new_words, program, run_words, simulate_words, text};
-ghost use Rattle.face.specs.Words.{IsRight, IsRequest, HasCacheLimits, HasDash, HasLoadLimits, is_dashed, words_of};
+ghost use Rattle.face.specs.Program.{AreSizes, IsLike, IsLoadOf, IsPool, IsReadFrom, IsSimulationOf, IsTrialOf};
+ghost use Rattle.face.specs.Program.{bare, database_words, load_words, new_words, program, run_words, simulate_words};
+ghost use Rattle.face.specs.Program.{text, trial_words};
+ghost use Rattle.face.specs.Words.{HasTrialLimits, IsRight, IsRequest, HasCacheLimits, HasDash, HasLoadLimits, is_dashed, words_of};
 ghost use Rattle.face.specs.declared.request.Load.{Load};
 ghost use Rattle.face.specs.declared.request.Simulation.{Simulation};
+ghost use Rattle.face.specs.declared.request.TrialSizes.{TrialSizes};
 ghost use Rattle.face.specs.declared.request.Unread.{Unread};
 ghost use Rattle.site.specs.declared.geometry.Geometry.{Geometry};
 
-use crate::words::{COUNT_MAX, POOL_MAX, geometry_of, groups_in, number_in, number_within};
+use crate::words::{
+    COUNT_MAX, POOL_MAX, geometry_of, groups_in, number_in, number_within, trial_geometry_of,
+};
 use clap::error::ErrorKind;
 use clap::{Arg, ArgMatches, Command, Error};
 use site::Geometry;
@@ -32,6 +36,13 @@ pub struct Simulation {
     pub pool: u32,
 }
 
+/// A trial: the sizes of its devices, and a pool of so many pages.
+#[derive(Clone, Copy, Debug, PartialEq, Eq, Drop)]
+pub struct TrialSizes {
+    pub geometry: Geometry,
+    pub pool: u32,
+}
+
 /// What the words ask for.
 #[derive(Clone, Copy, Debug, PartialEq, Eq, Drop)]
 pub enum Request {
@@ -43,6 +54,8 @@ pub enum Request {
     Load(Load),
     /// The counts of three caches over a trace.
     Simulate(Simulation),
+    /// Lives of a script, on devices in memory.
+    Trial(TrialSizes),
 }
 
 /// Why words ask for nothing.
@@ -98,6 +111,17 @@ fn simulate_command<'a>(alloc: Global) -> Result<Command<'a>, AllocError>
         .arg(text_argument(alloc, "pool"))
 }
 
+// The words behind `trial`.
+fn trial_command<'a>(alloc: Global) -> Result<Command<'a>, AllocError>
+    ensures { IfOk result (λ c. IsLike c trial_words) }
+{
+    Command::new(alloc, "trial")
+        .arg(text_argument(alloc, "pages"))?
+        .arg(text_argument(alloc, "groups"))?
+        .arg(text_argument(alloc, "blocks"))?
+        .arg(text_argument(alloc, "pool"))
+}
+
 // The words are the program's without its own name, and there is no help.
 fn bare_command<'a>(alloc: Global) -> Command<'a>
     ensures { IsLike result bare }
@@ -123,12 +147,15 @@ fn database_command<'a>(alloc: Global) -> Result<Command<'a>, AllocError>
         .subcommand(load)
 }
 
-// The program's command line: the words on a database, and `simulate` with its texts.
+// The program's command line: the words on a database, and `simulate` and `trial` with their texts.
 fn command<'a>(alloc: Global) -> Result<Command<'a>, AllocError>
     ensures { IfOk result (λ c. IsLike c program) }
 {
     let simulate = simulate_command(alloc)?;
-    database_command(alloc)?.subcommand(simulate)
+    let trial = trial_command(alloc)?;
+    database_command(alloc)?
+        .subcommand(simulate)?
+        .subcommand(trial)
 }
 
 fn begins_with_dash(word: &[u8]) -> bool
@@ -246,6 +273,49 @@ fn simulation_of(groups: &[u8], pool: &[u8]) -> Option<Simulation>
     Some(Simulation { groups, pool })
 }
 
+// The trial that the texts behind `trial` ask for.
+fn trial_in(trial: &ArgMatches<'_>) -> Option<TrialSizes>
+    ensures trial { IfSome result (λ t. IsTrialOf (found_of trial.now) t) }
+    ensures none { IfNone result ((t : TrialSizes) → IsTrialOf (found_of trial.now) t → ⊥) }
+{
+    let Some(pages) = trial.get_str("pages") else {
+        return None;
+    };
+    let Some(groups) = trial.get_str("groups") else {
+        return None;
+    };
+    let Some(blocks) = trial.get_str("blocks") else {
+        return None;
+    };
+    let Some(pool) = trial.get_str("pool") else {
+        return None;
+    };
+    trial_of(
+        pages.as_bytes(),
+        groups.as_bytes(),
+        blocks.as_bytes(),
+        pool.as_bytes(),
+    )
+}
+
+// The trial that four words ask for, if they are within the limits.
+fn trial_of(pages: &[u8], groups: &[u8], blocks: &[u8], pool: &[u8]) -> Option<TrialSizes>
+    ensures trial { IfSome result (λ t. HasTrialLimits t × (pages.now ≡ decimal t.geometry.pages)
+        × (groups.now ≡ decimal t.geometry.groups) × (blocks.now ≡ decimal t.geometry.blocks)
+        × (pool.now ≡ decimal t.pool)) }
+    ensures none { IfNone result ((t : TrialSizes) → HasTrialLimits t → pages.now ≡ decimal t.geometry.pages
+        → groups.now ≡ decimal t.geometry.groups → blocks.now ≡ decimal t.geometry.blocks
+        → pool.now ≡ decimal t.pool → ⊥) }
+{
+    let Some(geometry) = trial_geometry_of(pages, groups, blocks) else {
+        return None;
+    };
+    let Some(pool) = number_within(pool, 1, POOL_MAX) else {
+        return None;
+    };
+    Some(TrialSizes { geometry, pool })
+}
+
 fn unread_by(kind: ErrorKind) -> Unread
     ensures { (result ≡ Unread.Memory) ↔ (kind ≡ OutOfMemory) }
 {
@@ -284,6 +354,12 @@ fn request_in(matches: &ArgMatches<'_>) -> Option<Request>
             return None;
         };
         return Some(Request::Simulate(simulation));
+    }
+    if let Some(trial) = matches.subcommand_matches("trial") {
+        let Some(trial) = trial_in(trial) else {
+            return None;
+        };
+        return Some(Request::Trial(trial));
     }
     None
 }

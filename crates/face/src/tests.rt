@@ -451,7 +451,7 @@ fn large_devices_are_tested(rt: HostRuntime) -> Result<(), Fail> {
 
 #[test]
 fn other_words_are_refused(rt: HostRuntime) -> Result<(), Fail> {
-    let lists: [&[&str]; 42] = [
+    let lists: [&[&str]; 48] = [
         &[],
         &["help", "run"],
         &["run", "help"],
@@ -487,7 +487,13 @@ fn other_words_are_refused(rt: HostRuntime) -> Result<(), Fail> {
         &["load", "1", "01", "4"],
         &["load", "1", "+1", "4"],
         &["load", "1", "1", "4097"],
-        &["trial", "16", "8", "64", "1"],
+        &["trial", "16", "8", "64"],
+        &["trial", "1025", "8", "64", "1"],
+        &["trial", "16", "260", "64", "1"],
+        &["trial", "16", "10", "64", "1"],
+        &["trial", "16", "8", "4097", "1"],
+        &["trial", "16", "8", "64", "4097"],
+        &["trial", "16", "8", "64", "1", "1"],
         &["simulate", "8"],
         &["simulate", "8", "1", "1"],
         &["simulate", "4", "1"],

@@ -1,5 +1,5 @@
 // The top call, and the work of `run`.
-ghost use Rattle.std.specs.Prelude.{◌≡◌, ◌⊎◌, ◌≤◌, ℕ, List, Option, IfErr, OnOk};
+ghost use Rattle.std.specs.Prelude.{◌≡◌, ◌⊎◌, ◌≤◌, ◌∷◌, [], ℕ, List, Option, IfErr, OnOk};
 ghost use Rattle.face.specs.Causes.{SameFaults};
 ghost use Rattle.site.specs.Calls.{Goes};
 ghost use Rattle.face.specs.declared.halt.Halt.{Halt};
@@ -13,8 +13,10 @@ ghost use Rattle.face.specs.Run.{Run, Begins};
 ghost use Rattle.face.specs.Working.{Works};
 ghost use Rattle.face.specs.declared.request.Load.{Load};
 ghost use Rattle.face.specs.declared.request.Simulation.{Simulation};
-ghost use Rattle.face.specs.Words.{IsRun, IsNew, IsLoad, IsSimulate, IsRight, HasDash, words_of};
+ghost use Rattle.face.specs.declared.request.TrialSizes.{TrialSizes};
+ghost use Rattle.face.specs.Words.{IsRun, IsNew, IsLoad, IsSimulate, HasTrialLimits, IsTrial, IsRight, HasDash, words_of};
 ghost use Rattle.trace_report.specs.Contract.{SimulateContract};
+ghost use Rattle.face.specs.Trial.{TrialContract};
 ghost use Rattle.face.specs.Words.{RefusesWords, RefusesDevices, LacksMemory};
 
 use crate::answer::answer;
@@ -23,12 +25,13 @@ use crate::halt::Halt;
 use crate::load::serve_load;
 use crate::new_database::make_new;
 use crate::opening::open;
-use crate::request::{Request, Unread, read_words};
+use crate::request::{Request, TrialSizes, Unread, read_words};
 use crate::source::{Heard, Source};
+use crate::trial::trial;
 use engine::queue_is_on_flash;
 use record_model::{Command, serial_order};
 use redo_undo::works_add_up;
-use site::Site;
+use site::{MemSite, Site};
 use std::alloc::Global;
 use trace_report::simulate;
 
@@ -115,6 +118,7 @@ fn lack_memory<S: Site>(site: &mut S) -> u8
     ensures load { (load : Load) → LoadContract load (S.state site.old) (S.state site.new) result }
     ensures new { (g : Geometry) → NewContract g (S.state site.old) (S.state site.new) result }
     ensures simulate { (s : Simulation) → SimulateContract s.groups s.pool (S.state site.old) (S.state site.new) result }
+    ensures trial { (g : Geometry) → TrialContract g (S.state site.old) (S.state site.new) result (0 ∷ []) }
     ensures lacks { LacksMemory result (S.state site.old) (S.state site.new) }
     ensures goes { Goes (S.state site.old) (S.state site.new) }
 {
@@ -124,12 +128,30 @@ fn lack_memory<S: Site>(site: &mut S) -> u8
     4
 }
 
+// The work of `trial` on a site in memory that is made for it.
+fn serve_trial<S: Site>(alloc: Global, sizes: &TrialSizes, site: &mut S) -> u8
+    requires limits { HasTrialLimits sizes.now }
+    ensures trial { (numbers : List ℕ)
+        × TrialContract sizes.now.geometry (S.state site.old) (S.state site.new) result numbers }
+    ensures goes { Goes (S.state site.old) (S.state site.new) }
+    ensures faults { result ≡ 0 → SameFaults (S.state site.old) (S.state site.new) }
+{
+    match MemSite::new(alloc, &sizes.geometry) {
+        Ok(inner) => {
+            let (status, _inner) = trial(alloc, sizes.pool, inner, site);
+            status
+        }
+        Err(_) => lack_memory(site),
+    }
+}
+
 /// The top call: the program's words, without its own name, and the site that it works on. The answer is the status
 /// with which the program ends. The words `run POOL`, with POOL from 1 to 4,096, are the work of `serve`. The words
 /// `new PAGES GROUPS BLOCKS` test that the devices have these sizes and are blank. The words `load COUNT SEED POOL`,
 /// with COUNT from 1 to 100,000 and SEED below 2^64, are the work of `serve_load`. The words `simulate GROUPS POOL`, with
 /// GROUPS a multiple of 4 from 8 to 16,384, tell what three page caches do with the trace on the input, and touch no
-/// device. All other words have status 2.
+/// device. The words `trial PAGES GROUPS BLOCKS POOL`, with at most 1,024 pages, 256 groups and 4,096 blocks, are the work of
+/// `trial`, on a site in memory of these sizes, and touch no device either. All other words have status 2.
 /// Reading the words may want memory, which has status 4; then nothing is read or changed.
 pub fn face<S: Site>(alloc: Global, words: &[String], site: &mut S) -> u8
     // What each command does, and when each of its statuses comes.
@@ -141,6 +163,8 @@ pub fn face<S: Site>(alloc: Global, words: &[String], site: &mut S) -> u8
         → NewContract g (S.state site.old) (S.state site.new) result }
     ensures simulate { (s : Simulation) → IsSimulate (words_of words.now) s
         → SimulateContract s.groups s.pool (S.state site.old) (S.state site.new) result }
+    ensures trial { (t : TrialSizes) → IsTrial (words_of words.now) t → (numbers : List ℕ)
+        × TrialContract t.geometry (S.state site.old) (S.state site.new) result numbers }
     // Devices without sizes have status 9, or memory was wanted before anything was done.
     ensures sizes { ((pool : ℕ) × IsRun (words_of words.now) pool) → HasNoSizes (S.state site.old)
         → RefusesDevices result (S.state site.old) (S.state site.new)
@@ -163,6 +187,7 @@ pub fn face<S: Site>(alloc: Global, words: &[String], site: &mut S) -> u8
         Ok(Request::New(geometry)) => make_new(&geometry, site),
         Ok(Request::Load(load)) => serve_load(alloc, &load, site),
         Ok(Request::Simulate(caches)) => simulate(alloc, caches.groups, caches.pool, site),
+        Ok(Request::Trial(sizes)) => serve_trial(alloc, &sizes, site),
         Err(Unread::Words) => {
             let _ = tell_words(site);
             2

@@ -48,6 +48,7 @@ fn take_more<S: Site>(site: &mut S, script: &mut Vec<u8>) -> Result<bool, Halt>
     ensures same { IsTrue (S.state site.old).honest → HearsOnly (S.state site.old) (S.state site.new) }
     ensures reads { SameReads (S.state site.old) (S.state site.new) }
     ensures goes { Goes (S.state site.old) (S.state site.new) }
+    ensures faults { OnOk result (SameFaults (S.state site.old) (S.state site.new)) }
 {
     let mut piece = [0u8; PIECE];
     let room = (SCRIPT_MAX - script.len()).clamp(1, PIECE);
@@ -77,6 +78,7 @@ fn read_script<S: Site>(alloc: Global, site: &mut S) -> Result<Vec<u8>, Halt>
     ensures same { IsTrue (S.state site.old).honest → HearsOnly (S.state site.old) (S.state site.new) }
     ensures reads { SameReads (S.state site.old) (S.state site.new) }
     ensures goes { Goes (S.state site.old) (S.state site.new) }
+    ensures faults { OnOk result (SameFaults (S.state site.old) (S.state site.new)) }
 {
     let mut script = Vec::new(alloc);
     loop {
@@ -172,6 +174,7 @@ fn tell_life<S: Site>(site: &mut S, text: &[u8], number: u64, status: u8) -> Res
     ensures devices { IsTrue (S.state site.old).honest → LeavesDevices (S.state site.old) (S.state site.new) }
     ensures reads { SameReads (S.state site.old) (S.state site.new) }
     ensures goes { Goes (S.state site.old) (S.state site.new) }
+    ensures faults { OnOk result (SameFaults (S.state site.old) (S.state site.new)) }
 {
     match tell_all(site, text) {
         Ok(()) => tell_all(site, life_line(number, status).as_slice()),
@@ -196,6 +199,7 @@ fn live_script<S: Site>(
     ensures devices { IsTrue (S.state site.old).honest → LeavesDevices (S.state site.old) (S.state site.new) }
     ensures reads { SameReads (S.state site.old) (S.state site.new) }
     ensures goes { Goes (S.state site.old) (S.state site.new) }
+    ensures faults { OnOk result.0 (SameFaults (S.state site.old) (S.state site.new)) }
 {
     blank_stands();
     let mut inner = inner;
@@ -239,6 +243,7 @@ fn work<S: Site>(
     ensures devices { IsTrue (S.state site.old).honest → LeavesDevices (S.state site.old) (S.state site.new) }
     ensures reads { SameReads (S.state site.old) (S.state site.new) }
     ensures goes { Goes (S.state site.old) (S.state site.new) }
+    ensures faults { OnOk result.0 (SameFaults (S.state site.old) (S.state site.new)) }
 {
     match read_script(alloc, site) {
         Ok(script) => live_script(alloc, pool, script.as_slice(), inner, site),
@@ -265,6 +270,7 @@ pub fn trial<S: Site>(alloc: Global, pool: u32, inner: MemSite, site: &mut S) ->
     // Where no life was begun the site is handed back.
     ensures unbegun { (result.0 ≡ 5) ⊎ (result.0 ≡ 7) → result.1 ≡ inner }
     ensures goes { Goes (S.state site.old) (S.state site.new) }
+    ensures faults { result.0 ≡ 0 → SameFaults (S.state site.old) (S.state site.new) }
 {
     let (lived, inner) = work(alloc, pool, inner, site);
     match lived {

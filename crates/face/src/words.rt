@@ -2,7 +2,7 @@
 ghost use Rattle.std.specs.Prelude.{◌≡◌, ◌↔◌, ◌≤◌, ◌<◌, ◌^◌, ◌%◌, ℕ, IsTrue, IfSome, IfNone, codes, decimal};
 ghost use Rattle.site.specs.Geometry.{HasLimits};
 ghost use Rattle.site.specs.declared.geometry.Geometry.{Geometry};
-ghost use Rattle.face.specs.Words.{IsNew, words_of};
+ghost use Rattle.face.specs.Words.{HasTrialSizes, IsNew, words_of};
 
 use shell_text::{Line, read_decimal};
 use site::Geometry;
@@ -18,6 +18,13 @@ const PAGES_MAX: u32 = 65_536;
 const GROUPS_MAX: u32 = 16_384;
 
 const BLOCKS_MAX: u32 = 1_048_576;
+
+// A trial's sizes have smaller limits, since it keeps its devices in memory.
+const TRIAL_PAGES_MAX: u32 = 1_024;
+
+const TRIAL_GROUPS_MAX: u32 = 256;
+
+const TRIAL_BLOCKS_MAX: u32 = 4_096;
 
 fn is_new(word: &[u8]) -> bool
     ensures { IsTrue result ↔ (word.now ≡ codes "new") }
@@ -72,13 +79,45 @@ pub fn groups_in(word: &[u8]) -> Option<u32>
     ensures groups { IfSome result (λ n. (8 ≤ n) × (n ≤ 16384) × (n % 4 ≡ 0) × (word.now ≡ decimal n)) }
     ensures none { IfNone result ((n : ℕ) → 8 ≤ n → n ≤ 16384 → n % 4 ≡ 0 → word.now ≡ decimal n → ⊥) }
 {
-    let Some(groups) = number_within(word, 8, GROUPS_MAX) else {
+    groups_within(word, GROUPS_MAX)
+}
+
+// The multiple of four that a word writes, from 8 to this bound.
+fn groups_within(word: &[u8], most: u32) -> Option<u32>
+    requires { most < 10 ^ 9 }
+    ensures groups { IfSome result (λ n. (8 ≤ n) × (n ≤ most) × (n % 4 ≡ 0) × (word.now ≡ decimal n)) }
+    ensures none { IfNone result ((n : ℕ) → 8 ≤ n → n ≤ most → n % 4 ≡ 0 → word.now ≡ decimal n → ⊥) }
+{
+    let Some(groups) = number_within(word, 8, most) else {
         return None;
     };
     if groups % 4 != 0 {
         return None;
     }
     Some(groups)
+}
+
+/// The sizes of a trial that three words write, if they are within its limits.
+pub fn trial_geometry_of(pages: &[u8], groups: &[u8], blocks: &[u8]) -> Option<Geometry>
+    ensures sizes { IfSome result (λ g. HasTrialSizes g × (pages.now ≡ decimal g.pages) × (groups.now ≡ decimal g.groups)
+        × (blocks.now ≡ decimal g.blocks)) }
+    ensures none { IfNone result ((g : Geometry) → HasTrialSizes g → pages.now ≡ decimal g.pages
+        → groups.now ≡ decimal g.groups → blocks.now ≡ decimal g.blocks → ⊥) }
+{
+    let Some(pages) = number_within(pages, 1, TRIAL_PAGES_MAX) else {
+        return None;
+    };
+    let Some(groups) = groups_within(groups, TRIAL_GROUPS_MAX) else {
+        return None;
+    };
+    let Some(blocks) = number_within(blocks, 16, TRIAL_BLOCKS_MAX) else {
+        return None;
+    };
+    Some(Geometry {
+        pages,
+        groups,
+        blocks,
+    })
 }
 
 /// The sizes that three words write, if they are within the limits.

@@ -1,7 +1,7 @@
 use Rattle.std.proofs.Common.{rules, ◌≡◌, codes, ⊎_elim, sym, true≢false}
 use Rattle.std.specs.Prelude.{Some}
 use Rattle.clap.specs.Words.{found_of, subcommand_name_of}
-use Rattle.face.proofs.ClapInverse.{run_right, run_wrong, new_right, new_wrong, load_right, load_wrong, simulate_right, simulate_wrong, right_named}
+use Rattle.face.proofs.ClapInverse.{run_right, run_wrong, new_right, new_wrong, load_right, load_wrong, simulate_right, simulate_wrong, trial_right, trial_wrong, right_named}
 use Rattle.face.proofs.request.request_in.Goals as goal
 
 pub returns-in_default-pool_in-clause-none : goal.returns-in_default-pool_in-clause-none
@@ -44,6 +44,16 @@ returns-in-Some-subcommand_matches-3-clause-some c words read =
     let is : subcommand_name_of c.args.matches.now ≡ Some (codes "simulate") = search rules in
     simulate_right words c.args.matches.now (found_of c.in-Some-subcommand_matches-3.simulate.now) read c.in-Some-subcommand_matches-3.ensures.rows is c.in-Some-simulation_in.simulation c.in-Some-simulation_in.ensures.simulation
 
+pub returns-in_default-trial_in-clause-none : goal.returns-in_default-trial_in-clause-none
+returns-in_default-trial_in-clause-none c words read =
+    let is : subcommand_name_of c.args.matches.now ≡ Some (codes "trial") = search rules in
+    trial_wrong words c.args.matches.now (found_of c.in-Some-subcommand_matches-4.trial.now) read c.in-Some-subcommand_matches-4.ensures.rows is c.in_default-trial_in.ensures.none
+
+pub returns-in-Some-subcommand_matches-4-clause-some : goal.returns-in-Some-subcommand_matches-4-clause-some
+returns-in-Some-subcommand_matches-4-clause-some c words read =
+    let is : subcommand_name_of c.args.matches.now ≡ Some (codes "trial") = search rules in
+    trial_right words c.args.matches.now (found_of c.in-Some-subcommand_matches-4.trial.now) read c.in-Some-subcommand_matches-4.ensures.rows is c.in-Some-trial_in.trial c.in-Some-trial_in.ensures.trial
+
 pub returns-clause-none : goal.returns-clause-none
 returns-clause-none c words read right = ⊎_elim
     (λ run. absurd (true≢false (sym (c.in_default.ensures.found.1 run))))
@@ -51,5 +61,7 @@ returns-clause-none c words read right = ⊎_elim
     (λ new. absurd (true≢false (sym (c.in_default-subcommand_matches.ensures.found.1 new))))
     (λ others. ⊎_elim
     (λ load. absurd (true≢false (sym (c.in_default-subcommand_matches-2.ensures.found.1 load))))
-    (λ simulate. absurd (true≢false (sym (c.in_default-subcommand_matches-3.ensures.found.1 simulate)))) others) other)
+    (λ last. ⊎_elim
+    (λ simulate. absurd (true≢false (sym (c.in_default-subcommand_matches-3.ensures.found.1 simulate))))
+    (λ trial. absurd (true≢false (sym (c.in_default-subcommand_matches-4.ensures.found.1 trial)))) last) others) other)
     (right_named words c.args.matches.now read right)

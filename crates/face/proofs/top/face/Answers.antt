@@ -1,12 +1,14 @@
-use Rattle.std.proofs.Common.{inl, rules, subst, ℕ}
+use Rattle.std.proofs.Common.{inl, rules, subst, ℕ, List, [], ◌∷◌}
 use Rattle.site.specs.declared.geometry.Geometry.{Geometry}
 use Rattle.face.specs.TopCall.{LoadContract, NewContract, RunContract}
 use Rattle.face.specs.declared.request.Load.{Load}
 use Rattle.face.specs.declared.request.Simulation.{Simulation}
+use Rattle.face.specs.declared.request.TrialSizes.{TrialSizes}
+use Rattle.face.specs.Trial.{TrialContract}
 use Rattle.trace_report.specs.Contract.{SimulateContract}
-use Rattle.face.specs.Words.{IsLoad, IsNew, IsRight, IsSimulate, words_of, IsRun}
+use Rattle.face.specs.Words.{IsLoad, IsNew, IsRight, IsSimulate, IsTrial, words_of, IsRun}
 use Rattle.face.proofs.Endings.{only_tells}
-use Rattle.face.proofs.WordLaws.{one_geometry, one_load, one_pool, one_simulation}
+use Rattle.face.proofs.WordLaws.{one_geometry, one_load, one_pool, one_simulation, one_trial}
 use Rattle.face.proofs.top.face.Goals as goal
 
 pub returns-in-Ok-Run-clause-run : goal.returns-in-Ok-Run-clause-run
@@ -30,6 +32,11 @@ returns-in-Ok-Simulate-clause-simulate g c caches is_simulate =
     let found : IsSimulate (words_of c.args.words.now) c.in-Ok-Simulate.caches = search rules in
     subst (λ (s : Simulation). SimulateContract s.groups s.pool (g.S.Site.state c.args.site.now) (g.S.Site.state c.simulate.new.site) c.simulate.result) (one_simulation (words_of c.args.words.now) _ caches found is_simulate) c.simulate.ensures.simulate
 
+pub returns-in-Ok-Trial-clause-trial : goal.returns-in-Ok-Trial-clause-trial
+returns-in-Ok-Trial-clause-trial g c t is_trial =
+    let found : IsTrial (words_of c.args.words.now) c.in-Ok-Trial.sizes = search rules in
+    subst (λ (x : TrialSizes). (numbers : List ℕ) × TrialContract x.geometry (g.S.Site.state c.args.site.now) (g.S.Site.state c.serve_trial.new.site) c.serve_trial.result numbers) (one_trial (words_of c.args.words.now) _ t found is_trial) c.serve_trial.ensures.trial
+
 pub returns-in-Err-Words-clause-refused : goal.returns-in-Err-Words-clause-refused
 returns-in-Err-Words-clause-refused g c two = only_tells _ (g.S.Site.state c.args.site.now) (g.S.Site.state c.tell_words.new.site) c.tell_words.result c.tell_words.ensures
 
@@ -44,6 +51,9 @@ returns-in-Err-Memory-clause-new g c sizes is_new = c.lack_memory.ensures.new si
 
 pub returns-in-Err-Memory-clause-simulate : goal.returns-in-Err-Memory-clause-simulate
 returns-in-Err-Memory-clause-simulate g c caches is_simulate = c.lack_memory.ensures.simulate caches
+
+pub returns-in-Err-Memory-clause-trial : goal.returns-in-Err-Memory-clause-trial
+returns-in-Err-Memory-clause-trial g c t is_trial = (0 ∷ [], c.lack_memory.ensures.trial t.geometry)
 
 pub returns-in-Err-Words-clause-run : goal.returns-in-Err-Words-clause-run
 returns-in-Err-Words-clause-run g c pool is_run =

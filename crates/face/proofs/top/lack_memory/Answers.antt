@@ -3,6 +3,7 @@ use Rattle.face.specs.Words.{LacksMemory}
 use Rattle.trace_report.proofs.Lacking.{lacked}
 use Rattle.face.proofs.Endings.{only_tells}
 use Rattle.face.proofs.MemoryLaws.{lacked_contract, lacked_load_run, lacked_run}
+use Rattle.face.proofs.Trials.{lacked_trial}
 use Rattle.face.proofs.top.lack_memory.Goals as goal
 
 pub returns : goal.returns
@@ -21,6 +22,7 @@ returns g c =
         goes = c.tell_memory.ensures.goes;
         cause = c.tell_memory.ensures.cause;
       });
+      trial = λ geometry. lacked_trial geometry old new c.tell_memory.result c.tell_memory.ensures;
       lacks = lacks;
       goes = search rules;
     }

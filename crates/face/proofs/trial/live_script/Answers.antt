@@ -12,6 +12,7 @@ loop-place-init g c = record {
   devices = λ honest. devices_still (g.S.Site.state c.args.site.now);
   left = λ honest. refl;
   reads = λ dev. refl;
+  faults = refl;
   there = some_lives c.args.script.now;
   lives = λ geometry new honest. none_yet c.blank_stands.ensures geometry c.args.script.now (g.S.Site.state c.args.site.now) c.args.inner new;
 }
@@ -32,6 +33,7 @@ loop-place-preserved g c =
       devices = λ honest. devices_then old mid new (inv.devices honest) (c.tell_life.ensures.devices (stays_honest old mid inv.goes honest));
       left = λ honest. c.tell_life.ensures.left (stays_honest old mid inv.goes honest) ∙ inv.left honest;
       reads = λ dev. c.tell_life.ensures.reads dev ∙ inv.reads dev;
+      faults = c.in-Ok.ensures.faults ∙ inv.faults;
       there = subst (λ (n : ℕ). n < length (lives_in c.args.script.now)) (sym (add-one c.loop-place.place)) (more_lives c.args.script.now c.loop-place.place life _ is_life c.in-Some-stop.is);
       lives = λ geometry is_new honest.
           let r = inv.lives geometry is_new honest in

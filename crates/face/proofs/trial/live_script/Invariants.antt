@@ -2,6 +2,7 @@ use Rattle.std.proofs.Common.{◌≡◌, ◌<◌, IsTrue, length}
 use Rattle.site.specs.Calls.{Goes, SameReads}
 use Rattle.site.specs.declared.geometry.Geometry.{Geometry}
 use Rattle.workload.specs.Scripts.{lives_of}
+use Rattle.face.specs.Causes.{SameFaults}
 use Rattle.face.specs.Trial.{IsNewSite, LeavesDevices}
 use Rattle.face.proofs.Trials.{Reached}
 use Rattle.face.proofs.trial.live_script.Given as goal
@@ -15,6 +16,7 @@ invariant-loop-place g l =
       devices : IsTrue old.honest → LeavesDevices old now;
       left : IsTrue old.honest → now.left ≡ old.left;
       reads : SameReads old now;
+      faults : SameFaults old now;
       there : l.place < length (lives_of l.script);
       lives : (geometry : Geometry) → IsNewSite geometry l.fn.inner → IsTrue old.honest → Reached geometry l.script l.place old now l.inner;
     }

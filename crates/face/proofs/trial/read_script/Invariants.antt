@@ -1,5 +1,6 @@
 use Rattle.std.proofs.Common.{◌≡◌, ◌≤◌, ◌-◌, ◌++◌, IsTrue, length}
 use Rattle.site.specs.Calls.{Goes, SameReads}
+use Rattle.face.specs.Causes.{SameFaults}
 use Rattle.face.specs.Lines.{HearsOnly}
 use Rattle.face.proofs.trial.read_script.Given as goal
 
@@ -13,6 +14,7 @@ invariant-loop-script g l =
       all : IsTrue old.honest → l.script.items ++ now.left ≡ old.left;
       same : IsTrue old.honest → HearsOnly old now;
       reads : SameReads old now;
+      faults : SameFaults old now;
     }
 
 abbrev pub decreases-loop-script : goal.decreases-loop-script

@@ -1,6 +1,6 @@
 use Rattle.std.proofs.Common.{◌%◌, ℕ, sym, ◌∙◌, ap, arith}
 use Rattle.std.proofs.lemmas.Fmt.{decimal_injective}
-use Rattle.face.proofs.words.groups_in.Goals as goal
+use Rattle.face.proofs.words.groups_within.Goals as goal
 
 pub returns-then-groups-ne0-clause-none : goal.returns-then-groups-ne0-clause-none
 returns-then-groups-ne0-clause-none c n least most fours is =
