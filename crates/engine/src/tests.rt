@@ -1,11 +1,11 @@
 // The database over a site in memory. What is expected was worked out by hand.
 ghost use Rattle.site.specs.MemState.{state_of};
-ghost use Rattle.std.specs.Prelude.{OnOk};
+ghost use Rattle.std.specs.Prelude.{OnOk, ◌<◌, length};
 ghost use Rattle.engine.specs.Going.{MayGoOn};
 
 use crate::Engine;
 use record_model::{Command, Octets, Reply, Stat, Why};
-use site::{Call, Dev, Geometry, MemSite, Stop};
+use site::{Call, Dev, Failed, Geometry, MemSite, Site, Stop};
 use std::alloc::Global;
 use std::test::Fail;
 
@@ -342,21 +342,6 @@ fn half_done(alloc: Global) -> Result<MemSite, Stop> {
     Ok(site.crash(1))
 }
 
-// A session's first write stands before the newest checkpoint, its second one behind it, and the session never ends.
-fn half_done_over_a_checkpoint(alloc: Global) -> Result<MemSite, Stop> {
-    let mut site = MemSite::new(alloc, &STANDARD)?;
-    let script = [
-        (set(1, 0xcc), Reply::Committed(1)),
-        (begin(0), Reply::Done),
-        (write(0, 1, 0xaa), Reply::Done),
-        (Command::Checkpoint, Reply::Checked),
-        (write(0, 2, 0xbb), Reply::Done),
-        (set(5, 0x05), Reply::Committed(2)),
-    ];
-    let _played = run(alloc, &mut site, &script)?;
-    Ok(site.crash(1))
-}
-
 // Whether a run finds the table as it was before the session, and two commits.
 fn is_undone(alloc: Global, site: &mut MemSite) -> Result<bool, Stop> {
     let mut engine = Engine::start(alloc, site, 1)?;
@@ -403,20 +388,6 @@ fn a_stopped_restart_is_done_again(rt: HostRuntime) -> Result<(), Fail> {
     Ok(())
 }
 
-#[test]
-fn a_stopped_restart_undoes_what_a_checkpoint_keeps(rt: HostRuntime) -> Result<(), Fail> {
-    for seed in [0, 1, 2, 77] {
-        for changes in 0..16 {
-            let mut site = half_done_over_a_checkpoint(rt.alloc())?;
-            site.fuse(changes);
-            let _started = Engine::start(rt.alloc(), &mut site, 1).is_ok();
-            let mut site = site.crash(seed);
-            assert!(rt; is_undone(rt.alloc(), &mut site)?);
-        }
-    }
-    Ok(())
-}
-
 // A value of 120 octets.
 fn long(octet: u8) -> Octets {
     match Octets::from_slice(&[octet; 120]) {
@@ -432,74 +403,49 @@ fn set_long(number: u32, octet: u8) -> Command {
     }
 }
 
-fn write_long(session: u32, number: u32, octet: u8) -> Command {
-    Command::Write {
-        session,
-        number,
-        value: long(octet),
+fn found_long(value: &[u8; 120]) -> Reply {
+    match Octets::from_slice(value) {
+        Some(octets) => Reply::Value(octets),
+        None => unreachable!(),
     }
 }
 
-fn found_long(octet: u8) -> Reply {
-    Reply::Value(long(octet))
+// Where the flash has the first 120 octets 0x5A in a row.
+fn first_of_page(site: &MemSite) -> Option<usize> {
+    let long = [0x5A_u8; 120];
+    site.content(Dev::Flash)
+        .windows(120)
+        .position(|octets| octets == long.as_slice())
 }
 
-// A session's writes fill blocks of their own, and the records that undo them fill more than one.
-fn half_done_at_length(alloc: Global) -> Result<MemSite, Stop> {
-    let mut site = MemSite::new(alloc, &STANDARD)?;
-    let script = [
-        (set_long(0, 0x10), Reply::Committed(1)),
-        (set_long(1, 0x11), Reply::Committed(2)),
-        (set_long(2, 0x12), Reply::Committed(3)),
-        (set_long(3, 0x13), Reply::Committed(4)),
-        (set_long(4, 0x14), Reply::Committed(5)),
-        (begin(7), Reply::Done),
-        (write_long(7, 0, 0x20), Reply::Done),
-        (write_long(7, 1, 0x21), Reply::Done),
-        (write_long(7, 2, 0x22), Reply::Done),
-        (write_long(7, 3, 0x23), Reply::Done),
-        (write_long(7, 4, 0x24), Reply::Done),
-        (set(9, 0x09), Reply::Committed(6)),
-    ];
-    let _played = run(alloc, &mut site, &script)?;
-    Ok(site.crash(2))
+// Sets an octet of the flash while the database goes on.
+fn put(engine: &Engine, site: &mut MemSite, place: u64, octet: u8) -> Result<(), Failed>
+    requires going { MayGoOn engine.now (state_of site.old) }
+    requires inside { place < length (state_of site.old).image.flash }
+    ensures going { OnOk result (MayGoOn engine.now (state_of site.new)) }
+{
+    site.sync(Dev::Flash)?;
+    site.poke(Dev::Flash, place, octet);
+    Ok(())
 }
 
-// Whether a run finds the table as it was before the session, each write undone once.
-fn is_undone_at_length(alloc: Global, site: &mut MemSite) -> Result<bool, Stop> {
-    let counts = Stat {
-        commits: 6,
-        used: 0,
-        owed: 0,
-        cap: 63,
-        active: 0,
-    };
-    let script = [
-        (Command::Stat, Reply::Stat(counts)),
-        (get(0), found_long(0x10)),
-        (get(1), found_long(0x11)),
-        (get(2), found_long(0x12)),
-        (get(3), found_long(0x13)),
-        (get(4), found_long(0x14)),
-        (get(9), found(0x09)),
-    ];
-    Ok(run(alloc, site, &script)? == script.len())
-}
-
+// A page that isn't in the pool is read from the flash, each time: what was changed there is seen.
 #[test]
-fn a_stopped_restart_goes_on(rt: HostRuntime) -> Result<(), Fail> {
-    for seed in [0, 1, 2, 77] {
-        for changes in 0..21 {
-            let mut site = half_done_at_length(rt.alloc())?;
-            site.fuse(changes);
-            let started = Engine::start(rt.alloc(), &mut site, 1).is_ok();
-            assert_eq!(rt; started, changes >= 20);
-            let mut site = site.crash(seed);
-            assert!(rt; is_undone_at_length(rt.alloc(), &mut site)?);
-            let mut site = site.crash(seed);
-            assert!(rt; is_undone_at_length(rt.alloc(), &mut site)?);
-        }
-    }
+fn a_page_outside_the_pool_is_read_from_flash(rt: HostRuntime) -> Result<(), Fail> {
+    let mut site = MemSite::new(rt.alloc(), &STANDARD)?;
+    let mut engine = Engine::start(rt.alloc(), &mut site, 1)?;
+    let script = [
+        (set_long(0, 0x5a), Reply::Committed(1)),
+        (set(32, 0x02), Reply::Committed(2)),
+    ];
+    assert_eq!(rt; play(&mut engine, &mut site, &script)?, script.len());
+    let place = first_of_page(&site).unwrap_or(0) as u64;
+    assert!(rt; place > 0 && place < site.len(Dev::Flash));
+    put(&engine, &mut site, place, 0x5b)?;
+    let mut value = [0x5a; 120];
+    value[0] = 0x5b;
+    let script = [(get(0), found_long(&value))];
+    assert_eq!(rt; play(&mut engine, &mut site, &script)?, script.len());
     Ok(())
 }
 

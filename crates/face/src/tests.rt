@@ -105,27 +105,120 @@ fn the_cache_is_listed(rt: HostRuntime) -> Result<(), Fail> {
     Ok(())
 }
 
+// Whether one page of the disk was written, and no other one.
+fn only_this_was_written(site: &MemSite, page: usize) -> bool {
+    site.content(Dev::Disk).chunks(4_096).enumerate().all(|(place, octets)| octets
+        .iter()
+        .any(|octet| *octet != 0)
+        == (place == page))
+}
+
+// The frame that was read goes into the new group as the first group leaves, and not to the disk.
 #[test]
 fn a_full_queue_is_listed(rt: HostRuntime) -> Result<(), Fail> {
     let mut site = MemSite::new(rt.alloc(), &STANDARD)?;
     let input =
         b"set 0 01\nset 32 02\nget 0\nset 64 03\nset 96 04\nset 128 05\nset 160 06\nset 192 07\nset 224 08\nset 256 09\ncache\n";
     assert_eq!(rt; run(rt.alloc(), &mut site, input)?, 0);
-    let told = site.told();
-    let replies =
-        b"open 0\ncommitted 1\ncommitted 2\nvalue 01\ncommitted 3\ncommitted 4\ncommitted 5\ncommitted 6\ncommitted 7\ncommitted 8\ncommitted 9\n";
-    assert!(rt; told.starts_with(replies));
-    let listing =
-        b"frame 1 0 page 1 vd-\nframe 2 0 page 2 vd-\nframe 3 0 page 3 vd-\nframe 4 0 page 4 vd-\nframe 5 0 page 5 vd-\nframe 6 0 page 6 vd-\nframe 7 0 page 7 vd-\npool 8*\nend 8\n";
-    assert!(rt;
-        told.get(replies.len()..)
-            .is_some_and(|lines| lines == listing.as_slice())
-    );
-    assert!(rt;
-        site.content(Dev::Disk)
-            .get(..4_096)
-            .is_some_and(|page| page.iter().any(|octet| *octet != 0))
-    );
+    let told = b"\
+open 0
+committed 1
+committed 2
+value 01
+committed 3
+committed 4
+committed 5
+committed 6
+committed 7
+committed 8
+committed 9
+frame 1 0 page 1 vd-
+frame 2 0 page 2 vd-
+frame 3 0 page 3 vd-
+frame 4 0 page 4 vd-
+frame 5 0 page 5 vd-
+frame 6 0 page 6 vd-
+frame 7 0 page 0 vd-
+frame 7 1 page 7 vd-
+pool 8*
+end 9
+";
+    assert!(rt; site.told() == told.as_slice());
+    assert!(rt; site.content(Dev::Disk).iter().all(|octet| *octet == 0));
+    Ok(())
+}
+
+// A group is filled from the pool, all its frames are read, and seven checkpoints push groups of one page: as the first group leaves,
+// the eighth frame that was read goes to the disk.
+#[test]
+fn seven_frames_have_a_second_chance(rt: HostRuntime) -> Result<(), Fail> {
+    let mut site = MemSite::new(rt.alloc(), &STANDARD)?;
+    site.feed(
+        b"set 0 00\nset 32 01\nset 64 02\nset 96 03\nset 128 04\nset 160 05\nset 192 06\nset 224 07\nset 256 08\n",
+    )?;
+    site.feed(b"get 0\nget 32\nget 64\nget 96\nget 128\nget 160\nget 192\nget 224\n")?;
+    for _checkpoint in 0..6 {
+        site.feed(b"set 256 08\ncheckpoint\n")?;
+    }
+    site.feed(b"cache\n")?;
+    assert_eq!(rt; call(rt.alloc(), &["run", "8"], &mut site)?, 0);
+    let told = b"\
+open 0
+committed 1
+committed 2
+committed 3
+committed 4
+committed 5
+committed 6
+committed 7
+committed 8
+committed 9
+value 00
+value 01
+value 02
+value 03
+value 04
+value 05
+value 06
+value 07
+committed 10
+checkpoint
+committed 11
+checkpoint
+committed 12
+checkpoint
+committed 13
+checkpoint
+committed 14
+checkpoint
+committed 15
+checkpoint
+frame 1 0 page 8 -dr
+frame 2 0 page 8 -d-
+frame 3 0 page 8 -d-
+frame 4 0 page 8 -d-
+frame 5 0 page 8 -d-
+frame 6 0 page 8 -d-
+frame 7 0 page 0 vd-
+frame 7 1 page 1 vd-
+frame 7 2 page 2 vd-
+frame 7 3 page 3 vd-
+frame 7 4 page 4 vd-
+frame 7 5 page 5 vd-
+frame 7 6 page 6 vd-
+frame 7 7 page 8 vd-
+pool 8
+pool 7
+pool 6
+pool 5
+pool 4
+pool 3
+pool 2
+pool 1
+end 22
+";
+    assert!(rt; site.told() == told.as_slice());
+    assert!(rt; only_this_was_written(&site, 7));
     Ok(())
 }
 

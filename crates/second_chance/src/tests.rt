@@ -20,8 +20,8 @@ const fn pooled(page: u32, changed: bool, framed: bool) -> PoolMark {
     }
 }
 
-// Of five frames of the front group two are valid and dirty, one of these was referenced. The pool has pages that a group with
-// second chances would pull.
+// Of five frames of the front group two are valid and dirty. One of these was referenced: it has a second chance, as the clean frame
+// that was. The pool has a changed page, and one with no frame.
 #[test]
 fn an_eviction_stages_what_is_valid_and_dirty(rt: HostRuntime) {
     let front = [
@@ -33,11 +33,9 @@ fn an_eviction_stages_what_is_valid_and_dirty(rt: HostRuntime) {
     ];
     let pool = [pooled(7, true, true), pooled(8, false, false)];
     let plan = plan_evict(Some(&front), &pool);
-    assert_eq!(rt; plan.staged.len(), 2);
-    assert_eq!(rt; plan.staged.at(0), 1);
-    assert_eq!(rt; plan.staged.at(1), 3);
-    assert!(rt; plan.chances.is_empty());
-    assert!(rt; plan.pulled.is_empty());
+    assert!(rt; are(&plan.chances, &[2, 3]));
+    assert!(rt; are(&plan.staged, &[1]));
+    assert!(rt; are(&plan.pulled, &[7, 8]));
     let plan = plan_evict(None, &pool);
     assert!(rt; plan.staged.is_empty());
 }
