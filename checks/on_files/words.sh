@@ -19,12 +19,16 @@ says() {
 mkdir "$folder/db"
 cd "$folder/db" || exit 1
 says 'no words' 2 "face: there are no words, or one of them isn't UTF-8 text"
-says 'help' 2 'face: word 1 is "help", and not new, run, load or simulate' help
+known='and not new, run, load, simulate or trial'
+says 'help' 2 "face: word 1 is \"help\", $known" help
+says 'a word that ends with a newline' 2 "face: word 1 is \"run\\\\n\", $known" $'run\n'
+says 'a flag' 2 "face: word 1 is \"--help\", $known" --help
 says 'the usage' 2 'usage: face new PAGES GROUPS BLOCKS .*' --help
-[ "$(grep -v -c '^face: ' "$folder/said")" -eq 9 ] && [ "$(cat "$folder/out")" = 'fault words' ]
-verdict 'the usage has nine lines' $?
+[ "$(grep -v -c '^face: ' "$folder/said")" -eq 12 ] && [ "$(cat "$folder/out")" = 'fault words' ]
+verdict 'the usage has twelve lines' $?
 says 'a number that is none' 2 'face: word 3 is "10", which is no GROUPS' new 16 10 64
 says 'a word that is missing' 2 'face: SEED is missing' load 1
+says 'no pool' 2 'face: POOL is missing' run
 says 'a word too many' 2 'face: word 3 is "2", which is one too many' run 1 2
 
 # --- no database
@@ -35,6 +39,7 @@ for file in face.log face.flash face.disk; do
     says "$file is missing" 9 "face: $file is missing beside the others: .*" run 1
     mkdir "$file"
     says "$file is a folder" 9 "face: $file can't be opened to be read and written: Is a directory (os error 21); .*" run 1
+    says "$file is a folder, and new" 9 "face: $file can't be opened to be read and written: Is a directory (os error 21); .*" new 16 8 64
     rmdir "$file"
     head -c 1000 kept >"$file"
     says "$file is too short" 9 "face: $file has 1000 octets, as in no database: .*" run 1

@@ -3,7 +3,7 @@ use Rattle.std.proofs.Common.{◌≡◌, ◌==◌, ◌&&◌, ◌∙◌, ap, refl
 use Rattle.std.specs.Prelude.{Some, None, option_map, option_and_then}
 use Rattle.std.specs.Str.{bytes_eq}
 use Rattle.clap.specs.Lexer.{long_of, long_of_rest, short_of, short_of_rest, strip_byte}
-use Rattle.clap.specs.Walk.{Held, Rule, Text, value, word_met, idle}
+use Rattle.clap.specs.Walk.{Text}
 use Rattle.clap.specs.Words.{takes, subcommand_of}
 use Rattle.clap.proofs.OnLiterals.{clap_on_literals}
 use Rattle.std.proofs.Common.{◌<◌, ◌^◌, ◌||◌, map, slice_index_or, arith, subst, inl, inr}
@@ -42,10 +42,6 @@ no_dashes x xs e = go (x == 45) e
     go : (b : Bool) → b ≡ false → (b && bytes_eq xs (45 ∷ [])) ≡ false
     go true bad = cc
     go false ok = refl
-
--- a word whose first octet is no dash is a text
-pub a_text : (c : List Rule) (position x : ℕ) (xs : Text) (h : Held) → (x == 45) ≡ false → word_met c [] false idle position (x ∷ xs) h ≡ (h, value)
-a_text c position x xs h e = rw (no_dashes x xs e, no_long x xs e, no_short x xs e) refl
 
 pub taken_run : (x : ℕ) (xs : Text) → (x == 45) ≡ false → takes program (codes "run" ∷ (x ∷ xs) ∷ []) ≡ true
 unfolding clap_on_literals
@@ -221,12 +217,6 @@ right_undashed words (inr (inl new)) dash =
     let groups = limits.few_groups in
     let blocks = limits.few_blocks in
     new_undashed (decimal new.0.pages) (decimal new.0.groups) (decimal new.0.blocks) (begins_undashed _ (begins new.0.pages (omega (arith, pages)))) (begins_undashed _ (begins new.0.groups (omega (arith, groups)))) (begins_undashed _ (begins new.0.blocks (omega (arith, blocks)))) (subst HasDash new.1.words_are dash)
-
-pub differ : codes "run" ≡ codes "new" → ⊥
-differ e = let bad : 114 ≡ 110 = ap (λ (l : Text). slice_index_or l 0 0) e in absurd (omega (arith, bad))
-
-pub differ_load_run : codes "load" ≡ codes "run" → ⊥
-differ_load_run e = let bad : 108 ≡ 114 = ap (λ (l : Text). slice_index_or l 0 0) e in absurd (omega (arith, bad))
 
 pub differ_load_new : codes "load" ≡ codes "new" → ⊥
 differ_load_new e = let bad : 108 ≡ 110 = ap (λ (l : Text). slice_index_or l 0 0) e in absurd (omega (arith, bad))

@@ -21,9 +21,6 @@ pub record HeardSoFar (before after line : List ℕ) (len heard : ℕ) : Type 0 
   pub count : len ≡ min (length octets) 501
   pub stands : length octets ≤ 500 → take len line ≡ octets
 
-pub nothing_yet : (before line : List ℕ) → HeardSoFar before before line 0 0
-nothing_yet before line = record { octets = []; all = refl; none = tt; number = refl; count = refl; stands = λ few. refl }
-
 -- a line of more than 500 octets says nothing
 long_none : (line : List ℕ) → 500 < length line → line_of line ≡ None
 long_none line many = λ i. if lt-ltb 500 (length line) many i then None else command_in (words_of line)
@@ -63,13 +60,6 @@ last_heard before line len heard said was ended after h nothing some end going i
           ∙ ap (λ c. c ∷ []) (ap line_of e ∙ sym (is ∙ says before [] line len heard h)) ∙ (λ i. said ∷ sym (ap (commands_of e') (p.0)) i);
       going = going;
     }
-
-pub no_more : (before line : List ℕ) (len heard : ℕ) → HeardSoFar before [] line len heard → len ≡ 0 → before ≡ []
-no_more before line len heard h none = whole h.octets refl
-  where
-    whole : (xs : List ℕ) → xs ≡ h.octets → before ≡ []
-    whole [] is = h.all ∙ append-nil h.octets ∙ sym is
-    whole (x ∷ xs) is = let some : length h.octets ≡ suc (length xs) = ap length (sym is) in let count = h.count in absurd (omega (arith, some, count, none))
 
 all_more : (x : ℕ) (ne : x ≢ 10) (xs : List ℕ) → AllByRecursion (λ y. y ≢ 10) xs → AllByRecursion (λ y. y ≢ 10) (xs ++ x ∷ [])
 all_more x ne [] a = (ne, tt)

@@ -268,14 +268,6 @@ numbers_unbegun g inner is = ap (λ (l : List ℕ). l ++ (limits_of inner).chang
 
 -- A trial as a whole.
 
-pub told_all_lives : (g : Geometry) (script : List ℕ) (old new : Site) (numbers : List ℕ) → TellsAll g script old new numbers → Lives g script old new 0 numbers
-told_all_lives g script old new numbers all = record {
-  all = λ e. all;
-  some = λ e. absurd (omega (arith, e));
-  first = λ ne six. absurd (ne refl);
-  none = λ which. ⊎_elim (λ e. absurd (omega (arith, e))) (λ e. absurd (omega (arith, e))) which;
-}
-
 module _ {T : Type 0} (g : Geometry) (script : List ℕ) (old mid new : Site) (numbers : List ℕ) (status : ℕ) (result : Result T Failed) (goes : Goes old mid) (honest : IsTrue mid.honest) where
   told_first : (h : Halt) → status ≡ status_of h → (status_of h ≢ 0) → (status_of h ≢ 6) → ((status_of h ≡ 5) ⊎ (status_of h ≡ 7) → numbers ≡ 0 ∷ []) → IsGivenUp g script old mid numbers → Tells (fault_line h) mid new result → Lives g script old new status numbers
   told_first h is nonzero nonsix none u tells = record {
@@ -327,16 +319,6 @@ module _ {T : Type 0} (g : Geometry) (script : List ℕ) (old mid new : Site) (n
   told_and_fault halt.Output is u none tells = told_some is u tells
 
 -- Why it ends so.
-
-pub caused_none : (old new : Site) → (IsTrue old.honest → length old.left ≤ script_limit) → TrialCauses old new 0
-caused_none old new fits = record {
-  others = inl refl;
-  input = λ e. absurd (omega (arith, e));
-  output = λ e. absurd (omega (arith, e));
-  limit = λ honest e. absurd (omega (arith, e));
-  over = λ honest many. let few = fits honest in absurd (omega (arith, few, many));
-  complete = λ honest input output few. inl refl;
-}
 
 pub record TrialHalts (h : Halt) (old mid : Site) : Type 0 where
   pub is : IsHaltOfTrial h

@@ -1,5 +1,5 @@
--- The words of `run`, of `new`, of `load`, of `simulate` and of `trial` are told apart, and say one thing.
-use Rattle.std.proofs.Common.{◌≡◌, ℕ, List, sym, ◌∙◌, ap, arith, length}
+-- The words of `run`, of `new`, of `load`, of `simulate` and of `trial` each say one thing.
+use Rattle.std.proofs.Common.{◌≡◌, ℕ, List, sym, ◌∙◌, arith}
 use Rattle.std.specs.Prelude.{decimal}
 use Rattle.std.proofs.lemmas.Fmt.{decimal_injective}
 use Rattle.site.specs.declared.geometry.Geometry.{Geometry}
@@ -7,14 +7,7 @@ use Rattle.face.specs.declared.request.Load.{Load}
 use Rattle.face.specs.declared.request.Simulation.{Simulation}
 use Rattle.face.specs.declared.request.TrialSizes.{TrialSizes}
 use Rattle.face.specs.Words.{IsRun, IsNew, IsLoad, IsSimulate, IsTrial}
-use Rattle.face.proofs.ClapLaws.{differ_load_new, differ_simulate_load, differ_simulate_new, differ_simulate_run, differ_trial_load, differ_trial_new, differ_trial_run, differ_trial_simulate}
-use Rattle.face.proofs.WordLists.{first_word, second_word, three_words, four_words, five_words}
-
-pub not_both : (words : List (List ℕ)) (pool : ℕ) (g : Geometry) → IsRun words pool → IsNew words g → ⊥
-not_both words pool g run new =
-    let two : length words ≡ 2 = ap length run.words_are in
-    let four : length words ≡ 4 = ap length new.words_are in
-    absurd (omega (arith, two, four))
+use Rattle.face.proofs.WordLists.{second_word, three_words, four_words, five_words}
 
 pub one_geometry : (words : List (List ℕ)) (g h : Geometry) → IsNew words g → IsNew words h → g ≡ h
 one_geometry words g h first second =
@@ -37,15 +30,6 @@ one_pool words pool other first second =
     let q = second.to in
     decimal_injective pool other (omega (arith, p)) (omega (arith, q)) same
 
-pub no_load_run : (words : List (List ℕ)) (pool : ℕ) (load : Load) → IsRun words pool → IsLoad words load → ⊥
-no_load_run words pool load run is_load =
-    let two : length words ≡ 2 = ap length run.words_are in
-    let four : length words ≡ 4 = ap length is_load.words_are in
-    absurd (omega (arith, two, four))
-
-pub no_load_new : (words : List (List ℕ)) (g : Geometry) (load : Load) → IsNew words g → IsLoad words load → ⊥
-no_load_new words g load new is_load = differ_load_new (first_word _ _ _ _ (sym is_load.words_are ∙ new.words_are))
-
 pub one_load : (words : List (List ℕ)) (load other : Load) → IsLoad words load → IsLoad words other → load ≡ other
 one_load words load other first second =
     let same = four_words _ _ _ _ _ _ _ _ (sym first.words_are ∙ second.words_are) in
@@ -58,15 +42,6 @@ one_load words load other first second =
     let pool = decimal_injective load.pool other.pool (omega (arith, r)) (omega (arith, s)) same.fourth in
     λ i. record { count = count i; seed = seed i; pool = pool i }
 
-pub no_simulate_run : (words : List (List ℕ)) (pool : ℕ) (s : Simulation) → IsRun words pool → IsSimulate words s → ⊥
-no_simulate_run words pool s run is_simulate = differ_simulate_run (first_word _ _ _ _ (sym is_simulate.words_are ∙ run.words_are))
-
-pub no_simulate_new : (words : List (List ℕ)) (g : Geometry) (s : Simulation) → IsNew words g → IsSimulate words s → ⊥
-no_simulate_new words g s new is_simulate = differ_simulate_new (first_word _ _ _ _ (sym is_simulate.words_are ∙ new.words_are))
-
-pub no_simulate_load : (words : List (List ℕ)) (load : Load) (s : Simulation) → IsLoad words load → IsSimulate words s → ⊥
-no_simulate_load words load s is_load is_simulate = differ_simulate_load (first_word _ _ _ _ (sym is_simulate.words_are ∙ is_load.words_are))
-
 pub one_simulation : (words : List (List ℕ)) (s other : Simulation) → IsSimulate words s → IsSimulate words other → s ≡ other
 one_simulation words s other first second =
     let same = three_words _ _ _ _ _ _ (sym first.words_are ∙ second.words_are) in
@@ -77,18 +52,6 @@ one_simulation words s other first second =
     let groups = decimal_injective s.groups other.groups (omega (arith, p)) (omega (arith, q)) same.0 in
     let pool = decimal_injective s.pool other.pool (omega (arith, r)) (omega (arith, t)) same.1 in
     λ i. record { groups = groups i; pool = pool i }
-
-pub no_trial_run : (words : List (List ℕ)) (pool : ℕ) (t : TrialSizes) → IsRun words pool → IsTrial words t → ⊥
-no_trial_run words pool t run is_trial = differ_trial_run (first_word _ _ _ _ (sym is_trial.words_are ∙ run.words_are))
-
-pub no_trial_new : (words : List (List ℕ)) (g : Geometry) (t : TrialSizes) → IsNew words g → IsTrial words t → ⊥
-no_trial_new words g t new is_trial = differ_trial_new (first_word _ _ _ _ (sym is_trial.words_are ∙ new.words_are))
-
-pub no_trial_load : (words : List (List ℕ)) (load : Load) (t : TrialSizes) → IsLoad words load → IsTrial words t → ⊥
-no_trial_load words load t is_load is_trial = differ_trial_load (first_word _ _ _ _ (sym is_trial.words_are ∙ is_load.words_are))
-
-pub no_trial_simulate : (words : List (List ℕ)) (s : Simulation) (t : TrialSizes) → IsSimulate words s → IsTrial words t → ⊥
-no_trial_simulate words s t is_simulate is_trial = differ_trial_simulate (first_word _ _ _ _ (sym is_trial.words_are ∙ is_simulate.words_are))
 
 pub one_trial : (words : List (List ℕ)) (t other : TrialSizes) → IsTrial words t → IsTrial words other → t ≡ other
 one_trial words t other first second =

@@ -1,21 +1,5 @@
 -- Lists of two, three and four words.
-use Rattle.std.proofs.Common.{◌≡◌, ℕ, ◌≤◌, ◌<◌, List, [], ◌∷◌, length, get_or, sym, arith}
-
--- a list of two items has these two
-pub two_items : {X : Type 0} (xs : List X) (a b : X) → 2 ≤ length xs → length xs < 3 → a ≡ get_or xs 0 a → b ≡ get_or xs 1 b → xs ≡ a ∷ b ∷ []
-two_items [] a b many few first second = absurd (omega (arith, many))
-two_items (x ∷ []) a b many few first second = absurd (omega (arith, many))
-two_items (x ∷ y ∷ []) a b many few first second = λ i. sym first i ∷ sym second i ∷ []
-two_items (x ∷ y ∷ z ∷ xs) a b many few first second = absurd (omega (arith, few))
-
--- and a list of four these four
-pub four_items : {X : Type 0} (xs : List X) (a b c d : X) → 4 ≤ length xs → length xs < 5 → a ≡ get_or xs 0 a → b ≡ get_or xs 1 b → c ≡ get_or xs 2 c → d ≡ get_or xs 3 d → xs ≡ a ∷ b ∷ c ∷ d ∷ []
-four_items [] a b c d many few first second third fourth = absurd (omega (arith, many))
-four_items (x ∷ []) a b c d many few first second third fourth = absurd (omega (arith, many))
-four_items (x ∷ y ∷ []) a b c d many few first second third fourth = absurd (omega (arith, many))
-four_items (x ∷ y ∷ z ∷ []) a b c d many few first second third fourth = absurd (omega (arith, many))
-four_items (x ∷ y ∷ z ∷ w ∷ []) a b c d many few first second third fourth = λ i. sym first i ∷ sym second i ∷ sym third i ∷ sym fourth i ∷ []
-four_items (x ∷ y ∷ z ∷ w ∷ v ∷ xs) a b c d many few first second third fourth = absurd (omega (arith, few))
+use Rattle.std.proofs.Common.{◌≡◌, ℕ, List, [], ◌∷◌}
 
 -- the words of two lists of five are the same, one by one
 pub record SameFive (a b c d e a' b' c' d' e' : List ℕ) : Type 0 where

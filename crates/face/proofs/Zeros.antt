@@ -31,15 +31,3 @@ below_or_not (suc a) (suc b) = elim (below_or_not a b) [
   | inl less ↦ inl (omega (arith, less))
   | inr more ↦ inr (omega (arith, more))
 ]
-
-pub zeros_then : (content : List ℕ) (a b d : ℕ) → AreZero content a b → AreZero content b d → AreZero content a d
-zeros_then content a b d first second i from to = elim (below_or_not i b) [
-  | inl less ↦ first i from less
-  | inr more ↦ second i more to
-]
-
-pub first_then : (content : List ℕ) (a b d e place : ℕ) → a ≤ b → d ≤ e → AreZero content a b → IsFirst content b d place → IsFirst content a e place
-first_then content a b d e place low high zeros first =
-    let least = first.at_least in
-    let inside = first.inside in
-    record { at_least = omega (arith, low, least); inside = omega (arith, high, inside); nonzero = first.nonzero; zeros = zeros_then content a b place zeros first.zeros }

@@ -9,7 +9,6 @@ use std::fmt::Display;
 use std::fs;
 use std::fs::{File, Files, Metadata, OpenOptions};
 use std::io::{self, BufRead, Eprint, ErrorKind, Input, Lines, Print};
-use std::os::unix::fs::FileExt;
 use std::rt::{Clock, Env};
 use std::test::Fail;
 use std::time::Duration;
@@ -294,82 +293,6 @@ fn a_stop_has_its_line_and_its_status(rt: HostRuntime) -> Result<(), Fail> {
     Ok(())
 }
 
-fn remove_all(rt: &HostRuntime) {
-    for path in ["face.log", "face.flash", "face.disk"] {
-        let _ = fs::remove_file(rt, path);
-        let _ = fs::remove_dir(rt, path);
-    }
-}
-
-// The program ends so and says this on standard error.
-fn says(rt: &HostRuntime, words: &[&[u8]], status: u8, said: &str) -> Result<(), Fail> {
-    let caller = make_caller(rt, words, b"");
-    let ended = run(&caller);
-    let text = caller.said();
-    if ended != status || !text.as_str().starts_with(said) {
-        return Err(Fail::new(format!(in rt.alloc(); "status {ended}: {text}")?));
-    }
-    Ok(())
-}
-
-const NEW: [&[u8]; 5] = [b"face", b"new", b"16", b"8", b"64"];
-
-const RUN: [&[u8]; 3] = [b"face", b"run", b"1"];
-
-// Wrong words are said by their place and what they aren't; the usage behind them takes twelve lines.
-#[test]
-fn wrong_words_are_said(rt: HostRuntime) -> Result<(), Fail> {
-    says(
-        &rt,
-        &[b"face"],
-        2,
-        "face: there are no words, or one of them isn't UTF-8 text\nusage: face new",
-    )?;
-    says(
-        &rt,
-        &[b"face", b"help"],
-        2,
-        "face: word 1 is \"help\", and not new, run, load, simulate or trial\nusage: face new",
-    )?;
-    says(
-        &rt,
-        &[b"face", b"--help"],
-        2,
-        "face: word 1 is \"--help\", and not new, run, load, simulate or trial\n",
-    )?;
-    says(
-        &rt,
-        &[b"face", b"run\n"],
-        2,
-        "face: word 1 is \"run\\n\", and not new, run, load, simulate or trial\n",
-    )?;
-    says(&rt, &[b"face", b"run"], 2, "face: POOL is missing\n")?;
-    says(
-        &rt,
-        &[b"face", b"new", b"16", b"10"],
-        2,
-        "face: word 3 is \"10\", which is no GROUPS\n",
-    )?;
-    says(
-        &rt,
-        &[b"face", b"run", b"1", b"2"],
-        2,
-        "face: word 3 is \"2\", which is one too many\n",
-    )?;
-    let caller = make_caller(&rt, &[b"face"], b"");
-    assert_eq!(rt; run(&caller), 2);
-    assert_eq!(rt;
-        caller
-            .said()
-            .as_bytes()
-            .iter()
-            .filter(|octet| **octet == b'\n')
-            .count(),
-        13
-    );
-    Ok(())
-}
-
 // The words, without the program's own name, and what is wrong with them.
 #[test]
 fn the_first_wrong_word_is_found(rt: HostRuntime) -> Result<(), Fail> {
@@ -426,105 +349,5 @@ fn the_first_wrong_word_is_found(rt: HostRuntime) -> Result<(), Fail> {
         assert_eq!(rt; find_wrong(words.as_slice()), wrong, "{line}");
     }
     assert_eq!(rt; find_wrong(&[]), Some(Wrong::Nothing));
-    Ok(())
-}
-
-// Status 9 has each of its reasons, and status 10 its comfort.
-#[test]
-fn why_there_is_no_database_is_said(rt: HostRuntime) -> Result<(), Fail> {
-    remove_all(&rt);
-    says(
-        &rt,
-        &RUN,
-        9,
-        "face: this folder has no database: face.log, face.flash and face.disk are missing.",
-    )?;
-    says(&rt, &NEW, 0, "")?;
-    says(
-        &rt,
-        &[b"face", b"new", b"16", b"8", b"65"],
-        9,
-        "face: face.log has 34304 octets, and these sizes ask for 34816: nothing was made.",
-    )?;
-    fs::rename(&rt, "face.flash", "kept")?;
-    says(
-        &rt,
-        &RUN,
-        9,
-        "face: face.flash is missing beside the others:",
-    )?;
-    fs::write(&rt, "face.flash", [0u8; 1_000].as_slice())?;
-    says(
-        &rt,
-        &RUN,
-        9,
-        "face: face.flash has 1000 octets, as in no database:",
-    )?;
-    fs::remove_file(&rt, "face.flash")?;
-    fs::create_dir(&rt, "face.flash")?;
-    says(
-        &rt,
-        &RUN,
-        9,
-        "face: face.flash can't be opened to be read and written: Is a directory (os error 21);",
-    )?;
-    says(
-        &rt,
-        &NEW,
-        9,
-        "face: face.flash can't be opened to be read and written: Is a directory (os error 21);",
-    )?;
-    fs::remove_dir(&rt, "face.flash")?;
-    fs::rename(&rt, "kept", "face.flash")?;
-    let log = File::open(&rt, "face.log")?;
-    assert!(rt; log.try_lock().is_ok());
-    says(
-        &rt,
-        &RUN,
-        9,
-        "face: another program is at work on face.log:",
-    )?;
-    drop(log);
-    // The first master says that nine transactions are active.
-    OpenOptions::new()
-        .write(true)
-        .open(&rt, "face.log")?
-        .write_all_at(&[9], 33)?;
-    OpenOptions::new()
-        .write(true)
-        .open(&rt, "face.log")?
-        .write_all_at(&[0xa5], 0)?;
-    says(
-        &rt,
-        &RUN,
-        9,
-        "face: what face.log, face.flash and face.disk hold isn't sound,",
-    )?;
-    says(
-        &rt,
-        &NEW,
-        10,
-        "face: the files aren't blank, and nothing was written over.",
-    )?;
-    remove_all(&rt);
-    Ok(())
-}
-
-// The lines that were refused are counted, and the first that ends with a carriage return is named; what is told stays.
-#[test]
-fn refused_lines_are_said(rt: HostRuntime) -> Result<(), Fail> {
-    remove_all(&rt);
-    says(&rt, &NEW, 0, "")?;
-    let caller = make_caller(&rt, &RUN, b"get 5\nget 5\r\nget 999999999\nget 5\r\n");
-    assert_eq!(rt; run(&caller), 0);
-    assert!(rt;
-        caller.told().as_slice()
-            == b"open 0\nnone\nrefused line\nrefused record\nrefused line\n".as_slice()
-    );
-    assert_eq!(rt;
-        caller.said().as_str(),
-        "face: 3 of the replies refused a line\nface: line 2 of the input ends with a carriage return, and so is no command: send lines that end with a newline alone\n"
-    );
-    remove_all(&rt);
     Ok(())
 }

@@ -128,66 +128,6 @@ fn faults_end_a_session(rt: HostRuntime) -> Result<(), Fail> {
     Ok(())
 }
 
-// Feeds a line that sets a record to 120 octets 0x5A.
-fn feed_long_set(site: &mut MemSite, record: &[u8]) -> Result<(), Fail> {
-    site.feed(b"set ")?;
-    site.feed(record)?;
-    site.feed(b" ")?;
-    for _octet in 0..120 {
-        site.feed(b"5a")?;
-    }
-    site.feed(b"\n")?;
-    Ok(())
-}
-
-// The devices after a crash that leaves two sessions unfinished: one has written the records 0 to 3 over long values,
-// and record 0 once more, the other one record 64. Record 7 was committed behind them.
-fn unfinished(alloc: Global) -> Result<MemSite, Fail> {
-    let mut site = MemSite::new(alloc, &STANDARD)?;
-    for record in [b"0".as_slice(), b"1", b"2", b"3"] {
-        feed_long_set(&mut site, record)?;
-    }
-    let sessions =
-        b"begin 0\nwrite 0 0 01\nwrite 0 1 01\nwrite 0 2 01\nwrite 0 3 01\nwrite 0 0 02\nbegin 1\nwrite 1 64 03\nset 7 04\n";
-    let _status = run(alloc, &mut site, sessions)?;
-    Ok(site.crash(0))
-}
-
-// Stops a restart after so many changes, and the restart after the crash likewise. Answers the statuses of both, and
-// whether the third one finds each record as it was committed.
-fn stop_twice(alloc: Global, first: u64, second: u64, seed: u64) -> Result<(u8, u8, bool), Fail> {
-    let mut site = unfinished(alloc)?;
-    site.fuse(first);
-    let one = run(alloc, &mut site, b"")?;
-    let mut site = site.crash(seed);
-    site.fuse(second);
-    let two = run(alloc, &mut site, b"")?;
-    let mut site = site.crash(seed);
-    let status = run(
-        alloc,
-        &mut site,
-        b"get 0\nget 1\nget 2\nget 3\nget 64\nget 7\nstat\n",
-    )?;
-    Ok((one, two, status == 0 && are_committed(site.told())))
-}
-
-// Whether a run has told the four long values, then none and 04, and the counts.
-fn are_committed(told: &[u8]) -> bool {
-    let values = told.get(7..995);
-    told.starts_with(b"open 5\n")
-        && values.is_some_and(|lines| lines.chunks(247).all(|line| is_long_value(line)))
-        && told.ends_with(b"none\nvalue 04\nstat commits 5 used 0 owed 0 cap 63 active 0\n")
-        && told.len() == 1_054
-}
-
-fn is_long_value(line: &[u8]) -> bool {
-    line.len() == 247
-        && line.starts_with(b"value ")
-        && line.get(6..246).is_some_and(|octets| octets
-            .chunks(2)
-            .all(|octet| octet == b"5a".as_slice()))
-}
-
 // The status of a restart by the change at which it is stopped: it makes so many changes of the devices, and tells one
 // line.
 fn status_at(changes: u64, made: u64) -> u8 {
@@ -198,26 +138,6 @@ fn status_at(changes: u64, made: u64) -> u8 {
     } else {
         0
     }
-}
-
-#[test]
-fn a_stopped_restart_goes_on(rt: HostRuntime) -> Result<(), Fail> {
-    // The second restart is stopped at its change 3, within its checkpoint at the latest.
-    for changes in 0..37 {
-        let found = stop_twice(rt.alloc(), changes, 3, changes % 4)?;
-        assert!(rt; found == (status_at(changes, 35), 3, true));
-    }
-    Ok(())
-}
-
-#[test]
-fn a_restart_stopped_at_any_two_changes_undoes_all(rt: HostRuntime) -> Result<(), Fail> {
-    for first in 0..36 {
-        let second = first * 7 % 36;
-        let (_, _, committed) = stop_twice(rt.alloc(), first, second, first + second)?;
-        assert!(rt; committed);
-    }
-    Ok(())
 }
 
 // The devices after a crash that leaves a session unfinished which began before a checkpoint and wrote behind it too.
@@ -245,26 +165,5 @@ fn a_restart_undoes_what_is_older_than_a_checkpoint(rt: HostRuntime) -> Result<(
             );
         }
     }
-    Ok(())
-}
-
-#[test]
-fn eight_stopped_restarts_lose_nothing(rt: HostRuntime) -> Result<(), Fail> {
-    let mut site = MemSite::new(rt.alloc(), &STANDARD)?;
-    site.fuse(1000);
-    let first = b"set 0 aa\nbegin 0\nwrite 0 0 bb\nwrite 0 32 cc\nwrite 0 64 dd\n";
-    let status = run(rt.alloc(), &mut site, first)?;
-    assert!(rt; status == 0);
-    assert!(rt; site.told() == b"open 0\ncommitted 1\nok\nok\nok\nok\n".as_slice());
-    let mut site = site.crash(1);
-    for changes in 1..9 {
-        site.fuse(changes);
-        let status = run(rt.alloc(), &mut site, b"")?;
-        assert_eq!(rt; status, 3);
-        site = site.crash(1);
-    }
-    let status = run(rt.alloc(), &mut site, b"get 0\nget 32\nget 64\n")?;
-    assert!(rt; status == 0);
-    assert!(rt; site.told() == b"open 1\nvalue aa\nnone\nnone\n".as_slice());
     Ok(())
 }

@@ -544,50 +544,6 @@ chance touches 2 pool 1 flash 0 disk 1 staged 0 pushed 0
     Ok(())
 }
 
-// Stops a run of one set at each of its changes, and answers whether the next run finds the set done.
-fn survives(alloc: Global, changes: u64, seed: u64) -> Result<Option<bool>, Fail> {
-    let mut site = MemSite::new(alloc, &STANDARD)?;
-    site.fuse(changes);
-    let _status = run(alloc, &mut site, b"set 5 0a0b")?;
-    let mut site = site.crash(seed);
-    if run(alloc, &mut site, b"get 5")? != 0 {
-        return Ok(None);
-    }
-    if site.told() == b"open 1\nvalue 0a0b\n".as_slice() {
-        Ok(Some(true))
-    } else if site.told() == b"open 0\nnone\n".as_slice() {
-        Ok(Some(false))
-    } else {
-        Ok(None)
-    }
-}
-
-#[test]
-fn a_stopped_set_is_done_or_not(rt: HostRuntime) -> Result<(), Fail> {
-    // By the change that is stopped, and by the seeds 0, 1, 2 and 77.
-    let rows: [[bool; 4]; 13] = [
-        [false, false, false, false],
-        [false, false, false, false],
-        [false, false, false, false],
-        [false, false, false, false],
-        [false, false, false, false],
-        [false, false, false, false],
-        [false, false, false, false],
-        [false, false, false, false],
-        [false, false, false, false],
-        [true, false, true, false],
-        [true, false, true, false],
-        [true, true, true, true],
-        [true, true, true, true],
-    ];
-    for (changes, row) in rows.iter().enumerate() {
-        for (seed, done) in [0, 1, 2, 77].iter().zip(row) {
-            assert_eq!(rt; survives(rt.alloc(), changes as u64, *seed)?, Some(*done));
-        }
-    }
-    Ok(())
-}
-
 #[test]
 fn faults_have_their_status(rt: HostRuntime) -> Result<(), Fail> {
     let rows: [(Call, u64, u8, &[u8]); 9] = [
