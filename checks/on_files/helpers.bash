@@ -51,6 +51,14 @@ told() {
 }
 prefix=()
 
+# awaits WORD FILE: until the file has the word, for five seconds at most
+awaits() {
+    for _ in $(seq 100); do
+        grep -q "$1" "$2" && break
+        sleep 0.05
+    done
+}
+
 # a folder with a fresh database
 fresh() {
     rm -rf "$folder/db"

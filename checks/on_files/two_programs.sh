@@ -11,10 +11,7 @@ mkfifo first_input
 first=$!
 exec 3>first_input
 printf 'set 5 0a\n' >&3
-for _ in $(seq 100); do
-    grep -q committed first_replies && break
-    sleep 0.05
-done
+awaits committed first_replies
 told 'a second run' 9 'fault foreign' 'set 5 0b/' run 1
 told 'a second load' 9 'fault foreign' '' load 10 7 1
 told 'new beside a run' 9 'fault foreign' '' new 16 8 64
@@ -27,10 +24,7 @@ told 'a run after the first' 0 'open 2/value 0a/value 0c' 'get 5/get 6/' run 1
 "$face" run 1 <first_input >first_replies &
 first=$!
 exec 3>first_input
-for _ in $(seq 100); do
-    grep -q open first_replies && break
-    sleep 0.05
-done
+awaits open first_replies
 kill -9 "$first"
 wait "$first" 2>/dev/null
 exec 3>&-

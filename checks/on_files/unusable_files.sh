@@ -46,10 +46,7 @@ mkfifo input
 run=$!
 exec 3>input
 printf 'get 5\n' >&3
-for _ in $(seq 100); do
-    grep -q value replies && break
-    sleep 0.05
-done
+awaits value replies
 truncate -s 10000 face.disk
 printf 'get 511\n' >&3
 exec 3>&-
