@@ -19,7 +19,7 @@ use Rattle.frame_group.specs.Groups.{Frame, IsGroup, frames_in}
 use Rattle.frame_group.specs.Versions.{frames_of, last_frame, version, CleanAsDisk}
 use Rattle.frame_group.proofs.Contents.{frames_are_in, frames_more}
 use Rattle.checkpoint.specs.declared.master.Master.{Master}
-use Rattle.image_changes.specs.Rings.{Masters, Blocks, Segments, group_shape, units_on}
+use Rattle.image_changes.specs.Rings.{Masters, Blocks, group_shape, units_on}
 use Rattle.image_changes.specs.Changes.{AppendsGroup, Makes}
 use Rattle.log_store.proofs.BlockLaws.{blocks_stay}
 use Rattle.flash_cache.specs.Held.{frames_on, disk_on, version_on, IsCleanOn}
@@ -30,7 +30,8 @@ use Rattle.image_meaning.specs.Laws.{PushedIsSound, PushedMeans}
 use Rattle.image_meaning.proofs.Versions.{length-versions, version_is, disk_stays}
 use Rattle.image_meaning.proofs.OtherVersions.{versions_are_sound, versions_mean, version_replaces_itself}
 use Rattle.image_meaning.proofs.Pushes.{pushed_clean, pushed_version, others_keep_versions}
-use Rattle.image_meaning.proofs.Sames.{lengths_stay, unused_stays, newest_stays}
+use Rattle.image_meaning.proofs.Sames.{lengths_stay, newest_stays}
+use Rattle.image_meaning.proofs.SegmentLaws.{segments_pushed}
 
 all_append : {X : Type 0} (P : X → Type 0) (xs ys : List X) → AllByRecursion P xs → AllByRecursion P ys → AllByRecursion P (xs ++ ys)
 all_append P [] ys front rest = rest
@@ -142,7 +143,7 @@ module _ (newest : Option Master) (g : Geometry) (old new : Image) (blocks : Lis
       limits = sound.octets.limits;
       lengths = lengths_stay g old new made.sizes sound.octets.lengths;
       masters = newest_stays newest g old new (made.others Masters (λ h. cc)) sound.octets.masters;
-      segments = unused_stays g Segments old new (made.others Segments (λ h. cc)) sound.octets.segments;
+      segments = segments_pushed g old new content frames sound.octets.limits sound.octets.groups sound.octets.segments is_group may.are_frames may.none_due made;
       groups = groups_now;
       versions = pages_sound;
       clean = clean_now;

@@ -19,7 +19,7 @@ use Rattle.flash_cache.specs.Held.{version_on}
 use Rattle.image_meaning.specs.Meaning.{picture_under, AreOctetsSoundUnder, IsSoundUnder, version_in}
 use Rattle.image_meaning.specs.Moments.{LeavesTableUnder}
 use Rattle.image_meaning.specs.Reached.{ChangesPages, IsKeptOrReplaced, IsPushed, LeavesPushed, ReachedIsSound, ReachedMeans, PushedStands, PushChangesPages}
-use Rattle.image_meaning.proofs.Sames.{lengths_stay, unused_stays, newest_stays}
+use Rattle.image_meaning.proofs.Sames.{lengths_stay, newest_stays}
 use Rattle.image_meaning.proofs.Reading.{groups_are_read}
 use Rattle.image_meaning.proofs.Replacing.{version_replaces, replaced_is_sound, replaced_means}
 
@@ -35,21 +35,21 @@ sizes_reached : (g : Geometry) (changes : List Change) (a b : Image) → Reaches
 sizes_reached g [] a b reads = reads.sizes
 sizes_reached g (change ∷ changes) a b reached = λ dev. sizes_reached g changes reached.0 b reached.2 dev ∙ sizes_made g change a reached.0 reached.1 dev
 
--- such a change appends to no ring but that of the groups
-not_to : (ring : RingName) → Groups ≢ ring → (change : Change) → ChangesPages change → ring_of change ≢ Some ring
-not_to ring ne (SealsBlock records) of_pages = absurd of_pages
-not_to ring ne (RewritesPages pages) of_pages = λ is. cc
-not_to ring ne (AppendsGroup content) of_pages = λ is. ne cc
-not_to ring ne (AppendsSegment content) of_pages = absurd of_pages
-not_to ring ne (AppendsMaster content) of_pages = absurd of_pages
+-- such a change appends to no ring but those of the groups and of the segments
+not_to : (ring : RingName) → Groups ≢ ring → Segments ≢ ring → (change : Change) → ChangesPages change → ring_of change ≢ Some ring
+not_to ring ne other (SealsBlock records) of_pages = absurd of_pages
+not_to ring ne other (RewritesPages pages) of_pages = λ is. cc
+not_to ring ne other (AppendsGroup content) of_pages = λ is. ne cc
+not_to ring ne other (AppendsSegment content) of_pages = λ is. other cc
+not_to ring ne other (AppendsMaster content) of_pages = absurd of_pages
 
-all_not_to : (ring : RingName) → Groups ≢ ring → (changes : List Change) → AllByRecursion ChangesPages changes → AllByRecursion (λ change. ring_of change ≢ Some ring) changes
-all_not_to ring ne [] of_pages = tt
-all_not_to ring ne (change ∷ changes) of_pages = (not_to ring ne change of_pages.0, all_not_to ring ne changes of_pages.1)
+all_not_to : (ring : RingName) → Groups ≢ ring → Segments ≢ ring → (changes : List Change) → AllByRecursion ChangesPages changes → AllByRecursion (λ change. ring_of change ≢ Some ring) changes
+all_not_to ring ne other [] of_pages = tt
+all_not_to ring ne other (change ∷ changes) of_pages = (not_to ring ne other change of_pages.0, all_not_to ring ne other changes of_pages.1)
 
 module _ (newest : Option Master) (g : Geometry) (old new : Image) (blocks : List (List LogRecord)) (sound : IsSoundUnder newest g old blocks) (p : IsPushed newest g old new blocks) where
-  kept : (ring : RingName) → Groups ≢ ring → KeepsUnits (shape_of g ring) old new
-  kept ring ne = ring_kept g ring p.changes old new (all_not_to ring ne p.changes p.of_pages) p.reaches
+  kept : (ring : RingName) → Groups ≢ ring → Segments ≢ ring → KeepsUnits (shape_of g ring) old new
+  kept ring ne other = ring_kept g ring p.changes old new (all_not_to ring ne other p.changes p.of_pages) p.reaches
 
   version_sound : (number : ℕ) → number < g.pages → page.IsSound (version_on g new number)
   version_sound number within = by (p.versions number within)
@@ -69,15 +69,15 @@ module _ (newest : Option Master) (g : Geometry) (old new : Image) (blocks : Lis
   all_octets = record {
     limits = sound.octets.limits;
     lengths = lengths_stay g old new (sizes_reached g p.changes old new p.reaches) sound.octets.lengths;
-    masters = newest_stays newest g old new (kept Masters (λ h. cc)) sound.octets.masters;
-    segments = unused_stays g Segments old new (kept Segments (λ h. cc)) sound.octets.segments;
+    masters = newest_stays newest g old new (kept Masters (λ h. cc) (λ h. cc)) sound.octets.masters;
+    segments = p.segments;
     groups = (groups_are_read g p.first p.groups new p.has p.sound).0;
     versions = version_sound;
     clean = p.clean;
   }
 
   pub sound_there : IsSoundUnder newest g new blocks
-  sound_there = replaced_is_sound newest g old new blocks sound all_octets (blocks_stay g _ blocks old new sound.held (kept Blocks (λ h. cc))) replaces
+  sound_there = replaced_is_sound newest g old new blocks sound all_octets (blocks_stay g _ blocks old new sound.held (kept Blocks (λ h. cc) (λ h. cc))) replaces
 
 pub reached_is_sound : ReachedIsSound
 reached_is_sound newest g old new blocks sound p = sound_there newest g old new blocks sound p

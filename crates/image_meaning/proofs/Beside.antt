@@ -17,7 +17,8 @@ use Rattle.image_meaning.specs.Meaning.{IsFrameOf, AreGroups}
 use Rattle.image_meaning.specs.Beside.{AreRingsSoundUnder, KeepsRings, RingsKeptUnder, RingsSaved}
 use Rattle.image_meaning.specs.Below.{MasterLaws}
 use Rattle.image_meaning.specs.Changes.{leaving, front_on, rest_on}
-use Rattle.image_meaning.proofs.Sames.{lengths_stay, unused_stays, newest_stays, groups_stay}
+use Rattle.image_meaning.proofs.Sames.{lengths_stay, newest_stays, groups_stay, segments_stay}
+use Rattle.image_meaning.proofs.SegmentLaws.{segments_pushed, segments_saved}
 use Rattle.image_meaning.proofs.Saves.{newest_appended}
 use Rattle.image_meaning.proofs.Appends.{all_right, all_drop, frames_before}
 
@@ -28,7 +29,7 @@ rings_stay newest g old new sizes masters segments groups sound = record {
   limits = sound.limits;
   lengths = lengths_stay g old new sizes sound.lengths;
   masters = newest_stays newest g old new masters sound.masters;
-  segments = unused_stays g Segments old new segments sound.segments;
+  segments = segments_stay g old new segments groups sound.segments;
   groups = groups_stay g old new groups sound.groups;
 }
 
@@ -62,23 +63,29 @@ module _ (newest : Option Master) (g : Geometry) (old new : Image) (content : Li
         (all_right (IsFrameOf g) (front_on g old) (rest_on g old) (subst (AllByRecursion (IsFrameOf g)) (frames_before g old) sound.groups.frames)) are_frames);
   }
 
-one_kept : (newest : Option Master) (g : Geometry) (change : Change) (old new : Image) → AreRingsSoundUnder newest g old → KeepsRings g change → Makes g change old new → AreRingsSoundUnder newest g new
+one_kept : (newest : Option Master) (g : Geometry) (change : Change) (old new : Image) → AreRingsSoundUnder newest g old → KeepsRings g old change → Makes g change old new → AreRingsSoundUnder newest g new
 one_kept newest g (SealsBlock records) old new sound keeps made = rings_stay newest g old new made.1.sizes (made.1.others Masters (λ h. cc)) (made.1.others Segments (λ h. cc)) (made.1.others Groups (λ h. cc)) sound
 one_kept newest g (RewritesPages pages) old new sound keeps made = rings_stay newest g old new made.sizes (made.rings Masters) (made.rings Segments) (made.rings Groups) sound
 one_kept newest g (AppendsGroup content) old new sound keeps made = record {
   limits = sound.limits;
   lengths = lengths_stay g old new made.sizes sound.lengths;
   masters = newest_stays newest g old new (made.others Masters (λ h. cc)) sound.masters;
-  segments = unused_stays g Segments old new (made.others Segments (λ h. cc)) sound.segments;
-  groups = groups_more newest g old new content keeps.0 sound keeps.1 keeps.2 made;
+  segments = segments_pushed g old new content keeps.1 sound.limits sound.groups sound.segments keeps.2 keeps.3 keeps.0 made;
+  groups = groups_more newest g old new content keeps.1 sound keeps.2 keeps.3 made;
 }
-one_kept newest g (AppendsSegment content) old new sound keeps made = absurd keeps
+one_kept newest g (AppendsSegment content) old new sound keeps made = record {
+  limits = sound.limits;
+  lengths = lengths_stay g old new made.sizes sound.lengths;
+  masters = newest_stays newest g old new (made.others Masters (λ h. cc)) sound.masters;
+  segments = segments_saved g old new content sound.limits sound.groups sound.segments keeps made;
+  groups = groups_stay g old new (made.others Groups (λ h. cc)) sound.groups;
+}
 one_kept newest g (AppendsMaster content) old new sound keeps made = absurd keeps
 
 pub rings_kept : (newest : Option Master) → RingsKeptUnder newest
 rings_kept newest g [] old new sound all reads = rings_stay newest g old new reads.sizes (reads.rings Masters) (reads.rings Segments) (reads.rings Groups) sound
 rings_kept newest g (change ∷ changes) old new sound all reached =
-    rings_kept newest g changes reached.0 new (one_kept newest g change old reached.0 sound all.0 reached.1) all.1 reached.2
+    rings_kept newest g changes reached.0 new (one_kept newest g change old reached.0 sound all.0 reached.1) (all.1 reached.0 reached.1) reached.2
 
 -- a master unit more
 pub rings_saved : MasterLaws → RingsSaved
@@ -86,6 +93,6 @@ rings_saved below newest g content old new sound unit made = record {
   limits = sound.limits;
   lengths = lengths_stay g old new made.sizes sound.lengths;
   masters = newest_appended below g old new content unit made;
-  segments = unused_stays g Segments old new (made.others Segments (λ h. cc)) sound.segments;
+  segments = segments_stay g old new (made.others Segments (λ h. cc)) (made.others Groups (λ h. cc)) sound.segments;
   groups = groups_stay g old new (made.others Groups (λ h. cc)) sound.groups;
 }

@@ -1,5 +1,5 @@
 -- Blank devices.
-use Rattle.std.proofs.Common.{◌≡◌, ℕ, zero, suc, ◌-◌, ◌*◌, ◌/◌, ◌%◌, ◌<◌, ◌==◌, ◌||◌, List, [], get_or, take, drop, replicate, None, refl, sym, ap, subst, ◌∙◌, arith}
+use Rattle.std.proofs.Common.{◌≡◌, ℕ, zero, suc, ◌-◌, ◌*◌, ◌/◌, ◌%◌, ◌<◌, ◌==◌, ◌||◌, List, [], map, get_or, take, drop, replicate, None, refl, sym, ap, subst, ◌∙◌, arith}
 use Rattle.std.specs.Prelude.{slice_index, nat_lt}
 use Rattle.std.specs.List.{AllByRecursion}
 use Rattle.std.proofs.lemmas.List.{ext_get_or, length-replicate, get_or-replicate, take-replicate, drop-replicate}
@@ -7,7 +7,7 @@ use Rattle.std.proofs.lemmas.Nat.{mod_below}
 use Rattle.site.specs.declared.geometry.Geometry.{Geometry}
 use Rattle.site.specs.Geometry.{HasLimits, HasLengths, log_length, flash_length, disk_length, blank_image}
 use Rattle.site.specs.State.{Image}
-use Rattle.sealed_ring.specs.Ring.{IsRing, Units}
+use Rattle.sealed_ring.specs.Ring.{IsRing, Units, hi_of}
 use Rattle.sealed_ring.specs.Laws.{BlankIsRing}
 use Rattle.record_model.specs.State.{Content, content_at}
 use Rattle.log_records.specs.Log.{Version, version_at, slot_at, table_of}
@@ -20,11 +20,14 @@ use Rattle.slotted_page.specs.Laws.{IsBlank}
 use Rattle.slotted_page.proofs.Blank.{blank}
 use Rattle.frame_group.specs.Groups.{Frame, IsGroup, frames_in}
 use Rattle.frame_group.specs.Versions.{frames_of, version, CleanAsDisk}
-use Rattle.image_changes.specs.Rings.{RingName, Masters, Blocks, Groups, Segments, shape_of, octets_of, group_shape, units_on}
+use Rattle.image_changes.specs.Rings.{RingName, Masters, Blocks, Groups, Segments, shape_of, octets_of, group_shape, segment_shape, units_on}
 use Rattle.image_changes.proofs.AppendLaws.{ring_fits}
 use Rattle.log_store.specs.Laws.{BlankHasNoBlocks}
+use Rattle.meta_segments.specs.Following.{Follow}
+use Rattle.meta_segments.proofs.Numbers.{none_follow}
+use Rattle.tail_rebuild.specs.Standing.{HasSaved}
 use Rattle.flash_cache.specs.Held.{frames_on, disk_on, version_on}
-use Rattle.image_meaning.specs.Meaning.{IsUnused, IsFrameOf, AreOctetsSound, IsSound, picture, versions_on}
+use Rattle.image_meaning.specs.Meaning.{IsUnused, IsFrameOf, AreSegments, AreOctetsSound, IsSound, picture, versions_on}
 use Rattle.image_meaning.specs.Laws.{BlankStands}
 use Rattle.image_meaning.proofs.Versions.{length-versions, version_is}
 
@@ -61,11 +64,20 @@ module _ (ring_of_zeros : BlankIsRing) (g : Geometry) (limits : HasLimits g) whe
   ring_blank : (ring : RingName) → IsRing (shape_of g ring) (octets_of (shape_of g ring) (blank_image g)) × (units_on (shape_of g ring) (blank_image g) ≡ record { hi = 0; live = [] })
   ring_blank ring = ring_of_zeros (shape_of g ring) (octets_of (shape_of g ring) (blank_image g)) (ring_fits g (blank_image g) ring limits lengths) (octets_zero ring)
 
-  unused : (ring : RingName) → IsUnused g ring (blank_image g)
+  pub unused : (ring : RingName) → IsUnused g ring (blank_image g)
   unused ring = record { form = (ring_blank ring).0; none = ap (λ (u : Units). u.hi) (ring_blank ring).1 }
 
   pub no_live : (units_on (group_shape g) (blank_image g)).live ≡ []
   no_live = ap (λ (u : Units). u.live) (ring_blank Groups).1
+
+  no_segments : AreSegments g (blank_image g)
+  no_segments = record {
+    segments = [];
+    follow = subst (λ (live : List (List ℕ)). HasSaved g (map frames_in live) [] (blank_image g)) (sym no_live) (record {
+      has = record { form = (ring_blank Segments).0; are_segments = tt; live = ap (λ (u : Units). u.live) (ring_blank Segments).1 };
+      follow = subst (λ (h : ℕ). Follow (hi_of (segment_shape g) (blank_image g).flash) [] h []) (sym (unused Groups).none) (subst (λ (k : ℕ). Follow k [] 0 []) (sym (unused Segments).none) none_follow);
+    });
+  }
 
   no_frames : frames_on g (blank_image g) ≡ []
   no_frames = ap frames_of no_live
@@ -80,7 +92,7 @@ module _ (ring_of_zeros : BlankIsRing) (g : Geometry) (limits : HasLimits g) whe
     limits = limits;
     lengths = lengths;
     masters = unused Masters;
-    segments = unused Segments;
+    segments = no_segments;
     groups = record {
       form = (ring_blank Groups).0;
       each = subst (AllByRecursion (λ content. IsGroup content (frames_in content))) (sym no_live) tt;

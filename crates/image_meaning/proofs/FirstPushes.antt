@@ -6,7 +6,7 @@ use Rattle.std.proofs.lemmas.Option.{none-some, cond_some}
 use Rattle.site.specs.declared.geometry.Geometry.{Geometry}
 use Rattle.site.specs.Geometry.{HasLimits, blank_image}
 use Rattle.site.specs.State.{Image}
-use Rattle.sealed_ring.specs.Ring.{Units}
+use Rattle.sealed_ring.specs.Ring.{Units, hi_of}
 use Rattle.sealed_ring.specs.Laws.{BlankIsRing}
 use Rattle.record_model.specs.State.{Content, content_at}
 use Rattle.log_records.specs.declared.log_record.LogRecord.{LogRecord}
@@ -29,12 +29,12 @@ use Rattle.image_changes.specs.Changes.{SealsBlock, AppendsGroup, Makes}
 use Rattle.log_store.specs.Laws.{BlankHasNoBlocks}
 use Rattle.flash_cache.specs.Held.{version_on}
 use Rattle.image_meaning.specs.Meaning.{picture, version_in, versions_on, IsSound, Stands}
-use Rattle.image_meaning.specs.Changes.{front_on, MayAppend}
+use Rattle.image_meaning.specs.Changes.{NoSegmentIsDue, front_on, MayAppend}
 use Rattle.image_meaning.specs.Redone.{ShowsAll, Redoes}
 use Rattle.image_meaning.specs.PictureLaws.{FirstPushStands}
 use Rattle.image_meaning.proofs.Versions.{version_is, version_stays}
 use Rattle.image_meaning.proofs.Redos.{slot_of_page, shows_more, shows_elsewhere, current_replaces}
-use Rattle.image_meaning.proofs.Blanks.{no_live, blank_page}
+use Rattle.image_meaning.proofs.Blanks.{unused, no_live, blank_page}
 use Rattle.image_meaning.proofs.FirstSets.{sound_set, means_set}
 use Rattle.image_meaning.proofs.Appends.{pushed_is_sound, pushed_means, version_of_frame}
 
@@ -68,6 +68,12 @@ module _ (ring_of_zeros : BlankIsRing) (no_blocks : BlankHasNoBlocks) (at : Tabl
 
   no_front : front_on g mid ≡ []
   no_front = ap (λ (live : List (List ℕ)). frames_of (take (length live + 1 - (g.groups - 1)) live)) none_live ∙ ap frames_of (take_none (0 + 1 - (g.groups - 1)) [] refl)
+
+  -- neither group nor segment was appended
+  none_due : NoSegmentIsDue g mid
+  none_due =
+      let groups : hi_of (group_shape g) mid.flash ≡ 0 = ap (λ (u : Units). u.hi) (made.1.others Groups (λ h. cc)).units ∙ (unused ring_of_zeros g limits Groups).none in
+      omega (arith, groups)
 
   page_exists : number / 32 < g.pages
   page_exists = omega (arith, within, page_and_slot number)
@@ -107,6 +113,7 @@ module _ (ring_of_zeros : BlankIsRing) (no_blocks : BlankHasNoBlocks) (at : Tabl
 
     may_append : MayAppend None g mid (records ∷ []) (f ∷ [])
     may_append = record {
+      none_due = none_due;
       are_frames = (record { exists = page_exists; sound = sound_page }, tt);
       pushed = record {
         clean = λ n frame last clean. absurd (true≢false (ap (λ (x : Frame). x.dirty) (is_f n frame last) ∙ clean));

@@ -6,6 +6,7 @@ pub mod Versions
 pub mod Sames
 pub mod Seals
 pub mod Stages
+pub mod SegmentLaws
 pub mod Appends
 pub mod Blanks
 pub mod OneMeanings

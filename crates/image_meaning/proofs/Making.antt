@@ -15,6 +15,7 @@ use Rattle.image_meaning.proofs.Sames.{same_is_sound, same_means}
 use Rattle.image_meaning.proofs.Seals.{sealed_image_is_sound, sealed_without_commit}
 use Rattle.image_meaning.proofs.Stages.{staged_is_sound, staged_means}
 use Rattle.image_meaning.proofs.Appends.{pushed_is_sound, pushed_means}
+use Rattle.image_meaning.proofs.SegmentLaws.{segment_is_sound, segment_means}
 use Rattle.image_meaning.proofs.Saves.{saved_is_sound, saved_means}
 
 -- the commits of a block's records
@@ -27,7 +28,7 @@ module _ (versions_kept : StagingKeepsVersions) (clean_kept : StagingKeepsClean)
   change_keeps_sound newest g old new blocks (SealsBlock records) sound may made = sealed_image_is_sound newest g old new blocks records sound may made
   change_keeps_sound newest g old new blocks (RewritesPages pages) sound may made = staged_is_sound versions_kept clean_kept newest g old new blocks pages sound may made
   change_keeps_sound newest g old new blocks (AppendsGroup content) sound may made = pushed_is_sound newest g old new blocks content may.0 sound may.1 may.2 made
-  change_keeps_sound newest g old new blocks (AppendsSegment content) sound may made = absurd may
+  change_keeps_sound newest g old new blocks (AppendsSegment content) sound may made = segment_is_sound newest g old new blocks content sound may made
   change_keeps_sound newest g old new blocks (AppendsMaster content) sound may made = saved_is_sound below newest g old new blocks content sound may made
 
   pub change_keeps_meaning : ChangeKeepsMeaning
@@ -37,7 +38,8 @@ module _ (versions_kept : StagingKeepsVersions) (clean_kept : StagingKeepsClean)
       staged_means versions_kept clean_kept newest g old new blocks pages sound may made table count means
   change_keeps_meaning newest g old new blocks (AppendsGroup content) sound may none made table count means =
       pushed_means newest g old new blocks content may.0 sound may.1 may.2 made table count means
-  change_keeps_meaning newest g old new blocks (AppendsSegment content) sound may none made table count means = absurd may
+  change_keeps_meaning newest g old new blocks (AppendsSegment content) sound may none made table count means =
+      segment_means newest g old new blocks content made table count means
   change_keeps_meaning newest g old new blocks (AppendsMaster content) sound may none made table count means =
       saved_means below newest g old new blocks content sound may made table count means
 

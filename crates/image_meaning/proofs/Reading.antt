@@ -13,9 +13,9 @@ use Rattle.frame_group.specs.Groups.{Frame, IsGroup, group, frames_in}
 use Rattle.frame_group.specs.Versions.{frames_of}
 use Rattle.frame_group.proofs.Contents.{frames_are_in, frames_of_groups}
 use Rattle.log_laws.proofs.Lists.{all_append, all_weaker}
-use Rattle.flash_cache.specs.Held.{HasFrames, frames_on, HasGroups}
+use Rattle.flash_cache.specs.Held.{HasFrames, HasGroups, frames_on, groups_on, AreSaved}
 use Rattle.image_meaning.specs.Meaning.{IsFrameOf}
-use Rattle.image_meaning.specs.PushLaws.{GroupsAreRead, GroupsAreThere}
+use Rattle.image_meaning.specs.PushLaws.{GroupsAreRead, GroupsAreThere, SegmentsAreRead}
 
 each_group : (g : Geometry) (groups : List (List Frame)) → AllByRecursion (λ frames. HasFrames g frames (group frames)) groups → AllByRecursion (λ content. IsGroup content (frames_in content)) (map group groups)
 each_group g [] all = tt
@@ -75,6 +75,17 @@ groups_are_there g image groups =
       are_groups = each_has g live groups.each groups.frames;
       live = spelled_again live groups.each;
     }
+
+frames_in_each : (g : Geometry) (groups : List (List Frame)) → AllByRecursion (λ frames. HasFrames g frames (group frames)) groups → map frames_in (map group groups) ≡ groups
+frames_in_each g [] all = refl
+frames_in_each g (frames ∷ groups) all = λ i. frames_are_in (group frames) frames all.0.is_group i ∷ frames_in_each g groups all.1 i
+
+-- the groups that an image has are those that are read off it
+pub groups_are : (g : Geometry) (first : ℕ) (groups : List (List Frame)) (image : Image) → HasGroups g first groups image → groups_on g image ≡ groups
+groups_are g first groups image has = ap (map frames_in) has.live ∙ frames_in_each g groups has.are_groups
+
+pub segments_are_read : SegmentsAreRead
+segments_are_read g first groups image has saved = subst (λ (l : List (List Frame)). AreSaved g l image) (sym (groups_are g first groups image has)) saved
 
 frames_of_has : (g : Geometry) (first : ℕ) (groups : List (List Frame)) (image : Image) → HasGroups g first groups image → frames_on g image ≡ flat_map (λ frames. frames) groups
 frames_of_has g first groups image has =

@@ -34,7 +34,7 @@ use Rattle.image_meaning.specs.Checkpoints.{blocks_saved, MasterMaySave, EmptyMa
 use Rattle.image_meaning.proofs.Flushes.{checkpoint_needs}
 use Rattle.image_meaning.proofs.Naming.{master_is_saved}
 use Rattle.image_meaning.proofs.Versions.{versions_same, version_stays}
-use Rattle.image_meaning.proofs.Sames.{next_block_is, octets_beside}
+use Rattle.image_meaning.proofs.Sames.{next_block_is, segments_stay, octets_beside}
 
 -- The records of the blocks from a later one on.
 
@@ -78,7 +78,8 @@ module _ (below : MasterLaws) where
 
   pub saved_octets : SavedOctets
   saved_octets newest g old new content sound unit made =
-      octets_beside newest (Some (master_in content)) g old new made.sizes (newest_appended g old new content unit made) (made.others Segments (λ h. cc)) (made.others Groups (λ h. cc)) made.disk sound
+      octets_beside newest (Some (master_in content)) g old new made.sizes (newest_appended g old new content unit made)
+      (segments_stay g old new (made.others Segments (λ h. cc)) (made.others Groups (λ h. cc)) sound.segments) (made.others Groups (λ h. cc)) made.disk sound
 
   module _ (newest : Option Master) (g : Geometry) (old new : Image) (blocks : List (List LogRecord)) (content : List ℕ) (sound : IsSoundUnder newest g old blocks) (may : MaySave newest g old blocks content)
       (made : Makes g (AppendsMaster content) old new) where

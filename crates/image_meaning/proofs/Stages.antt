@@ -26,7 +26,7 @@ use Rattle.image_meaning.specs.Meaning.{picture_under, IsSoundUnder, versions_on
 use Rattle.image_meaning.specs.Changes.{MayStage}
 use Rattle.image_meaning.specs.Laws.{StagedIsSound, StagedMeans}
 use Rattle.image_meaning.proofs.Versions.{versions_same, frames_stay}
-use Rattle.image_meaning.proofs.Sames.{lengths_stay, unused_stays, newest_stays, groups_stay, same_picture}
+use Rattle.image_meaning.proofs.Sames.{lengths_stay, newest_stays, groups_stay, segments_stay, same_picture}
 
 -- no octet of a page is one of another page
 apart : (number other place : ℕ) → (number ≡ other → ⊥) → 4096 * number ≤ place → place < 4096 * number + 4096 → IsBeside (4096 * other) 4096 place
@@ -91,7 +91,7 @@ module _ (versions_kept : StagingKeepsVersions) (clean_kept : StagingKeepsClean)
       limits = sound.octets.limits;
       lengths = lengths_stay g old new made.sizes sound.octets.lengths;
       masters = newest_stays newest g old new (made.rings Masters) sound.octets.masters;
-      segments = unused_stays g Segments old new (made.rings Segments) sound.octets.segments;
+      segments = segments_stay g old new (made.rings Segments) (made.rings Groups) sound.octets.segments;
       groups = groups_stay g old new (made.rings Groups) sound.octets.groups;
       versions = λ number within. subst page.IsSound (sym (version_kept number)) (sound.octets.versions number within);
       clean = clean;

@@ -1,12 +1,12 @@
 -- Pages are staged, then a group is appended.
-use Rattle.std.proofs.Common.{◌≡◌, ◌⊎◌, inl, inr, ℕ, ◌+◌, ◌-◌, List, [], ◌∷◌, ◌++◌, length, take, drop, Option, Some, None, sym, ap, subst, ◌∙◌, arith}
+use Rattle.std.proofs.Common.{◌≡◌, ◌⊎◌, inl, inr, ℕ, ◌+◌, ◌-◌, ◌*◌, ◌<◌, List, [], ◌∷◌, ◌++◌, length, take, drop, Option, Some, None, sym, ap, subst, ◌∙◌, arith}
 use Rattle.std.specs.Prelude.{Contains, slice_index}
 use Rattle.std.specs.Option.{option_or}
 use Rattle.std.proofs.lemmas.List.{get_or_default}
 use Rattle.std.proofs.lemmas.Option.{same_Some}
 use Rattle.site.specs.declared.geometry.Geometry.{Geometry}
 use Rattle.site.specs.State.{Image}
-use Rattle.sealed_ring.specs.Ring.{Units}
+use Rattle.sealed_ring.specs.Ring.{Units, hi_of}
 use Rattle.record_model.specs.State.{Content}
 use Rattle.log_records.specs.declared.log_record.LogRecord.{LogRecord}
 use Rattle.log_records.specs.Sound.{Picture, Means}
@@ -17,7 +17,7 @@ use Rattle.frame_group.specs.Laws.{IsStaged, StagingKeepsVersions, StagingKeepsC
 use Rattle.frame_group.proofs.LastFrames.{last_of_both}
 use Rattle.disk_pages.specs.Pages.{page_on}
 use Rattle.checkpoint.specs.declared.master.Master.{Master}
-use Rattle.image_changes.specs.Rings.{Groups}
+use Rattle.image_changes.specs.Rings.{Groups, Segments, group_shape, segment_shape}
 use Rattle.image_changes.specs.Changes.{Change, RewritesPages, AppendsGroup, ReadsAs, Rewrites, Makes, Reaches}
 use Rattle.image_changes.specs.Reached.{IsFrontOf}
 use Rattle.image_changes.proofs.Sequence.{reads_itself}
@@ -105,6 +105,8 @@ module _ (versions_kept : StagingKeepsVersions) (clean_kept : StagingKeepsClean)
 
     pub may_append : MayAppend newest g mid blocks frames
     may_append = record {
+      none_due = subst (λ (h : ℕ). h < 4 * hi_of (segment_shape g) mid.flash + 4) (sym (ap (λ (u : Units). u.hi) (made.rings Groups).units))
+          (subst (λ (k : ℕ). hi_of (group_shape g) old.flash < 4 * k + 4) (sym (ap (λ (u : Units). u.hi) (made.rings Segments).units)) may.none_due);
       are_frames = may.are_frames;
       pushed = record {
         clean = λ number frame last not_dirty.

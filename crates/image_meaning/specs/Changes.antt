@@ -1,22 +1,40 @@
 -- Which changes an image may see.
-use Rattle.std.specs.Prelude.{◌≡◌, ◌⊎◌, ℕ, ◌+◌, ◌-◌, ◌*◌, true, List, [], ◌∷◌, ◌++◌, length, take, drop, Contains, Option, Some, filter_map, ⊤}
+use Rattle.std.specs.Prelude.{◌≡◌, ◌⊎◌, ℕ, ◌+◌, ◌-◌, ◌*◌, ◌<◌, true, List, [], ◌∷◌, ◌++◌, length, take, drop, Contains, Option, Some, filter_map, ⊤}
 use Rattle.std.specs.List.{AllByRecursion}
 use Rattle.site.specs.declared.geometry.Geometry.{Geometry}
 use Rattle.site.specs.State.{Image}
+use Rattle.sealed_ring.specs.Ring.{hi_of}
+use Rattle.byte_fields.specs.FrameHeads.{spelling_of_all}
 use Rattle.log_records.specs.declared.log_record.LogRecord.{LogRecord}
 use Rattle.log_records.specs.Sound.{AreOrderly, commit_number_by}
 use Rattle.log_laws.specs.Follow.{GoesOn}
 use Rattle.log_laws.specs.NewImage.{Replaces, with_master, MayCheckpoint}
 use Rattle.frame_group.specs.Groups.{Frame, IsGroup}
 use Rattle.frame_group.specs.Versions.{frames_of, last_frame}
-use Rattle.image_changes.specs.Rings.{group_shape, units_on}
+use Rattle.image_changes.specs.Rings.{group_shape, segment_shape, units_on}
 use Rattle.image_changes.specs.Changes.{Change, SealsBlock, RewritesPages, AppendsGroup, AppendsSegment, AppendsMaster, Makes}
 use Rattle.checkpoint.specs.declared.master.Master.{Master}
 use Rattle.checkpoint.specs.Units.{IsUnit, master_in}
 use Rattle.checkpoint.specs.Newest.{seen}
-use Rattle.flash_cache.specs.Held.{frames_on, disk_on}
+use Rattle.tail_rebuild.specs.Saving.{segment_of}
+use Rattle.flash_cache.specs.Held.{frames_on, groups_on, disk_on}
 use Rattle.image_meaning.specs.Pushes.{MayPush}
 use Rattle.image_meaning.specs.Meaning.{kept_by, next_block_under, picture_under, version_in, IsFrameOf}
+
+-- A segment is appended.
+
+-- one is due: four groups aren't in segments
+abbrev pub SegmentIsDue : Geometry → Image → Type 0
+SegmentIsDue g image = hi_of (group_shape g) image.flash ≡ 4 * hi_of (segment_shape g) image.flash + 4
+
+-- none is: fewer aren't
+abbrev pub NoSegmentIsDue : Geometry → Image → Type 0
+NoSegmentIsDue g image = hi_of (group_shape g) image.flash < 4 * hi_of (segment_shape g) image.flash + 4
+
+-- A segment with this content may be appended: one is due, and the content spells the heads of the last four groups.
+pub record MaySaveSegment (g : Geometry) (image : Image) (content : List ℕ) : Type 0 where
+  pub due : SegmentIsDue g image
+  pub heads : content ≡ spelling_of_all (segment_of (groups_on g image))
 
 -- A group is appended.
 
@@ -31,8 +49,10 @@ front_on g image = frames_of (take (leaving g image) (units_on (group_shape g) i
 abbrev pub rest_on : Geometry → Image → List Frame
 rest_on g image = frames_of (drop (leaving g image) (units_on (group_shape g) image).live)
 
--- A group with these frames may be appended: they are of the form, they may be pushed, and each page's last frame replaces the page's version.
+-- A group with these frames may be appended: no segment is due, they are of the form, they may be pushed, and each page's last frame replaces
+-- the page's version.
 pub record MayAppend (newest : Option Master) (g : Geometry) (image : Image) (blocks : List (List LogRecord)) (frames : List Frame) : Type 0 where
+  pub none_due : NoSegmentIsDue g image
   pub are_frames : AllByRecursion (IsFrameOf g) frames
   pub pushed : MayPush (disk_on image) (front_on g image) (rest_on g image) frames
   pub replace : (number : ℕ) (frame : Frame) → last_frame number frames ≡ Some frame → Replaces (picture_under newest g image blocks) number (version_in frame.octets)
@@ -51,12 +71,12 @@ pub record MaySave (newest : Option Master) (g : Geometry) (image : Image) (bloc
   pub may : MayCheckpoint (picture_under newest g image blocks) (master_in content).kept
   pub orderly : AreOrderly (picture_under newest g image blocks).log ⊎ ((master_in content).kept ≡ (picture_under newest g image blocks).hi)
 
--- Which changes keep an image sound. Segments aren't written yet.
+-- Which changes keep an image sound.
 abbrev pub MayMake : Option Master → Geometry → Image → List (List LogRecord) → Change → Type 0
 MayMake newest g image blocks (SealsBlock records) = GoesOn (picture_under newest g image blocks) records
 MayMake newest g image blocks (RewritesPages pages) = MayStage g image pages
 MayMake newest g image blocks (AppendsGroup content) = (frames : List Frame) × IsGroup content frames × MayAppend newest g image blocks frames
-MayMake newest g image blocks (AppendsSegment content) = ⊥
+MayMake newest g image blocks (AppendsSegment content) = MaySaveSegment g image content
 MayMake newest g image blocks (AppendsMaster content) = MaySave newest g image blocks content
 
 -- the newest master after a change

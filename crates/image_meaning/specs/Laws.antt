@@ -16,11 +16,11 @@ use Rattle.checkpoint.specs.declared.master.Master.{Master}
 use Rattle.checkpoint.specs.Newest.{HasMaster}
 use Rattle.sealed_ring.specs.Ring.{IsRing}
 use Rattle.image_changes.specs.Rings.{master_shape}
-use Rattle.image_changes.specs.Changes.{Change, SealsBlock, RewritesPages, AppendsGroup, ReadsAs, Makes, Reaches}
+use Rattle.image_changes.specs.Changes.{Change, SealsBlock, RewritesPages, AppendsGroup, AppendsSegment, ReadsAs, Makes, Reaches}
 use Rattle.log_store.specs.Held.{HasBlocks}
 use Rattle.flash_cache.specs.Held.{version_on}
 use Rattle.image_meaning.specs.Meaning.{saved_by, kept_by, picture_under, version_in, HasNewest, AreOctetsSoundUnder, IsSoundUnder, Stands, StandsFor}
-use Rattle.image_meaning.specs.Changes.{MayAppend, MayStage, MayMake, MayMakeAll, SealsNoCommit, newest_after, blocks_after, newest_after_all, blocks_after_all}
+use Rattle.image_meaning.specs.Changes.{MaySaveSegment, MayAppend, MayStage, MayMake, MayMakeAll, SealsNoCommit, newest_after, blocks_after, newest_after_all, blocks_after_all}
 
 -- blank devices stand for the table without values
 abbrev pub BlankStands : Type 0
@@ -105,6 +105,17 @@ abbrev pub PushedMeans : Type 0
 PushedMeans =
     (newest : Option Master) (g : Geometry) (old new : Image) (blocks : List (List LogRecord)) (content : List ℕ) (frames : List Frame) → IsSoundUnder newest g old blocks → IsGroup content frames →
     MayAppend newest g old blocks frames → Makes g (AppendsGroup content) old new →
+    (table : List Content) (count : ℕ) → Means (picture_under newest g old blocks) table count → Means (picture_under newest g new blocks) table count
+
+-- A segment that is due is saved: the image has the same groups and pages.
+abbrev pub SegmentIsSound : Type 0
+SegmentIsSound =
+    (newest : Option Master) (g : Geometry) (old new : Image) (blocks : List (List LogRecord)) (content : List ℕ) → IsSoundUnder newest g old blocks → MaySaveSegment g old content →
+    Makes g (AppendsSegment content) old new → IsSoundUnder newest g new blocks
+
+abbrev pub SegmentMeans : Type 0
+SegmentMeans =
+    (newest : Option Master) (g : Geometry) (old new : Image) (blocks : List (List LogRecord)) (content : List ℕ) → Makes g (AppendsSegment content) old new →
     (table : List Content) (count : ℕ) → Means (picture_under newest g old blocks) table count → Means (picture_under newest g new blocks) table count
 
 -- All else of the octets may change as long as they are sound and each version replaces the one before: by itself, or by a new one.

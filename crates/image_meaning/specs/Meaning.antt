@@ -13,11 +13,11 @@ use Rattle.log_records.specs.Sound as lists
 use Rattle.slotted_page.specs.Layout.{lsn_of, slots_of}
 use Rattle.slotted_page.specs.Layout as page
 use Rattle.frame_group.specs.Groups.{Frame, IsGroup, frames_in}
-use Rattle.image_changes.specs.Rings.{RingName, Masters, Segments, shape_of, octets_of, master_shape, group_shape, units_on}
+use Rattle.image_changes.specs.Rings.{RingName, Masters, shape_of, octets_of, master_shape, group_shape, units_on}
 use Rattle.checkpoint.specs.declared.master.Master.{Master}
 use Rattle.checkpoint.specs.Newest.{blank, HasMaster, seen}
 use Rattle.log_store.specs.Held.{HasBlocks}
-use Rattle.flash_cache.specs.Held.{frames_on, version_on, IsCleanOn}
+use Rattle.flash_cache.specs.Held.{frames_on, groups_on, version_on, AreSaved, IsCleanOn}
 
 -- Reading.
 
@@ -82,6 +82,10 @@ abbrev pub HasNewest : Option Master → Geometry → Image → Type 0
 HasNewest None g image = IsUnused g Masters image
 HasNewest (Some m) g image = IsNewest image m
 
+-- the live segments follow the live groups
+abbrev pub AreSegments : Geometry → Image → Type 0
+AreSegments g image = AreSaved g (groups_on g image) image
+
 -- a frame of a page that exists, with a sound page's octets
 pub record IsFrameOf (g : Geometry) (frame : Frame) : Type 0 where
   pub exists : frame.page < g.pages
@@ -93,12 +97,12 @@ pub record AreGroups (g : Geometry) (image : Image) : Type 0 where
   pub each : AllByRecursion (λ content. IsGroup content (frames_in content)) (units_on (group_shape g) image).live
   pub frames : AllByRecursion (IsFrameOf g) (frames_on g image)
 
--- The part of soundness that speaks of octets, but for the log's blocks. Segments aren't written yet.
+-- The part of soundness that speaks of octets, but for the log's blocks.
 pub record AreOctetsSoundUnder (newest : Option Master) (g : Geometry) (image : Image) : Type 0 where
   pub limits : HasLimits g
   pub lengths : HasLengths g image
   pub masters : HasNewest newest g image
-  pub segments : IsUnused g Segments image
+  pub segments : AreSegments g image
   pub groups : AreGroups g image
   -- each version is a sound page
   pub versions : (number : ℕ) → number < g.pages → page.IsSound (version_on g image number)

@@ -8,14 +8,14 @@ use Rattle.log_records.specs.declared.log_record.LogRecord.{LogRecord}
 use Rattle.log_records.specs.Sound.{Means}
 use Rattle.log_laws.specs.NewImage.{Replaces}
 use Rattle.slotted_page.specs.Layout as page
-use Rattle.frame_group.specs.Groups.{Frame, IsGroup, frames_in}
+use Rattle.frame_group.specs.Groups.{Frame, IsGroup}
 use Rattle.frame_group.specs.Versions.{last_frame, CleanAsDisk}
 use Rattle.checkpoint.specs.declared.master.Master.{Master}
 use Rattle.image_changes.specs.Rings.{group_shape, units_on}
-use Rattle.flash_cache.specs.Held.{HasGroups, frames_on, disk_on}
+use Rattle.flash_cache.specs.Held.{HasGroups, frames_on, groups_on, disk_on, AreSaved}
 use Rattle.flash_cache.specs.Pushed.{LeavesPush}
-use Rattle.image_meaning.specs.Meaning.{picture_under, version_in, IsFrameOf, AreGroups, IsSoundUnder}
-use Rattle.image_meaning.specs.Changes.{front_on, rest_on}
+use Rattle.image_meaning.specs.Meaning.{picture_under, version_in, IsFrameOf, AreGroups, AreSegments, IsSoundUnder}
+use Rattle.image_meaning.specs.Changes.{NoSegmentIsDue, front_on, rest_on}
 
 -- A staged page has a valid dirty frame, whose octets are written.
 pub record IsStagedFrom (g : Geometry) (image : Image) (number : ℕ) (octets : List ℕ) : Type 0 where
@@ -24,8 +24,9 @@ pub record IsStagedFrom (g : Geometry) (image : Image) (number : ℕ) (octets : 
   pub dirty : frame.dirty ≡ true
   pub same : octets ≡ frame.octets
 
--- These pages may be staged, with these octets, and a group with these frames appended behind them.
+-- These pages may be staged, with these octets, and a group with these frames appended behind them: no segment is due.
 pub record MayPushGroup (newest : Option Master) (g : Geometry) (image : Image) (blocks : List (List LogRecord)) (pages : List ℕ) (contents : List (List ℕ)) (frames : List Frame) : Type 0 where
+  pub none_due : NoSegmentIsDue g image
   pub are_frames : AllByRecursion (IsFrameOf g) frames
   pub replace : (number : ℕ) (frame : Frame) → last_frame number frames ≡ Some frame → Replaces (picture_under newest g image blocks) number (version_in frame.octets)
   -- a clean frame of the group equals its disk page, which isn't staged
@@ -61,4 +62,9 @@ GroupsAreRead =
 abbrev pub GroupsAreThere : Type 0
 GroupsAreThere =
     (g : Geometry) (image : Image) → AreGroups g image →
-    HasGroups g ((units_on (group_shape g) image).hi - length (units_on (group_shape g) image).live) (map frames_in (units_on (group_shape g) image).live) image
+    HasGroups g ((units_on (group_shape g) image).hi - length (units_on (group_shape g) image).live) (groups_on g image) image
+
+-- Segments that follow these groups are the image's.
+abbrev pub SegmentsAreRead : Type 0
+SegmentsAreRead =
+    (g : Geometry) (first : ℕ) (groups : List (List Frame)) (image : Image) → HasGroups g first groups image → AreSaved g groups image → AreSegments g image

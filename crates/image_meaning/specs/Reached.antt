@@ -12,15 +12,16 @@ use Rattle.log_laws.specs.NewImage.{Replaces}
 use Rattle.slotted_page.specs.Layout as page
 use Rattle.frame_group.specs.Groups.{Frame}
 use Rattle.checkpoint.specs.declared.master.Master.{Master}
-use Rattle.image_changes.specs.Changes.{Change, RewritesPages, AppendsGroup, Reaches}
+use Rattle.image_changes.specs.Changes.{Change, RewritesPages, AppendsGroup, AppendsSegment, Reaches}
 use Rattle.flash_cache.specs.Held.{HasGroups, version_on, IsCleanOn}
-use Rattle.image_meaning.specs.Meaning.{picture_under, version_in, IsSoundUnder, AreGroups}
+use Rattle.image_meaning.specs.Meaning.{picture_under, version_in, IsSoundUnder, AreGroups, AreSegments}
 use Rattle.image_meaning.specs.Moments.{LeavesTableUnder}
 
--- a change of groups or of disk pages
+-- a change of groups, of segments or of disk pages
 abbrev pub ChangesPages : Change → Type 0
 ChangesPages (RewritesPages pages) = ⊤
 ChangesPages (AppendsGroup content) = ⊤
+ChangesPages (AppendsSegment content) = ⊤
 ChangesPages _ = ⊥
 
 -- a page has the version that it had, or a sound page that replaces it
@@ -28,8 +29,8 @@ abbrev pub IsKeptOrReplaced : Option Master → Geometry → Image → Image →
 IsKeptOrReplaced newest g old new blocks number =
     (version_on g new number ≡ version_on g old number) ⊎ (page.IsSound (version_on g new number) × Replaces (picture_under newest g old blocks) number (version_in (version_on g new number)))
 
--- Such changes lead from one image to another, which has these groups of sound pages, clean frames that equal the disk, and for each page the
--- version that it had or one that replaces it.
+-- Such changes lead from one image to another, which has these groups of sound pages, segments that follow them, clean frames that equal the
+-- disk, and for each page the version that it had or one that replaces it.
 pub record IsPushed (newest : Option Master) (g : Geometry) (old new : Image) (blocks : List (List LogRecord)) : Type 0 where
   pub changes : List Change
   pub of_pages : AllByRecursion ChangesPages changes
@@ -38,6 +39,7 @@ pub record IsPushed (newest : Option Master) (g : Geometry) (old new : Image) (b
   pub groups : List (List Frame)
   pub has : HasGroups g first groups new
   pub sound : AllByRecursion (λ frames. AllByRecursion (λ frame. page.IsSound frame.octets) frames) groups
+  pub segments : AreSegments g new
   pub clean : IsCleanOn g new
   pub versions : (number : ℕ) → number < g.pages → IsKeptOrReplaced newest g old new blocks number
 

@@ -1,5 +1,5 @@
 // Laws on images.
-ghost use Rattle.image_meaning.specs.Laws.{BlankStands, OneMeaning, OneMeaningFor, OneMasterStands, NewestIsRead, ReadIsNewest, SameIsSound, SameMeans, SealedIsSound, SealedWithoutCommit, SealedWithCommit, StagedIsSound, StagedMeans, PushedIsSound, PushedMeans, ReplacedIsSound, ReplacedMeans, VersionReplaces};
+ghost use Rattle.image_meaning.specs.Laws.{BlankStands, OneMeaning, OneMeaningFor, OneMasterStands, NewestIsRead, ReadIsNewest, SameIsSound, SameMeans, SealedIsSound, SealedWithoutCommit, SealedWithCommit, StagedIsSound, StagedMeans, PushedIsSound, PushedMeans, SegmentIsSound, SegmentMeans, ReplacedIsSound, ReplacedMeans, VersionReplaces};
 ghost use Rattle.image_meaning.specs.Plain.{LogAloneIsSound, LogAloneMeans};
 
 use checkpoint::one_master;
@@ -67,12 +67,18 @@ pub fn staged()
     frame_group::staged();
 }
 
-/// Appending a group keeps an image sound, and what it stands for, where each version that it brings fits the log and
-/// is as the one before in each slot that no record stands on, its clean frames equal the disk, and the disk has what
-/// the group that leaves alone has.
+/// Appending a group keeps an image sound, and what it stands for, where no segment is due, each version that it brings
+/// fits the log and is as the one before in each slot that no record stands on, its clean frames equal the disk, and the
+/// disk has what the group that leaves alone has.
 pub fn pushed()
     ensures sound { PushedIsSound }
     ensures means { PushedMeans }
+{}
+
+/// Saving a segment that is due keeps an image sound, and what it stands for.
+pub fn segment_saved()
+    ensures sound { SegmentIsSound }
+    ensures means { SegmentMeans }
 {}
 
 /// New versions of any pages keep an image sound, and what it stands for, where the octets are sound with them. The version

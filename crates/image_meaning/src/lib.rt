@@ -16,7 +16,7 @@ pub use checkpoint_laws::{
 };
 pub use laws::{
     blank_stands, log_alone, one_master_stands, one_meaning, pushed, reads_the_same, replaced,
-    sealed, staged,
+    sealed, segment_saved, staged,
 };
 pub use list_laws::{
     checkpoint_needs, master_is_saved, new_versions, pushed_frames, redoing, redone_versions,
