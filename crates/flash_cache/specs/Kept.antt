@@ -5,18 +5,20 @@ use Rattle.site.specs.State.{State, Image, Snapshot}
 use Rattle.frame_group.specs.Groups.{Frame}
 use Rattle.second_chance.specs.Queue.{has_frame}
 use Rattle.flash_cache.specs.declared.cache.FlashCache.{FlashCache}
-use Rattle.flash_cache.specs.Held.{HasGroups, version_on, disk_on, IsCleanOn}
+use Rattle.flash_cache.specs.Held.{HasGroups, AreSaved, version_on, disk_on, IsCleanOn}
 use Rattle.flash_cache.specs.Pushed.{frames_pushed, known_pushed, pushed_groups, pushed_queue}
 
--- an image has these live groups, from a number on, and each page has the version that it had
+-- an image has these live groups, from a number on, and segments that follow them, and each page has the version that it had
 pub record KeepsVersions (g : Geometry) (first : ℕ) (groups : List (List Frame)) (old new : Image) : Type 0 where
   pub has : HasGroups g first groups new
+  pub saved : AreSaved g groups new
   pub versions : (page : ℕ) → version_on g new page ≡ version_on g old page
 
--- An image has these live groups, from a number on. The version of each page given is its content, and each other page has the
--- version that it had.
+-- An image has these live groups, from a number on, and segments that follow them. The version of each page given is its content,
+-- and each other page has the version that it had.
 pub record GivesVersions (g : Geometry) (first : ℕ) (groups : List (List Frame)) (pages : List ℕ) (contents : List (List ℕ)) (old new : Image) : Type 0 where
   pub has : HasGroups g first groups new
+  pub saved : AreSaved g groups new
   pub given : (k : ℕ) → k < length pages → version_on g new (slice_index pages k) ≡ slice_index_or contents k []
   pub others : (page : ℕ) → (Contains pages page → ⊥) → version_on g new page ≡ version_on g old page
 

@@ -7,13 +7,14 @@ use Rattle.site.specs.Moments.{Untouched}
 use Rattle.image_changes.specs.Changes.{Change, AppendsGroup, Reaches}
 use Rattle.image_changes.specs.Reached.{IsFrontOf}
 use Rattle.stage_out.specs.Staged.{HasStaged, changes_of}
-use Rattle.frame_group.specs.Groups.{Frame}
+use Rattle.frame_group.specs.Groups.{Frame, group}
 use Rattle.second_chance.specs.declared.frame.Frame.{Frame as Known}
 use Rattle.second_chance.specs.Queue.{Queue, pushed, frame_of as known_of}
 use Rattle.second_chance.specs.Plans.{Placed, chances_of, staged_of, chances_given}
 use Rattle.second_chance.specs.Machine.{rules_of, is_full, leaving, chance_frame}
+use Rattle.tail_rebuild.specs.Saving.{is_due, changes_of_save}
 use Rattle.flash_cache.specs.declared.cache.FlashCache.{FlashCache}
-use Rattle.flash_cache.specs.Held.{version_on}
+use Rattle.flash_cache.specs.Held.{version_on, groups_on}
 
 -- whether the front group leaves with a push: the queue has as many groups as can be
 abbrev pub front_leaves : FlashCache → Bool
@@ -75,12 +76,26 @@ pushed_queue cache frames = pushed (front_leaves cache) frames cache.directory
 abbrev pub changes_of_push : List ℕ → List ℕ → List Change
 changes_of_push pages group = changes_of pages ++ AppendsGroup group ∷ []
 
--- Nothing was told. Either no group was appended, and staged pages may have any octets; or the group was, and each staged
--- page has its octets.
-pub record LeavesPush (g : Geometry) (pages : List ℕ) (contents : List (List ℕ)) (group : List ℕ) (old : State) (snapshot : Snapshot) : Type 0 where
+-- Nothing was told. Either no group was appended: the first of the changes before were made, and staged pages may have any octets;
+-- or the group was, and each staged page has its octets.
+pub record LeavesPushBehind (g : Geometry) (before : List Change) (pages : List ℕ) (contents : List (List ℕ)) (group : List ℕ) (old : State) (snapshot : Snapshot) : Type 0 where
   pub told : snapshot.told ≡ old.told
-  pub either : ((changes : List Change) × IsFrontOf (changes_of pages) changes × Reaches g changes old.image snapshot.image)
-      ⊎ (HasStaged pages contents old.image.disk snapshot.image.disk × Reaches g (changes_of_push pages group) old.image snapshot.image)
+  pub either : ((changes : List Change) × IsFrontOf (before ++ changes_of pages) changes × Reaches g changes old.image snapshot.image)
+      ⊎ (HasStaged pages contents old.image.disk snapshot.image.disk × Reaches g (before ++ changes_of_push pages group) old.image snapshot.image)
+
+-- where no segment is saved before
+abbrev pub LeavesPush : Geometry → List ℕ → List (List ℕ) → List ℕ → State → Snapshot → Type 0
+LeavesPush g = LeavesPushBehind g []
+
+-- a segment is saved before, where one is due
+abbrev pub changes_before : FlashCache → Image → List Change
+changes_before cache image = changes_of_save (is_due cache.ring.hi cache.segments.hi) (groups_on cache.geometry image)
+
+-- All changes of a push by the cache: the segment that is due, then the staged pages and the group with the second chances and the
+-- pages given.
+abbrev pub changes_of_group : FlashCache → Image → List ℕ → List Bool → List (List ℕ) → List Change
+changes_of_group cache image pages changed contents =
+    changes_before cache image ++ changes_of_push (staged_pages cache) (group (frames_pushed cache image pages changed contents))
 
 -- the log's device stays as it is, nothing was told, and nothing was heard
 pub record ChangesPages (old new : State) : Type 0 where

@@ -8,20 +8,20 @@ ghost use Rattle.site.specs.State.{reads_of, IsSettled, IsQuiet};
 ghost use Rattle.site.specs.Calls.{Goes, SameReads, FaultRose, IsUnchanged};
 ghost use Rattle.site.specs.Faults.{WorkFaults};
 ghost use Rattle.site.specs.Moments.{LeavesOnly, ChangesOnly, Untouched};
-ghost use Rattle.sealed_ring.specs.Ring.{IsRing, IsLive};
-ghost use Rattle.sealed_ring.specs.Ready.{IsUsable, Fits as RingFits, LeavesOldOrNew};
+ghost use Rattle.sealed_ring.specs.Ready.{LeavesOldOrNew};
 ghost use Rattle.byte_fields.specs.declared.frame_head.FrameHead.{FrameHead};
 ghost use Rattle.byte_fields.specs.FrameHeads.{AreGroupHeads};
 ghost use Rattle.image_changes.specs.Rings.{group_shape, Groups as GroupRing};
 ghost use Rattle.image_changes.specs.Changes.{Appends, Reaches};
 ghost use Rattle.image_changes.specs.Reached.{LeavesFront};
-ghost use Rattle.frame_group.specs.Groups.{Frame, heads_of, group};
+ghost use Rattle.frame_group.specs.Groups.{Frame, group};
+ghost use Rattle.tail_rebuild.specs.Saving.{is_due};
 ghost use Rattle.second_chance.specs.Queue.{has_frame, with_read, marks, front_marks};
 ghost use Rattle.second_chance.specs.Machine.{rules_of, leaving};
 ghost use Rattle.stage_out.specs.Staged.{HasStaged};
 ghost use Rattle.flash_directory.specs.Heads.{frames_in};
-ghost use Rattle.flash_cache.specs.Held.{MayGoOn, Fits, IsWorn, HasGroups, HasFrames, Holds, queue_of, version_on, group_on, PagesExist, IsCleanOn};
-ghost use Rattle.flash_cache.specs.Pushed.{staged_marks, staged_pages, staged_contents, chance_marks, pages_pushed, frames_pushed, known_pushed, pushed_groups, pushed_queue, changes_of_push, LeavesPush, ChangesPages};
+ghost use Rattle.flash_cache.specs.Held.{MayGoOn, Fits, IsWorn, HasGroups, HasFrames, AreSaved, Holds, queue_of, version_on, PagesExist, IsCleanOn, start_reads};
+ghost use Rattle.flash_cache.specs.Pushed.{staged_marks, staged_pages, staged_contents, chance_marks, pages_pushed, frames_pushed, known_pushed, pushed_groups, pushed_queue, changes_of_push, changes_before, changes_of_group, LeavesPush, LeavesPushBehind, ChangesPages};
 ghost use Rattle.flash_cache.specs.Kept.{GivesVersions, LeavesVersions, AreCleanGiven, LeavesClean};
 
 use crate::leaving::frames_leaving;
@@ -29,11 +29,12 @@ use crate::making::{group_content, heads_given};
 use byte_fields::{FrameHead, Mark};
 use flash_directory::{Directory, HeadView};
 use frame_group::{GROUP_LEN, HEADS_LEN, PAGE_LEN, group_heads};
-use sealed_ring::{Ring, Shape};
+use sealed_ring::Ring;
 use second_chance::Plan;
 use site::{Dev, Geometry, Site, Stop};
 use slotted_page::Page;
 use stage_out::stage;
+use tail_rebuild::{rebuild, save_due};
 use std::alloc::Global;
 
 /// The queue of groups on flash. It is ended once a call that changes it gave an error.
@@ -42,126 +43,18 @@ pub struct FlashCache {
     alloc: Global,
     geometry: Geometry,
     ring: Ring,
+    segments: Ring,
     directory: Directory,
     ended: bool,
 }
 
-// Where the groups lie: at the front of the flash.
-fn shape_of(geometry: &Geometry) -> Shape
-    ensures { result ≡ group_shape geometry.now }
-{
-    Shape {
-        dev: Dev::Flash,
-        base: 0,
-        slots: geometry.groups as u64,
-        stride: 33_280,
-        room: GROUP_LEN as u64,
-    }
-}
-
-// Whether each head that is present names a page below `pages`.
-fn pages_exist(heads: &[FrameHead; 8], pages: u32) -> bool
-    ensures { IsTrue result ↔ PagesExist pages heads.now }
-{
-    for head in heads {
-        if head.present && head.page >= pages {
-            return false;
-        }
-    }
-    true
-}
-
-// The heads of a live group, by one read.
-fn read_group<S: Site>(
-    site: &mut S,
-    geometry: &Geometry,
-    ring: &Ring,
-    group: u64,
-) -> Result<[FrameHead; 8], Stop>
-    requires usable { IsUsable ring.now (S.state site.old) }
-    requires shape { ring.now.shape ≡ group_shape geometry.now }
-    requires live { IsLive ring.now.shape ring.now.hi group }
-
-    ensures heads { IfOk result (λ heads. AreGroupHeads heads) }
-    ensures pages { IfOk result (λ heads. PagesExist geometry.now.pages heads) }
-    ensures frames { IsTrue (S.state site.old).honest → RingFits ring.now (S.state site.old)
-        → (frames : List Frame) → HasFrames geometry.now frames
-        (group_on geometry.now (S.state site.old).image group) → IfOk result (λ heads. heads ≡ heads_of frames) }
-    ensures same { IsTrue (S.state site.old).honest
-        → IsUnchanged (S.state site.old) (S.state site.new) }
-    ensures goes { Goes (S.state site.old) (S.state site.new) }
-    ensures faults { WorkFaults result (S.state site.old) (S.state site.new) }
-    ensures reads { (S.state site.new).flash_reads ≤ (S.state site.old).flash_reads + 1 }
-    ensures others { (d : Dev) → d ≢ Dev.Flash
-        → reads_of d (S.state site.new) ≡ reads_of d (S.state site.old) }
-
-    ensures device { IsErrOf result (Stop.Device Dev.Flash)
-        → FaultRose Dev.Flash (S.state site.old) (S.state site.new) }
-    ensures foreign { IsErrOf result Stop.Foreign → IsTrue (S.state site.old).honest
-        → RingFits ring.now (S.state site.old) → IsRing (group_shape geometry.now) (S.state site.old).image.flash
-        → (frames : List Frame) → HasFrames geometry.now frames
-        (group_on geometry.now (S.state site.old).image group) → ⊥ }
-    ensures stops { IfErr result (λ stop. (stop ≡ Stop.Device Dev.Flash)
-        ⊎ (stop ≡ Stop.Foreign)) }
-{
-    let mut unit = [0u8; 8 + HEADS_LEN];
-    ring.read_unit(site, group, &mut unit)?;
-    let Ok(heads) = group_heads(&unit[8..]) else {
-        return Err(Stop::Foreign);
-    };
-    if pages_exist(&heads, geometry.pages) {
-        Ok(heads)
-    } else {
-        Err(Stop::Foreign)
-    }
-}
-
-// The heads of all live groups, the oldest first.
-fn read_all<S: Site>(
-    alloc: Global,
-    site: &mut S,
-    geometry: &Geometry,
-    ring: &Ring,
-) -> Result<Vec<[FrameHead; 8]>, Stop>
-    requires usable { IsUsable ring.now (S.state site.old) }
-    requires shape { ring.now.shape ≡ group_shape geometry.now }
-
-    ensures count { IfOk result (λ list. (ring.now.hi - (geometry.now.groups - 1)) + length list.items ≡ ring.now.hi) }
-    ensures heads { IfOk result (λ list. All (λ heads. AreGroupHeads heads) list.items) }
-    ensures pages { IfOk result (λ list. All (λ heads. PagesExist geometry.now.pages heads) list.items) }
-    ensures frames { IsTrue (S.state site.old).honest → RingFits ring.now (S.state site.old)
-        → (first : ℕ) (groups : List (List Frame)) → HasGroups geometry.now first groups (S.state site.old).image
-        → IfOk result (λ list. list.items ≡ map heads_of groups) }
-    ensures same { IsTrue (S.state site.old).honest
-        → IsUnchanged (S.state site.old) (S.state site.new) }
-    ensures goes { Goes (S.state site.old) (S.state site.new) }
-    ensures faults { WorkFaults result (S.state site.old) (S.state site.new) }
-    ensures reads { (S.state site.new).flash_reads ≤ (S.state site.old).flash_reads + (geometry.now.groups - 1) }
-    ensures others { (d : Dev) → d ≢ Dev.Flash
-        → reads_of d (S.state site.new) ≡ reads_of d (S.state site.old) }
-
-    ensures device { IsErrOf result (Stop.Device Dev.Flash)
-        → FaultRose Dev.Flash (S.state site.old) (S.state site.new) }
-    ensures foreign { IsErrOf result Stop.Foreign → IsTrue (S.state site.old).honest
-        → RingFits ring.now (S.state site.old)
-        → (first : ℕ) (groups : List (List Frame)) → HasGroups geometry.now first groups (S.state site.old).image → ⊥ }
-    ensures stops { IfErr result (λ stop. (stop ≡ Stop.Device Dev.Flash)
-        ⊎ ((stop ≡ Stop.Memory) ⊎ (stop ≡ Stop.Foreign))) }
-{
-    let mut list = Vec::new(alloc);
-    for group in ring.oldest()..ring.hi() {
-        let heads = match read_group(site, geometry, ring, group) {
-            Ok(heads) => heads,
-            Err(stop) => return Err(stop),
-        };
-        list.push(heads)?;
-    }
-    Ok(list)
-}
-
 impl FlashCache {
-    /// The queue that stands on the flash of a site, by one read for each live group beside those of its ring. No frame is
-    /// referenced.
+    /// The queue that stands on the flash of a site, found by its segments: it reads each segment that has a live group, and
+    /// the heads of the at most four groups that aren't in segments, and so about half as often as there are slots for
+    /// groups. No frame is referenced.
+    ///
+    /// `Foreign` comes only where flash isn't of the form, or its segments don't follow the groups; `Memory` where the heads
+    /// or the directory find none.
     pub fn start<S: Site>(
         alloc: Global,
         site: &mut S,
@@ -170,50 +63,57 @@ impl FlashCache {
         requires limits { HasLimits geometry.now }
         requires lengths { HasLengths geometry.now (S.state site.old).image }
 
-        ensures going { IfOk result (λ cache. MayGoOn cache (S.state site.new)) }
-        ensures geometry { IfOk result (λ cache. cache.geometry ≡ geometry.now) }
-        ensures ended { IfOk result (λ cache. cache.ended ≡ false) }
-        ensures fits { IsTrue (S.state site.old).honest
-            → IsRing (group_shape geometry.now) (S.state site.old).image.flash
+        // Of an honest site that has groups, and segments that follow them.
+        ensures fits { IsTrue (S.state site.old).honest → (first : ℕ) (groups : List (List Frame))
+            → HasGroups geometry.now first groups (S.state site.old).image
+            → AreSaved geometry.now groups (S.state site.old).image
             → IfOk result (λ cache. Fits cache (S.state site.new)) }
         ensures queue { IsTrue (S.state site.old).honest → (first : ℕ) (groups : List (List Frame))
             → HasGroups geometry.now first groups (S.state site.old).image
+            → AreSaved geometry.now groups (S.state site.old).image
             → IfOk result (λ cache. cache.directory ≡ queue_of first groups) }
         ensures holds { IsTrue (S.state site.old).honest → (first : ℕ) (groups : List (List Frame))
             → HasGroups geometry.now first groups (S.state site.old).image
+            → AreSaved geometry.now groups (S.state site.old).image
             → IfOk result (λ cache. Holds cache (S.state site.new).image groups) }
+        ensures foreign { IsErrOf result Stop.Foreign → IsTrue (S.state site.old).honest
+            → (first : ℕ) (groups : List (List Frame))
+            → HasGroups geometry.now first groups (S.state site.old).image
+            → AreSaved geometry.now groups (S.state site.old).image → ⊥ }
+
+        // Of every site.
+        ensures going { IfOk result (λ cache. MayGoOn cache (S.state site.new)) }
+        ensures geometry { IfOk result (λ cache. cache.geometry ≡ geometry.now) }
+        ensures ended { IfOk result (λ cache. cache.ended ≡ false) }
         ensures same { IsTrue (S.state site.old).honest
             → IsUnchanged (S.state site.old) (S.state site.new) }
         ensures goes { Goes (S.state site.old) (S.state site.new) }
         ensures faults { WorkFaults result (S.state site.old) (S.state site.new) }
         ensures reads { (S.state site.new).flash_reads
-            ≤ (S.state site.old).flash_reads + 2 * geometry.now.groups }
+            ≤ (S.state site.old).flash_reads + start_reads geometry.now }
         ensures others { (d : Dev) → d ≢ Dev.Flash
             → reads_of d (S.state site.new) ≡ reads_of d (S.state site.old) }
-
-        // When each answer comes.
         ensures device { IsErrOf result (Stop.Device Dev.Flash)
             → FaultRose Dev.Flash (S.state site.old) (S.state site.new) }
-        ensures foreign { IsErrOf result Stop.Foreign → IsTrue (S.state site.old).honest
-            → (first : ℕ) (groups : List (List Frame))
-            → HasGroups geometry.now first groups (S.state site.old).image → ⊥ }
         ensures stops { IfErr result (λ stop. (stop ≡ Stop.Device Dev.Flash)
             ⊎ ((stop ≡ Stop.Memory) ⊎ (stop ≡ Stop.Foreign))) }
     {
-        let ring = Ring::scan(site, shape_of(geometry))?;
-        let list = match read_all(alloc, site, geometry, &ring) {
-            Ok(list) => list,
+        let heads = match rebuild(alloc, site, geometry) {
+            Ok(heads) => heads,
             Err(stop) => return Err(stop),
         };
-        let heads = HeadView {
-            first: ring.oldest(),
-            list: list.as_slice(),
+        let view = HeadView {
+            first: heads.groups.oldest(),
+            list: heads.list.as_slice(),
         };
-        let directory = Directory::of_groups(alloc, &heads)?;
+        let Ok(directory) = Directory::of_groups(alloc, &view) else {
+            return Err(Stop::Memory);
+        };
         Ok(FlashCache {
             alloc,
             geometry: *geometry,
-            ring,
+            ring: heads.groups,
+            segments: heads.segments,
             directory,
             ended: false,
         })
@@ -274,17 +174,20 @@ impl FlashCache {
     }
 
     /// Pushes a group with the second chances of the plan, and behind them the pages given, each dirty where it was
-    /// changed. Where the queue is full its front group leaves. The frames of it that have a second chance are read, and
+    /// changed. First, where four groups aren't in segments, a segment with their heads is saved. Where the queue is full
+    /// its front group leaves. The frames of it that have a second chance are read, and
     /// stand in the new group as they were, dirty or not, but not referenced. Those that the plan stages, the others that
     /// are valid and dirty, are read, written to the disk, and synced there before the group is appended.
     ///
-    /// At each moment of the call the queue has its old groups, and the staged pages may have any octets on the disk; or
-    /// it has the new group, and the staged pages stand on the disk. So each page has the version that it had, or all
+    /// At each moment of the call segments follow the groups, and the queue has its old groups, and the staged pages may
+    /// have any octets on the disk; or it has the new group, and the staged pages stand on the disk. So each page has the version that it had, or all
     /// pages given have their contents, and every other page the version that it had.
     ///
     /// `plan` is that of the machine for the front group. The lists are the pages given, of which none is given twice,
     /// whether each was changed, and the content of each. With the second chances they are 1 to 8 pages; a page that has
     /// a second chance may be given, too, and has the content given then.
+    ///
+    /// `Foreign` comes only of a site that isn't honest, or has other groups than the cache found.
     pub fn push_group<S: Site>(
         &mut self,
         site: &mut S,
@@ -307,22 +210,20 @@ impl FlashCache {
         ensures any_moment { (groups : List (List Frame))
             → Fits self.old (S.state site.old) → Holds self.old (S.state site.old).image groups
             → IsQuiet (S.state site.old)
-            → LeavesOnly (S.state site.old) (S.state site.new) (LeavesPush self.old.geometry
+            → LeavesOnly (S.state site.old) (S.state site.new) (LeavesPushBehind self.old.geometry
+            (changes_before self.old (S.state site.old).image)
             (staged_pages self.old) (staged_contents self.old groups)
             (group (frames_pushed self.old (S.state site.old).image
             pages.now changed.now contents.now)) (S.state site.old)) }
         ensures front { (groups : List (List Frame))
             → Fits self.old (S.state site.old) → Holds self.old (S.state site.old).image groups
             → IsQuiet (S.state site.old) → LeavesFront self.old.geometry
-            (changes_of_push (staged_pages self.old)
-            (group (frames_pushed self.old (S.state site.old).image
-            pages.now changed.now contents.now)))
+            (changes_of_group self.old (S.state site.old).image pages.now changed.now contents.now)
             (S.state site.old) (S.state site.new) }
         ensures reaches { (groups : List (List Frame))
             → Fits self.old (S.state site.old) → Holds self.old (S.state site.old).image groups
-            → OnOk result (Reaches self.old.geometry (changes_of_push (staged_pages self.old)
-            (group (frames_pushed self.old (S.state site.old).image
-            pages.now changed.now contents.now)))
+            → OnOk result (Reaches self.old.geometry
+            (changes_of_group self.old (S.state site.old).image pages.now changed.now contents.now)
             (S.state site.old).image (S.state site.new).image) }
         ensures staged { (groups : List (List Frame))
             → Fits self.old (S.state site.old) → Holds self.old (S.state site.old).image groups
@@ -369,7 +270,9 @@ impl FlashCache {
             → OnOk result (Holds self.new (S.state site.new).image
             (pushed_groups self.old groups
             (frames_pushed self.old (S.state site.old).image pages.now changed.now contents.now))) }
-        ensures fits { Fits self.old (S.state site.old) → OnOk result (Fits self.new (S.state site.new)) }
+        ensures fits { (groups : List (List Frame))
+            → Fits self.old (S.state site.old) → Holds self.old (S.state site.old).image groups
+            → OnOk result (Fits self.new (S.state site.new)) }
         ensures quiet { IsTrue (S.state site.old).honest → IsQuiet (S.state site.old)
             → OnOk result (IsQuiet (S.state site.new)) }
         ensures quiet_err { IsTrue (S.state site.old).honest → IsQuiet (S.state site.old)
@@ -383,21 +286,30 @@ impl FlashCache {
         ensures kept { OnErr result (self.new.directory ≡ self.old.directory) }
         ensures goes { Goes (S.state site.old) (S.state site.new) }
         ensures faults { WorkFaults result (S.state site.old) (S.state site.new) }
-        ensures reads { (S.state site.new).flash_reads ≤ (S.state site.old).flash_reads + 8 }
+        ensures reads { (S.state site.new).flash_reads ≤ (S.state site.old).flash_reads + 12 }
         ensures others { (d : Dev) → d ≢ Dev.Flash
             → reads_of d (S.state site.new) ≡ reads_of d (S.state site.old) }
 
         // When each answer comes.
         ensures worn { IsErrOf result (Stop.Worn Dev.Flash) → self.old.ring.hi ≡ 2 ^ 40 }
-        ensures worn_end { Fits self.old (S.state site.old) → IsErrOf result (Stop.Worn Dev.Flash)
-            → IsWorn self.old.geometry (S.state site.new).image }
+        ensures worn_end { (groups : List (List Frame))
+            → Fits self.old (S.state site.old) → Holds self.old (S.state site.old).image groups
+            → IsErrOf result (Stop.Worn Dev.Flash) → IsWorn self.old.geometry (S.state site.new).image }
         ensures never_past { self.old.ring.hi ≡ 2 ^ 40 → OnOk result ⊥ }
         ensures device { (d : Dev) → IsErrOf result (Stop.Device d)
             → FaultRose d (S.state site.old) (S.state site.new) }
+        ensures foreign { (groups : List (List Frame))
+            → Fits self.old (S.state site.old) → Holds self.old (S.state site.old).image groups
+            → IsErrOf result Stop.Foreign → ⊥ }
         ensures stops { IfErr result (λ stop. (stop ≡ Stop.Device Dev.Flash)
             ⊎ ((stop ≡ Stop.Device Dev.Disk)
-            ⊎ ((stop ≡ Stop.Memory) ⊎ (stop ≡ Stop.Worn Dev.Flash)))) }
+            ⊎ ((stop ≡ Stop.Memory)
+            ⊎ ((stop ≡ Stop.Worn Dev.Flash) ⊎ (stop ≡ Stop.Foreign))))) }
     {
+        if let Err(stop) = save_due(site, &self.geometry, &self.ring, &mut self.segments) {
+            self.ended = true;
+            return Err(stop);
+        }
         if let Err(stop) = self.push(site, plan, pages, changed, contents) {
             self.ended = true;
             return Err(stop);
@@ -405,7 +317,7 @@ impl FlashCache {
         Ok(())
     }
 
-    // The same, but that an error doesn't end the cache.
+    // The same where no segment is due, but that an error doesn't end the cache.
     fn push<S: Site>(
         &mut self,
         site: &mut S,
@@ -415,6 +327,7 @@ impl FlashCache {
         contents: &[Page],
     ) -> Result<(), Stop>
         requires going { MayGoOn self.old (S.state site.old) }
+        requires none_due { is_due self.old.ring.hi self.old.segments.hi ≡ false }
         requires chances { plan.now.chances ≡ map (λ f. f.0) (chance_marks self.old) }
         requires staged { plan.now.staged ≡ map (λ f. f.0) (staged_marks self.old) }
         requires marks { length changed.now ≡ length pages.now }
@@ -507,6 +420,7 @@ impl FlashCache {
         heads: &[FrameHead; 8],
     ) -> Result<(), Stop>
         requires going { MayGoOn self.old (S.state site.old) }
+        requires none_due { is_due self.old.ring.hi self.old.segments.hi ≡ false }
         requires lists { length octets.now ≡ length staged.now }
         requires once { AllPairs (λ a b. a ≢ b) staged.now }
         requires pages { All (λ page. page < self.old.geometry.pages) staged.now }
@@ -567,6 +481,7 @@ impl FlashCache {
         heads: &[FrameHead; 8],
     ) -> Result<(), Stop>
         requires going { MayGoOn self.old (S.state site.old) }
+        requires none_due { is_due self.old.ring.hi self.old.segments.hi ≡ false }
         requires room { length content.now ≡ 32896 }
         requires heads { AreGroupHeads heads.now }
         requires exist { PagesExist self.old.geometry.pages heads.now }
