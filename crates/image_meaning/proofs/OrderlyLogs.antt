@@ -17,7 +17,7 @@ module _ (below : MasterLaws) where
       subst (λ (p : Picture). AreOrderly p.log) (sym (sealed_picture newest g old new blocks records made)) (below.sealed_orderly (picture_under newest g old blocks) records sound.records orderly may)
   change_keeps_orderly newest g old new blocks (RewritesPages pages) sound orderly may made = orderly
   change_keeps_orderly newest g old new blocks (AppendsGroup content) sound orderly may made = orderly
-  change_keeps_orderly newest g old new blocks (AppendsSegment content) sound orderly may made = absurd may
+  change_keeps_orderly newest g old new blocks (AppendsSegment content) sound orderly may made = orderly
   change_keeps_orderly newest g old new blocks (AppendsMaster content) sound orderly may made = saved_is_orderly below newest g old new blocks content sound may made
 
   pub front_keeps_orderly : StagingKeepsVersions → StagingKeepsClean → FrontKeepsOrderly

@@ -20,7 +20,7 @@ use Rattle.image_changes.specs.Changes.{SameSizes}
 use Rattle.log_store.proofs.BlockLaws.{blocks_stay}
 use Rattle.meta_segments.specs.Following.{Follow}
 use Rattle.tail_rebuild.specs.Standing.{HasSaved}
-use Rattle.flash_cache.specs.Held.{frames_on, groups_on, disk_on, AreSaved}
+use Rattle.flash_cache.specs.Held.{frames_on, groups_on, disk_on}
 use Rattle.image_meaning.specs.Meaning.{kept_by, next_block_under, picture_under, IsUnused, HasNewest, IsFrameOf, AreGroups, AreSegments, AreOctetsSoundUnder, versions_on}
 use Rattle.image_meaning.specs.Pictures.{with_versions}
 use Rattle.image_meaning.specs.Laws.{SameIsSound, SameMeans}

@@ -1,5 +1,5 @@
 -- Laws on pushes: pages are staged, then a group is appended.
-use Rattle.std.specs.Prelude.{◌≡◌, ℕ, ◌-◌, ◌<◌, true, false, List, [], length, Contains, slice_index, slice_index_or, Option, Some, None, map, flat_map}
+use Rattle.std.specs.Prelude.{◌≡◌, ℕ, ◌-◌, ◌<◌, true, false, List, [], length, Contains, slice_index, slice_index_or, Option, Some, None, flat_map}
 use Rattle.std.specs.List.{AllByRecursion}
 use Rattle.site.specs.declared.geometry.Geometry.{Geometry}
 use Rattle.site.specs.State.{State, Image, Snapshot}
