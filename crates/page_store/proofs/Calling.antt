@@ -1,6 +1,6 @@
 -- Calls on pages one after the other, each known by its record.
-use Rattle.std.proofs.Common.{◌≡◌, ◌≢◌, ℕ, ◌+◌, Bool, true, false, true≢false, ◌||◌, cond, List, [], ◌++◌, refl, sym, subst, ap, ◌∙◌, arith}
-use Rattle.std.specs.Prelude.{Result, Ok, Err, IfErr, IsErrOf}
+use Rattle.std.proofs.Common.{◌≡◌, ℕ, ◌+◌, Bool, true, false, true≢false, ◌||◌, cond, List, [], ◌++◌, refl, sym, subst, ap, ◌∙◌, arith}
+use Rattle.std.specs.Prelude.{Result, Ok, Err, IsErrOf}
 use Rattle.std.specs.List.{AllByRecursion}
 use Rattle.site.specs.declared.geometry.Geometry.{Geometry}
 use Rattle.site.specs.declared.outside.Dev.TheVariants.{Log, Flash}
@@ -10,7 +10,7 @@ use Rattle.site.specs.State.{State, Image, IsQuiet, snapshot_of}
 use Rattle.site.specs.Calls.{IsUnchanged}
 use Rattle.site.specs.Moments.{Leaves, LeavesOnly}
 use Rattle.site.specs.Laws.{unchanged_calm, in_sequence, leaves_weaker}
-use Rattle.site.proofs.Working.{no_error, of_error, err_always, ok_as, ok_always, calls_then, calls_failed}
+use Rattle.site.proofs.Working.{no_error, err_always, ok_as, ok_always, calls_then, calls_failed}
 use Rattle.image_changes.specs.Changes.{Change, Reaches}
 use Rattle.image_changes.specs.Reached.{IsReached, IsFrontOf, LeavesFront}
 use Rattle.image_changes.specs.Laws.{ChangesAddUp, FrontsAddUp}
@@ -161,7 +161,6 @@ pushes_then once first second = record {
   logged = λ all. second.logged (first.logged all);
   ended = second.ended ∙ first.ended;
   others = λ d other. second.others d other ∙ first.others d other;
-  foreign = second.foreign;
 }
 
 -- an error says nothing of what is sealed
@@ -183,7 +182,6 @@ pushes_failed first =
       logged = λ all. tt;
       ended = first.ended;
       others = first.others;
-      foreign = first.foreign;
     }
 
 first_of : (b f : Bool) → b ≡ true → (b || f) ≡ true
@@ -260,9 +258,9 @@ pub record AreItsOwn (log : LogStore) (store : PageStore) (numbers : List ℕ) (
   pub logged : AreLogged (end_forced log) store.pool.frames → AllByRecursion (IsLogged (end_forced log)) contents
 
 pub keeps_given : {T : Type 0} {r : Result T Stop} {log : LogStore} {store : PageStore} {pool : Pool} {numbers : List ℕ} {changed : List Bool} {contents : List (List ℕ)} {before now : State} {list : LogList} {changes : List Change} →
-    AreItsOwn log store numbers changed contents before.image → IfErr r (λ stop. stop ≢ Foreign) → KeepsGiven r log (record store { pool = pool }) numbers changed contents before now list changes →
+    AreItsOwn log store numbers changed contents before.image → KeepsGiven r log (record store { pool = pool }) numbers changed contents before now list changes →
     Keeps r log store before now list (forces log contents) changes
-keeps_given {r = r} {store = store} {before = before} own foreign push = record {
+keeps_given {store = store} {before = before} own push = record {
   any_moment = λ quiet. push.any_moment (current store before.image) quiet own.given own.clean;
   ahead_moment = λ quiet ahead. push.ahead_moment quiet ahead.versions (own.logged ahead.pool);
   rings_moment = λ newest quiet rings. push.rings_moment newest quiet rings own.sound;
@@ -270,7 +268,7 @@ keeps_given {r = r} {store = store} {before = before} own foreign push = record 
   quiet = push.quiet;
   worn_log = push.worn_log;
   worn = push.worn;
-  readable = λ is. of_error r (λ stop. stop ≢ Foreign) Foreign foreign is refl;
+  readable = push.readable;
 }
 
 pub stands_given : {log new : LogStore} {store between after : PageStore} {pool : Pool} {numbers : List ℕ} {changed : List Bool} {contents : List (List ℕ)} {before now : State} {list : LogList} {changes : List Change} →

@@ -1,5 +1,5 @@
 -- Lists of changes, call by call.
-use Rattle.std.proofs.Common.{◌≡◌, ℕ, zero, suc, ◌+◌, ◌*◌, ◌<◌, ◌≤◌, ◌==◌, Bool, true, false, not, ◌&&◌, cond, List, [], ◌∷◌, ◌++◌, length, get_or, map, Option, Some, None, subst, refl, sym, ap, ◌∙◌, arith, append_assoc, append-nil}
+use Rattle.std.proofs.Common.{◌≡◌, ℕ, zero, suc, ◌+◌, ◌*◌, ◌<◌, ◌≤◌, ◌==◌, Bool, true, false, not, ◌&&◌, cond, List, [], ◌∷◌, ◌++◌, length, get_or, map, drop, Option, Some, None, subst, refl, sym, ap, ◌∙◌, arith, append_assoc, append-nil}
 use Rattle.std.specs.List.{AllByRecursion}
 use Rattle.std.proofs.lemmas.Option.{none-some}
 use Rattle.std.proofs.lemmas.Bool.{eqb-true, eqb-false}
@@ -9,10 +9,11 @@ use Rattle.std.proofs.lemmas.List.{length-map}
 use Rattle.site.specs.declared.geometry.Geometry.{Geometry}
 use Rattle.site.specs.State.{State, Image}
 use Rattle.site.specs.Laws.{leaves_weaker}
+use Rattle.image_changes.specs.Rings.{group_shape, units_on}
 use Rattle.image_changes.specs.Changes.{Change}
 use Rattle.image_changes.specs.Reached.{IsReached, IsFrontOf, LeavesFront}
 use Rattle.frame_group.specs.Groups.{Frame as Stored, group}
-use Rattle.flash_cache.specs.Pushed.{staged_pages, chance_marks, chance_given, frames_given, pushed_queue, changes_of_push}
+use Rattle.flash_cache.specs.Pushed.{staged_pages, chance_marks, chance_given, frames_given, pushed_queue, changes_of_push, changes_before}
 use Rattle.flash_cache.specs.Held.{version_on}
 use Rattle.buffer_pool.specs.declared.frame.Frame.{Frame}
 use Rattle.buffer_pool.specs.Frames.{frame_of}
@@ -24,8 +25,8 @@ use Rattle.page_store.specs.Ahead.{forces}
 use Rattle.page_store.specs.Flushing.{saved_next, cleared_all, flushed_first}
 use Rattle.second_chance.specs.Queue.{frame_of as known_of}
 use Rattle.second_chance.specs.declared.frame.Frame.{Frame as Known}
-use Rattle.second_chance.specs.Machine.{chance_frame, wants_flush}
-use Rattle.page_store.specs.Changing.{Standing, stored, push_changes, standing, given_changes, changes_if_any, eviction_changes, cache_at, next_saved, after_push, pushes_changes}
+use Rattle.second_chance.specs.Machine.{chance_frame, wants_flush, rules_of, is_full as queue_is_full}
+use Rattle.page_store.specs.Changing.{Standing, stored, is_due_at, group_at, push_changes, standing, given_changes, changes_if_any, eviction_changes, cache_at, next_saved, after_push, pushes_changes}
 use Rattle.page_store.specs.Pulling.{evicted_frames}
 
 -- What the first changes leave, more changes may leave too.
@@ -47,7 +48,7 @@ pub given_are : (log : LogStore) (list : LogList) (store : PageStore) (image : I
     → given_changes log list store image (map (λ (f : Frame). f.page) xs) (map (λ (f : Frame). f.changed) xs) (map (λ (f : Frame). f.content) xs) ≡ push_changes (standing log list store image) xs
 given_are log list store image xs =
     ap (λ (l : List Stored). changes_if (forces log (map (λ (f : Frame). f.content) xs)) list
-    ++ changes_of_push (staged_pages store.flash) (group (map (chance_given (version_on store.flash.geometry image)) (chance_marks store.flash) ++ l))) (frames_given_are xs)
+    ++ (changes_before store.flash image ++ changes_of_push (staged_pages store.flash) (group (map (chance_given (version_on store.flash.geometry image)) (chance_marks store.flash) ++ l)))) (frames_given_are xs)
 
 -- Pages that are given as changed, with what the pool has of them, are frames of the pool.
 frames_changed : (xs : List Frame) (changed : List Bool) → length changed ≡ length xs → AllByRecursion (λ (b : Bool). b ≡ true) changed → AllByRecursion (λ (f : Frame). f.changed ≡ true) xs
@@ -63,7 +64,7 @@ pub given_is : (log : LogStore) (list : LogList) (store : PageStore) (image : Im
 given_is log list store image pages changed contents xs are have lists marks all =
     (λ i. given_changes log list store image (are i) changed (have i))
     ∙ ap (λ (l : List Stored). changes_if (forces log (map (λ (f : Frame). f.content) xs)) list
-    ++ changes_of_push (staged_pages store.flash) (group (map (chance_given (version_on store.flash.geometry image)) (chance_marks store.flash) ++ l)))
+    ++ (changes_before store.flash image ++ changes_of_push (staged_pages store.flash) (group (map (chance_given (version_on store.flash.geometry image)) (chance_marks store.flash) ++ l))))
     (frames_changed xs changed (let count = ap length are in omega (arith, lists, count, length-map xs (λ (f : Frame). f.page))) marks all)
 
 -- An eviction pushes some pages, or none.
@@ -116,6 +117,12 @@ pub known_pages : (xs : List Frame) → map (λ page. known_of page true) (map (
 known_pages [] = refl
 known_pages (x ∷ xs) = ap (λ (l : List Known). known_of x.page true ∷ l) (known_pages xs)
 
+-- the groups' contents behind a push, with the new group, and the numbers of the next group and segment
+pub record HasPushed (s : Standing) (pushed : List Frame) (store : PageStore) (image : Image) : Type 0 where
+  pub live : (units_on (group_shape store.flash.geometry) image).live ≡ cond (queue_is_full (rules_of 0 s.groups) s.queue) (drop 1 s.live) s.live ++ group_at s pushed ∷ []
+  pub next_group : store.flash.ring.hi ≡ s.next_group + 1
+  pub next_segment : store.flash.segments.hi ≡ cond (is_due_at s) (s.next_segment + 1) s.next_segment
+
 -- Where the log was forced there is no tail, else it is as it was.
 tail_after : (tail tail' any : Bool) (next next' : ℕ) → next' ≡ cond (tail && any) (next + 1) next → 512 * (next' + cond tail' 1 0) ≡ 512 * (next + cond tail 1 0) → tail' ≡ (tail && not (tail && any))
 tail_after true true true next next' is end = absurd (omega (arith, is, end))
@@ -127,17 +134,28 @@ tail_after false false any next next' is end = refl
 
 pub standing_after : (log log' : LogStore) (list list' : LogList) (store store' : PageStore) (image image' : Image) (any : Bool) → forces log (flushed_first store) ≡ (has_tail log && any)
     → log'.ring.hi ≡ cond (forces log (flushed_first store)) (log.ring.hi + 1) log.ring.hi → 512 * (log'.ring.hi + cond (has_tail log') 1 0) ≡ 512 * (log.ring.hi + cond (has_tail log) 1 0)
-    → list' ≡ sealed_if (forces log (flushed_first store)) list → store'.flash.geometry ≡ store.flash.geometry
+    → list' ≡ sealed_if (forces log (flushed_first store)) list → store'.flash.geometry ≡ store.flash.geometry → HasPushed (standing log list store image) (saved_next store) store' image'
     → store'.flash.directory ≡ pushed_queue store.flash (map chance_frame (chance_marks store.flash) ++ map (λ (f : Frame). known_of f.page true) (saved_next store))
     → store'.pool.frames ≡ cleared_all (map (λ (f : Frame). f.page) (saved_next store)) store.pool.frames
     → ((n : ℕ) → version_on store.flash.geometry image' n ≡ content_by (frame_of (saved_next store) n) (version_on store.flash.geometry image n))
     → standing log' list' store' image' ≡ after_push (standing log list store image)
-standing_after log log' list list' store store' image image' any is next end sealed geometry queue frames versions =
+standing_after log log' list list' store store' image image' any is next end sealed geometry grown queue frames versions =
     let tail : has_tail log' ≡ (has_tail log && not (forces log (flushed_first store))) =
     tail_after (has_tail log) (has_tail log') any log.ring.hi log'.ring.hi (next ∙ ap {B = ℕ} (λ (b : Bool). cond b (log.ring.hi + 1) log.ring.hi) is) end ∙ sym (ap (λ (b : Bool). has_tail log && not b) is) in
     let same : version_on store'.flash.geometry image' ≡ (λ n. content_by (frame_of (saved_next store) n) (version_on store.flash.geometry image n)) =
     ap (λ (g : Geometry). version_on g image') geometry ∙ (λ i n. versions n i) in
-    λ i. record { tail = tail i; next = next i; list = sealed i; groups = (geometry i).groups; queue = queue i; frames = frames i; versions = same i }
+    λ i. record {
+      tail = tail i;
+      next = next i;
+      list = sealed i;
+      groups = (geometry i).groups;
+      queue = queue i;
+      live = grown.live i;
+      next_group = grown.next_group i;
+      next_segment = grown.next_segment i;
+      frames = frames i;
+      versions = same i;
+    }
 
 -- What the pushes so far have made: the first of all changes, with those left that are still to come.
 pub record HasMade (all made : List Change) (s : Standing) (count : ℕ) : Type 0 where

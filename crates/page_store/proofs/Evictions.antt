@@ -20,8 +20,8 @@ pub same_pages : (store : PageStore) (log : LogStore) (given : ℕ → List ℕ)
     → LeavesPages store.flash.geometry given sealing list site (snapshot_of site)
 same_pages store log given sealing list site geometry ready = record {
   log = record { told = refl; blocks = inl (subst (λ (g : Geometry). HasBlocks g list.first list.blocks site.image) geometry ready.records.blocks) };
-  rings = λ ring log flash. record { units = refl; form = λ form. form };
-  queue = record { first = store.flash.directory.first; groups = ready.pages.groups; has = ready.pages.holds.has };
+  masters = record { units = refl; form = λ form. form };
+  queue = record { first = store.flash.directory.first; groups = ready.pages.groups; has = ready.pages.holds.has; saved = ready.pages.holds.saved };
   clean = ready.pages.clean;
   versions = λ page exists. inl refl;
 }

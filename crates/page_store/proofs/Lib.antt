@@ -20,6 +20,7 @@ pub mod Unsealed
 pub mod Rings
 pub mod Calling
 pub mod Changing
+pub mod Appending
 pub mod Lines
 pub mod Left
 pub mod Departures

@@ -13,18 +13,20 @@ use Rattle.site.specs.Moments.{Leaves, LeavesOnly, ChangesOnly, Untouched}
 use Rattle.site.specs.Laws.{leaves_weaker, leaves_others_too, untouched_leaves, each_both, each_weaker, settled_is, quiet_settled, stays_honest}
 use Rattle.sealed_ring.specs.Ring.{Units, IsRing, hi_of, units_of}
 use Rattle.sealed_ring.specs.declared.slots.Shape.{Shape}
-use Rattle.image_changes.specs.Rings.{RingName, Blocks, Groups, log_shape, group_shape, shape_of, KeepsUnits}
+use Rattle.image_changes.specs.Rings.{Masters, master_shape, log_shape, group_shape, segment_shape, KeepsUnits}
 use Rattle.image_changes.specs.Changes.{Change, Reaches, ring_of}
 use Rattle.image_changes.specs.Reached.{IsReached, IsFrontOf, LeavesFront}
 use Rattle.image_changes.specs.Laws.{RingKept}
-use Rattle.flash_cache.specs.Pushed.{chance_marks, chance_given, changes_of_push, pushed_queue, pushed_groups, known_pushed, frames_given, frames_pushed}
-use Rattle.frame_group.specs.Groups.{Frame as Stored}
+use Rattle.tail_rebuild.specs.Saving.{is_due, changes_of_save}
+use Rattle.flash_cache.specs.Pushed.{staged_pages, chance_marks, chance_given, changes_of_push, changes_of_group, pushed_queue, pushed_groups, known_pushed, frames_given, frames_pushed}
+use Rattle.frame_group.specs.Groups.{Frame as Stored, group, frames_in}
 use Rattle.frame_group.specs.Versions.{frames_of, version, CleanAsDisk}
 use Rattle.disk_pages.specs.Pages.{page_on}
 use Rattle.slotted_page.specs.Layout.{IsSound}
 use Rattle.flash_cache.specs.declared.cache.FlashCache.{FlashCache}
 use Rattle.flash_cache.specs.Held as held
-use Rattle.flash_cache.specs.Held.{version_on, disk_on, IsCleanOn, HasGroups}
+use Rattle.flash_cache.specs.Held.{groups_on, version_on, disk_on, IsCleanOn, HasGroups, AreSaved}
+use Rattle.image_meaning.proofs.Sames.{saved_stays}
 use Rattle.flash_cache.specs.Kept as kept
 use Rattle.flash_cache.specs.Kept.{KeepsVersions, GivesVersions, AreCleanGiven, LeavesClean}
 use Rattle.buffer_pool.specs.declared.frame.Frame.{Frame}
@@ -57,15 +59,36 @@ groups_same g first groups old new flash has = record {
   live = ap (λ (f : List ℕ). (units_of (group_shape g) f).live) flash ∙ has.live;
 }
 
+keeps_same : (s : Shape) (old new : Image) → s.dev ≡ Flash → new.flash ≡ old.flash → KeepsUnits s old new
+keeps_same s old new on_flash flash = record {
+  units = ap (units_of s) same;
+  form = λ form. subst (IsRing s) (sym same) form;
+}
+  where
+    same : content_of s.dev new ≡ content_of s.dev old
+    same = subst (λ (d : Dev). content_of d new ≡ content_of d old) (sym on_flash) flash
+
+pub saved_same : (g : Geometry) (groups : List (List Stored)) (old new : Image) → new.flash ≡ old.flash → AreSaved g groups old → AreSaved g groups new
+saved_same g groups old new flash saved = record {
+  segments = saved.segments;
+  follow = saved_stays g groups saved.segments old new (keeps_same (segment_shape g) old new refl flash) (keeps_same (group_shape g) old new refl flash) saved.follow;
+}
+
 pub flash_fits_same : (cache : FlashCache) (old new : State) → new.image.flash ≡ old.image.flash → IsTrue new.honest → held.Fits cache old → held.Fits cache new
 flash_fits_same cache old new flash honest fits = record {
   honest = honest;
   form = subst (IsRing (group_shape cache.geometry)) (sym flash) fits.form;
   hi = fits.hi ∙ ap (hi_of (group_shape cache.geometry)) (sym flash);
+  segments_form = subst (IsRing (segment_shape cache.geometry)) (sym flash) fits.segments_form;
+  segments_hi = fits.segments_hi ∙ ap (hi_of (segment_shape cache.geometry)) (sym flash);
 }
 
 pub flash_holds_same : (cache : FlashCache) (old new : Image) (groups : List (List Stored)) → new.flash ≡ old.flash → held.Holds cache old groups → held.Holds cache new groups
-flash_holds_same cache old new groups flash holds = record { has = groups_same cache.geometry cache.directory.first groups old new flash holds.has; shown = holds.shown }
+flash_holds_same cache old new groups flash holds = record {
+  has = groups_same cache.geometry cache.directory.first groups old new flash holds.has;
+  saved = saved_same cache.geometry groups old new flash holds.saved;
+  shown = holds.shown;
+}
 
 -- An LSN that is logged stays so.
 pub logged_more : (end end' : ℕ) (content : List ℕ) → end ≤ end' → IsLogged end content → IsLogged end' content
@@ -104,34 +127,34 @@ or_listed pages page = elim (listed pages page) [
   | inr none ↦ inr (λ is. none (is.0, is.1, get_or_default pages is.0 0 page is.1 ∙ is.2))
 ]
 
--- Rings that no change appends to.
+-- The ring of masters, to which no change appends.
 
-abbrev pub IsOther : RingName → Type 0
-IsOther ring = (ring ≢ Blocks) × (ring ≢ Groups)
-
--- none of these changes appends to another ring than those of blocks and groups
 abbrev pub AreOwn : List Change → Type 0
-AreOwn changes = (ring : RingName) → IsOther ring → AllByRecursion (λ change. ring_of change ≢ Some ring) changes
-
-same_ring : (a b : RingName) → Some a ≡ Some b → a ≡ b
-same_ring a b same = cc
+AreOwn changes = AllByRecursion (λ change. ring_of change ≢ Some Masters) changes
 
 pub own_sealing : (sealing : Bool) (list : LogList) → AreOwn (changes_if sealing list)
-own_sealing true list ring other = ((λ same. other.0 (sym (same_ring Blocks ring same))), tt)
-own_sealing false list ring other = tt
+own_sealing true list = ((λ same. cc), tt)
+own_sealing false list = tt
 
-pub own_push : (pages group : List ℕ) → AreOwn (changes_of_push pages group)
-own_push [] group ring other = ((λ same. other.1 (sym (same_ring Groups ring same))), tt)
-own_push (page ∷ pages) group ring other = ((λ same. absurd cc), ((λ same. other.1 (sym (same_ring Groups ring same))), tt))
+own_push : (pages group : List ℕ) → AreOwn (changes_of_push pages group)
+own_push [] group = ((λ same. cc), tt)
+own_push (page ∷ pages) group = ((λ same. cc), ((λ same. cc), tt))
+
+own_save : (due : Bool) (groups : List (List Stored)) (changes : List Change) → AreOwn changes → AreOwn (changes_of_save due groups ++ changes)
+own_save true groups changes own = ((λ same. cc), own)
+own_save false groups changes own = own
+
+pub own_group : (cache : FlashCache) (image : Image) (pages : List ℕ) (changed : List Bool) (contents : List (List ℕ)) → AreOwn (changes_of_group cache image pages changed contents)
+own_group cache image pages changed contents =
+    own_save (is_due cache.ring.hi cache.segments.hi) (groups_on cache.geometry image) _ (own_push (staged_pages cache) (group (frames_pushed cache image pages changed contents)))
 
 all_before : {X : Type 0} (P : X → Type 0) (xs ys : List X) → AllByRecursion P (xs ++ ys) → AllByRecursion P xs
 all_before P [] ys all = tt
 all_before P (x ∷ xs) ys all = (all.0, all_before P xs ys all.1)
 
-pub rings_kept : RingKept → (g : Geometry) (all : List Change) (old : State) (s : Snapshot) → AreOwn all → IsReached g (IsFrontOf all) old s
-    → (ring : RingName) → ring ≢ Blocks → ring ≢ Groups → KeepsUnits (shape_of g ring) old.image s.image
-rings_kept law g all old s own is ring log flash =
-    law g ring is.changes old.image s.image (all_before (λ change. ring_of change ≢ Some ring) is.changes is.made.0 (subst (AllByRecursion (λ change. ring_of change ≢ Some ring)) is.made.1 (own ring (log, flash)))) is.reaches
+pub masters_kept : RingKept → (g : Geometry) (all : List Change) (old : State) (s : Snapshot) → AreOwn all → IsReached g (IsFrontOf all) old s → KeepsUnits master_shape old.image s.image
+masters_kept law g all old s own is =
+    law g Masters is.changes old.image s.image (all_before (λ change. ring_of change ≢ Some Masters) is.changes is.made.0 (subst AreOwn is.made.1 own)) is.reaches
 
 pub units_then : (s : Shape) (a b c : Image) → KeepsUnits s a b → KeepsUnits s b c → KeepsUnits s a c
 units_then s a b c first second = record { units = second.units ∙ first.units; form = λ form. second.form (first.form form) }
@@ -162,8 +185,13 @@ module _ (g : Geometry) (sealing : Bool) (list : LogList) (old mid : State) (lea
       each_weaker old mid (λ m. Leaves Forced m × Leaves (IsReached g (IsFrontOf (changes_if sealing list)) old) m) (Leaves (LeavesPages g given sealing list old)) (λ m p s left.
       let is = p.0 s left in record {
         log = is.blocks;
-        rings = rings_kept law g (changes_if sealing list) old s (own_sealing sealing list) (p.1 s left);
-        queue = record { first = queue.first; groups = queue.groups; has = groups_same g queue.first queue.groups old.image s.image is.flash queue.has };
+        masters = masters_kept law g (changes_if sealing list) old s (own_sealing sealing list) (p.1 s left);
+        queue = record {
+          first = queue.first;
+          groups = queue.groups;
+          has = groups_same g queue.first queue.groups old.image s.image is.flash queue.has;
+          saved = saved_same g queue.groups old.image s.image is.flash queue.saved;
+        };
         clean = clean_same g old.image s.image is.flash is.disk clean;
         versions = λ page exists. inl (version_same g old.image s.image page is.flash is.disk);
       }) (each_both old mid _ _ forced front)
@@ -220,18 +248,24 @@ module _ (cache : FlashCache) (groups : List (List Stored)) (pages : List ℕ) (
   -- the queue
   queue_left : (s : Snapshot) → kept.LeavesVersions cache groups pages changed contents mid s → HasQueue g s.image
   queue_left s is = elim is.either [
-    | inl keeps ↦ record { first = cache.directory.first; groups = groups; has = keeps.has }
-    | inr gives ↦ record { first = (pushed_queue cache (known_pushed cache pages changed)).first; groups = pushed_groups cache groups (frames_pushed cache mid.image pages changed contents); has = gives.has }
+    | inl keeps ↦ record { first = cache.directory.first; groups = groups; has = keeps.has; saved = keeps.saved }
+    | inr gives ↦ record {
+      first = (pushed_queue cache (known_pushed cache pages changed)).first;
+      groups = pushed_groups cache groups (frames_pushed cache mid.image pages changed contents);
+      has = gives.has;
+      saved = gives.saved;
+    }
   ]
 
   -- what one snapshot has, behind a front of the push
-  pub pushed_pages : RingKept → (staged group : List ℕ) → ((ring : RingName) → ring ≢ Blocks → ring ≢ Groups → KeepsUnits (shape_of g ring) old.image mid.image)
+  pub pushed_pages : RingKept → KeepsUnits master_shape old.image mid.image
       → (given : ℕ → List ℕ) (sealing : Bool) (list : LogList) → AreGiven given pages contents → HasBlocks g (sealed_if sealing list).first (sealed_if sealing list).blocks mid.image
-      → (s : Snapshot) → Pushed s → IsCleanOn g s.image → IsReached g (IsFrontOf (changes_of_push staged group)) mid s → LeavesPages g given sealing list old s
-  pushed_pages law staged group before given sealing list are has s is clean more =
+      → (s : Snapshot) → Pushed s → IsCleanOn g s.image → IsReached g (IsFrontOf (changes_of_group cache mid.image pages changed contents)) mid s → LeavesPages g given sealing list old s
+  pushed_pages law before given sealing list are has s is clean more =
       record {
         log = blocks_left s is.log is.pages_are sealing list refl has;
-        rings = λ ring log flash. units_then (shape_of g ring) old.image mid.image s.image (before ring log flash) (rings_kept law g (changes_of_push staged group) mid s (own_push staged group) more ring log flash);
+        masters = units_then master_shape old.image mid.image s.image before
+            (masters_kept law g (changes_of_group cache mid.image pages changed contents) mid s (own_group cache mid.image pages changed contents) more);
         queue = queue_left s is.pages_are;
         clean = clean;
         versions = each_version (λ page content. (content ≡ version_on g old.image page) ⊎ (content ≡ given page)) (λ page exists. inl refl) (λ k less. inr (are.each k less)) s is.pages_are;
@@ -242,15 +276,15 @@ module _ (cache : FlashCache) (groups : List (List Stored)) (pages : List ℕ) (
       blocks_left s log is true l same has = record { told = is.told ∙ told; blocks = inr (refl, blocks_same g l.first (l.blocks ++ l.tail ∷ []) mid.image s.image log has) }
       blocks_left s log is false l same has = record { told = is.told ∙ told; blocks = inl (blocks_same g l.first l.blocks mid.image s.image log has) }
 
-  pub push_leaves : RingKept → (staged group : List ℕ) → IsSettled Log mid → LeavesOnly mid new (kept.LeavesVersions cache groups pages changed contents mid) → Untouched Log mid new
-      → LeavesFront g (changes_of_push staged group) mid new → ((ring : RingName) → ring ≢ Blocks → ring ≢ Groups → KeepsUnits (shape_of g ring) old.image mid.image)
+  pub push_leaves : RingKept → IsSettled Log mid → LeavesOnly mid new (kept.LeavesVersions cache groups pages changed contents mid) → Untouched Log mid new
+      → LeavesFront g (changes_of_group cache mid.image pages changed contents) mid new → KeepsUnits master_shape old.image mid.image
       → (given : ℕ → List ℕ) (sealing : Bool) (list : LogList) → AreGiven given pages contents → HasBlocks g (sealed_if sealing list).first (sealed_if sealing list).blocks mid.image
       → LeavesOnly mid new (LeavesClean g) → LeavesOnly mid new (LeavesPages g given sealing list old)
-  push_leaves law staged group settled versions untouched front before given sealing list are has clean =
-      each_weaker mid new (λ m. Leaves Pushed m × Leaves (λ s. LeavesClean g s × IsReached g (IsFrontOf (changes_of_push staged group)) mid s) m) (Leaves (LeavesPages g given sealing list old))
-      (λ m p s left. let more = p.1 s left in pushed_pages law staged group before given sealing list are has s (p.0 s left) more.0 more.1)
-      (each_both mid new _ _ (pushed settled versions untouched) (each_weaker mid new (λ m. Leaves (LeavesClean g) m × Leaves (IsReached g (IsFrontOf (changes_of_push staged group)) mid) m)
-      (Leaves (λ s. LeavesClean g s × IsReached g (IsFrontOf (changes_of_push staged group)) mid s)) (λ m q s left. (q.0 s left, q.1 s left)) (each_both mid new _ _ clean front)))
+  push_leaves law settled versions untouched front before given sealing list are has clean =
+      each_weaker mid new (λ m. Leaves Pushed m × Leaves (λ s. LeavesClean g s × IsReached g (IsFrontOf (changes_of_group cache mid.image pages changed contents)) mid s) m) (Leaves (LeavesPages g given sealing list old))
+      (λ m p s left. let more = p.1 s left in pushed_pages law before given sealing list are has s (p.0 s left) more.0 more.1)
+      (each_both mid new _ _ (pushed settled versions untouched) (each_weaker mid new (λ m. Leaves (LeavesClean g) m × Leaves (IsReached g (IsFrontOf (changes_of_group cache mid.image pages changed contents)) mid) m)
+      (Leaves (λ s. LeavesClean g s × IsReached g (IsFrontOf (changes_of_group cache mid.image pages changed contents)) mid s)) (λ m q s left. (q.0 s left, q.1 s left)) (each_both mid new _ _ clean front)))
 
   pub pushed_sealed : (end : ℕ) → end ≡ sealed_end g mid.image → sealed_end g old.image ≤ end → length contents ≡ length pages → AllByRecursion (IsLogged end) contents → AreSealed g old.image
       → (s : Snapshot) → Pushed s → AreSealed g s.image
@@ -271,6 +305,13 @@ pub frames_since : (cache : FlashCache) (pages : List ℕ) (changed : List Bool)
 frames_since cache pages changed contents old mid flash disk =
     let same : version_on cache.geometry mid ≡ version_on cache.geometry old = λ i n. version_same cache.geometry old mid n flash disk i in
     ap (λ (versions : ℕ → List ℕ). map (chance_given versions) (chance_marks cache) ++ frames_given pages changed contents) same
+
+-- and the changes are, too
+pub group_changes_since : (cache : FlashCache) (pages : List ℕ) (changed : List Bool) (contents : List (List ℕ)) (old mid : Image) → mid.flash ≡ old.flash → mid.disk ≡ old.disk
+    → changes_of_group cache mid pages changed contents ≡ changes_of_group cache old pages changed contents
+group_changes_since cache pages changed contents old mid flash disk =
+    (λ i. changes_of_save (is_due cache.ring.hi cache.segments.hi) (map frames_in (units_of (group_shape cache.geometry) (flash i)).live)
+    ++ changes_of_push (staged_pages cache) (group (frames_since cache pages changed contents old mid flash disk i)))
 
 -- all changes of a call were made
 pub reached_all : (g : Geometry) (all : List Change) (old new : State) → new.told ≡ old.told → Reaches g all old.image new.image → IsReached g (IsFrontOf all) old (snapshot_of new)

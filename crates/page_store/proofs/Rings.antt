@@ -1,5 +1,6 @@
 -- The rings stay sound at each moment.
-use Rattle.std.proofs.Common.{ℕ, ◌<◌, Bool, true, false, List, [], ◌∷◌, ◌++◌, map, sym, subst, Option}
+use Rattle.std.proofs.Common.{◌≡◌, inl, inr, ℕ, ◌+◌, ◌*◌, ◌<◌, Bool, true, false, List, [], ◌∷◌, ◌++◌, map, refl, sym, ap, subst, Option, arith}
+use Rattle.std.proofs.lemmas.Bool.{cases_lt, eqb-true, eqb-false}
 use Rattle.std.specs.List.{AllByRecursion}
 use Rattle.site.specs.declared.geometry.Geometry.{Geometry}
 use Rattle.site.specs.State.{State, Image, IsQuiet}
@@ -7,25 +8,30 @@ use Rattle.site.specs.Moments.{Leaves, LeavesOnly}
 use Rattle.site.specs.Laws.{leaves_weaker, no_call, quiet_leaves}
 use Rattle.slotted_page.specs.Layout.{IsSound}
 use Rattle.frame_group.specs.Groups.{Frame as Stored, group, IsGroup}
-use Rattle.image_changes.specs.Changes.{Change}
+use Rattle.sealed_ring.specs.Ring.{Units, hi_of}
+use Rattle.image_changes.specs.Rings.{Groups, Segments, group_shape, segment_shape, KeepsUnits}
+use Rattle.image_changes.specs.Changes.{Change, AppendsSegment, Makes}
 use Rattle.image_changes.specs.Reached.{IsReached, IsFrontOf, LeavesFront}
 use Rattle.log_store.specs.LogList.{LogList, changes_if}
 use Rattle.checkpoint.specs.declared.master.Master.{Master}
-use Rattle.flash_cache.specs.Pushed.{chance_marks, chance_given, frames_given, frames_pushed, changes_of_push}
+use Rattle.tail_rebuild.specs.Saving.{is_due, changes_of_save}
+use Rattle.flash_cache.specs.Pushed.{staged_pages, chance_marks, chance_given, frames_given, frames_pushed, changes_of_push, changes_of_group}
 use Rattle.flash_cache.specs.declared.cache.FlashCache.{FlashCache}
-use Rattle.flash_cache.specs.Held.{version_on}
+use Rattle.flash_cache.specs.Held as held
+use Rattle.flash_cache.specs.Held.{groups_on, version_on}
 use Rattle.second_chance.specs.Plans.{Placed}
 use Rattle.image_meaning.specs.Meaning.{IsFrameOf}
-use Rattle.image_meaning.specs.Beside.{AreRingsSoundUnder, KeepsRings, RingsKeptUnder}
+use Rattle.image_meaning.specs.Changes.{SegmentIsDue, NoSegmentIsDue}
+use Rattle.image_meaning.specs.Beside.{AreRingsSoundUnder, KeepsRingsAll, RingsKeptUnder}
 use Rattle.page_store.specs.Leaves.{LeavesRings}
 
-all_front : {X : Type 0} (P : X → Type 0) (front left : List X) → AllByRecursion P (front ++ left) → AllByRecursion P front
-all_front P [] left all = tt
-all_front P (x ∷ front) left all = (all.0, all_front P front left all.1)
+pub all_front : (g : Geometry) (image : Image) (front left : List Change) → KeepsRingsAll g image (front ++ left) → KeepsRingsAll g image front
+all_front g image [] left all = tt
+all_front g image (change ∷ front) left all = (all.0, λ mid made. all_front g mid front left (all.1 mid made))
 
-pub sealing_keeps : (g : Geometry) (sealing : Bool) (list : LogList) → AllByRecursion (KeepsRings g) (changes_if sealing list)
-sealing_keeps g true list = (tt, tt)
-sealing_keeps g false list = tt
+pub sealing_keeps : (g : Geometry) (image : Image) (sealing : Bool) (list : LogList) → KeepsRingsAll g image (changes_if sealing list)
+sealing_keeps g image true list = (tt, λ mid made. tt)
+sealing_keeps g image false list = tt
 
 sound_frames : (g : Geometry) (pages : List ℕ) (changed : List Bool) (contents : List (List ℕ)) → AllByRecursion IsSound contents → AllByRecursion (λ frame. frame.page < g.pages) (frames_given pages changed contents)
     → AllByRecursion (IsFrameOf g) (frames_given pages changed contents)
@@ -45,14 +51,47 @@ sound_pushed cache image pages changed contents versions sound = each (chance_ma
     each [] exist = sound_frames cache.geometry pages changed contents sound exist
     each (x ∷ xs) exist = (record { exists = exist.0; sound = versions x.1.page exist.0 }, each xs exist.1)
 
-pub pushing_keeps : (g : Geometry) (staged : List ℕ) (frames : List Stored) → AllByRecursion (IsFrameOf g) frames → IsGroup (group frames) frames → AllByRecursion (KeepsRings g) (changes_of_push staged (group frames))
-pushing_keeps g [] frames sound is = ((frames, is, sound), tt)
-pushing_keeps g (page ∷ staged) frames sound is = (tt, ((frames, is, sound), tt))
+-- where no segment is due none is behind changes of other rings, nor behind a segment that was due
+none_due_stays : (g : Geometry) (old new : Image) → KeepsUnits (group_shape g) old new → KeepsUnits (segment_shape g) old new → NoSegmentIsDue g old → NoSegmentIsDue g new
+none_due_stays g old new groups segments none =
+    let h : hi_of (group_shape g) new.flash ≡ hi_of (group_shape g) old.flash = ap (λ (u : Units). u.hi) groups.units in
+    let k : hi_of (segment_shape g) new.flash ≡ hi_of (segment_shape g) old.flash = ap (λ (u : Units). u.hi) segments.units in
+    omega (arith, none, h, k)
 
-pub rings_front : (newest : Option Master) → RingsKeptUnder newest → (g : Geometry) (changes : List Change) (old new : State) → AreRingsSoundUnder newest g old.image → AllByRecursion (KeepsRings g) changes → LeavesFront g changes old new → LeavesOnly old new (LeavesRings newest g)
+none_due_then : (g : Geometry) (old new : Image) (content : List ℕ) → SegmentIsDue g old → Makes g (AppendsSegment content) old new → NoSegmentIsDue g new
+none_due_then g old new content due made =
+    let here = made.others Groups (λ same. cc) in
+    let h : hi_of (group_shape g) new.flash ≡ hi_of (group_shape g) old.flash = ap (λ (u : Units). u.hi) here.units in
+    let k : hi_of (segment_shape g) new.flash ≡ hi_of (segment_shape g) old.flash + 1 = ap (λ (u : Units). u.hi) made.units in
+    omega (arith, due, h, k)
+
+push_keeps : (g : Geometry) (image : Image) (staged : List ℕ) (frames : List Stored) → NoSegmentIsDue g image → AllByRecursion (IsFrameOf g) frames → IsGroup (group frames) frames → KeepsRingsAll g image (changes_of_push staged (group frames))
+push_keeps g image [] frames none sound is = ((none, frames, is, sound), λ mid made. tt)
+push_keeps g image (page ∷ staged) frames none sound is = (tt, λ mid made. ((none_due_stays g image mid (made.rings Groups) (made.rings Segments) none, frames, is, sound), λ last pushed. tt))
+
+-- All changes of a push keep the rings: a segment is saved first where one is due.
+pub pushing_keeps : (cache : FlashCache) (site : State) (groups : List (List Stored)) (pages : List ℕ) (changed : List Bool) (contents : List (List ℕ)) → held.Fits cache site → held.Holds cache site.image groups →
+    AllByRecursion (IsFrameOf cache.geometry) (frames_pushed cache site.image pages changed contents) → IsGroup (group (frames_pushed cache site.image pages changed contents)) (frames_pushed cache site.image pages changed contents) →
+    KeepsRingsAll cache.geometry site.image (changes_of_group cache site.image pages changed contents)
+pushing_keeps cache site groups pages changed contents fits holds sound is = by (is_due cache.ring.hi cache.segments.hi) refl
+  where
+    by : (due : Bool) → is_due cache.ring.hi cache.segments.hi ≡ due → KeepsRingsAll cache.geometry site.image (changes_of_save due (groups_on cache.geometry site.image) ++ changes_of_push (staged_pages cache) (group (frames_pushed cache site.image pages changed contents)))
+    by true is_true =
+        let due : SegmentIsDue cache.geometry site.image = let same = eqb-true _ _ is_true in let h = fits.hi in let k = fits.segments_hi in omega (arith, same, h, k) in
+        (record { due = due; heads = refl }, λ mid made. push_keeps cache.geometry mid (staged_pages cache) (frames_pushed cache site.image pages changed contents) (none_due_then cache.geometry site.image mid _ due made) sound is)
+    by false is_false =
+        let none : NoSegmentIsDue cache.geometry site.image =
+        let other = eqb-false _ _ is_false in let h = fits.hi in let k = fits.segments_hi in let high = holds.saved.follow.follow.high in
+        elim (cases_lt (hi_of (group_shape cache.geometry) site.image.flash) (4 * hi_of (segment_shape cache.geometry) site.image.flash + 4)) [
+          | inl less ↦ less
+          | inr more ↦ absurd (other (omega (arith, h, k, high, more)))
+        ] in
+        push_keeps cache.geometry site.image (staged_pages cache) (frames_pushed cache site.image pages changed contents) none sound is
+
+pub rings_front : (newest : Option Master) → RingsKeptUnder newest → (g : Geometry) (changes : List Change) (old new : State) → AreRingsSoundUnder newest g old.image → KeepsRingsAll g old.image changes → LeavesFront g changes old new → LeavesOnly old new (LeavesRings newest g)
 rings_front newest kept g changes old new sound all leaves =
     leaves_weaker old new (IsReached g (IsFrontOf changes) old) (LeavesRings newest g)
-    (λ s is. kept g is.changes old.image s.image sound (all_front (KeepsRings g) is.changes is.made.0 (subst (AllByRecursion (KeepsRings g)) is.made.1 all)) is.reaches) leaves
+    (λ s is. kept g is.changes old.image s.image sound (all_front g old.image is.changes is.made.0 (subst (KeepsRingsAll g old.image) is.made.1 all)) is.reaches) leaves
 
 -- a site that stays as it is
 pub stays_rings : (newest : Option Master) (g : Geometry) (site : State) → IsQuiet site → AreRingsSoundUnder newest g site.image → LeavesOnly site site (LeavesRings newest g)

@@ -6,7 +6,7 @@ use Rattle.site.specs.declared.geometry.Geometry.{Geometry}
 use Rattle.site.specs.State.{State, Snapshot, snapshot_of}
 use Rattle.site.specs.Moments.{Leaves, LeavesOnly}
 use Rattle.site.specs.Laws.{in_sequence, leaves_weaker, holds_now}
-use Rattle.image_changes.specs.Rings.{shape_of}
+use Rattle.image_changes.specs.Rings.{master_shape}
 use Rattle.log_store.specs.LogList.{LogList, sealed_if}
 use Rattle.log_store.specs.Held.{HasBlocks, LeavesLog}
 use Rattle.page_store.specs.Leaves.{LeavesPages}
@@ -58,7 +58,7 @@ more_sealed g given a b list old s more p = record {
       | inr both ↦ inr (more both.0, both.1)
     ];
   };
-  rings = p.rings;
+  masters = p.masters;
   queue = p.queue;
   clean = p.clean;
   versions = p.versions;
@@ -69,7 +69,7 @@ pub one_more_pages : (g : Geometry) (given given' : ℕ → List ℕ) (wanted b 
     → ((page : ℕ) → page < g.pages → given' page ≡ given page) → LeavesPages g given wanted list old (snapshot_of mid) → LeavesPages g given' forced (sealed_if b list) mid s → LeavesPages g given wanted list old s
 one_more_pages g given given' wanted b forced list old mid s had also once same there p = record {
   log = blocks b refl p.log;
-  rings = λ ring is_log is_flash. units_then (shape_of g ring) old.image mid.image s.image (there.rings ring is_log is_flash) (p.rings ring is_log is_flash);
+  masters = units_then master_shape old.image mid.image s.image there.masters p.masters;
   queue = p.queue;
   clean = p.clean;
   versions = λ page exists. elim (p.versions page exists) [

@@ -5,7 +5,10 @@ use Rattle.site.specs.declared.outside.Dev.TheVariants.{Log, Flash, Disk}
 use Rattle.site.specs.declared.geometry.Geometry.{Geometry}
 use Rattle.site.specs.State.{State, Image}
 use Rattle.site.specs.Calls.{Goes, IsUnchanged}
+use Rattle.sealed_ring.specs.declared.ring.Ring.{Ring}
 use Rattle.sealed_ring.specs.Ring.{FitsIn}
+use Rattle.sealed_ring.specs.Ready.{IsUsable}
+use Rattle.tail_rebuild.specs.Rebuilt.{AreRings}
 use Rattle.slotted_page.specs.Layout.{IsSound}
 use Rattle.second_chance.specs.declared.frame.Frame.{Frame as Known}
 use Rattle.second_chance.specs.Queue.{Queue, in_group, in_groups, has_frame, is_last, group_read, groups_read, with_read}
@@ -41,13 +44,26 @@ groups_same page (group ∷ later) none = by (in_group group page) refl none (gr
 pub read_same : (page : ℕ) (queue : Queue) → has_frame queue page ≡ false → with_read page queue ≡ queue
 read_same page queue none = λ i. record { first = queue.first; groups = groups_same page queue.groups none i }
 
+-- the rings may be used after any call
+ring_later : (ring : Ring) (old new : State) → Goes old new → IsUsable ring old → IsUsable ring new
+ring_later ring old new goes usable = record { fits = subst (FitsIn ring.shape) (sym (goes.sizes ring.shape.dev)) usable.fits; bounded = usable.bounded }
+
+pub rings_later : (g : Geometry) (groups segments : Ring) (old new : State) → Goes old new → AreRings g groups segments old → AreRings g groups segments new
+rings_later g groups segments old new goes rings = record {
+  groups_usable = ring_later groups old new goes rings.groups_usable;
+  segments_usable = ring_later segments old new goes rings.segments_usable;
+  groups_shape = rings.groups_shape;
+  segments_shape = rings.segments_shape;
+  low = rings.low;
+  high = rings.high;
+}
+
 -- the cache goes on after any call
 pub flash_later : (cache : FlashCache) (old new : State) → Goes old new → held.MayGoOn cache old → held.MayGoOn cache new
 flash_later cache old new goes going = record {
   limits = going.limits;
   lengths = record { log = goes.sizes Log ∙ going.lengths.log; flash = goes.sizes Flash ∙ going.lengths.flash; disk = goes.sizes Disk ∙ going.lengths.disk };
-  usable = record { fits = subst (FitsIn cache.ring.shape) (sym (goes.sizes cache.ring.shape.dev)) going.usable.fits; bounded = going.usable.bounded };
-  shape = going.shape;
+  rings = rings_later cache.geometry cache.ring cache.segments old new goes going.rings;
   next = going.next;
   few = going.few;
   sizes = going.sizes;

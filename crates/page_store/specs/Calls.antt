@@ -64,8 +64,7 @@ pub record Works {T : Type 0} (result : Result T Stop) (old new : LogStore) (pag
   pub log_reads : now.log_reads ≡ before.log_reads
   pub stops : IfErr result (λ stop. MayStop stop)
 
--- A call that reads no page in: what it reads is of the queue, what it says is never Foreign, and of pages that are
--- logged it leaves such.
+-- A call that reads no page in: what it reads is of the queue, and of pages that are logged it leaves such.
 pub record Pushes {T : Type 0} (result : Result T Stop) (old new : LogStore) (pages pages' : PageStore)
     (before now : State) (sealing : Bool) : Type 0 where
   pub works : Works result old new pages pages' before now sealing
@@ -73,7 +72,6 @@ pub record Pushes {T : Type 0} (result : Result T Stop) (old new : LogStore) (pa
       OnOk result (AreLogged (end_forced new) pages'.pool.frames)
   pub ended : pages'.ended ≡ pages.ended
   pub others : (d : Dev) → d ≢ Flash → reads_of d now ≡ reads_of d before
-  pub foreign : IfErr result (λ stop. stop ≢ Foreign)
 
 -- When a ring at its end stops a call: that of the log where the log is forced, unless memory is wanting before; that of
 -- the flash where a group is pushed, and each such push.
@@ -94,7 +92,7 @@ pub record Saves {T : Type 0} (result : Result T Stop) (log : LogStore) (pages p
       (pages'.flash.directory ≡ pushed_queue pages.flash (map chance_frame (chance_marks pages.flash) ++ map (λ f. known_of f.page true) (saved_next pages)))
   pub gives : (list : LogList) → AreReady pages log list before →
       OnOk result (Gives pages.flash.geometry (map (λ f. f.page) (saved_next pages)) (flushed_first pages) before.image now.image)
-  pub reads : now.flash_reads ≤ before.flash_reads + 8
+  pub reads : now.flash_reads ≤ before.flash_reads + 12
   pub worn_log : IsErrOf result (Worn Log) → (forces log (flushed_first pages) ≡ true) × (log.ring.hi ≡ 2 ^ 40)
   pub worn_flash : IsErrOf result (Worn Flash) → pages.flash.ring.hi ≡ 2 ^ 40
   pub worn_at : IsErrOf result (Worn Flash) → pages'.flash.ring.hi ≡ 2 ^ 40
@@ -104,9 +102,9 @@ pub record Saves {T : Type 0} (result : Result T Stop) (log : LogStore) (pages p
 pub record Flushes {T : Type 0} (result : Result T Stop) (log : LogStore) (pages pages' : PageStore)
     (before now : State) : Type 0 where
   pub machine : OnOk result (cache_of pages' ≡ flushed (rules pages) (cache_of pages))
-  pub reads : now.flash_reads ≤ before.flash_reads + 8 * changed_count (cache_of pages).pool
-  pub asked : now.flash_reads + 8 * next_group (cache_of pages) ≤
-      before.flash_reads + 8 * next_group (flushed (rules pages) (cache_of pages))
+  pub reads : now.flash_reads ≤ before.flash_reads + 12 * changed_count (cache_of pages).pool
+  pub asked : now.flash_reads + 12 * next_group (cache_of pages) ≤
+      before.flash_reads + 12 * next_group (flushed (rules pages) (cache_of pages))
   pub overflows : IsErrOf result (Worn Flash) → 2 ^ 40 < next_group (flushed (rules pages) (cache_of pages))
   pub worn_log : IsErrOf result (Worn Log) → (forces log (flushed_contents pages) ≡ true) × (log.ring.hi ≡ 2 ^ 40)
   pub worn_flash : IsErrOf result (Worn Flash) → pages'.flash.ring.hi ≡ 2 ^ 40
@@ -174,6 +172,7 @@ pub record KeepsGiven {T : Type 0} (result : Result T Stop) (log : LogStore) (pa
   pub quiet : IsQuiet before → IfErr result (λ stop. ((d : Dev) → stop ≢ Device d) → IsQuiet now)
   pub worn_log : IsErrOf result (Worn Log) → IsLogAtEnd pages.flash.geometry now.image
   pub worn : IsErrOf result (Worn Flash) → IsWorn pages.flash.geometry now.image
+  pub readable : IsErrOf result Foreign → ⊥
 
 pub record StandsGiven (log new : LogStore) (pages pages' : PageStore) (numbers : List ℕ) (changed : List Bool)
     (contents : List (List ℕ)) (before now : State) (list : LogList) (changes : List Change) : Type 0 where

@@ -1,9 +1,11 @@
 -- Which changes of an image the calls on pages make.
-use Rattle.std.specs.Prelude.{ℕ, zero, suc, ◌+◌, ◌*◌, Bool, true, not, ◌&&◌, List, [], ◌∷◌, ◌++◌, map, if◌then◌else◌}
+use Rattle.std.specs.Prelude.{ℕ, zero, suc, ◌+◌, ◌*◌, Bool, true, not, ◌&&◌, List, [], ◌∷◌, ◌++◌, map, drop, if◌then◌else◌}
 use Rattle.std.specs.List.{list_any}
+use Rattle.image_changes.specs.Rings.{group_shape, units_on}
 use Rattle.image_changes.specs.Changes.{Change}
-use Rattle.frame_group.specs.Groups.{Frame as Stored, group}
-use Rattle.flash_cache.specs.Pushed.{staged_pages, chance_given, frames_pushed, changes_of_push}
+use Rattle.frame_group.specs.Groups.{Frame as Stored, group, frames_in}
+use Rattle.tail_rebuild.specs.Saving.{is_due, changes_of_save}
+use Rattle.flash_cache.specs.Pushed.{chance_given, changes_of_push, changes_of_group}
 use Rattle.flash_cache.specs.Held.{version_on}
 use Rattle.site.specs.State.{Image}
 use Rattle.buffer_pool.specs.declared.frame.Frame.{Frame}
@@ -23,13 +25,16 @@ use Rattle.page_store.specs.Pulling.{evicted_frames}
 use Rattle.page_store.specs.Flushing.{chosen, cleared_all}
 
 -- What the changes of a push depend on: whether the log has a tail, the number of its next block, its records, the queue on a flash of
--- so many groups, the pool, and the pages' versions.
+-- so many groups, the contents of its groups, the numbers of the next group and of the next segment, the pool, and the pages' versions.
 pub record Standing : Type 0 where
   pub tail : Bool
   pub next : ℕ
   pub list : LogList
   pub groups : ℕ
   pub queue : Queue
+  pub live : List (List ℕ)
+  pub next_group : ℕ
+  pub next_segment : ℕ
   pub frames : List Frame
   pub versions : ℕ → List ℕ
 
@@ -40,6 +45,9 @@ standing log list store image = record {
   list = list;
   groups = store.flash.geometry.groups;
   queue = store.flash.directory;
+  live = (units_on (group_shape store.flash.geometry) image).live;
+  next_group = store.flash.ring.hi;
+  next_segment = store.flash.segments.hi;
   frames = store.pool.frames;
   versions = version_on store.flash.geometry image;
 }
@@ -58,20 +66,30 @@ staged_at s = map (λ f. f.1.page) (staged_of chances_given (leaving (rules_of 0
 abbrev pub chances_at : Standing → List Placed
 chances_at s = chances_of chances_given (leaving (rules_of 0 s.groups) s.queue)
 
+-- whether a segment is saved first, and its change
+abbrev pub is_due_at : Standing → Bool
+is_due_at s = is_due s.next_group s.next_segment
+
+abbrev pub save_changes : Standing → List Change
+save_changes s = changes_of_save (is_due_at s) (map frames_in s.live)
+
 -- a page of the pool as a frame of a group, dirty where it is changed
 abbrev pub stored : Frame → Stored
 stored frame = record { page = frame.page; dirty = frame.changed; octets = frame.content }
 
--- The changes of a push of these pages: the tail is sealed where the log is forced, the staged pages are rewritten if there are any,
--- and a group with the second chances and these pages is appended.
+-- the content of the group that is pushed with these pages: the second chances and these
+abbrev pub group_at : Standing → List Frame → List ℕ
+group_at s frames = group (map (chance_given s.versions) (chances_at s) ++ map stored frames)
+
+-- The changes of a push of these pages: the tail is sealed where the log is forced, a segment is saved where one is due, the staged pages
+-- are rewritten if there are any, and the group is appended.
 abbrev pub push_changes : Standing → List Frame → List Change
 push_changes s frames =
-    changes_if (is_forced s frames) s.list ++ changes_of_push (staged_at s) (group (map (chance_given s.versions) (chances_at s) ++ map stored frames))
+    changes_if (is_forced s frames) s.list ++ (save_changes s ++ changes_of_push (staged_at s) (group_at s frames))
 
 -- the same of pages that are given with their marks and contents
 abbrev pub given_changes : LogStore → LogList → PageStore → Image → List ℕ → List Bool → List (List ℕ) → List Change
-given_changes log list store image pages changed contents =
-    changes_if (forces log contents) list ++ changes_of_push (staged_pages store.flash) (group (frames_pushed store.flash image pages changed contents))
+given_changes log list store image pages changed contents = changes_if (forces log contents) list ++ changes_of_group store.flash image pages changed contents
 
 -- A touch.
 
@@ -99,8 +117,8 @@ cache_at s = record { pool = map pool_page s.frames; queue = s.queue }
 abbrev pub next_saved : Standing → List Frame
 next_saved s = chosen (rules_of 0 s.groups) s.queue s.frames
 
--- Behind a push of the coldest changed pages: where the log was forced it has one block more and no tail, the queue has the group, the
--- pages count as unchanged, and what they have are their versions.
+-- Behind a push of the coldest changed pages: where the log was forced it has one block more and no tail, the queue has the group, there is
+-- one segment more where one was due, the pages count as unchanged, and what they have are their versions.
 abbrev pub after_push : Standing → Standing
 after_push s = record {
   tail = s.tail && not (is_forced s (next_saved s));
@@ -108,6 +126,9 @@ after_push s = record {
   list = sealed_if (is_forced s (next_saved s)) s.list;
   groups = s.groups;
   queue = pushed (queue_is_full (rules_of 0 s.groups) s.queue) (map chance_frame (chances_at s) ++ map (λ f. known_of f.page true) (next_saved s)) s.queue;
+  live = (if queue_is_full (rules_of 0 s.groups) s.queue then drop 1 s.live else s.live) ++ group_at s (next_saved s) ∷ [];
+  next_group = s.next_group + 1;
+  next_segment = if is_due_at s then s.next_segment + 1 else s.next_segment;
   frames = cleared_all (map (λ f. f.page) (next_saved s)) s.frames;
   versions = λ page. content_by (frame_of (next_saved s) page) (s.versions page);
 }

@@ -1,10 +1,10 @@
 -- What a call on pages leaves.
-use Rattle.std.specs.Prelude.{◌≡◌, ◌≢◌, ◌⊎◌, ℕ, ◌<◌, Bool, true, false, List, length, [], ◌∷◌, Some, slice_index, slice_index_or, Contains, Option}
+use Rattle.std.specs.Prelude.{◌≡◌, ◌⊎◌, ℕ, ◌<◌, Bool, true, false, List, length, [], ◌∷◌, Some, slice_index, slice_index_or, Contains, Option}
 use Rattle.site.specs.declared.geometry.Geometry.{Geometry}
 use Rattle.site.specs.State.{State, Image, Snapshot}
-use Rattle.image_changes.specs.Rings.{RingName, Blocks, Groups, shape_of, KeepsUnits}
+use Rattle.image_changes.specs.Rings.{master_shape, KeepsUnits}
 use Rattle.frame_group.specs.Groups.{Frame as Stored}
-use Rattle.flash_cache.specs.Held.{HasGroups, version_on, IsCleanOn}
+use Rattle.flash_cache.specs.Held.{HasGroups, AreSaved, version_on, IsCleanOn}
 use Rattle.buffer_pool.specs.declared.frame.Frame.{Frame}
 use Rattle.buffer_pool.specs.Frames.{frame_of, front_of}
 use Rattle.log_store.specs.declared.store.LogStore.{LogStore}
@@ -22,18 +22,19 @@ pub record AreReady (store : PageStore) (log : LogStore) (list : LogList) (site 
   pub blocks : log_held.Finds log site
   pub records : log_held.Holds log site.image list
 
--- the queue on the flash of an image is of the form
+-- the queue on the flash of an image is of the form, and segments follow it
 pub record HasQueue (g : Geometry) (image : Image) : Type 0 where
   pub first : ℕ
   pub groups : List (List Stored)
   pub has : HasGroups g first groups image
+  pub saved : AreSaved g groups image
 
--- Nothing was told. The log has its sealed blocks, or its tail as one more where that is to be sealed, and the rings of masters and
--- segments are as before. The queue is of the form, clean frames are as on the disk, and each page's version is the one from before,
--- or has this content.
+-- Nothing was told. The log has its sealed blocks, or its tail as one more where that is to be sealed, and the ring of masters is as before.
+-- The queue is of the form, segments follow it, clean frames are as on the disk, and each page's version is the one from before, or has this
+-- content.
 pub record LeavesPages (g : Geometry) (contents : ℕ → List ℕ) (sealing : Bool) (list : LogList) (old : State) (snapshot : Snapshot) : Type 0 where
   pub log : LeavesLog g sealing list old.told snapshot
-  pub rings : (ring : RingName) → ring ≢ Blocks → ring ≢ Groups → KeepsUnits (shape_of g ring) old.image snapshot.image
+  pub masters : KeepsUnits master_shape old.image snapshot.image
   pub queue : HasQueue g snapshot.image
   pub clean : IsCleanOn g snapshot.image
   pub versions : (page : ℕ) → page < g.pages → (version_on g snapshot.image page ≡ version_on g old.image page) ⊎ (version_on g snapshot.image page ≡ contents page)

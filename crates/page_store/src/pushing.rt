@@ -110,7 +110,7 @@ impl PageStore {
         ensures pool { self.new.pool ≡ self.old.pool }
         ensures directory { OnOk result (self.new.flash.directory
             ≡ pushed_queue self.old.flash (known_pushed self.old.flash pages.now changed.now)) }
-        ensures reads { (S.state site.new).flash_reads ≤ (S.state site.old).flash_reads + 8 }
+        ensures reads { (S.state site.new).flash_reads ≤ (S.state site.old).flash_reads + 12 }
     {
         stays_beside();
         ring_kept();
@@ -147,7 +147,7 @@ impl PageStore {
         ensures absent { (page : ℕ) → frame_of self.old.pool.frames page ≡ None
             → frame_of self.new.pool.frames page ≡ None }
         ensures reads { (S.state site.new).flash_reads ≤ (S.state site.old).flash_reads
-            + (if is_pushed (cache_of self.old) then 8 else 0) }
+            + (if is_pushed (cache_of self.old) then 12 else 0) }
     {
         frames_of_pages();
         unframed_is_disk();
@@ -196,7 +196,7 @@ impl PageStore {
         ensures absent { (page : ℕ) → frame_of self.old.pool.frames page ≡ None
             → frame_of self.new.pool.frames page ≡ None }
         ensures reads { (S.state site.new).flash_reads ≤ (S.state site.old).flash_reads
-            + (if (is_full self.old && is_pushed (cache_of self.old)) then 8 else 0) }
+            + (if (is_full self.old && is_pushed (cache_of self.old)) then 12 else 0) }
     {
         if !self.pool.is_full() {
             return Ok(());

@@ -141,7 +141,7 @@ impl PageStore {
         ensures front { OnOk result ((front_of self.new.pool.frames).page ≡ page) }
         ensures there { OnOk result (0 < length self.new.pool.frames) }
         ensures flash_reads { (S.state site.new).flash_reads ≤ (S.state site.old).flash_reads
-            + (if (is_full self.old && is_pushed (cache_of self.old)) then 8 else 0)
+            + (if (is_full self.old && is_pushed (cache_of self.old)) then 12 else 0)
             + (if has_frame (with_way self.old).queue page then 1 else 0) }
         ensures disk_reads { (S.state site.new).disk_reads ≤ (S.state site.old).disk_reads
             + (if has_frame (with_way self.old).queue page then 0 else 1) }

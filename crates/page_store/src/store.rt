@@ -8,7 +8,7 @@ ghost use Rattle.site.specs.Calls.{Goes, FaultRose, IsUnchanged};
 ghost use Rattle.site.specs.Faults.{WorkFaults};
 ghost use Rattle.slotted_page.specs.Layout.{lsn_of, slots_of, content_length, IsSound, Fits as FitsPage};
 ghost use Rattle.frame_group.specs.Groups.{Frame as Stored};
-ghost use Rattle.flash_cache.specs.Held.{HasGroups, version_on, IsCleanOn, queue_of};
+ghost use Rattle.flash_cache.specs.Held.{HasGroups, AreSaved, version_on, IsCleanOn, queue_of, start_reads};
 ghost use Rattle.second_chance.specs.Machine.{touched, holds, finds, misses, wants_flush};
 ghost use Rattle.buffer_pool.specs.Frames.{front_of, ChangesFront};
 ghost use Rattle.log_store.specs.LogList.{LogList};
@@ -40,7 +40,8 @@ pub struct PageStore {
 }
 
 impl PageStore {
-    /// The pages of a site, with an empty pool of so many pages, 1 to 4,096, and the queue that stands on the flash.
+    /// The pages of a site, with an empty pool of so many pages, 1 to 4,096, and the queue that stands on the flash, found by its
+    /// segments.
     pub fn start<S: Site>(
         alloc: Global,
         site: &mut S,
@@ -59,10 +60,12 @@ impl PageStore {
         ensures ended { IfOk result (λ store. store.ended ≡ false) }
         ensures machine { IsTrue (S.state site.old).honest → (first : ℕ) (groups : List (List Stored))
             → HasGroups geometry.now first groups (S.state site.old).image
+            → AreSaved geometry.now groups (S.state site.old).image
             → IfOk result (λ store. cache_of store ≡ record { pool = []; queue = queue_of first groups }) }
         ensures fits { IsTrue (S.state site.old).honest
             → (first : ℕ) (groups : List (List Stored))
             → HasGroups geometry.now first groups (S.state site.old).image
+            → AreSaved geometry.now groups (S.state site.old).image
             → IsCleanOn geometry.now (S.state site.old).image
             → ((page : ℕ) → page < geometry.now.pages
             → IsSound (version_on geometry.now (S.state site.old).image page))
@@ -72,7 +75,7 @@ impl PageStore {
         ensures goes { Goes (S.state site.old) (S.state site.new) }
         ensures faults { WorkFaults result (S.state site.old) (S.state site.new) }
         ensures reads { (S.state site.new).flash_reads
-            ≤ (S.state site.old).flash_reads + 2 * geometry.now.groups }
+            ≤ (S.state site.old).flash_reads + start_reads geometry.now }
         ensures others { (d : Dev) → d ≢ Dev.Flash
             → reads_of d (S.state site.new) ≡ reads_of d (S.state site.old) }
 
@@ -81,7 +84,8 @@ impl PageStore {
             → FaultRose Dev.Flash (S.state site.old) (S.state site.new) }
         ensures foreign { IsErrOf result Stop.Foreign → IsTrue (S.state site.old).honest
             → (first : ℕ) (groups : List (List Stored))
-            → HasGroups geometry.now first groups (S.state site.old).image → ⊥ }
+            → HasGroups geometry.now first groups (S.state site.old).image
+            → AreSaved geometry.now groups (S.state site.old).image → ⊥ }
         ensures stops { IfErr result (λ stop. (stop ≡ Stop.Device Dev.Flash)
             ⊎ ((stop ≡ Stop.Memory) ⊎ (stop ≡ Stop.Foreign))) }
     {
@@ -198,7 +202,7 @@ impl PageStore {
         ensures ended { OnOk result (self.new.ended ≡ self.old.ended) }
         ensures err { OnErr result (self.new.ended ≡ true) }
         ensures flash_reads { (S.state site.new).flash_reads ≤ (S.state site.old).flash_reads
-            + (if pushes (rules self.old) page (cache_of self.old) then 8 else 0)
+            + (if pushes (rules self.old) page (cache_of self.old) then 12 else 0)
             + (if finds (rules self.old) page (cache_of self.old) then 1 else 0) }
         ensures disk_reads { (S.state site.new).disk_reads ≤ (S.state site.old).disk_reads
             + (if misses (rules self.old) page (cache_of self.old) then 1 else 0) }
@@ -237,7 +241,6 @@ impl PageStore {
         ensures err { OnErr result (self.new.ended ≡ true) }
         ensures others { (d : Dev) → d ≢ Dev.Flash
             → reads_of d (S.state site.new) ≡ reads_of d (S.state site.old) }
-        ensures foreign { IfErr result (λ stop. stop ≢ Stop.Foreign) }
         ensures never_past_log { forces log.old (flushed_contents self.old) ≡ true → log.old.ring.hi ≡ 2 ^ 40
             → OnOk result ⊥ }
     {

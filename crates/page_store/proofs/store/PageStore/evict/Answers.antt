@@ -76,7 +76,6 @@ returns-then-not-must_be_pushed-clause-pushes g c =
       logged = rest_logged store rest last is one (end_forced c.args.log.now);
       ended = refl;
       others = λ d other. refl;
-      foreign = search rules;
     }
 
 -- it is
@@ -157,7 +156,7 @@ returns-in-Ok-clause-keeps g c list ready =
     let kept = c.take_with.ensures.kept in
     let there = subst (λ (s : PageStore). AreReady s log list old) (sym kept) (d.ready log list old ready) in
     keeps_as (d.forced log) (d.changes log list old.image)
-    (keeps_given {pool = c.take_with.new.self.pool} (d.own log old ready.pages) c.push.ensures.pushes.foreign
+    (keeps_given {pool = c.take_with.new.self.pool} (d.own log old ready.pages)
     (subst (λ (s : PageStore). KeepsGiven c.push.result log s pages changed contents old new list (given_changes log list s old.image pages changed contents)) kept (c.push.ensures.keeps list there)))
 
 pub returns-in-Ok-clause-stands : goal.returns-in-Ok-clause-stands
@@ -220,7 +219,6 @@ returns-in-Ok-clause-pushes g c =
       logged = λ all. push.logged (logged_left (end_forced log) store rest last c.take_with.new.self.pool is c.take_with.ensures.part all);
       ended = push.ended;
       others = push.others;
-      foreign = push.foreign;
     })
 
 pub returns-in-Ok-clause-machine : goal.returns-in-Ok-clause-machine
@@ -287,7 +285,6 @@ returns-in-Err-clause-pushes g c =
       logged = λ all. tt;
       ended = ap (λ (s : PageStore). s.ended) kept;
       others = λ d other. refl;
-      foreign = search rules;
     }
 
 pub returns-in-Err-clause-worn : goal.returns-in-Err-clause-worn

@@ -5,7 +5,7 @@ use Rattle.site.specs.State.{IsQuiet, snapshot_of}
 use Rattle.site.specs.Moments.{Leaves, LeavesOnly}
 use Rattle.site.specs.Laws.{leaves_weaker, in_sequence, quiet_settled, holds_now}
 use Rattle.log_store.specs.LogList.{sealed_if, changes_if}
-use Rattle.flash_cache.specs.Pushed.{staged_pages, pushed_groups, frames_pushed, changes_of_push}
+use Rattle.flash_cache.specs.Pushed.{pushed_groups, frames_pushed, changes_of_group}
 use Rattle.slotted_page.specs.Layout.{IsSound}
 use Rattle.flash_cache.specs.Kept.{GivesVersions}
 use Rattle.log_store.specs.Held.{HasBlocks, LeavesLog}
@@ -18,8 +18,7 @@ use Rattle.page_store.specs.Leaves.{LeavesPages, LeavesRings}
 use Rattle.page_store.specs.Stopping.{IsLogAtEnd}
 use Rattle.second_chance.specs.Queue.{Queue}
 use Rattle.page_store.proofs.Rings.{sealing_keeps, sound_pushed, pushing_keeps, rings_front}
-use Rattle.page_store.proofs.PushLaws.{version_same, frames_since, kept_where, rings_kept, own_sealing, force_leaves, force_sealed, between, Pushed, pushed, pushed_now, pushed_pages, push_leaves, pushed_sealed, reached_all, clean_given_same, gives_since, ok_under, ok_six, fits_behind, log_fits, log_found, log_units_same}
-use Rattle.frame_group.specs.Groups.{Frame as Stored, group}
+use Rattle.page_store.proofs.PushLaws.{version_same, group_changes_since, kept_where, masters_kept, own_sealing, force_leaves, force_sealed, between, Pushed, pushed, pushed_now, pushed_pages, push_leaves, pushed_sealed, reached_all, clean_given_same, gives_since, ok_under, ok_six, fits_behind, log_fits, log_found, log_units_same}
 use Rattle.page_store.specs.Changing.{given_changes}
 use Rattle.page_store.proofs.Changing.{front_more}
 use Rattle.page_store.proofs.store.PageStore.push.Goals as goal
@@ -45,7 +44,6 @@ returns-in-Err-clause-pushes g c = record {
   logged = search rules;
   ended = search rules;
   others = search rules;
-  foreign = search rules;
 }
 
 pub returns-in-Ok-clause-pushes : goal.returns-in-Ok-clause-pushes
@@ -63,7 +61,6 @@ returns-in-Ok-clause-pushes g c = record {
   logged = search rules;
   ended = search rules;
   others = search rules;
-  foreign = search rules;
 }
 
 pub returns-in-Err-clause-keeps : goal.returns-in-Err-clause-keeps
@@ -81,14 +78,15 @@ returns-in-Err-clause-keeps g c list ready =
     let front = λ (quiet : IsQuiet old). subst (λ (k : Geometry). LeavesFront k first old mid) sizes (c.force_for.ensures.front list (fits quiet) ready.records quiet) in
     record {
       any_moment = λ given quiet are clean. force_leaves h sealing list old mid (leaves quiet) changes quiet c.ring_kept.ensures (front quiet)
-          (record { first = store.flash.directory.first; groups = ready.pages.groups; has = ready.pages.holds.has }) given ready.pages.clean;
+          (record { first = store.flash.directory.first; groups = ready.pages.groups; has = ready.pages.holds.has; saved = ready.pages.holds.saved }) given ready.pages.clean;
       ahead_moment = λ quiet sealed logged. force_sealed h sealing list old mid (leaves quiet) changes quiet
           (subst (λ (k : Geometry). HasBlocks k list.first list.blocks old.image) sizes ready.records.blocks) sealed;
-      rings_moment = λ newest quiet rings sound. rings_front newest (c.rings_kept_under.ensures newest) h first old mid rings (sealing_keeps h sealing list) (front quiet);
-      front_moment = λ quiet. front_more h first (changes_of_push (staged_pages store.flash) (group (frames_pushed store.flash old.image c.args.pages.now c.args.changed.now c.args.contents.now))) old mid (front quiet);
+      rings_moment = λ newest quiet rings sound. rings_front newest (c.rings_kept_under.ensures newest) h first old mid rings (sealing_keeps h old.image sealing list) (front quiet);
+      front_moment = λ quiet. front_more h first (changes_of_group store.flash old.image c.args.pages.now c.args.changed.now c.args.contents.now) old mid (front quiet);
       quiet = c.in-Err.ensures.quiet_err ready.blocks.honest;
       worn_log = λ says. subst (λ (k : Geometry). IsLogAtEnd k mid.image) sizes (c.in-Err.ensures.worn_end ready.blocks says);
       worn = search rules;
+      readable = search rules;
     }
 
 pub returns-in-Ok-clause-keeps : goal.returns-in-Ok-clause-keeps
@@ -104,14 +102,14 @@ returns-in-Ok-clause-keeps g c list ready =
     let contents = c.args.contents.now in
     let sealing : Bool = forces c.args.log.now contents in
     let first : List Change = changes_if sealing list in
-    let second : List Change = changes_of_push (staged_pages store.flash) (group (frames_pushed store.flash mid.image pages changed contents)) in
+    let second : List Change = changes_of_group store.flash mid.image pages changed contents in
     let sizes = c.requires.going.sizes in
     let groups = ready.pages.groups in
     let changes = c.force_for.ensures.changes ready.blocks.honest in
     let still = c.in-Ok.ensures.calls.stays_quiet ready.blocks.honest in
     let b = between store c.args.log.now log' sealing list old mid ready changes c.force_for.ensures.calls.goes (c.in-Ok.ensures.finds ready.blocks) (c.in-Ok.ensures.holds list ready.blocks ready.records) in
     let has = c.push_group.ensures.frames groups b.fits b.holds in
-    let same = frames_since store.flash pages changed contents old.image mid.image b.flash b.disk in
+    let same = group_changes_since store.flash pages changed contents old.image mid.image b.flash b.disk in
     let versions_sound = λ (page : ℕ) (exists : page < h.pages). subst IsSound (sym (version_same h old.image mid.image page b.flash b.disk)) (ready.pages.sound page exists) in
     let fits = λ (quiet : IsQuiet old). log_fits c.args.log.now old quiet ready.blocks in
     let leaves = λ (quiet : IsQuiet old). subst (λ (k : Geometry). LeavesOnly old mid (LeavesLog k sealing list old.told)) sizes (c.force_for.ensures.any_moment list (fits quiet) ready.records) in
@@ -121,10 +119,10 @@ returns-in-Ok-clause-keeps g c list ready =
     let untouched = (c.push_group.ensures.changes b.honest).log in
     record {
       any_moment = λ given quiet are clean.
-          let before = force_leaves h sealing list old mid (leaves quiet) changes quiet c.ring_kept.ensures (front quiet) (record { first = store.flash.directory.first; groups = groups; has = ready.pages.holds.has }) given ready.pages.clean in
+          let before = force_leaves h sealing list old mid (leaves quiet) changes quiet c.ring_kept.ensures (front quiet) (record { first = store.flash.directory.first; groups = groups; has = ready.pages.holds.has; saved = ready.pages.holds.saved }) given ready.pages.clean in
           in_sequence old mid new (Leaves (LeavesPages h given sealing list old)) before
-          (push_leaves store.flash groups pages changed contents old mid new b.flash b.disk b.told c.ring_kept.ensures _ _ (quiet_settled Log mid (still quiet)) (versions quiet) untouched (pushing quiet)
-          (holds_now old mid (LeavesPages h given sealing list old) before).rings given sealing list are
+          (push_leaves store.flash groups pages changed contents old mid new b.flash b.disk b.told c.ring_kept.ensures (quiet_settled Log mid (still quiet)) (versions quiet) untouched (pushing quiet)
+          (holds_now old mid (LeavesPages h given sealing list old) before).masters given sealing list are
           (subst (λ (k : Geometry). HasBlocks k (sealed_if sealing list).first (sealed_if sealing list).blocks mid.image) (c.force_for.ensures.forces.geometry ∙ sizes) b.log_holds.blocks)
           (c.push_group.ensures.clean_moment groups b.fits b.holds (still quiet) b.clean (clean_given_same store.flash pages changed contents old.image mid.image b.disk clean)));
       ahead_moment = λ quiet sealed logged.
@@ -138,14 +136,15 @@ returns-in-Ok-clause-keeps g c list ready =
           (pushed_sealed store.flash groups pages changed contents old mid new b.flash b.disk b.told (512 * log'.ring.hi) end (omega (arith, at_first, more)) c.requires.lists (c.in-Ok.ensures.sealed logged) sealed)
           (pushed store.flash groups pages changed contents old mid new b.flash b.disk b.told (quiet_settled Log mid (still quiet)) (versions quiet) untouched));
       rings_moment = λ newest quiet rings sound.
-          let before = rings_front newest (c.rings_kept_under.ensures newest) h first old mid rings (sealing_keeps h sealing list) (front quiet) in
+          let before = rings_front newest (c.rings_kept_under.ensures newest) h first old mid rings (sealing_keeps h old.image sealing list) (front quiet) in
           in_sequence old mid new (Leaves (LeavesRings newest h)) before
-          (rings_front newest (c.rings_kept_under.ensures newest) h _ mid new (holds_now old mid (LeavesRings newest h) before) (pushing_keeps h (staged_pages store.flash) _ (sound_pushed store.flash mid.image pages changed contents versions_sound sound has.exist) has.is_group) (pushing quiet));
-      front_moment = λ quiet. subst (λ (l : List Stored). LeavesFront h (first ++ changes_of_push (staged_pages store.flash) (group l)) old new) same (c.fronts_add_up.ensures h first second old mid new (front quiet)
+          (rings_front newest (c.rings_kept_under.ensures newest) h _ mid new (holds_now old mid (LeavesRings newest h) before) (pushing_keeps store.flash mid groups pages changed contents b.fits b.holds (sound_pushed store.flash mid.image pages changed contents versions_sound sound has.exist) has.is_group) (pushing quiet));
+      front_moment = λ quiet. subst (λ (l : List Change). LeavesFront h (first ++ l) old new) same (c.fronts_add_up.ensures h first second old mid new (front quiet)
           (subst (λ (k : Geometry). Reaches k first old.image mid.image) sizes (c.in-Ok.ensures.reaches list ready.blocks ready.records)) b.told (pushing quiet));
       quiet = λ quiet. c.push_group.ensures.quiet_err b.honest (still quiet);
       worn_log = search rules;
-      worn = c.push_group.ensures.worn_end b.fits;
+      worn = c.push_group.ensures.worn_end groups b.fits b.holds;
+      readable = c.push_group.ensures.foreign groups b.fits b.holds;
     }
 
 -- what stands behind the push, whatever is loose
@@ -164,7 +163,7 @@ returns-in-Ok-clause-stands g c list ready =
     let contents = c.args.contents.now in
     let sealing : Bool = forces log contents in
     let first : List Change = changes_if sealing list in
-    let second : List Change = changes_of_push (staged_pages store.flash) (group (frames_pushed store.flash mid.image pages changed contents)) in
+    let second : List Change = changes_of_group store.flash mid.image pages changed contents in
     let sizes = c.requires.going.sizes in
     let groups = ready.pages.groups in
     let b = between store log log' sealing list old mid ready (c.force_for.ensures.changes ready.blocks.honest) c.force_for.ensures.calls.goes (c.in-Ok.ensures.finds ready.blocks) (c.in-Ok.ensures.holds list ready.blocks ready.records) in
@@ -173,7 +172,7 @@ returns-in-Ok-clause-stands g c list ready =
     let sealed_by = subst (λ (k : Geometry). Reaches k first old.image mid.image) sizes (c.in-Ok.ensures.reaches list ready.blocks ready.records) in
     let cleaned = clean_given_same store.flash pages changed contents old.image mid.image b.disk in
     let has = c.push_group.ensures.frames groups b.fits b.holds in
-    let same = frames_since store.flash pages changed contents old.image mid.image b.flash b.disk in
+    let same = group_changes_since store.flash pages changed contents old.image mid.image b.flash b.disk in
     let versions_sound = λ (page : ℕ) (exists : page < h.pages). subst IsSound (sym (version_same h old.image mid.image page b.flash b.disk)) (ready.pages.sound page exists) in
     ok_six c.push_group.result _ _ _ _ _ _ (StandsGiven log log' store store' pages changed contents old new list (given_changes log list store old.image pages changed contents))
     (λ queue is reaches clean fits holds.
@@ -182,9 +181,9 @@ returns-in-Ok-clause-stands g c list ready =
     (subst (λ (q : Queue). GivesVersions h q.first (pushed_groups store.flash groups (frames_pushed store.flash mid.image pages changed contents)) pages contents mid.image new.image) queue is) in
     record {
       gives = gives;
-      reaches = subst (λ (l : List Stored). Reaches h (first ++ changes_of_push (staged_pages store.flash) (group l)) old.image new.image) same (c.changes_add_up.ensures h first second old.image mid.image new.image sealed_by reaches);
-      leaves = λ given are given_clean. pushed_pages store.flash groups pages changed contents old mid new b.flash b.disk b.told c.ring_kept.ensures _ _
-          (rings_kept c.ring_kept.ensures h first old (snapshot_of mid) (own_sealing sealing list) (reached_all h first old mid b.told sealed_by)) given sealing list are
+      reaches = subst (λ (l : List Change). Reaches h (first ++ l) old.image new.image) same (c.changes_add_up.ensures h first second old.image mid.image new.image sealed_by reaches);
+      leaves = λ given are given_clean. pushed_pages store.flash groups pages changed contents old mid new b.flash b.disk b.told c.ring_kept.ensures
+          (masters_kept c.ring_kept.ensures h first old (snapshot_of mid) (own_sealing sealing list) (reached_all h first old mid b.told sealed_by)) given sealing list are
           (subst (λ (k : Geometry). HasBlocks k (sealed_if sealing list).first (sealed_if sealing list).blocks mid.image) (c.force_for.ensures.forces.geometry ∙ sizes) b.log_holds.blocks)
           (snapshot_of new) now (clean (cleaned given_clean)) (reached_all h _ mid new own.told reaches);
       sealed = λ sealed logged.
@@ -194,8 +193,8 @@ returns-in-Ok-clause-stands g c list ready =
           let more = c.force_for.ensures.forces.rises in
           pushed_sealed store.flash groups pages changed contents old mid new b.flash b.disk b.told (512 * log'.ring.hi) end (omega (arith, at_first, more)) c.requires.lists (c.in-Ok.ensures.sealed logged) sealed (snapshot_of new) now;
       rings = λ newest rings sound.
-          (c.rings_kept_under.ensures newest) h _ mid.image new.image ((c.rings_kept_under.ensures newest) h first old.image mid.image rings (sealing_keeps h sealing list) sealed_by)
-          (pushing_keeps h (staged_pages store.flash) _ (sound_pushed store.flash mid.image pages changed contents versions_sound sound has.exist) has.is_group) reaches;
+          (c.rings_kept_under.ensures newest) h _ mid.image new.image ((c.rings_kept_under.ensures newest) h first old.image mid.image rings (sealing_keeps h old.image sealing list) sealed_by)
+          (pushing_keeps store.flash mid groups pages changed contents b.fits b.holds (sound_pushed store.flash mid.image pages changed contents versions_sound sound has.exist) has.is_group) reaches;
       ready = λ given_clean sound marked. record {
         pages = fits_behind store c.push_group.new.self log list old ready c.push_group.ensures.geometry pages contents new _ fits holds (clean (cleaned given_clean)) gives c.requires.lists sound marked;
         blocks = log_found log' mid new units c.push_group.ensures.goes b.log_fits;
@@ -203,7 +202,7 @@ returns-in-Ok-clause-stands g c list ready =
       };
     })
     c.push_group.ensures.directory (c.push_group.ensures.gives groups b.fits b.holds b.clean) (c.push_group.ensures.reaches groups b.fits b.holds)
-    (ok_under c.push_group.result _ _ (c.push_group.ensures.clean groups b.fits b.holds b.clean)) (c.push_group.ensures.fits b.fits) (c.push_group.ensures.holds groups b.fits b.holds)
+    (ok_under c.push_group.result _ _ (c.push_group.ensures.clean groups b.fits b.holds b.clean)) (c.push_group.ensures.fits groups b.fits b.holds) (c.push_group.ensures.holds groups b.fits b.holds)
 
 pub returns-in-Ok-clause-worn_at : goal.returns-in-Ok-clause-worn_at
 returns-in-Ok-clause-worn_at g c says =

@@ -19,6 +19,7 @@ use Rattle.page_store.proofs.Left.{some_left, none_left, front_pages, back_pages
 use Rattle.page_store.proofs.Unsealed.{next_round, nothing_forced, forced_by_first, or_first, or_second}
 use Rattle.page_store.proofs.Numbers.{changed_next, flushed_next, flushed_more}
 use Rattle.page_store.proofs.Rounds.{kept_block, no_tail, risen, sealed_again, and_left, not_forced}
+use Rattle.page_store.proofs.Appending.{has_pushed}
 use Rattle.page_store.proofs.Changing.{HasMade, gives_versions, standing_after, none_to_come, one_to_come}
 use Rattle.page_store.proofs.Calling.{forces_nothing, pushes_as, pushes_then, pushes_failed, keeps_as, keeps_still, keeps_nothing, keeps_then, keeps_more, stands_as, stands_still, stands_then}
 use Rattle.page_store.proofs.store.PageStore.push_all_changed.Goals as goal
@@ -46,7 +47,6 @@ loop-rest-init g c =
         logged = λ all. all;
         ended = refl;
         others = λ d other. refl;
-        foreign = tt;
       };
       so_far = λ list ready. record {
         made = [];
@@ -195,7 +195,8 @@ loop-rest-preserved g c =
             has = one_to_come (flush_changes log0 list first old.image) so_far.made (standing log list' store mid.image) (changed_count (cache_of store).pool) so_far.has wants (changed_count (cache_of store').pool) (omega (arith, saves, count))
                 (standing log' (sealed_if (nat_lt log0.ring.hi log'.ring.hi) list) store' new.image)
                 (standing_after log log' list' (sealed_if (nat_lt log0.ring.hi log'.ring.hi) list) store store' mid.image new.image _ refl push.works.forces.next push.works.forces.end
-                (sym (sealed_again list b forced once ∙ ap (λ (t : Bool). sealed_if t list) (sym now))) push.works.geometry save.directory save.frames
+                (sym (sealed_again list b forced once ∙ ap (λ (t : Bool). sealed_if t list) (sym now))) push.works.geometry
+                (has_pushed log list' store store' mid new so_far.stands.ready stands.ready.pages.flash push.works.geometry inv.going.pages_going.flash.next inv.going.pages_going.flash.limits inv.going.pages_going.flash.few (saved_next store) stands.reaches) save.directory save.frames
                 (gives_versions store.flash.geometry (saved_next store) mid.image new.image (save.gives list' so_far.stands.ready)));
             keeps = keeps_as (sym now) refl (keeps_then c.fronts_add_up.ensures once works.geometry (works.calls.stays_quiet ready.blocks.honest) so_far.stands so_far.keeps (c.in_default.ensures.keeps list' so_far.stands.ready));
             stands = stands_as (sym now) refl (stands_then c.changes_add_up.ensures once works.geometry so_far.stands stands);

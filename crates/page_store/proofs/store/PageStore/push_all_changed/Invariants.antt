@@ -25,8 +25,8 @@ invariant-loop-rest g l =
       forced : forces l.fn.log (flushed_contents first) ≡ (nat_lt l.fn.log.ring.hi l.log.ring.hi || forces l.log (flushed_contents l.self));
       untouched : wants_flush (cache_of first) ≡ true → first.flash.ring.hi ≡ 2 ^ 40 → l.self ≡ first;
       machine : flushed (rules first) (cache_of first) ≡ flushed (rules first) (cache_of l.self);
-      reads : now.flash_reads + 8 * changed_count (cache_of l.self).pool ≤ old.flash_reads + 8 * changed_count (cache_of first).pool;
-      asked : now.flash_reads + 8 * next_group (cache_of first) ≤ old.flash_reads + 8 * next_group (cache_of l.self);
+      reads : now.flash_reads + 12 * changed_count (cache_of l.self).pool ≤ old.flash_reads + 12 * changed_count (cache_of first).pool;
+      asked : now.flash_reads + 12 * next_group (cache_of first) ≤ old.flash_reads + 12 * next_group (cache_of l.self);
       pages : l.rest ≡ map (λ (f : Frame). f.page) (changed_frames l.self.pool.frames);
     }
 

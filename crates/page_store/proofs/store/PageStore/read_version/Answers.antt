@@ -1,11 +1,15 @@
-use Rattle.std.proofs.Common.{rules, ◌≡◌, true, false, arith, sym, ap, ◌∙◌, refl}
+use Rattle.std.proofs.Common.{rules, ◌≡◌, true, false, arith, sym, ap, subst, ◌∙◌, refl}
 use Rattle.site.specs.declared.outside.Dev.TheVariants.{Log, Disk}
+use Rattle.site.specs.declared.outside.Stop.TheVariants.{Foreign}
+use Rattle.site.specs.State.{Image}
+use Rattle.disk_pages.specs.Pages.{page_on}
+use Rattle.slotted_page.specs.Layout.{IsSound}
 use Rattle.site.specs.Laws.{unchanged_in_sequence, stays_honest}
 use Rattle.site.proofs.Working.{ok_as}
 use Rattle.second_chance.specs.Queue.{has_frame, with_read}
 use Rattle.flash_cache.specs.declared.cache.FlashCache.{FlashCache}
 use Rattle.page_store.specs.Held.{Fits}
-use Rattle.page_store.proofs.PushLaws.{flash_fits_same, flash_holds_same}
+use Rattle.page_store.proofs.PushLaws.{flash_fits_same, flash_holds_same, kept_where}
 use Rattle.page_store.proofs.Versions.{read_same, flash_later, store_with, fits_with}
 use Rattle.page_store.proofs.store.PageStore.read_version.Goals as goal
 
@@ -41,7 +45,8 @@ returns-then-found-clause-reads g c =
       flash_reads = search rules;
       disk_reads = omega (arith, c.fetch.ensures.others Disk (λ same. cc));
       log_reads = c.fetch.ensures.others Log (λ same. cc);
-      foreign = search rules;
+      foreign = λ is fits. kept_where c.sound_page.result Foreign _ is c.sound_page.ensures.unsound
+          (subst IsSound (sym (c.in-Ok.ensures.fetched fits.groups fits.flash fits.holds c.if-found.true)) (fits.sound c.args.page c.requires.exists));
     }
 
 pub returns-in-Ok-read_disk-clause-reads : goal.returns-in-Ok-read_disk-clause-reads
@@ -71,7 +76,11 @@ returns-in-Ok-read_disk-clause-reads g c =
       flash_reads = search rules;
       disk_reads = search rules;
       log_reads = search rules;
-      foreign = search rules;
+      foreign = λ is fits.
+          let first = c.fetch.ensures.same fits.flash.honest in
+          let read = c.in-Ok-read_disk.ensures.read (stays_honest old mid c.fetch.ensures.goes fits.flash.honest) in
+          kept_where c.sound_page-in-Ok-read_disk.result Foreign _ is c.sound_page-in-Ok-read_disk.ensures.unsound
+          (subst IsSound (sym (read ∙ ap (λ (i : Image). page_on c.args.page i.disk) first.image ∙ sym (c.unframed_is_disk.ensures store.flash old.image fits.groups c.args.page fits.holds has))) (fits.sound c.args.page c.requires.exists));
     }
 
 pub returns-in-Ok-read_disk-clause-queue : goal.returns-in-Ok-read_disk-clause-queue

@@ -60,7 +60,7 @@ pub returns-in-Err-clause-keeps : goal.returns-in-Err-clause-keeps
 returns-in-Err-clause-keeps g c list ready =
     let facts = is_saving c.args.self.now c.args.pages.now c.args.contents.now c.requires.going.pages_going.own c.requires.pages c.requires.contents in
     keeps_as (ap (forces c.args.log.now) facts.chosen_are.first) (facts.changes c.args.log.now list (g.S.Site.state c.args.site.now).image)
-    (keeps_given (facts.own c.args.log.now (g.S.Site.state c.args.site.now).image) c.in-Err.ensures.pushes.foreign (c.in-Err.ensures.keeps list ready))
+    (keeps_given (facts.own c.args.log.now (g.S.Site.state c.args.site.now).image) (c.in-Err.ensures.keeps list ready))
 
 pub returns-in-Err-clause-pushes : goal.returns-in-Err-clause-pushes
 returns-in-Err-clause-pushes g c =
@@ -86,7 +86,7 @@ pub returns-in-Ok-clause-keeps : goal.returns-in-Ok-clause-keeps
 returns-in-Ok-clause-keeps g c list ready =
     let facts = is_saving c.args.self.now c.args.pages.now c.args.contents.now c.requires.going.pages_going.own c.requires.pages c.requires.contents in
     keeps_as (ap (forces c.args.log.now) facts.chosen_are.first) (facts.changes c.args.log.now list (g.S.Site.state c.args.site.now).image)
-    (keeps_given (facts.own c.args.log.now (g.S.Site.state c.args.site.now).image) c.in-Ok.ensures.pushes.foreign (c.in-Ok.ensures.keeps list ready))
+    (keeps_given (facts.own c.args.log.now (g.S.Site.state c.args.site.now).image) (c.in-Ok.ensures.keeps list ready))
 
 pub returns-in-Ok-clause-pushes : goal.returns-in-Ok-clause-pushes
 returns-in-Ok-clause-pushes g c =
@@ -116,7 +116,6 @@ returns-in-Ok-clause-pushes g c =
       logged = λ all. subst (λ (s : PageStore). AllByRecursion (λ (f : Frame). P f.content) s.pool.frames) (sym c.clear_all.ensures.cleared) (all_contents P pages mid.pool.frames (push.logged all));
       ended = search rules;
       others = push.others;
-      foreign = tt;
     })
 
 pub returns-in-Ok-clause-stands : goal.returns-in-Ok-clause-stands

@@ -115,7 +115,7 @@ returns-in-Err-clause-flash_reads g c =
     let store = c.args.self.now in
     let page = c.args.page in
     let none : frame_of store.pool.frames page ≡ None = search rules in
-    let some = ap {B = ℕ} (λ (b : Bool). if b then 8 else 0) (pushes_same store page none) in
+    let some = ap {B = ℕ} (λ (b : Bool). if b then 12 else 0) (pushes_same store page none) in
     let one = ap {B = ℕ} (λ (b : Bool). if b then 1 else 0) (finds_same store page none) in
     omega (arith, c.bring_in.ensures.flash_reads, some, one)
 
@@ -171,7 +171,7 @@ returns-clause-flash_reads g c =
     let store = c.args.self.now in
     let page = c.args.page in
     let none : frame_of store.pool.frames page ≡ None = search rules in
-    let some = ap {B = ℕ} (λ (b : Bool). if b then 8 else 0) (pushes_same store page none) in
+    let some = ap {B = ℕ} (λ (b : Bool). if b then 12 else 0) (pushes_same store page none) in
     let one = ap {B = ℕ} (λ (b : Bool). if b then 1 else 0) (finds_same store page none) in
     omega (arith, c.bring_in.ensures.flash_reads, some, one)
 

@@ -1,0 +1,127 @@
+-- What a push appends: its group, and a segment before it where one is due.
+use Rattle.std.proofs.Common.{◌≡◌, ◌≢◌, ℕ, ◌+◌, ◌-◌, ◌<◌, ◌≤◌, Bool, true, false, cond, List, [], ◌∷◌, ◌++◌, length, map, drop, Some, refl, sym, ap, subst, ◌∙◌, arith, append_assoc}
+use Rattle.std.specs.Prelude.{nat_le}
+use Rattle.std.specs.List.{AllByRecursion}
+use Rattle.std.proofs.lemmas.Bool.{leb-true, leb-false}
+use Rattle.std.proofs.lemmas.List.{length-map, length-append, drop-append-le}
+use Rattle.site.specs.declared.geometry.Geometry.{Geometry}
+use Rattle.site.specs.Geometry.{HasLimits}
+use Rattle.site.specs.State.{State, Image}
+use Rattle.sealed_ring.specs.Ring.{Units, hi_of, appended}
+use Rattle.image_changes.specs.Rings.{RingName, Groups, Segments, group_shape, segment_shape, units_on}
+use Rattle.image_changes.specs.Changes.{Change, AppendsGroup, ring_of, Reaches}
+use Rattle.image_changes.proofs.Sequence.{ring_kept}
+use Rattle.stage_out.specs.Staged.{changes_of}
+use Rattle.frame_group.specs.Groups.{Frame as Stored, group, frames_in}
+use Rattle.tail_rebuild.specs.Saving.{changes_of_save}
+use Rattle.flash_cache.specs.Held as held
+use Rattle.image_meaning.proofs.WholePushes.{reaches_parts}
+use Rattle.buffer_pool.specs.declared.frame.Frame.{Frame}
+use Rattle.log_store.specs.declared.store.LogStore.{LogStore}
+use Rattle.log_store.specs.LogList.{LogList, changes_if}
+use Rattle.page_store.specs.declared.store.PageStore.{PageStore}
+use Rattle.page_store.specs.Leaves.{AreReady}
+use Rattle.page_store.specs.Changing.{Standing, is_forced, staged_at, is_due_at, save_changes, group_at, push_changes, standing}
+use Rattle.page_store.proofs.Changing.{HasPushed}
+
+-- these changes append nothing to a ring
+abbrev NoneTo : RingName → List Change → Type 0
+NoneTo ring changes = AllByRecursion (λ change. ring_of change ≢ Some ring) changes
+
+none_both : (ring : RingName) (first second : List Change) → NoneTo ring first → NoneTo ring second → NoneTo ring (first ++ second)
+none_both ring [] second none more = more
+none_both ring (change ∷ first) second none more = (none.0, none_both ring first second none.1 more)
+
+none_sealing : (sealing : Bool) (list : LogList) → NoneTo Groups (changes_if sealing list) × NoneTo Segments (changes_if sealing list)
+none_sealing true list = (((λ same. cc), tt), ((λ same. cc), tt))
+none_sealing false list = (tt, tt)
+
+none_saving : (due : Bool) (groups : List (List Stored)) → NoneTo Groups (changes_of_save due groups)
+none_saving true groups = ((λ same. cc), tt)
+none_saving false groups = tt
+
+none_staging : (pages : List ℕ) → NoneTo Groups (changes_of pages) × NoneTo Segments (changes_of pages)
+none_staging [] = (tt, tt)
+none_staging (page ∷ pages) = (((λ same. cc), tt), ((λ same. cc), tt))
+
+none_pushing : (pages content : List ℕ) → NoneTo Segments (changes_of pages ++ AppendsGroup content ∷ [])
+none_pushing pages content = none_both Segments (changes_of pages) (AppendsGroup content ∷ []) (none_staging pages).1 ((λ same. cc), tt)
+
+-- the groups behind changes of which the last alone appends one
+groups_then : (g : Geometry) (first : List Change) (content : List ℕ) (old new : Image) → NoneTo Groups first → Reaches g (first ++ AppendsGroup content ∷ []) old new →
+    units_on (group_shape g) new ≡ appended (group_shape g) (units_on (group_shape g) old) content
+groups_then g first content old new none reached =
+    let parts = reaches_parts g first (AppendsGroup content ∷ []) old new reached in
+    let last = parts.2 in
+    (last.2.rings Groups).units ∙ last.1.units ∙ ap (λ (u : Units). appended (group_shape g) u content) (ring_kept g Groups first old parts.0 none parts.1).units
+
+-- the number of the next segment behind changes of which one alone may append one
+segments_then : (g : Geometry) (due : Bool) (groups : List (List Stored)) (first rest : List Change) (old new : Image) → NoneTo Segments first → NoneTo Segments rest → Reaches g (first ++ (changes_of_save due groups ++ rest)) old new →
+    hi_of (segment_shape g) new.flash ≡ cond due (hi_of (segment_shape g) old.flash + 1) (hi_of (segment_shape g) old.flash)
+segments_then g true groups first rest old new none later reached =
+    let parts = reaches_parts g first (changes_of_save true groups ++ rest) old new reached in
+    let more = parts.2 in
+    ap (λ (u : Units). u.hi) (ring_kept g Segments rest more.0 new later more.2).units
+    ∙ ap (λ (u : Units). u.hi) more.1.units
+    ∙ ap (λ (u : Units). u.hi + 1) (ring_kept g Segments first old parts.0 none parts.1).units
+segments_then g false groups first rest old new none later reached =
+    ap (λ (u : Units). u.hi) (ring_kept g Segments (first ++ rest) old new (none_both Segments first rest none later) reached).units
+
+-- as many groups live as can
+live_then : (live : List (List ℕ)) (content : List ℕ) (groups count : ℕ) → length live ≡ count → count < groups → 2 ≤ groups →
+    drop (length (live ++ content ∷ []) - (groups - 1)) (live ++ content ∷ []) ≡ cond (nat_le (groups - 1) count) (drop 1 live) live ++ content ∷ []
+live_then live content groups count long few some = by (nat_le (groups - 1) count) refl
+  where
+    more : length (live ++ content ∷ []) ≡ length live + 1
+    more = length-append live (content ∷ [])
+
+    by : (b : Bool) → nat_le (groups - 1) count ≡ b → drop (length (live ++ content ∷ []) - (groups - 1)) (live ++ content ∷ []) ≡ cond b (drop 1 live) live ++ content ∷ []
+    by true is =
+        let full = leb-true (groups - 1) count is in
+        let one : length (live ++ content ∷ []) - (groups - 1) ≡ 1 = let size = more in omega (arith, size, long, few, full) in
+        ap (λ (n : ℕ). drop n (live ++ content ∷ [])) one ∙ drop-append-le 1 live (content ∷ []) (omega (arith, long, full, some))
+    by false is =
+        let room = leb-false (groups - 1) count is in
+        let none : length (live ++ content ∷ []) - (groups - 1) ≡ 0 = let size = more in omega (arith, size, long, room) in
+        ap (λ (n : ℕ). drop n (live ++ content ∷ [])) none
+
+module _ (log : LogStore) (list : LogList) (store store' : PageStore) (mid new : State) (ready : AreReady store log list mid) (fits : held.Fits store'.flash new) (geometry : store'.flash.geometry ≡ store.flash.geometry)
+    (next : store.flash.directory.first + length store.flash.directory.groups ≡ store.flash.ring.hi) (limits : HasLimits store.flash.geometry) (few : length store.flash.directory.groups < store.flash.geometry.groups) (frames : List Frame)
+    (reached : Reaches store.flash.geometry (push_changes (standing log list store mid.image) frames) mid.image new.image) where
+  abbrev g : Geometry
+  g = store.flash.geometry
+
+  abbrev s : Standing
+  s = standing log list store mid.image
+
+  abbrev seal : List Change
+  seal = changes_if (is_forced s frames) list
+
+  apart : push_changes s frames ≡ (seal ++ (save_changes s ++ changes_of (staged_at s))) ++ AppendsGroup (group_at s frames) ∷ []
+  apart =
+      ap (λ (l : List Change). seal ++ l) (sym (append_assoc (save_changes s) (changes_of (staged_at s)) (AppendsGroup (group_at s frames) ∷ [])))
+      ∙ sym (append_assoc seal (save_changes s ++ changes_of (staged_at s)) (AppendsGroup (group_at s frames) ∷ []))
+
+  grown : units_on (group_shape g) new.image ≡ appended (group_shape g) (units_on (group_shape g) mid.image) (group_at s frames)
+  grown =
+      groups_then g (seal ++ (save_changes s ++ changes_of (staged_at s))) (group_at s frames) mid.image new.image
+      (none_both Groups seal (save_changes s ++ changes_of (staged_at s)) (none_sealing (is_forced s frames) list).0
+      (none_both Groups (save_changes s) (changes_of (staged_at s)) (none_saving (is_due_at s) (map frames_in s.live)) (none_staging (staged_at s)).0))
+      (subst (λ (l : List Change). Reaches g l mid.image new.image) apart reached)
+
+  count : length (units_on (group_shape g) mid.image).live ≡ length store.flash.directory.groups
+  count =
+      let own = ready.pages.holds.has.next in
+      let hi = ready.pages.flash.hi in
+      let same = ap length ready.pages.holds.has.live ∙ length-map ready.pages.groups group in
+      omega (arith, own, hi, next, same)
+
+  pub has_pushed : HasPushed s frames store' new.image
+  has_pushed = record {
+    live = ap (λ (k : Geometry). (units_on (group_shape k) new.image).live) geometry ∙ ap (λ (u : Units). u.live) grown
+        ∙ live_then (units_on (group_shape g) mid.image).live (group_at s frames) g.groups (length store.flash.directory.groups) count few (let many = limits.groups in omega (arith, many));
+    next_group = fits.hi ∙ ap (λ (k : Geometry). hi_of (group_shape k) new.image.flash) geometry ∙ ap (λ (u : Units). u.hi) grown ∙ ap (λ (n : ℕ). n + 1) (sym ready.pages.flash.hi);
+    next_segment = fits.segments_hi ∙ ap (λ (k : Geometry). hi_of (segment_shape k) new.image.flash) geometry
+        ∙ segments_then g (is_due_at s) (map frames_in s.live) seal (changes_of (staged_at s) ++ AppendsGroup (group_at s frames) ∷ []) mid.image new.image (none_sealing (is_forced s frames) list).1 (none_pushing (staged_at s) (group_at s frames)) reached
+        ∙ ap (λ (n : ℕ). cond (is_due_at s) (n + 1) n) (sym ready.pages.flash.segments_hi);
+  }
