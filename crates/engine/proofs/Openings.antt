@@ -27,7 +27,7 @@ use Rattle.analysis.specs.Open.{Open, owed_one, owed_for}
 use Rattle.analysis.specs.Read.{loser_of}
 use Rattle.frame_group.specs.Groups.{Frame, group, frames_in, IsGroup}
 use Rattle.frame_group.specs.Versions.{frames_of}
-use Rattle.flash_cache.specs.Held.{HasFrames, HasGroups}
+use Rattle.flash_cache.specs.Held.{HasFrames, HasGroups, groups_on}
 use Rattle.log_store.specs.declared.store.LogStore.{LogStore}
 use Rattle.log_store.specs.Held as log_held
 use Rattle.log_store.specs.Held.{has_tail}
@@ -74,9 +74,6 @@ so_many s c first (suc n) = ap suc (so_many s c (first + 1) n)
 as_many : (contents : List (List ℕ)) → length (map frames_in contents) ≡ length contents
 as_many [] = refl
 as_many (content ∷ contents) = ap suc (as_many contents)
-
-abbrev pub groups_on : Geometry → Image → List (List Frame)
-groups_on g image = map frames_in (units_on (group_shape g) image).live
 
 abbrev pub first_on : Geometry → Image → ℕ
 first_on g image = hi_of (group_shape g) image.flash - length (groups_on g image)

@@ -36,5 +36,5 @@ restart_works p = redo_works p ++ undo_works p.log ++ checkpoint_works
 pub record AsksFrom {T : Type 0} (result : Result T Stop) (pages : T → PageStore) (r : Rules) (works : List CacheWork) (start : Cache) (scanned : ℕ) (before now : State) : Type 0 where
   pub machine : IfOk result (λ x. (cache_of (pages x) ≡ after_works r works start) × (rules (pages x) ≡ r))
   pub worn : IsErrOf result (Worn Flash) → Overflows r works start
-  pub flash : now.flash_reads + 8 * next_group start ≤ before.flash_reads + scanned + 8 * next_group (after_works r works start) + finds_in r works start
+  pub flash : now.flash_reads + 12 * next_group start ≤ before.flash_reads + scanned + 12 * next_group (after_works r works start) + finds_in r works start
   pub disk : now.disk_reads ≤ before.disk_reads + misses_in r works start

@@ -67,7 +67,6 @@ impl Engine {
         ensures serves { Serves result self.old self.new (S.state site.old) (S.state site.new) }
         ensures asks { Asks result checkpoint_works self.old.store.pages self.new.store.pages
             (S.state site.old) (S.state site.new) }
-        ensures foreign { IfErr result (λ stop. stop ≢ Stop.Foreign) }
     {
         sessions_outlive();
         let first = self.active.oldest_born().unwrap_or(self.store.made);
@@ -96,7 +95,6 @@ impl Engine {
         ensures ended { OnErr result (self.new.ended ≡ true) }
         ensures asks { Asks result (if wanted then checkpoint_works else []) self.old.store.pages self.new.store.pages
             (S.state site.old) (S.state site.new) }
-        ensures foreign { IfErr result (λ stop. stop ≢ Stop.Foreign) }
     {
         hold_together();
         if !wanted {
@@ -128,7 +126,6 @@ impl Engine {
         ensures ended { OnErr result (self.new.ended ≡ true) }
         ensures worn_flash { IsErrOf result (Stop.Worn Dev.Flash)
             → Overflows (rules self.old.store.pages) checkpoint_works (cache_of self.old.store.pages) }
-        ensures foreign { IfErr result (λ stop. stop ≢ Stop.Foreign) }
     {
         match self.checkpoint_if(site, true) {
             Ok(()) => Ok(Reply::Checked),

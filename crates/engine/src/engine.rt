@@ -15,6 +15,7 @@ ghost use Rattle.engine.specs.Going.{MayGoOn, sizes_of};
 ghost use Rattle.engine.specs.Image.{log_under, IsSound, Stands, Opens};
 ghost use Rattle.engine.specs.Fits.{Fits, run, IsFull};
 ghost use Rattle.engine.specs.Leaves.{LeavesTable, HasNoSizes, IsRefused};
+ghost use Rattle.flash_cache.specs.Held.{start_reads};
 ghost use Rattle.engine.specs.Paging.{AsksFrom, cache_on, restart_works};
 ghost use Rattle.second_chance.specs.Machine.{rules_of};
 ghost use Rattle.checkpoint.specs.declared.master.Master.{Master};
@@ -71,7 +72,7 @@ impl Engine {
             → (g : Geometry) (newest : Option Master) (blocks : List (List LogRecord)) → IsSound newest g (S.state site.old).image blocks
             → AsksFrom result (λ engine. engine.store.pages) (rules_of pool g.groups)
             (restart_works (picture_under newest g (S.state site.old).image blocks)) (cache_on g (S.state site.old).image)
-            (2 * g.groups) (S.state site.old) (S.state site.new) }
+            (start_reads g) (S.state site.old) (S.state site.new) }
 
         // Of every site.
         ensures calls { Calls result (S.state site.old) (S.state site.new) }

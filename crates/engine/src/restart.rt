@@ -22,6 +22,7 @@ ghost use Rattle.engine.specs.Image.{log_under, IsSound, Stands};
 ghost use Rattle.engine.specs.Leaves.{HasNoSizes, IsRefused, LeavesTable};
 ghost use Rattle.engine.specs.Restarting.{RecoveryLaws, MayRecover, IsReady, RestartedAs, Restarts, Recovers};
 ghost use Rattle.engine.specs.Calls.{Ends};
+ghost use Rattle.flash_cache.specs.Held.{start_reads};
 ghost use Rattle.engine.specs.Paging.{AsksFrom, cache_on, restart_works};
 ghost use Rattle.engine.specs.Numbers.{RestartsWithin};
 ghost use Rattle.page_store.specs.Caching.{cache_of};
@@ -117,7 +118,7 @@ fn open<S: Site>(
 
     // Of every site.
     ensures going { IfOk result (λ opened. MayRecover opened (S.state site.new)) }
-    ensures flash_reads { (S.state site.new).flash_reads ≤ (S.state site.old).flash_reads + 2 * geometry.now.groups }
+    ensures flash_reads { (S.state site.new).flash_reads ≤ (S.state site.old).flash_reads + start_reads geometry.now }
     ensures disk_reads { (S.state site.new).disk_reads ≡ (S.state site.old).disk_reads }
     ensures sizes { IfOk result (λ opened. opened.pages.flash.geometry ≡ geometry.now) }
     ensures pool { IfOk result (λ opened. opened.pages.pool.size ≡ pool) }
@@ -254,7 +255,7 @@ pub fn restart<S: Site>(alloc: Global, site: &mut S, pool: u32) -> Result<Restar
         → (g : Geometry) (newest : Option Master) (blocks : List (List LogRecord)) → IsSound newest g (S.state site.old).image blocks
         → AsksFrom result (λ restarted. restarted.store.pages) (rules_of pool g.groups)
         (restart_works (picture_under newest g (S.state site.old).image blocks)) (cache_on g (S.state site.old).image)
-        (2 * g.groups) (S.state site.old) (S.state site.new) }
+        (start_reads g) (S.state site.old) (S.state site.new) }
 
     // Of every site.
     ensures restarts { Restarts result pool (S.state site.old) (S.state site.new) }

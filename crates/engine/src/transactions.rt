@@ -100,7 +100,6 @@ impl Engine {
         ensures ended { OnErr result (self.new.ended ≡ true) }
         ensures worn_flash { IsErrOf result (Stop.Worn Dev.Flash)
             → Overflows (rules self.old.store.pages) checkpoint_works (cache_of self.old.store.pages) }
-        ensures foreign { IfErr result (λ stop. stop ≢ Stop.Foreign) }
     {
         let wanted = self.wants_checkpoint_to_begin(session);
         match self.checkpoint_if(site, wanted) {

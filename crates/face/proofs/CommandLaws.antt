@@ -33,14 +33,6 @@ fails_by (Err (Worn Flash)) engine old new stops rose log flash foreign = λ s f
 fails_by (Err (Worn Disk)) engine old new stops rose log flash foreign = absurd stops
 fails_by (Err Foreign) engine old new stops rose log flash foreign = foreign refl
 
--- no command that never answers so answers that the devices are foreign
-pub never_foreign : {T : Type 0} (result : Result T Stop) → IfErr result (λ stop. stop ≢ Foreign) → IsErrOf result Foreign → ⊥
-never_foreign (Ok done) other is = cc
-never_foreign {T} (Err stop) other is = other (same is)
-  where
-    same : IsErrOf {T = T} (Err stop) Foreign → stop ≡ Foreign
-    same is = cc
-
 -- a command that makes no call on pages
 pub log_fails : {T : Type 0} (result : Result T Stop) (engine : Engine) (old new : Site) → IfErr result (λ stop. (stop ≡ Device Log) ⊎ (stop ≡ Worn Log)) → ((d : Dev) → IsErrOf result (Device d) → FaultRose d old new)
     → ((s : State) → Fits engine old s → IsErrOf result (Worn Log) → IsLogWorn (sizes_of engine.store) new.image) → IfErr result (λ stop. FailsBy stop engine old new)

@@ -1,4 +1,5 @@
 -- What a load leaves: while it opens, while its lines are carried out, and when they are done.
+use Rattle.flash_cache.specs.Held.{start_reads}
 use Rattle.std.proofs.Common.{◌≡◌, ◌⊎◌, inl, inr, ⊎_elim, ℕ, zero, suc, ◌+◌, ◌-◌, ◌*◌, ◌<◌, ◌≤◌, ◌^◌, Bool, true, List, [], ◌++◌, length, take, drop, refl, sym, ◌∙◌, ap, subst, arith, take-append-drop}
 use Rattle.std.specs.Prelude.{Option, Result, Ok, Err, IsErrOf, count_by}
 use Rattle.std.proofs.lemmas.Bool.{cases_lt}
@@ -252,7 +253,7 @@ module _ (g : Geometry) (opening : State) (load : Load) where
             let r = rules_of load.pool g.groups in
             let opening_works = asked_after opening_run newest old.image blocks 0 in
             subst (λ (w : List CacheWork). ReadsFew load.pool g w old new) (sym (first_asked some.begun newest old.image blocks))
-            (reads_add r opening_works (works_of opening first) (cache_on g old.image) (record old { flash_reads = old.flash_reads + 2 * g.groups }) mid new (read newest blocks sound)
+            (reads_add r opening_works (works_of opening first) (cache_on g old.image) (record old { flash_reads = old.flash_reads + start_reads g }) mid new (read newest blocks sound)
             (subst (λ (c : Cache). ReadsFor r (works_of opening first) c mid new) p.machine
             (subst (λ (x : Rules). ReadsFor x (works_of opening first) (cache_of before.store.pages) mid new) p.rules_are (some.course.serves opening going.fits).reads)))
 
@@ -300,7 +301,7 @@ module _ (g : Geometry) (opening : State) (load : Load) where
             worn = worn_out (Ok x) some;
             room = λ newest blocks sound.
                 let next = course.going.store.both.pages_going.flash.next in
-                let bounded = course.going.store.both.pages_going.flash.usable.bounded in
+                let bounded = course.going.store.both.pages_going.flash.rings.groups_usable.bounded in
                 subst (λ (c : Cache). next_group c ≤ 2 ^ 40) ((some.course.serves opening going.fits).machine ∙ next_is (Ok x) some newest blocks sound ∙ ap (λ (l : List Turn). cache_by load.pool run l newest old.image blocks) whole) (omega (arith, next, bounded));
             frames = λ newest blocks sound.
                 ap (λ (y : Geometry). cache_on y new.image) (sym (course.sizes ∙ going.geometry)) ∙ law after new (after_lines opening run.lines []) (course.fits opening going.fits)

@@ -9,7 +9,7 @@ use Rattle.site.specs.Laws.{stays_honest}
 use Rattle.sealed_ring.specs.declared.ring.Ring.{Ring}
 use Rattle.sealed_ring.specs.Ring.{FitsIn, IsRing, hi_of}
 use Rattle.sealed_ring.specs.Ready.{IsUsable, Finds}
-use Rattle.image_changes.specs.Rings.{log_shape, group_shape}
+use Rattle.image_changes.specs.Rings.{log_shape, group_shape, segment_shape}
 use Rattle.record_model.specs.State.{State, Content}
 use Rattle.log_records.specs.Log.{Entry}
 use Rattle.slotted_page.specs.Layout.{lsn_of}
@@ -19,13 +19,13 @@ use Rattle.buffer_pool.specs.Frames.{frame_of}
 use Rattle.log_store.specs.declared.store.LogStore.{LogStore}
 use Rattle.log_store.specs.Held as log_held
 use Rattle.log_store.specs.Held.{end_of, HasBlocks}
-use Rattle.flash_cache.specs.declared.cache.FlashCache.{FlashCache}
 use Rattle.flash_cache.specs.Held as flash_held
 use Rattle.flash_cache.specs.Held.{version_on, IsCleanOn}
 use Rattle.checkpoint.specs.declared.master.Master.{Master}
 use Rattle.page_store.specs.declared.store.PageStore.{PageStore}
 use Rattle.page_store.specs.Held as page_held
 use Rattle.page_store.specs.Held.{current}
+use Rattle.page_store.proofs.Versions.{pages_later}
 use Rattle.page_store.specs.Ahead.{IsAhead}
 use Rattle.image_meaning.specs.Meaning.{kept_by, picture_under}
 use Rattle.image_meaning.specs.Beside.{AreRingsSoundUnder}
@@ -57,19 +57,6 @@ log_goes_on log a b going goes = record {
   high = going.high;
 }
 
--- so does the queue on flash
-flash_goes_on : (cache : FlashCache) (a b : Site) → flash_held.MayGoOn cache a → Goes a b → flash_held.MayGoOn cache b
-flash_goes_on cache a b going goes = record {
-  limits = going.limits;
-  lengths = lengths_stay cache.geometry a b going.lengths goes;
-  usable = ring_goes_on cache.ring a b going.usable goes;
-  shape = going.shape;
-  next = going.next;
-  few = going.few;
-  sizes = going.sizes;
-  exist = going.exist;
-}
-
 -- and the database
 pub goes_on : (engine : Engine) (a b : Site) → MayGoOn engine a → Goes a b → MayGoOn engine b
 goes_on engine a b go goes =
@@ -78,7 +65,7 @@ goes_on engine a b go goes =
       store = record {
         both = record {
           log_going = log_goes_on engine.store.log a b both.log_going goes;
-          pages_going = record { flash = flash_goes_on engine.store.pages.flash a b both.pages_going.flash goes; own = both.pages_going.own };
+          pages_going = pages_later engine.store.pages a b goes both.pages_going;
           sizes = both.sizes;
           room = both.room;
         };
@@ -113,6 +100,8 @@ module _ (a b : Site) (goes : Goes a b) (image : b.image ≡ a.image) where
           honest = stays_honest a b goes f.flash.honest;
           form = same (λ x. IsRing (group_shape g) x.flash) f.flash.form;
           hi = same (λ x. pages.flash.ring.hi ≡ hi_of (group_shape g) x.flash) f.flash.hi;
+          segments_form = same (λ x. IsRing (segment_shape g) x.flash) f.flash.segments_form;
+          segments_hi = same (λ x. pages.flash.segments.hi ≡ hi_of (segment_shape g) x.flash) f.flash.segments_hi;
         };
         groups = f.groups;
         holds = same (λ x. flash_held.Holds pages.flash x f.groups) f.holds;

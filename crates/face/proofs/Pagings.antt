@@ -1,4 +1,5 @@
 -- What a run asks of the page cache, line by line.
+use Rattle.flash_cache.specs.Held.{start_reads}
 use Rattle.std.proofs.Common.{◌≡◌, ℕ, zero, suc, ◌+◌, ◌*◌, ◌^◌, ◌<◌, ◌≤◌, Bool, true, false, List, [], ◌∷◌, ◌++◌, length, take, drop, arith, refl, sym, ap, subst, ◌∙◌, append_assoc, take-append-drop}
 use Rattle.std.specs.Prelude.{Result, Ok, Err, Option, Some, None, IfErr, IsErrOf, if◌then◌else◌}
 use Rattle.std.proofs.lemmas.List.{append-nil, take_all}
@@ -149,12 +150,12 @@ module _ (pool : ℕ) (run : Run) (newest : Option Master) (image : Image) (bloc
     rules_are = asks.machine.1;
   }
 
-  pub first_reads : {T : Type 0} (result : Result T Stop) (pages : T → PageStore) (old mid new : Site) → SameReads mid new → AsksFrom result pages r (restart_works (picture_under newest run.geometry image blocks)) (cache_on run.geometry old.image) (2 * run.geometry.groups) old mid →
+  pub first_reads : {T : Type 0} (result : Result T Stop) (pages : T → PageStore) (old mid new : Site) → SameReads mid new → AsksFrom result pages r (restart_works (picture_under newest run.geometry image blocks)) (cache_on run.geometry old.image) (start_reads run.geometry) old mid →
       ReadsFew pool run.geometry (asked_after run newest image blocks 0) old new
   first_reads result pages old mid new same asks =
       let restart = restart_works (picture_under newest run.geometry image blocks) in
       subst (λ (w : List CacheWork). ReadsFew pool run.geometry w old new) (sym (append-nil restart))
-      (reads_still r restart (cache_on run.geometry old.image) (record old { flash_reads = old.flash_reads + 2 * run.geometry.groups }) mid new same (record { flash = asks.flash; disk = asks.disk }))
+      (reads_still r restart (cache_on run.geometry old.image) (record old { flash_reads = old.flash_reads + start_reads run.geometry }) mid new same (record { flash = asks.flash; disk = asks.disk }))
 
   pub never_paged : Overflows r (restart_works (picture_under newest run.geometry image blocks)) (cache_on run.geometry image) → Overflows r (asked_after run newest image blocks 0) (cache_on run.geometry image)
   never_paged over = subst (λ (w : List CacheWork). Overflows r w (cache_on run.geometry image)) (sym (append-nil (restart_works (picture_under newest run.geometry image blocks)))) over
@@ -175,7 +176,7 @@ module _ (pool : ℕ) (run : Run) (newest : Option Master) (image : Image) (bloc
     pub next_reads : ReadsAddUp → (entry mid next new : Site) → entry.image ≡ image → SameReads mid next → ReadsFew pool run.geometry (asked_after run newest image blocks i) entry mid → ReadsFor (rules engine.store.pages) (line_touches true (state_at run i) line) (cache_of engine.store.pages) next new →
         ReadsFew pool run.geometry (asked_after run newest image blocks (suc i)) entry new
     next_reads reads_add entry mid next new at same so_far later =
-        let before : Site = record entry { flash_reads = entry.flash_reads + 2 * run.geometry.groups } in
+        let before : Site = record entry { flash_reads = entry.flash_reads + start_reads run.geometry } in
         let first = reads_still r (asked_after run newest image blocks i) (cache_on run.geometry entry.image) before mid next same so_far in
         let there : cache_of engine.store.pages ≡ after_works r (asked_after run newest image blocks i) (cache_on run.geometry entry.image) =
         paged.machine ∙ ap (λ (x : Image). after_works r (asked_after run newest image blocks i) (cache_on run.geometry x)) (sym at) in
@@ -192,7 +193,7 @@ module _ (pool : ℕ) (run : Run) (newest : Option Master) (image : Image) (bloc
   pub paged_room : (engine : Engine) (site : Site) (i : ℕ) → IsPaged pool run newest image blocks engine i → MayGoOn engine site → next_group (after_works r (asked_after run newest image blocks i) (cache_on run.geometry image)) ≤ 2 ^ 40
   paged_room engine site i paged may =
       let next = may.store.both.pages_going.flash.next in
-      let bounded = may.store.both.pages_going.flash.usable.bounded in
+      let bounded = may.store.both.pages_going.flash.rings.groups_usable.bounded in
       subst (λ (c : Cache). next_group c ≤ 2 ^ 40) paged.machine (omega (arith, next, bounded))
 
   -- its queue is on flash

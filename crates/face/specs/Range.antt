@@ -132,7 +132,7 @@ ListsTheMachine pool run lines image =
     → t.reply ≡ Listing (listing (cache_by pool run before newest image blocks))
 
 -- with so many lines no more pages are read than the run asks for: of flash at most one for each touch that finds its
--- page there, eight for each group that is appended, and twice as many as there are groups; of the disk at most one for
+-- page there, twelve for each group that is appended, and as many as a start may read; of the disk at most one for
 -- each touch that misses its page on flash
 abbrev pub ReadsNoMore : ℕ → Run → ℕ → Site → Site → Type 0
 ReadsNoMore pool run lines old now =

@@ -16,6 +16,7 @@ use Rattle.record_model.specs.Touches.{CacheWork, line_touches}
 use Rattle.log_records.specs.declared.log_record.LogRecord.{LogRecord}
 use Rattle.checkpoint.specs.declared.master.Master.{Master}
 use Rattle.second_chance.specs.Machine.{rules_of}
+use Rattle.flash_cache.specs.Held.{start_reads}
 use Rattle.redo_undo.specs.Works.{ReadsFor}
 use Rattle.engine.specs.Paging.{cache_on}
 use Rattle.shell_text.specs.Texts.{open_text, reply_text}
@@ -86,10 +87,10 @@ abbrev pub works_of : State → List Line → List CacheWork
 works_of s [] = []
 works_of s (line ∷ lines) = line_touches true s line ++ works_of (step s line []).after lines
 
--- since the run opened on this site no more is read than this work needs, and of flash twice as often as it has groups
+-- since the run opened on this site no more is read than this work needs, and of flash as often as a start may beside it
 abbrev pub ReadsFew : ℕ → Geometry → List CacheWork → Site → Site → Type 0
 ReadsFew pool g works old now = ReadsFor (rules_of pool g.groups) works (cache_on g old.image)
-    (record old { flash_reads = old.flash_reads + 2 * g.groups }) now
+    (record old { flash_reads = old.flash_reads + start_reads g }) now
 
 -- how many checkpoints a line makes, and how many lines make, whatever the cache lists
 abbrev pub line_checkpoints : State → Line → ℕ

@@ -18,7 +18,7 @@ fn play(alloc: Global, site: &mut MemSite) -> Result<(u8, MemSite), Fail> {
 
 #[test]
 fn lives_are_told(rt: HostRuntime) -> Result<(), Fail> {
-    let rows: [(&[u8], &[u8]); 5] = [
+    let rows: [(&[u8], &[u8]); 6] = [
         (b"", b"open 0\nlife 1 status 0\n"),
         (
             b"set 0 aa\nbegin 0\nwrite 0 0 bb\nwrite 0 32 cc\nwrite 0 64 dd\nstop 1000 1\nstop 1 1\nstop 2 1\nstop 3 1\nstop 4 1\nstop 5 1\nstop 6 1\nstop 7 1\nstop 8 1\nget 0\nget 32\nget 64\n",
@@ -27,6 +27,11 @@ fn lives_are_told(rt: HostRuntime) -> Result<(), Fail> {
         (
             b"set 5 0a0b\nstop 11 1\nget 5\n",
             b"open 0\nlife 1 status 6\nopen 1\nvalue 0a0b\nlife 2 status 0\n",
+        ),
+        // A stop while the first segment is saved, and one before.
+        (
+            b"set 0 01\nset 32 02\nset 64 03\nset 96 04\nset 128 05\nset 160 06\nstop 59 2\ncache\n",
+            b"open 0\ncommitted 1\ncommitted 2\ncommitted 3\ncommitted 4\ncommitted 5\nlife 1 status 3\nopen 5\nframe 0 0 page 0 vdr\nframe 1 0 page 1 vdr\nframe 2 0 page 2 vdr\nframe 3 0 page 3 vdr\nframe 4 0 page 4 vd-\npool 4\nend 6\nlife 2 status 0\n",
         ),
         (
             b"set 0 01\nset 32 02\nset 64 03\nset 96 04\nset 128 05\nset 160 06\nstop 56 2\ncache\n",

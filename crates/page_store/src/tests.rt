@@ -273,9 +273,10 @@ fn a_mixed_script(rt: HostRuntime) -> Result<(), Fail> {
         };
         assert!(rt; has_frame(&pages, *group, *index, wanted));
     }
-    assert_eq!(rt; site.changes(), 140);
+    // Three segments are saved.
+    assert_eq!(rt; site.changes(), 155);
     assert_eq!(rt; site.reads(Dev::Disk), 10);
-    assert_eq!(rt; site.reads(Dev::Flash).saturating_sub(reads), 31);
+    assert_eq!(rt; site.reads(Dev::Flash).saturating_sub(reads), 43);
     assert_eq!(rt; log.sealed_end(), 7168);
     Ok(())
 }

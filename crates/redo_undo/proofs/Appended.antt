@@ -28,7 +28,8 @@ use Rattle.page_store.specs.Leaves.{HasQueue, LeavesRings}
 use Rattle.checkpoint.specs.declared.master.Master.{Master}
 use Rattle.image_meaning.specs.Meaning.{next_block_under, picture_under, master_of, versions_on, version_in, kept_by}
 use Rattle.image_meaning.specs.Moments.{LeavesTableUnder}
-use Rattle.image_meaning.specs.Beside.{AreRingsSoundUnder, KeepsRings}
+use Rattle.image_meaning.specs.Beside.{AreRingsSoundUnder, KeepsRingsAll}
+use Rattle.page_store.proofs.Rings.{all_front, sealing_keeps}
 use Rattle.redo_undo.specs.Running.{RunsOn}
 use Rattle.slotted_page.specs.Layout.{lsn_of}
 use Rattle.log_records.specs.Unfinished.{owed}
@@ -92,14 +93,6 @@ pub logged_more : (end end' : ℕ) → end ≤ end' → (frames : List Frame) �
 logged_more end end' more [] all = tt
 logged_more end end' more (frame ∷ frames) all = (record { below = λ some. let below = all.0.below some in omega (arith, below, more) }, logged_more end end' more frames all.1)
 
-pub all_front : {X : Type 0} (P : X → Type 0) (front left : List X) → AllByRecursion P (front ++ left) → AllByRecursion P front
-all_front P [] left all = tt
-all_front P (x ∷ front) left all = (all.0, all_front P front left all.1)
-
-pub sealing_keeps : (g : Geometry) (sealing : Bool) (list : LogList) → AllByRecursion (KeepsRings g) (changes_if sealing list)
-sealing_keeps g true list = (tt, tt)
-sealing_keeps g false list = tt
-
 -- the pages stay
 module _ (beside : BesideLaws) (pages : PageStore) (site new : State) (changes : ChangesOnly Log site new) where
   pub versions_same : versions_on pages.flash.geometry new.image ≡ versions_on pages.flash.geometry site.image
@@ -140,12 +133,12 @@ module _ (logs : LogLaws) (laws : PageLaws) (beside : BesideLaws) (log : LogStor
     at_front = subst (λ (k : Geometry). LeavesFront k (changes_if sealing list) site new) sizes front
 
     queue_is : HasQueue g site.image
-    queue_is = record { first = pages.flash.directory.first; groups = h.log_holds.ready.pages.groups; has = h.log_holds.ready.pages.holds.has }
+    queue_is = record { first = pages.flash.directory.first; groups = h.log_holds.ready.pages.groups; has = h.log_holds.ready.pages.holds.has; saved = h.log_holds.ready.pages.holds.saved }
 
     pub rings_stay : LeavesOnly site new (LeavesRings newest g)
     rings_stay =
         leaves_weaker site new (IsReached g (IsFrontOf (changes_if sealing list)) site) (LeavesRings newest g)
-        (λ s is. beside.rings newest g is.changes site.image s.image h.log_holds.rings (all_front (KeepsRings g) is.changes is.made.0 (subst (AllByRecursion (KeepsRings g)) is.made.1 (sealing_keeps g sealing list))) is.reaches)
+        (λ s is. beside.rings newest g is.changes site.image s.image h.log_holds.rings (all_front g site.image is.changes is.made.0 (subst (KeepsRingsAll g site.image) is.made.1 (sealing_keeps g site.image sealing list))) is.reaches)
         at_front
 
     pub sealed_stay : LeavesOnly site new (LeavesSealed g)
@@ -161,7 +154,7 @@ module _ (logs : LogLaws) (laws : PageLaws) (beside : BesideLaws) (log : LogStor
   module _ (new : State) (sealing : Bool) where
     pub rings_now : Reaches log.geometry (changes_if sealing list) site.image new.image → AreRingsSoundUnder newest g new.image
     rings_now reaches =
-        beside.rings newest g (changes_if sealing list) site.image new.image h.log_holds.rings (sealing_keeps g sealing list)
+        beside.rings newest g (changes_if sealing list) site.image new.image h.log_holds.rings (sealing_keeps g site.image sealing list)
         (subst (λ (k : Geometry). Reaches k (changes_if sealing list) site.image new.image) sizes reaches)
 
     pub sealed_now : (log' : LogStore) → ChangesOnly Log site new → log'.geometry ≡ log.geometry → log_held.Finds log' new → log.ring.hi ≤ log'.ring.hi → AreSealed g new.image

@@ -19,15 +19,15 @@ stop_is stop is same = cc
 
 -- One touch.
 
-eight_times : (b : Bool) → (if b then 8 else 0) ≡ 8 * (if b then 1 else 0)
-eight_times true = refl
-eight_times false = refl
+twelve_times : (b : Bool) → (if b then 12 else 0) ≡ 12 * (if b then 1 else 0)
+twelve_times true = refl
+twelve_times false = refl
 
 pub touch_reads : (r : Rules) (page : ℕ) (cache : Cache) (before now : State) → 1 ≤ r.groups →
-    now.flash_reads ≤ before.flash_reads + (if pushes r page cache then 8 else 0) + (if finds r page cache then 1 else 0) →
+    now.flash_reads ≤ before.flash_reads + (if pushes r page cache then 12 else 0) + (if finds r page cache then 1 else 0) →
     now.disk_reads ≤ before.disk_reads + (if misses r page cache then 1 else 0) → ReadsFor r (one_touch page) cache before now
 touch_reads r page cache before now some flash disk = record {
-  flash = omega (arith, flash, eight_times (pushes r page cache), touched_next r page false cache some);
+  flash = omega (arith, flash, twelve_times (pushes r page cache), touched_next r page false cache some);
   disk = omega (arith, disk);
 }
 

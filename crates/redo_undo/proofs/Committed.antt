@@ -1,6 +1,5 @@
 -- A Commit is appended and sealed.
 use Rattle.std.proofs.Common.{◌≡◌, ℕ, ◌+◌, ◌≤◌, ◌<◌, true, false, List, [], ◌∷◌, ◌++◌, length, inl, inr, refl, sym, ap, subst, ◌∙◌, arith, Option}
-use Rattle.std.specs.List.{AllByRecursion}
 use Rattle.std.proofs.lemmas.Option.{none-some}
 use Rattle.site.specs.declared.outside.Dev.TheVariants.{Log}
 use Rattle.site.specs.declared.geometry.Geometry.{Geometry}
@@ -33,14 +32,15 @@ use Rattle.checkpoint.specs.declared.master.Master.{Master}
 use Rattle.image_meaning.specs.Meaning.{next_block_under, picture_under, master_of, versions_on, version_in, kept_by}
 use Rattle.image_meaning.specs.Redone.{ShowsAll}
 use Rattle.image_meaning.specs.Moments.{LeavesTableUnder, LeavesEitherUnder}
-use Rattle.image_meaning.specs.Beside.{AreRingsSoundUnder, KeepsRings}
+use Rattle.image_meaning.specs.Beside.{AreRingsSoundUnder, KeepsRingsAll}
+use Rattle.page_store.proofs.Rings.{all_front, sealing_keeps}
 use Rattle.redo_undo.specs.Running.{RunsOn}
-use Rattle.redo_undo.specs.Holding.{Holds, KeepsPages}
+use Rattle.redo_undo.specs.Holding.{Holds}
 use Rattle.redo_undo.specs.Committing.{MayCommit, EndsWith, CommitLaws}
 use Rattle.redo_undo.specs.Laws.{LogLaws, PageLaws, BesideLaws}
 use Rattle.redo_undo.proofs.Standing.{more_blocks, stands_now, current_sound, last_of_all}
 use Rattle.redo_undo.proofs.Touched.{tail_blocks}
-use Rattle.redo_undo.proofs.Appended.{logged_more, all_front, sealing_keeps, versions_same, current_same, more_sealed}
+use Rattle.redo_undo.proofs.Appended.{logged_more, versions_same, current_same, more_sealed}
 use Rattle.redo_undo.proofs.Changed.{off_page}
 
 -- A tail whose last record is a Commit is sealed.
@@ -140,12 +140,12 @@ module _ (logs : LogLaws) (laws : PageLaws) (beside : BesideLaws) (own : CommitL
     at_front = subst (λ (k : Geometry). LeavesFront k (changes_if (has_tail log) list) site new) sizes front
 
     queue_is : HasQueue g site.image
-    queue_is = record { first = pages.flash.directory.first; groups = m.ready.pages.groups; has = m.ready.pages.holds.has }
+    queue_is = record { first = pages.flash.directory.first; groups = m.ready.pages.groups; has = m.ready.pages.holds.has; saved = m.ready.pages.holds.saved }
 
     pub rings_forced : LeavesOnly site new (LeavesRings newest g)
     rings_forced =
         leaves_weaker site new (IsReached g (IsFrontOf (changes_if (has_tail log) list)) site) (LeavesRings newest g)
-        (λ s is. beside.rings newest g is.changes site.image s.image m.rings (all_front (KeepsRings g) is.changes is.made.0 (subst (AllByRecursion (KeepsRings g)) is.made.1 (sealing_keeps g (has_tail log) list))) is.reaches)
+        (λ s is. beside.rings newest g is.changes site.image s.image m.rings (all_front g site.image is.changes is.made.0 (subst (KeepsRingsAll g site.image) is.made.1 (sealing_keeps g site.image (has_tail log) list))) is.reaches)
         at_front
 
     pub sealed_forced : LeavesOnly site new (LeavesSealed g)
@@ -176,7 +176,7 @@ module _ (logs : LogLaws) (laws : PageLaws) (beside : BesideLaws) (own : CommitL
   -- What stands once it is sealed.
   pub rings_then : (new : State) → Reaches log.geometry (changes_if (has_tail log) list) site.image new.image → AreRingsSoundUnder newest g new.image
   rings_then new reaches =
-      beside.rings newest g (changes_if (has_tail log) list) site.image new.image m.rings (sealing_keeps g (has_tail log) list)
+      beside.rings newest g (changes_if (has_tail log) list) site.image new.image m.rings (sealing_keeps g site.image (has_tail log) list)
       (subst (λ (k : Geometry). Reaches k (changes_if (has_tail log) list) site.image new.image) sizes reaches)
 
   pub sealed_then : (log' : LogStore) (new : State) → ChangesOnly Log site new → log'.geometry ≡ log.geometry → log_held.Finds log' new → log.ring.hi ≤ log'.ring.hi → AreSealed g new.image

@@ -21,7 +21,7 @@ use Rattle.page_store.specs.Ahead.{end_forced}
 use Rattle.redo_undo.specs.Holding.{blocks_to}
 use Rattle.redo_undo.specs.Numbers.{SkipsNone}
 use Rattle.redo_undo.proofs.Touched.{tail_blocks}
-use Rattle.redo_undo.proofs.Appended.{all_front}
+use Rattle.redo_undo.proofs.Opens.{all_front}
 use Rattle.redo_undo.proofs.Forced.{seals_only, same_blocks}
 use Rattle.site.proofs.Working.{ok_as, ok_always}
 
@@ -66,7 +66,7 @@ pub pages_skip : {T E : Type 0} (r : Result T E) (g : Geometry) (given : ℕ →
     → LeavesOnly site new (LeavesPages g given sealing list site) → OnOk r (end_forced log' ≡ end_forced log) → SkipsNone r g log log' site new 0 0
 pages_skip r g given log log' list sealing site new hi some leaves end =
     let now = holds_now site new (LeavesPages g given sealing list site) leaves in
-    left_skips r g log log' list sealing site new 0 hi some now.log (now.rings Masters (λ same. cc) (λ same. cc)) (ok_as r _ _ (λ is. omega (arith, is)) end)
+    left_skips r g log log' list sealing site new 0 hi some now.log now.masters (ok_as r _ _ (λ is. omega (arith, is)) end)
 
 -- a call on the log
 pub log_skips : RingKept → {T E : Type 0} (r : Result T E) (g : Geometry) (log log' : LogStore) (list : LogList) (sealing : Bool) (site new : State) (n : ℕ) → log.ring.hi ≡ list.first + length list.blocks → (sealing ≡ true → has_tail log ≡ true)

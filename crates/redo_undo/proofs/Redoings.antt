@@ -1,6 +1,6 @@
 -- Log and pages while the records of an opened log are redone.
 use Rattle.std.proofs.Common.{◌≡◌, ◌⊎◌, inl, inr, ◌+◌, ◌*◌, ◌<◌, ◌==◌, ◌||◌, ◌&&◌, nat_lt, Bool, false, IsTrue, List, [], append-nil, length, refl, sym, ap, subst, ◌∙◌, arith, ℕ, true≢false}
-use Rattle.std.specs.Prelude.{Result, Ok, Err, OnOk, Option}
+use Rattle.std.specs.Prelude.{Option}
 use Rattle.std.specs.List.{AllByRecursion}
 use Rattle.std.proofs.lemmas.Bool.Decides.{nat_tests}
 use Rattle.site.specs.declared.geometry.Geometry.{Geometry}
@@ -10,7 +10,7 @@ use Rattle.site.specs.declared.outside.Dev.TheVariants.{Log}
 use Rattle.site.specs.Moments.{Leaves, LeavesOnly, SameBut, ChangesOnly}
 use Rattle.site.specs.Laws.{each_both, each_weaker, no_call, unchanged_calm, stays_honest, quiet_leaves}
 use Rattle.sealed_ring.specs.Ring.{IsRing, hi_of}
-use Rattle.image_changes.specs.Rings.{log_shape, KeepsUnits, master_shape, Masters}
+use Rattle.image_changes.specs.Rings.{log_shape, KeepsUnits, master_shape}
 use Rattle.record_model.specs.State.{Content}
 use Rattle.log_records.specs.declared.log_record.LogRecord.{LogRecord}
 use Rattle.log_records.specs.Log.{Entry, Version, log_from}
@@ -174,7 +174,7 @@ module _ (laws : PageLaws) (redo : RedoLaws) (o : Opening) (log : LogStore) (pag
       means = h.means;
       ready = subst (λ (b : Bool). AreReady pages' log' (sealed_if b list) new) never ready;
       rings = subst (λ (k : Geometry). AreRingsSoundUnder o.newest k new.image) h.geometry rings;
-      masters = units_then o.image site.image new.image h.masters (leaves.rings Masters (λ is. cc) (λ is. cc));
+      masters = units_then o.image site.image new.image h.masters leaves.masters;
       ahead = are_ahead;
       replace = replaced (snapshot_of new) (left_so leaves);
       redone = λ number exists. subst (λ (c : List ℕ). IsRedone (opened o) number (version_in c)) (sym (kept_so number exists)) (h.redone number exists);

@@ -15,6 +15,7 @@ use Rattle.log_store.specs.declared.store.LogStore.{LogStore}
 use Rattle.log_store.specs.Held as log_held
 use Rattle.log_store.specs.Held.{HasBlocks, has_tail, end_of}
 use Rattle.slotted_page.specs.Layout.{lsn_of}
+use Rattle.page_store.proofs.Versions.{flash_later}
 use Rattle.page_store.specs.declared.store.PageStore.{PageStore}
 use Rattle.page_store.specs.Held.{current}
 use Rattle.page_store.specs.Ahead.{IsAhead}
@@ -84,16 +85,7 @@ going_still log pages old new goes may = record {
     high = may.log_going.high;
   };
   pages_going = record {
-    flash = let f = may.pages_going.flash in record {
-      limits = f.limits;
-      lengths = record { log = goes.sizes Log ∙ f.lengths.log; flash = goes.sizes Flash ∙ f.lengths.flash; disk = goes.sizes Disk ∙ f.lengths.disk };
-      usable = record { fits = subst (FitsIn pages.flash.ring.shape) (sym (goes.sizes pages.flash.ring.shape.dev)) f.usable.fits; bounded = f.usable.bounded };
-      shape = f.shape;
-      next = f.next;
-      few = f.few;
-      sizes = f.sizes;
-      exist = f.exist;
-    };
+    flash = flash_later pages.flash old new goes may.pages_going.flash;
     own = may.pages_going.own;
   };
   sizes = may.sizes;

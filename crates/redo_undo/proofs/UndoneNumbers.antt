@@ -6,7 +6,7 @@ use Rattle.site.specs.State.{State, Image, snapshot_of}
 use Rattle.site.specs.Moments.{LeavesOnly}
 use Rattle.site.specs.Laws.{holds_now}
 use Rattle.sealed_ring.specs.Ring.{Units, hi_of}
-use Rattle.image_changes.specs.Rings.{log_shape, master_shape, KeepsUnits, Masters}
+use Rattle.image_changes.specs.Rings.{log_shape, master_shape, KeepsUnits}
 use Rattle.log_records.specs.Log.{Entry}
 use Rattle.log_store.specs.declared.store.LogStore.{LogStore}
 use Rattle.log_store.specs.LogList.{LogList}
@@ -70,7 +70,7 @@ module _ (laws : PageLaws) (redo : RedoLaws) (o : Opening) (log : LogStore) (pag
       let held = blocks_left laws redo o log pages site front h (snapshot_of new) now in
       let first = opened_end o log pages site front h in
       let next = held.next in
-      let same = masters_hi site.image new.image (now.rings Masters (λ is. cc) (λ is. cc)) in
+      let same = masters_hi site.image new.image now.masters in
       skips_on r o.sizes pages.flash.geometry log log' site new 0 0 (sym h.geometry) (record {
         log = ok_as r _ _ (λ after. let last = opened_end o log' pages' new front after in omega (arith, first, last)) redone;
         blocks = omega (arith, first, next);

@@ -68,10 +68,11 @@ abbrev pub misses_in : Rules → List CacheWork → Cache → ℕ
 misses_in rules [] cache = 0
 misses_in rules (work ∷ works) cache = misses_by rules work cache + misses_in rules works (worked rules work cache)
 
--- At most one read of flash for each touch that finds its page there, and eight for each group that is appended (the frames that are
--- staged); at most one of the disk for each touch that misses its page on flash.
+-- At most one read of flash for each touch that finds its page there, and twelve for each group that is appended (the frames that are
+-- staged or have a second chance, and the heads of the groups of a segment); at most one of the disk for each touch that misses its page on
+-- flash.
 pub record ReadsFor (rules : Rules) (works : List CacheWork) (cache : Cache) (old new : State) : Type 0 where
-  pub flash : new.flash_reads + 8 * next_group cache ≤ old.flash_reads + 8 * next_group (after_works rules works cache) + finds_in rules works cache
+  pub flash : new.flash_reads + 12 * next_group cache ≤ old.flash_reads + 12 * next_group (after_works rules works cache) + finds_in rules works cache
   pub disk : new.disk_reads ≤ old.disk_reads + misses_in rules works cache
 
 -- A call asks for this work, and answers. At Ok the machine has done it. The call answers that flash is worn only where the work overflows.

@@ -80,7 +80,6 @@ fn flush<S: Site>(site: &mut S, log: &mut LogStore, pages: &mut PageStore) -> Re
     ensures sealed { OnOk result (log.new.used ≡ 2) }
     ensures works { Works result log.old log.new pages.old pages.new (S.state site.old) (S.state site.new) }
     ensures hi { OnOk result (log.new.ring.hi ≡ log.old.ring.hi) }
-    ensures foreign { IfErr result (λ stop. stop ≢ Stop.Foreign) }
 {
     log_laws();
     page_laws();
@@ -211,7 +210,6 @@ impl Store {
         ensures kept { OnOk result (self.old.log.kept ≤ self.new.log.kept) }
         ensures sizes { sizes_of self.new ≡ sizes_of self.old }
         ensures stops { IfErr result (λ stop. MayStop stop) }
-        ensures foreign { IfErr result (λ stop. stop ≢ Stop.Foreign) }
     {
         under_some_master();
         match force(site, &mut self.log) {

@@ -13,7 +13,8 @@ use Rattle.engine.specs.Image.{IsSound}
 use Rattle.site.specs.Laws.{stays_honest, unchanged_in_sequence, goes_in_sequence}
 use Rattle.site.specs.declared.outside.Stop.TheVariants.{Foreign}
 use Rattle.image_meaning.specs.Meaning.{AreOctetsSoundUnder, kept_by, saved_by}
-use Rattle.engine.proofs.Openings.{has_groups, groups_on, first_on, there_is_newest, masters_form, kept_is, both_go_on, ready_now, err_again}
+use Rattle.flash_cache.specs.Held.{groups_on}
+use Rattle.engine.proofs.Openings.{has_groups, first_on, there_is_newest, masters_form, kept_is, both_go_on, ready_now, err_again}
 use Rattle.engine.proofs.restart.open.Goals as goal
 
 pub returns-in-Err-start-clause-readable : goal.returns-in-Err-start-clause-readable
@@ -22,7 +23,7 @@ returns-in-Err-start-clause-readable g c honest newest blocks sound is =
     let mid = g.S.Site.state c.start.new.site in
     let k = c.args.geometry.now in
     let there = subst (AreOctetsSoundUnder newest k) (sym (c.start.ensures.same honest).image) sound.octets in
-    c.in-Err-start.ensures.foreign (err_again c.in-Err-start.stop Foreign is) (stays_honest old mid c.start.ensures.goes honest) (first_on k mid.image) (groups_on k mid.image) (has_groups k mid.image there.groups)
+    c.in-Err-start.ensures.foreign (err_again c.in-Err-start.stop Foreign is) (stays_honest old mid c.start.ensures.goes honest) (first_on k mid.image) (groups_on k mid.image) (has_groups k mid.image there.groups) there.segments
 
 -- the newest master's kept block is live or the next one
 kept_lives : (newest : Option Master) (k : Geometry) (image : Image) (blocks : List (List LogRecord)) (log : LogStore) (m : Master) → IsSound newest k image blocks → m ≡ saved_by newest → log.ring.hi ≡ hi_of (log_shape k) image.log →
@@ -54,7 +55,7 @@ returns-in-Ok-keep_from-clause-ready g c honest newest blocks table commits soun
     let held = c.in-Ok.ensures.holds honest (kept_by newest) blocks sound.held in
     ready_now c.stays_beside.ensures.fits k c.keep_from.new.log c.in-Ok-start.pages old mid found new c.start.ensures.goes same_first c.start-2.ensures.goes same_second c.newest.ensures.goes same_third
     c.in-Ok-newest.masters master newest blocks table commits c.in-Ok-start.ensures.geometry c.in-Ok-start.ensures.empty (ap (λ (log : LogStore). log.kept) keeps) is
-    (c.in-Ok-start.ensures.fits honest_mid (first_on k mid.image) (groups_on k mid.image) (has_groups k mid.image there.groups) there.clean there.versions)
+    (c.in-Ok-start.ensures.fits honest_mid (first_on k mid.image) (groups_on k mid.image) (has_groups k mid.image there.groups) there.segments there.clean there.versions)
     (c.in-Ok-newest.ensures.found honest_found (masters_form newest k found.image there_found.masters)) finds
     (subst (λ (log : LogStore). log_held.HasBlocks log.geometry (kept_by newest) blocks mid.image) (sym keeps) held.blocks)
     (subst (λ (log : LogStore). log_held.HasTail log.tail log.used []) (sym keeps) held.tail) sound means
@@ -107,7 +108,7 @@ returns-in-Ok-keep_from-clause-cache g c honest newest blocks sound =
     let k = c.args.geometry.now in
     let same = (c.start.ensures.same honest).image in
     let there = subst (AreOctetsSoundUnder newest k) (sym same) sound.octets in
-    c.in-Ok-start.ensures.machine (stays_honest old mid c.start.ensures.goes honest) (first_on k mid.image) (groups_on k mid.image) (has_groups k mid.image there.groups) ∙ ap (λ (image : Image). cache_on k image) same
+    c.in-Ok-start.ensures.machine (stays_honest old mid c.start.ensures.goes honest) (first_on k mid.image) (groups_on k mid.image) (has_groups k mid.image there.groups) there.segments ∙ ap (λ (image : Image). cache_on k image) same
 
 pub returns-in-Err-clause-flash_reads : goal.returns-in-Err-clause-flash_reads
 returns-in-Err-clause-flash_reads g c = let f = c.start.ensures.others Flash (λ e. cc) in omega (arith, f)

@@ -1,3 +1,4 @@
+use Rattle.flash_cache.specs.Held.{start_reads}
 use Rattle.engine.specs.Paging.{cache_on, restart_works}
 use Rattle.second_chance.specs.Machine.{rules_of}
 use Rattle.site.specs.declared.outside.Dev.TheVariants.{Log, Flash}
@@ -96,7 +97,7 @@ returns-in-Err-open-clause-asks g c honest k newest blocks sound =
     let groups = ap (λ (x : Geometry). x.groups) same in
     let least = sound.octets.limits.groups in
     let flash = c.open.ensures.flash_reads in
-    not_found c.works_add_up.ensures.rise c.in-Err-open.stop _ (rules_of c.args.pool k.groups) _ _ (2 * k.groups) _ _ (omega (arith, least)) (λ is. c.in-Err-open.ensures.unworn Flash (err_again c.in-Err-open.stop (Worn Flash) is)) (omega (arith, flash, groups)) c.open.ensures.disk_reads
+    not_found c.works_add_up.ensures.rise c.in-Err-open.stop _ (rules_of c.args.pool k.groups) _ _ (start_reads k) _ _ (omega (arith, least)) (λ is. c.in-Err-open.ensures.unworn Flash (err_again c.in-Err-open.stop (Worn Flash) is)) (omega (arith, flash, groups)) c.open.ensures.disk_reads
 
 pub returns-clause-asks : goal.returns-clause-asks
 returns-clause-asks g c honest k newest blocks sound =
@@ -112,7 +113,7 @@ returns-clause-asks g c honest k newest blocks sound =
     let ready : IsReady c.in-Ok-open.opened mid newest blocks (table_of p.log p.pages) (commit_count p) = c.in-Ok-open.ensures.ready honest newest blocks (table_of p.log p.pages) (commit_count p) there (subst (λ (x : Geometry). Means (picture_under newest x old.image blocks) (table_of p.log p.pages) (commit_count p)) (sym same) means) in
     let sizes = c.in-Ok-open.ensures.sizes ∙ same in
     let unchanged = c.open.ensures.same honest in
-    from_found _ _ _ (rules_of c.args.pool k.groups) _ (restart_works p) _ (cache_on k old.image) (2 * k.groups) old mid new
+    from_found _ _ _ (rules_of c.args.pool k.groups) _ (restart_works p) _ (cache_on k old.image) (start_reads k) old mid new
     (λ i. rules_of (c.in-Ok-open.ensures.pool i) (sizes i).groups) (λ i. restart_works (picture_under newest (sizes i) (unchanged.image i) blocks)) (c.in-Ok-open.ensures.cache honest newest blocks there ∙ ap (λ (x : Geometry). cache_on x old.image) same)
     (omega (arith, flash, groups)) c.open.ensures.disk_reads (c.recover.ensures.recovers newest blocks (table_of p.log p.pages) (commit_count p) ready).asks
 

@@ -13,7 +13,7 @@ use Rattle.face.specs.Run.{line_checkpoints, step}
 use Rattle.face.proofs.Counted.{counts_idle}
 use Rattle.face.proofs.Logs.{fits_stands}
 use Rattle.face.proofs.Quiet.{no_change, table_stays}
-use Rattle.face.proofs.CommandLaws.{fails_by, log_fails, never_foreign}
+use Rattle.face.proofs.CommandLaws.{fails_by, log_fails}
 use Rattle.face.proofs.Listed.{never_cache}
 use Rattle.face.proofs.commands.carry_out_plain.Goals as goal
 
@@ -103,10 +103,10 @@ pub returns-in-Get-clause-any_moment : goal.returns-in-Get-clause-any_moment
 returns-in-Get-clause-any_moment g c s fits quiet = table_stays (sizes_of c.args.engine.now.store) (g.S.Site.state c.args.site.now) (g.S.Site.state c.get.new.site) s _ ((c.get.ensures.answers s fits).does.any_moment quiet)
 
 pub returns-in-Begin-clause-cause : goal.returns-in-Begin-clause-cause
-returns-in-Begin-clause-cause g c = fails_by c.begin.result c.args.engine.now (g.S.Site.state c.args.site.now) (g.S.Site.state c.begin.new.site) c.begin.ensures.serves.stops c.begin.ensures.serves.calls.device (λ s fits is. (c.begin.ensures.answers s fits).does.worn_log is) (λ s fits is. (c.begin.ensures.answers s fits).does.worn is) (λ is. absurd (never_foreign c.begin.result c.begin.ensures.foreign is))
+returns-in-Begin-clause-cause g c = fails_by c.begin.result c.args.engine.now (g.S.Site.state c.args.site.now) (g.S.Site.state c.begin.new.site) c.begin.ensures.serves.stops c.begin.ensures.serves.calls.device (λ s fits is. (c.begin.ensures.answers s fits).does.worn_log is) (λ s fits is. (c.begin.ensures.answers s fits).does.worn is) (λ is s fits. (c.begin.ensures.answers s fits).does.foreign is)
 
 pub returns-in-Checkpoint-clause-cause : goal.returns-in-Checkpoint-clause-cause
-returns-in-Checkpoint-clause-cause g c = fails_by c.checkpoint.result c.args.engine.now (g.S.Site.state c.args.site.now) (g.S.Site.state c.checkpoint.new.site) c.checkpoint.ensures.serves.stops c.checkpoint.ensures.serves.calls.device (λ s fits is. (c.checkpoint.ensures.answers s fits).does.worn_log is) (λ s fits is. (c.checkpoint.ensures.answers s fits).does.worn is) (λ is. absurd (never_foreign c.checkpoint.result c.checkpoint.ensures.foreign is))
+returns-in-Checkpoint-clause-cause g c = fails_by c.checkpoint.result c.args.engine.now (g.S.Site.state c.args.site.now) (g.S.Site.state c.checkpoint.new.site) c.checkpoint.ensures.serves.stops c.checkpoint.ensures.serves.calls.device (λ s fits is. (c.checkpoint.ensures.answers s fits).does.worn_log is) (λ s fits is. (c.checkpoint.ensures.answers s fits).does.worn is) (λ is s fits. (c.checkpoint.ensures.answers s fits).does.foreign is)
 
 pub returns-in-Commit-clause-cause : goal.returns-in-Commit-clause-cause
 returns-in-Commit-clause-cause g c = log_fails c.commit.result c.args.engine.now (g.S.Site.state c.args.site.now) (g.S.Site.state c.commit.new.site) c.commit.ensures.stops c.commit.ensures.serves.calls.device (λ s fits is. (c.commit.ensures.answers s fits).does.worn_log is)

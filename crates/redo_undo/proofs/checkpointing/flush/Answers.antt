@@ -1,18 +1,17 @@
-use Rattle.std.proofs.Common.{Bool, sym, subst, ◌∙◌, arith, inl, refl, ◌≢◌}
+use Rattle.std.proofs.Common.{Bool, sym, subst, ◌∙◌, arith, inl}
 use Rattle.second_chance.specs.Machine.{rules_of}
 use Rattle.site.specs.declared.outside.Dev.TheVariants.{Disk}
 use Rattle.site.specs.declared.geometry.Geometry.{Geometry}
-use Rattle.image_changes.specs.Rings.{Masters, KeepsUnits, master_shape}
+use Rattle.image_changes.specs.Rings.{KeepsUnits, master_shape}
 use Rattle.log_store.specs.LogList.{LogList}
 use Rattle.page_store.specs.Ahead.{forces}
 use Rattle.page_store.specs.Flushing.{flushed_contents}
 use Rattle.image_meaning.specs.Meaning.{kept_by}
 use Rattle.redo_undo.specs.Holding.{HoldsIn, Holds}
 use Rattle.redo_undo.proofs.Touched.{forced_tail, leaves_table, touched_holds, ok_both}
-use Rattle.site.proofs.Working.{ok_as, of_error}
+use Rattle.site.proofs.Working.{ok_as}
 use Rattle.page_store.specs.Held.{current}
 use Rattle.redo_undo.proofs.LeftNumbers.{pages_skip, ready_next}
-use Rattle.site.specs.declared.outside.Stop.TheVariants.{Foreign}
 use Rattle.redo_undo.proofs.checkpointing.flush.Goals as goal
 
 pub returns-clause-holds : goal.returns-clause-holds
@@ -58,6 +57,6 @@ returns-clause-keeps g c newest records table commits h =
       quiet = (c.flush_all.ensures.keeps list ready).quiet;
       worn_log = λ worn. inl ((c.flush_all.ensures.keeps list ready).worn_log worn);
       worn = (c.flush_all.ensures.keeps list ready).worn;
-      readable = λ is. of_error c.flush_all.result (λ stop. stop ≢ Foreign) Foreign c.flush_all.ensures.foreign is refl;
-      masters = λ none. ok_as c.flush_all.result _ (KeepsUnits master_shape site.image new.image) (λ stands. stands.leaves.rings Masters (λ same. cc) (λ same. cc)) (c.flush_all.ensures.stands list ready);
+      readable = (c.flush_all.ensures.keeps list ready).readable;
+      masters = λ none. ok_as c.flush_all.result _ (KeepsUnits master_shape site.image new.image) (λ stands. stands.leaves.masters) (c.flush_all.ensures.stands list ready);
     }

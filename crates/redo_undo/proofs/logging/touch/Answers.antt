@@ -9,7 +9,7 @@ use Rattle.page_store.specs.Caching.{cache_of, rules}
 use Rattle.redo_undo.proofs.Asking.{touch_overflows, touch_reads}
 use Rattle.image_meaning.specs.Meaning.{kept_by}
 use Rattle.redo_undo.proofs.UndoneNumbers.{skips_touch}
-use Rattle.image_changes.specs.Rings.{KeepsUnits, Masters, master_shape}
+use Rattle.image_changes.specs.Rings.{KeepsUnits, master_shape}
 use Rattle.site.proofs.Working.{ok_as}
 use Rattle.std.proofs.Common.{sym, subst}
 use Rattle.site.specs.declared.geometry.Geometry.{Geometry}
@@ -64,7 +64,7 @@ returns-clause-keeps g c newest records table commits h =
       quiet = (c.touch.ensures.keeps list ready).quiet;
       worn_log = λ worn. inl ((c.touch.ensures.keeps list ready).worn_log worn);
       worn = (c.touch.ensures.keeps list ready).worn;
-      masters = λ none. ok_as c.touch.result _ (KeepsUnits master_shape site.image new.image) (λ stands. stands.leaves.rings Masters (λ same. cc) (λ same. cc)) (c.touch.ensures.stands list ready);
+      masters = λ none. ok_as c.touch.result _ (KeepsUnits master_shape site.image new.image) (λ stands. stands.leaves.masters) (c.touch.ensures.stands list ready);
       readable = λ is. (c.touch.ensures.keeps list ready).readable is;
     }
 
@@ -99,5 +99,5 @@ returns-clause-keeps_opened g c o front h =
       worn_log = λ worn. inl ((c.touch.ensures.keeps list h.ready).worn_log worn);
       worn = (c.touch.ensures.keeps list h.ready).worn;
       readable = λ is. (c.touch.ensures.keeps list h.ready).readable is;
-      masters = λ none. ok_as c.touch.result _ (KeepsUnits master_shape site.image new.image) (λ stands. stands.leaves.rings Masters (λ same. cc) (λ same. cc)) (c.touch.ensures.stands list h.ready);
+      masters = λ none. ok_as c.touch.result _ (KeepsUnits master_shape site.image new.image) (λ stands. stands.leaves.masters) (c.touch.ensures.stands list h.ready);
     }
