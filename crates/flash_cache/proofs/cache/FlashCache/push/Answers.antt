@@ -15,7 +15,7 @@ use Rattle.flash_cache.specs.Held.{PagesExist}
 use Rattle.flash_cache.specs.Leaving.{again}
 use Rattle.flash_cache.specs.Pushed.{staged_marks, chance_marks, frames_given, pushed_queue, changes_of_push, LeavesPush}
 use Rattle.flash_cache.proofs.Heads.{heads_make}
-use Rattle.flash_cache.proofs.Standing.{group_exists}
+use Rattle.tail_rebuild.proofs.Standing.{group_exists}
 use Rattle.flash_cache.proofs.Staging.{goes_on_later, fits_read, pages_read, read_untouched, pages_in_sequence, none_pushed, pushed_since}
 use Rattle.flash_cache.proofs.StagedMarks.{places_inside, reads_few, front_few, staged_numbered, chances_numbered, pages_apart, marks_exist}
 use Rattle.flash_cache.proofs.StagedContents.{pages_are, contents_are, dirty_long, contents_long, all_long, again_is, group_has, group_known, pushed_has, given_few, with_parts}
@@ -153,7 +153,7 @@ returns-clause-any_moment g c groups fits holds quiet =
     let mid = g.S.Site.state c.frames_leaving.new.site in
     let new = g.S.Site.state c.write.new.site in
     let same = c.frames_leaving.ensures.same fits.honest in
-    let ring = (ring_found cache old c.requires.going.shape fits).hi in
+    let ring = (ring_found cache old c.requires.going.rings.groups_shape fits).hi in
     let items : c.as_slice-pages.result.now ≡ c.in-Ok.both.0.pages.items = search rules in
     let numbers = items ∙ pages_are cache plan.staged c.in-Ok.both.0 c.in-Ok.ensures.staged c.requires.staged in
     let octets : c.as_slice-octets.result.now ≡ c.in-Ok.both.0.contents.items = search rules in
@@ -176,7 +176,7 @@ returns-clause-reaches g c groups fits holds =
     let mid = g.S.Site.state c.frames_leaving.new.site in
     let new = g.S.Site.state c.write.new.site in
     let same = c.frames_leaving.ensures.same fits.honest in
-    let ring = (ring_found cache old c.requires.going.shape fits).hi in
+    let ring = (ring_found cache old c.requires.going.rings.groups_shape fits).hi in
     let items : c.as_slice-pages.result.now ≡ c.in-Ok.both.0.pages.items = search rules in
     let numbers = items ∙ pages_are cache plan.staged c.in-Ok.both.0 c.in-Ok.ensures.staged c.requires.staged in
     let made = heads_make pages changed contents c.heads_given-given.result c.requires.marks c.requires.lists c.heads_given-given.ensures.heads in
@@ -195,7 +195,7 @@ returns-clause-staged g c groups fits holds =
     let mid = g.S.Site.state c.frames_leaving.new.site in
     let new = g.S.Site.state c.write.new.site in
     let same = c.frames_leaving.ensures.same fits.honest in
-    let ring = (ring_found cache old c.requires.going.shape fits).hi in
+    let ring = (ring_found cache old c.requires.going.rings.groups_shape fits).hi in
     let items : c.as_slice-pages.result.now ≡ c.in-Ok.both.0.pages.items = search rules in
     let numbers = items ∙ pages_are cache plan.staged c.in-Ok.both.0 c.in-Ok.ensures.staged c.requires.staged in
     let octets : c.as_slice-octets.result.now ≡ c.in-Ok.both.0.contents.items = search rules in
