@@ -20,13 +20,13 @@ use Rattle.flash_cache.specs.declared.cache.FlashCache.{FlashCache}
 use Rattle.flash_cache.specs.Held.{MayGoOn, Fits, HasGroups, HasFrames, AreSaved, Holds, AllTogether, Shows, frames_on, disk_on, version_on, IsCleanOn}
 use Rattle.flash_cache.specs.Kept.{KeepsVersions, GivesVersions, LeavesVersions, AreCleanGiven, LeavesClean}
 use Rattle.flash_cache.specs.Laws.{UnframedIsDisk}
-use Rattle.flash_cache.specs.Pushed.{no_frame, front_leaves, staged_pages, staged_contents, chance_marks, chance_given, frames_given, known_given, frames_pushed, known_pushed, pushed_groups, pushed_queue, changes_of_push, LeavesPushBehind}
+use Rattle.flash_cache.specs.Pushed.{no_frame, front_leaves, staged_pages, staged_contents, chance_marks, chance_given, frames_given, known_given, frames_pushed, known_pushed, pushed_groups, pushed_queue, changes_of_push, changes_before, changes_of_group, LeavesPushBehind}
 use Rattle.flash_cache.proofs.Given.{length-given, given_at}
 use Rattle.flash_cache.proofs.Queues.{joined}
 use Rattle.flash_cache.proofs.StagedFrames.{frames_at, not_in_groups}
 use Rattle.flash_cache.proofs.PushedVersions.{AreStaged, page_beside, unframed, staged_versions, staged_clean, dropped_version, dropped_clean}
 use Rattle.flash_cache.proofs.PushedImages.{OnlyBefore, Keeps, Grown, front_of, rest_of, joined_parts, joined_more, frames_are, kept_groups, grown_groups, last_stands, are_staged, chances_stored, keeps_by, grown_by, front_only, all_joined, staging_only, saving_only}
-use Rattle.flash_cache.proofs.Segments.{saved_front, saved_behind, with_pushed}
+use Rattle.flash_cache.proofs.Segments.{groups_are, saved_front, saved_behind, with_pushed}
 
 -- a page without a frame
 pub unframed_is_disk : UnframedIsDisk
@@ -236,8 +236,15 @@ module _ (cache : FlashCache) (groups : List (List Frame)) (old : State) (going 
   room : 8 ≤ cache.geometry.groups
   room = going.limits.groups
 
+  abbrev PushesBehind : List Change → Snapshot → Type 0
+  PushesBehind l = LeavesPushBehind cache.geometry l (staged_pages cache) (staged_contents cache groups) pushed_content old
+
   abbrev Pushes : Snapshot → Type 0
-  Pushes = LeavesPushBehind cache.geometry before (staged_pages cache) (staged_contents cache groups) pushed_content old
+  Pushes = PushesBehind before
+
+  -- the groups that are read off the image are these
+  as_saved : (P : List Change → Type 0) → P (changes_before cache old.image) → P before
+  as_saved P is = subst (λ (gs : List (List Frame)). P (changes_of_save due gs)) (groups_are cache.geometry cache.directory.first groups old.image holds.has) is
 
   only : OnlyBefore (staged_pages cache) (before ++ changes_of (staged_pages cache))
   only = all_joined _ before (changes_of (staged_pages cache)) (saving_only due groups (staged_pages cache)) (staging_only (staged_pages cache))
@@ -261,33 +268,36 @@ module _ (cache : FlashCache) (groups : List (List Frame)) (old : State) (going 
       (saved_behind cache.geometry going.limits cache.directory.first groups old.image holds.has holds.saved cache.ring.hi cache.segments.hi fits.hi fits.segments_hi going.rings.high
       (staged_pages cache) pushed_frames new due refl own reaches)
 
-  pub leaves_versions : (new : State) → IsCleanOn cache.geometry old.image → LeavesOnly old new Pushes → LeavesOnly old new (LeavesVersions cache groups pages changed contents old)
+  pub leaves_versions : (new : State) → IsCleanOn cache.geometry old.image → LeavesOnly old new (PushesBehind (changes_before cache old.image)) → LeavesOnly old new (LeavesVersions cache groups pages changed contents old)
   leaves_versions new clean leaves = leaves_weaker old new Pushes (LeavesVersions cache groups pages changed contents old) (λ s is. record {
     told = is.told;
     either = elim is.either [
       | inl part ↦ inl (keeps_versions cache groups old.image few room holds s.image (kept_by s part.0 part.1 part.2) (saved_still s part.0 part.1 part.2))
       | inr all ↦ inr (gives_versions cache groups old.image few room holds pages changed contents marks lists differ own s.image all.0 (made_by s.image all.1) clean (saved_then s.image all.1))
     ];
-  }) leaves
+  }) (as_saved (λ l. LeavesOnly old new (PushesBehind l)) leaves)
 
-  pub leaves_clean : (new : State) → IsCleanOn cache.geometry old.image → AreCleanGiven cache pages changed contents old.image → LeavesOnly old new Pushes → LeavesOnly old new (LeavesClean cache.geometry)
+  pub leaves_clean : (new : State) → IsCleanOn cache.geometry old.image → AreCleanGiven cache pages changed contents old.image → LeavesOnly old new (PushesBehind (changes_before cache old.image)) → LeavesOnly old new (LeavesClean cache.geometry)
   leaves_clean new clean given leaves = leaves_weaker old new Pushes (LeavesClean cache.geometry) (λ s is. elim is.either [
     | inl part ↦ keeps_clean cache groups old.image few room holds s.image (kept_by s part.0 part.1 part.2) clean
     | inr all ↦ gives_clean cache groups old.image few room holds pages changed contents marks lists differ own s.image all.0 (made_by s.image all.1) clean given
-  ]) leaves
+  ]) (as_saved (λ l. LeavesOnly old new (PushesBehind l)) leaves)
 
   -- behind it
   module _ (cache' : FlashCache) (new : Image) (staged : HasStaged (staged_pages cache) (staged_contents cache groups) old.image.disk new.disk)
-      (reaches : Reaches cache.geometry (before ++ changes_of_push (staged_pages cache) pushed_content) old.image new) (queue : cache'.directory ≡ pushed_queue cache (known_pushed cache pages changed)) where
+      (reaches : Reaches cache.geometry (changes_of_group cache old.image pages changed contents) old.image new) (queue : cache'.directory ≡ pushed_queue cache (known_pushed cache pages changed)) where
+    made : Reaches cache.geometry (before ++ changes_of_push (staged_pages cache) pushed_content) old.image new
+    made = as_saved (λ l. Reaches cache.geometry (l ++ changes_of_push (staged_pages cache) pushed_content) old.image new) reaches
+
     pub gives_behind : IsCleanOn cache.geometry old.image → GivesVersions cache.geometry cache'.directory.first (pushed_groups cache groups pushed_frames) pages contents old.image new
     gives_behind clean =
         subst (λ (q : Queue). GivesVersions cache.geometry q.first (pushed_groups cache groups pushed_frames) pages contents old.image new) (sym queue)
-        (gives_versions cache groups old.image few room holds pages changed contents marks lists differ own new staged (made_by new reaches) clean (saved_then new reaches))
+        (gives_versions cache groups old.image few room holds pages changed contents marks lists differ own new staged (made_by new made) clean (saved_then new made))
 
     pub clean_behind : IsCleanOn cache.geometry old.image → AreCleanGiven cache pages changed contents old.image → IsCleanOn cache.geometry new
-    clean_behind clean given = gives_clean cache groups old.image few room holds pages changed contents marks lists differ own new staged (made_by new reaches) clean given
+    clean_behind clean given = gives_clean cache groups old.image few room holds pages changed contents marks lists differ own new staged (made_by new made) clean given
 
     pub holds_behind : cache'.geometry ≡ cache.geometry → Holds cache' new (pushed_groups cache groups pushed_frames)
     holds_behind geometry =
         holds_pushed cache groups old.image pages changed contents cache' new holds marks lists geometry queue
-        (has_then cache groups old.image few room holds pages changed contents marks lists differ own new staged (made_by new reaches)) (saved_then new reaches)
+        (has_then cache groups old.image few room holds pages changed contents marks lists differ own new staged (made_by new made)) (saved_then new made)

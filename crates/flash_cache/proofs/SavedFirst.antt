@@ -1,9 +1,11 @@
 -- A segment is saved first, where one is due, and a group is pushed behind it.
 use Rattle.std.proofs.Common.{◌≡◌, inl, inr, ℕ, Bool, true, false, List, [], ◌∷◌, ◌++◌, map, refl, sym, ap, subst, ◌∙◌, append_assoc, append-nil}
 use Rattle.site.specs.declared.geometry.Geometry.{Geometry}
-use Rattle.site.specs.State.{State, Image, Snapshot}
+use Rattle.std.specs.Prelude.{Ok}
+use Rattle.site.specs.declared.outside.Dev.TheVariants.{Flash}
+use Rattle.site.specs.State.{State, Image, Snapshot, IsQuiet}
 use Rattle.site.specs.Calls.{Goes}
-use Rattle.site.specs.Moments.{Leaves, LeavesOnly}
+use Rattle.site.specs.Moments.{Leaves, LeavesOnly, ChangesOnly}
 use Rattle.site.specs.Laws.{in_sequence, leaves_weaker}
 use Rattle.sealed_ring.specs.declared.slots.Shape.{Shape}
 use Rattle.sealed_ring.specs.declared.ring.Ring.{Ring}
@@ -15,14 +17,15 @@ use Rattle.image_changes.specs.Changes.{Change, Reaches}
 use Rattle.image_changes.specs.Reached.{IsReached, IsFrontOf, LeavesFront}
 use Rattle.image_changes.proofs.Sequence.{changes_add_up}
 use Rattle.stage_out.specs.Staged.{HasStaged, changes_of}
-use Rattle.frame_group.specs.Groups.{Frame}
+use Rattle.frame_group.specs.Groups.{Frame, group}
 use Rattle.frame_group.specs.Versions.{frames_of, version}
 use Rattle.tail_rebuild.specs.Rebuilt.{AreRings}
-use Rattle.tail_rebuild.specs.Saving.{changes_of_save, Stands}
+use Rattle.tail_rebuild.specs.Saving.{is_due, changes_of_save, Stands, Saves}
 use Rattle.flash_cache.specs.declared.cache.FlashCache.{FlashCache}
 use Rattle.flash_cache.specs.Held.{MayGoOn, Fits, Holds, frames_on, version_on}
-use Rattle.flash_cache.specs.Pushed.{chance_marks, chance_given, frames_given, frames_pushed, changes_of_push, LeavesPush, LeavesPushBehind}
+use Rattle.flash_cache.specs.Pushed.{staged_pages, staged_contents, chance_marks, chance_given, frames_given, frames_pushed, changes_of_push, changes_before, changes_of_group, LeavesPush, LeavesPushBehind}
 use Rattle.flash_cache.proofs.Fetching.{lengths_later}
+use Rattle.flash_cache.proofs.Segments.{groups_are}
 use Rattle.flash_cache.proofs.PushedImages.{keeps_by, saving_only}
 
 -- What stands before the save, and the cache behind it.
@@ -112,3 +115,63 @@ module _ (g : Geometry) (before : List Change) (pages : List ℕ) (contents : Li
     pushing_leaves new leaves =
         in_sequence old mid new (Leaves (LeavesPushBehind g before pages contents group old)) saving_leaves
         (leaves_weaker mid new (LeavesPush g pages contents group mid) (LeavesPushBehind g before pages contents group old) one leaves)
+
+-- A push behind a save.
+
+-- what stands behind the save
+pub record IsBehind (cache : FlashCache) (groups : List (List Frame)) (segments : Ring) (old mid : State) : Type 0 where
+  pub fits : Fits (record cache { segments = segments }) mid
+  pub holds : Holds (record cache { segments = segments }) mid.image groups
+  pub front : IsQuiet old → LeavesFront cache.geometry (changes_of_save (is_due cache.ring.hi cache.segments.hi) groups) old mid
+  pub reaches : Reaches cache.geometry (changes_of_save (is_due cache.ring.hi cache.segments.hi) groups) old.image mid.image
+  pub told : mid.told ≡ old.told
+
+pub is_behind : (cache : FlashCache) (groups : List (List Frame)) (segments : Ring) (old mid : State) (holds : Holds cache old.image groups) → AreRings cache.geometry cache.ring segments mid → ChangesOnly Flash old mid
+    → Saves cache.geometry cache.ring cache.segments segments cache.directory.first groups holds.saved.segments old mid (Ok tt) → IsBehind cache groups segments old mid
+is_behind cache groups segments old mid holds rings changes saves = record {
+  fits = fits_saved cache groups _ segments mid rings saves.stands;
+  holds = holds_saved cache groups _ segments mid rings saves.stands old.image holds;
+  front = saves.any_moment;
+  reaches = saves.reaches;
+  told = changes.only.now.told;
+}
+
+module _ (cache : FlashCache) (groups : List (List Frame)) (segments : Ring) (old mid : State) (holds : Holds cache old.image groups) (b : IsBehind cache groups segments old mid)
+    (pages : List ℕ) (changed : List Bool) (contents : List (List ℕ)) where
+  abbrev due : Bool
+  due = is_due cache.ring.hi cache.segments.hi
+
+  abbrev content : Image → List ℕ
+  content image = group (frames_pushed cache image pages changed contents)
+
+  same : frames_pushed cache mid.image pages changed contents ≡ frames_pushed cache old.image pages changed contents
+  same = pushed_saved cache due groups old.image mid.image pages changed contents b.reaches
+
+  -- these groups are read off the image
+  as_read : (P : List Change → Type 0) → P (changes_of_save due groups) → P (changes_before cache old.image)
+  as_read P is = subst (λ (gs : List (List Frame)). P (changes_of_save due gs)) (sym (groups_are cache.geometry cache.directory.first groups old.image holds.has)) is
+
+  pub moment_behind : (new : State) → IsQuiet old → LeavesOnly mid new (LeavesPush cache.geometry (staged_pages cache) (staged_contents cache groups) (content mid.image) mid)
+      → LeavesOnly old new (LeavesPushBehind cache.geometry (changes_before cache old.image) (staged_pages cache) (staged_contents cache groups) (content old.image) old)
+  moment_behind new quiet leaves =
+      as_read (λ l. LeavesOnly old new (LeavesPushBehind cache.geometry l (staged_pages cache) (staged_contents cache groups) (content old.image) old))
+      (pushing_leaves cache.geometry (changes_of_save due groups) (staged_pages cache) (staged_contents cache groups) (content old.image) old mid (b.front quiet) b.reaches b.told
+      (disk_saved cache.geometry due groups old.image mid.image b.reaches) new
+      (subst (λ (fs : List Frame). LeavesOnly mid new (LeavesPush cache.geometry (staged_pages cache) (staged_contents cache groups) (group fs) mid)) same leaves))
+
+  pub reaches_behind : (new : Image) → Reaches cache.geometry (changes_of_push (staged_pages cache) (content mid.image)) mid.image new → Reaches cache.geometry (changes_of_group cache old.image pages changed contents) old.image new
+  reaches_behind new reaches =
+      as_read (λ l. Reaches cache.geometry (l ++ changes_of_push (staged_pages cache) (content old.image)) old.image new)
+      (changes_add_up cache.geometry (changes_of_save due groups) (changes_of_push (staged_pages cache) (content old.image)) old.image mid.image new b.reaches
+      (subst (λ (fs : List Frame). Reaches cache.geometry (changes_of_push (staged_pages cache) (group fs)) mid.image new) same reaches))
+
+  pub staged_behind : (new : Image) → HasStaged (staged_pages cache) (staged_contents cache groups) mid.image.disk new.disk → HasStaged (staged_pages cache) (staged_contents cache groups) old.image.disk new.disk
+  staged_behind new staged = subst (λ (d : List ℕ). HasStaged (staged_pages cache) (staged_contents cache groups) d new.disk) (disk_saved cache.geometry due groups old.image mid.image b.reaches) staged
+
+-- where the save fails
+pub failed_moment : (cache : FlashCache) (groups : List (List Frame)) (old new : State) (group : List ℕ) (holds : Holds cache old.image groups)
+    → LeavesFront cache.geometry (changes_of_save (is_due cache.ring.hi cache.segments.hi) groups) old new
+    → LeavesOnly old new (LeavesPushBehind cache.geometry (changes_before cache old.image) (staged_pages cache) (staged_contents cache groups) group old)
+failed_moment cache groups old new group holds front =
+    saving_leaves cache.geometry (changes_before cache old.image) (staged_pages cache) (staged_contents cache groups) group old new
+    (subst (λ (gs : List (List Frame)). LeavesFront cache.geometry (changes_of_save (is_due cache.ring.hi cache.segments.hi) gs) old new) (sym (groups_are cache.geometry cache.directory.first groups old.image holds.has)) front)

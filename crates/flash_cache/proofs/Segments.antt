@@ -74,10 +74,10 @@ later_same : (x y : Change) (xs ys : List Change) → x ∷ xs ≡ y ∷ ys → 
 later_same x y xs ys same = cc
 
 -- groups stand there, with segments that follow them, and there is room for a group behind the segments
-record StandsWithRoom (g : Geometry) (first : ℕ) (groups : List (List Frame)) (image : Image) : Type 0 where
-  has : HasGroups g first groups image
-  saved : AreSaved g groups image
-  room : hi_of (group_shape g) image.flash < 4 * hi_of (segment_shape g) image.flash + 4
+pub record StandsWithRoom (g : Geometry) (first : ℕ) (groups : List (List Frame)) (image : Image) : Type 0 where
+  pub has : HasGroups g first groups image
+  pub saved : AreSaved g groups image
+  pub room : hi_of (group_shape g) image.flash < 4 * hi_of (segment_shape g) image.flash + 4
 
 stays_with_room : (g : Geometry) (first : ℕ) (groups : List (List Frame)) (old new : Image) → SameUnits g old new → StandsWithRoom g first groups old → StandsWithRoom g first groups new
 stays_with_room g first groups old new same stands = record {

@@ -19,7 +19,8 @@ use Rattle.second_chance.specs.declared.frame.Frame.{Frame as Known}
 use Rattle.second_chance.specs.Queue.{frame_of as known_of}
 use Rattle.flash_directory.specs.Heads.{frames_in}
 use Rattle.flash_directory.proofs.Opened.{size_of_heads}
-use Rattle.flash_cache.specs.Held.{HasFrames, HasGroups, group_on, AllTogether, Shows, PagesExist}
+use Rattle.tail_rebuild.specs.Rebuilt.{AreRings}
+use Rattle.flash_cache.specs.Held.{AllTogether, Shows, PagesExist}
 use Rattle.flash_cache.proofs.Queues.{has_at, group_at}
 
 -- a ring may be used after any calls
