@@ -1,5 +1,5 @@
 -- A segment is saved first, where one is due, and a group is pushed behind it.
-use Rattle.std.proofs.Common.{◌≡◌, inl, inr, ℕ, Bool, true, false, List, [], ◌∷◌, ◌++◌, map, refl, sym, ap, subst, ◌∙◌, append_assoc, append-nil}
+use Rattle.std.proofs.Common.{◌≡◌, inl, inr, ℕ, Bool, true, false, List, [], ◌++◌, map, sym, ap, subst, ◌∙◌, append_assoc}
 use Rattle.site.specs.declared.geometry.Geometry.{Geometry}
 use Rattle.std.specs.Prelude.{Ok}
 use Rattle.site.specs.declared.outside.Dev.TheVariants.{Flash}

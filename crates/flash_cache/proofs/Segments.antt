@@ -6,7 +6,6 @@ use Rattle.site.specs.declared.geometry.Geometry.{Geometry}
 use Rattle.site.specs.Geometry.{HasLimits}
 use Rattle.site.specs.State.{Image}
 use Rattle.sealed_ring.specs.Ring.{Units, hi_of}
-use Rattle.byte_fields.specs.declared.frame_head.FrameHead.{FrameHead}
 use Rattle.byte_fields.specs.FrameHeads.{spelling_of_all}
 use Rattle.image_changes.specs.Rings.{Groups, Segments, group_shape, segment_shape, KeepsUnits}
 use Rattle.image_changes.specs.Changes.{Change, RewritesPages, AppendsGroup, AppendsSegment, ReadsAs, Appends, Reaches}

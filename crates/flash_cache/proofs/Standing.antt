@@ -1,27 +1,21 @@
 -- The rings on flash, and what the directory has of the groups there.
-use Rattle.std.proofs.Common.{◌≡◌, ℕ, zero, suc, ◌+◌, ◌-◌, ◌*◌, ◌<◌, ◌≤◌, min, Bool, true, false, true≢false, cond, List, [], ◌∷◌, ◌++◌, length, get_or, map, take, drop, replicate, arith, refl, sym, ap, subst, ◌∙◌}
-use Rattle.std.proofs.lemmas.List.{take-take, take_all, get_or-replicate, length-replicate}
+use Rattle.std.proofs.Common.{◌≡◌, ℕ, zero, suc, ◌+◌, ◌-◌, ◌<◌, ◌≤◌, Bool, true, false, cond, List, [], ◌∷◌, ◌++◌, length, map, take, replicate, arith, refl, sym, ap, subst, ◌∙◌}
 use Rattle.std.specs.List.{All, AllByRecursion, take_while, prefix_len}
 use Rattle.site.specs.declared.geometry.Geometry.{Geometry}
-use Rattle.site.specs.State.{State, Image}
+use Rattle.site.specs.State.{State}
 use Rattle.site.specs.Calls.{Goes}
-use Rattle.sealed_ring.specs.declared.slots.Shape.{Shape}
 use Rattle.sealed_ring.specs.declared.ring.Ring.{Ring}
-use Rattle.sealed_ring.specs.Ring.{FitsIn, hi_of, units_of, unit_at}
-use Rattle.sealed_ring.specs.Ready.{region, units_in, IsUsable}
-use Rattle.sealed_ring.proofs.Units.{live_count}
+use Rattle.sealed_ring.specs.Ring.{FitsIn}
+use Rattle.sealed_ring.specs.Ready.{IsUsable}
 use Rattle.byte_fields.specs.declared.frame_head.FrameHead.{FrameHead}
 use Rattle.byte_fields.specs.FrameHeads.{blank, AreGroupHeads}
-use Rattle.image_changes.specs.Rings.{group_shape, units_on}
-use Rattle.frame_group.specs.Groups.{Frame, group, head_of, heads_of, HasHeads}
-use Rattle.frame_group.proofs.Front.{begins_with_heads, one_heads}
+use Rattle.frame_group.specs.Groups.{Frame, head_of, heads_of}
 use Rattle.second_chance.specs.declared.frame.Frame.{Frame as Known}
 use Rattle.second_chance.specs.Queue.{frame_of as known_of}
 use Rattle.flash_directory.specs.Heads.{frames_in}
 use Rattle.flash_directory.proofs.Opened.{size_of_heads}
 use Rattle.tail_rebuild.specs.Rebuilt.{AreRings}
 use Rattle.flash_cache.specs.Held.{AllTogether, Shows, PagesExist}
-use Rattle.flash_cache.proofs.Queues.{has_at, group_at}
 
 -- a ring may be used after any calls
 pub usable_later : (ring : Ring) (old new : State) → Goes old new → IsUsable ring old → IsUsable ring new

@@ -1,4 +1,4 @@
-use Rattle.std.proofs.Common.{◌≡◌, ◌≢◌, true, sym, ap, subst, ◌∙◌, arith}
+use Rattle.std.proofs.Common.{true}
 use Rattle.site.specs.declared.outside.Dev.TheVariants.{Flash, Disk}
 use Rattle.site.specs.Laws.{others_untouched, untouched_in_sequence, stays_honest}
 use Rattle.site.proofs.Working.{err_again}
