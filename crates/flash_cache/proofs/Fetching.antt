@@ -15,9 +15,10 @@ use Rattle.flash_directory.specs.Heads.{last_place, newest}
 use Rattle.flash_directory.proofs.Newest.{placed, last_among-place, place_bound, last_bound}
 use Rattle.flash_directory.proofs.Reading.{length-groups_read, sizes_read}
 use Rattle.flash_cache.specs.declared.cache.FlashCache.{FlashCache}
-use Rattle.flash_cache.specs.Held.{HasGroups, Holds, MayGoOn, group_on, disk_on, version_on, AllTogether, Shows}
+use Rattle.flash_cache.specs.Held.{HasGroups, AreSaved, Holds, MayGoOn, group_on, disk_on, version_on, AllTogether, Shows}
 use Rattle.flash_cache.proofs.Queues.{last_of_groups, frames_of_groups, has_at, groups_shown, exist_read, together_length, together_at}
-use Rattle.flash_cache.proofs.Standing.{stands, usable_later}
+use Rattle.tail_rebuild.proofs.Standing.{stands}
+use Rattle.flash_cache.proofs.Standing.{rings_later}
 
 -- where the newest frame of a page stands
 pub record IsAt (queue : Queue) (page : ℕ) (place : Place) (k : ℕ) : Type 0 where
@@ -72,8 +73,7 @@ goes_on_marked cache page queue old new going goes is =
     subst (λ (q : Queue). MayGoOn (record cache { directory = q }) new) (sym is) (record {
       limits = going.limits;
       lengths = lengths_later cache.geometry old new goes going.lengths;
-      usable = usable_later cache.ring old new goes going.usable;
-      shape = going.shape;
+      rings = rings_later cache.geometry cache.ring cache.segments old new goes going.rings;
       next = let next = going.next in omega (arith, next, many);
       few = let few = going.few in omega (arith, few, many);
       sizes = sizes_read page cache.directory.groups going.sizes;
@@ -84,8 +84,7 @@ pub goes_on_ended : (cache : FlashCache) (old new : State) → MayGoOn cache old
 goes_on_ended cache old new going goes = record {
   limits = going.limits;
   lengths = lengths_later cache.geometry old new goes going.lengths;
-  usable = usable_later cache.ring old new goes going.usable;
-  shape = going.shape;
+  rings = rings_later cache.geometry cache.ring cache.segments old new goes going.rings;
   next = going.next;
   few = going.few;
   sizes = going.sizes;
@@ -96,5 +95,6 @@ pub holds_marked : (cache : FlashCache) (page : ℕ) (queue : Queue) (old new : 
 holds_marked cache page queue old new groups holds same is =
     subst (λ (q : Queue). Holds (record cache { directory = q }) new groups) (sym is) (record {
       has = subst (HasGroups cache.geometry cache.directory.first groups) (sym same) holds.has;
+      saved = subst (AreSaved cache.geometry groups) (sym same) holds.saved;
       shown = groups_shown page cache.directory.groups groups holds.shown;
     })

@@ -7,6 +7,8 @@ pub mod PushedImages
 pub mod PushedOutcome
 pub mod PushedVersions
 pub mod Queues
+pub mod SavedFirst
+pub mod Segments
 pub mod Staging
 pub mod StagedContents
 pub mod StagedFrames

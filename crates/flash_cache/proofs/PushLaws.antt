@@ -13,7 +13,7 @@ use Rattle.image_changes.specs.Laws.{KeepsOrAppends}
 use Rattle.image_changes.proofs.Sequence.{changes_add_up, reads_itself}
 use Rattle.image_changes.proofs.AppendLaws.{append_makes}
 use Rattle.stage_out.specs.Staged.{HasStaged, changes_of}
-use Rattle.flash_cache.specs.Pushed.{changes_of_push, LeavesPush}
+use Rattle.flash_cache.specs.Pushed.{changes_of_push, LeavesPush, LeavesPushBehind}
 
 module _ (g : Geometry) (pages : List ℕ) (contents : List (List ℕ)) (group : List ℕ) (old : State) where
   -- while pages are staged
@@ -51,17 +51,23 @@ module _ (g : Geometry) (pages : List ℕ) (contents : List (List ℕ)) (group :
   pub stage_only : (mid : State) → LeavesFront g (changes_of pages) old mid → LeavesOnly old mid (LeavesPush g pages contents group old)
   stage_only mid front = stage_leaves mid front
 
-  -- at each moment the first of its changes were made
-  pub push_front : (new : State) → LeavesOnly old new (LeavesPush g pages contents group old) → LeavesFront g (changes_of_push pages group) old new
-  push_front new leaves = leaves_weaker old new (LeavesPush g pages contents group old) (IsReached g (IsFrontOf (changes_of_push pages group)) old) (λ s is. one s is.told is.either) leaves
-    where
-      one : (s : Snapshot) → s.told ≡ old.told
-          → (((changes : List Change) × IsFrontOf (changes_of pages) changes × Reaches g changes old.image s.image) ⊎ (HasStaged pages contents old.image.disk s.image.disk × Reaches g (changes_of_push pages group) old.image s.image))
-          → IsReached g (IsFrontOf (changes_of_push pages group)) old s
-      one s told (inl part) = record {
-        told = told;
-        changes = part.0;
-        made = (part.1.0 ++ AppendsGroup group ∷ [], ap (λ (l : List Change). l ++ AppendsGroup group ∷ []) part.1.1 ∙ append_assoc part.0 part.1.0 (AppendsGroup group ∷ []));
-        reaches = part.2;
-      }
-      one s told (inr all) = record { told = told; changes = changes_of_push pages group; made = ([], sym (append-nil (changes_of_push pages group))); reaches = all.1 }
+-- at each moment the first of its changes were made
+pub push_front : (g : Geometry) (before : List Change) (pages : List ℕ) (contents : List (List ℕ)) (group : List ℕ) (old new : State) → LeavesOnly old new (LeavesPushBehind g before pages contents group old)
+    → LeavesFront g (before ++ changes_of_push pages group) old new
+push_front g before pages contents group old new leaves =
+    leaves_weaker old new (LeavesPushBehind g before pages contents group old) (IsReached g (IsFrontOf (before ++ changes_of_push pages group)) old) (λ s is. one s is.told is.either) leaves
+  where
+    one : (s : Snapshot) → s.told ≡ old.told
+        → (((changes : List Change) × IsFrontOf (before ++ changes_of pages) changes × Reaches g changes old.image s.image)
+        ⊎ (HasStaged pages contents old.image.disk s.image.disk × Reaches g (before ++ changes_of_push pages group) old.image s.image))
+        → IsReached g (IsFrontOf (before ++ changes_of_push pages group)) old s
+    one s told (inl part) = record {
+      told = told;
+      changes = part.0;
+      made = (
+        part.1.0 ++ AppendsGroup group ∷ [],
+        sym (append_assoc before (changes_of pages) (AppendsGroup group ∷ [])) ∙ ap (λ (l : List Change). l ++ AppendsGroup group ∷ []) part.1.1 ∙ append_assoc part.0 part.1.0 (AppendsGroup group ∷ []),
+      );
+      reaches = part.2;
+    }
+    one s told (inr all) = record { told = told; changes = before ++ changes_of_push pages group; made = ([], sym (append-nil (before ++ changes_of_push pages group))); reaches = all.1 }

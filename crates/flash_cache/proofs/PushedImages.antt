@@ -1,5 +1,5 @@
 -- The images that a push leaves: its changes, the groups that stand there, and the versions of pages.
-use Rattle.std.proofs.Common.{◌≡◌, ℕ, zero, suc, ◌+◌, ◌-◌, ◌<◌, ◌≤◌, ◌==◌, Bool, true, false, cond, List, [], ◌∷◌, ◌++◌, length, get_or, map, drop, Option, Some, None, arith, refl, sym, ap, subst, ◌∙◌, length-append, append_assoc, append-nil}
+use Rattle.std.proofs.Common.{◌≡◌, ◌⊎◌, inl, inr, ℕ, zero, suc, ◌+◌, ◌-◌, ◌<◌, ◌≤◌, ◌==◌, Bool, true, false, cond, List, [], ◌∷◌, ◌++◌, length, get_or, map, drop, Option, Some, None, arith, refl, sym, ap, subst, ◌∙◌, length-append, append_assoc, append-nil}
 use Rattle.std.specs.List.{AllByRecursion, Contains}
 use Rattle.std.proofs.lemmas.List.{map-append, get_or-map, length-map}
 use Rattle.std.proofs.lemmas.Option.{none-some, same_Some, cond_some}
@@ -9,7 +9,7 @@ use Rattle.site.specs.declared.geometry.Geometry.{Geometry}
 use Rattle.site.specs.State.{Image}
 use Rattle.sealed_ring.specs.Ring.{Units, IsRing, hi_of, appended, last_of}
 use Rattle.image_changes.specs.Rings.{Groups, group_shape, units_on, KeepsUnits}
-use Rattle.image_changes.specs.Changes.{Change, RewritesPages, AppendsGroup, Rewrites, Makes, Reaches}
+use Rattle.image_changes.specs.Changes.{Change, RewritesPages, AppendsGroup, AppendsSegment, Makes, Reaches}
 use Rattle.image_changes.specs.Reached.{IsFrontOf}
 use Rattle.stage_out.specs.Staged.{changes_of}
 use Rattle.frame_group.specs.Groups.{Frame, group}
@@ -18,6 +18,8 @@ use Rattle.second_chance.specs.declared.frame.Frame.{Frame as Known}
 use Rattle.second_chance.specs.Queue.{group_marks, front_marks, pushed}
 use Rattle.second_chance.specs.Plans.{Placed, chances_of, staged_of}
 use Rattle.second_chance.proofs.Apart.{staged_stand_in}
+use Rattle.byte_fields.specs.FrameHeads.{spelling_of_all}
+use Rattle.tail_rebuild.specs.Saving.{segment_of, changes_of_save}
 use Rattle.flash_cache.specs.declared.cache.FlashCache.{FlashCache}
 use Rattle.flash_cache.specs.Held.{HasGroups, HasFrames, AllTogether, Shows, frames_on}
 use Rattle.flash_cache.specs.Pushed.{no_frame, front_leaves, chance_given}
@@ -31,41 +33,63 @@ use Rattle.flash_cache.specs.Leaving.{no_mark}
 use Rattle.frame_group.proofs.LastFrames.{last_of_both, last_is_of_page}
 use Rattle.std.specs.Option.{option_or}
 
--- changes that rewrite these pages alone
-abbrev pub OnlyRewrite : List ℕ → List Change → Type 0
-OnlyRewrite pages changes = AllByRecursion (λ change. change ≡ RewritesPages pages) changes
+-- changes before a group is appended: these pages are rewritten, or a segment is appended
+abbrev IsBefore : List ℕ → Change → Type 0
+IsBefore pages change = (change ≡ RewritesPages pages) ⊎ ((content : List ℕ) × (change ≡ AppendsSegment content))
 
-pub staging_only : (pages : List ℕ) → OnlyRewrite pages (changes_of pages)
+abbrev pub OnlyBefore : List ℕ → List Change → Type 0
+OnlyBefore pages changes = AllByRecursion (IsBefore pages) changes
+
+pub staging_only : (pages : List ℕ) → OnlyBefore pages (changes_of pages)
 staging_only [] = tt
-staging_only (page ∷ pages) = (refl, tt)
+staging_only (page ∷ pages) = (inl refl, tt)
 
-all_front : {X : Type 0} (P : X → Type 0) (xs ys : List X) → AllByRecursion P (xs ++ ys) → AllByRecursion P xs
+pub saving_only : (due : Bool) (groups : List (List Frame)) (pages : List ℕ) → OnlyBefore pages (changes_of_save due groups)
+saving_only true groups pages = (inr (spelling_of_all (segment_of groups), refl), tt)
+saving_only false groups pages = tt
+
+pub all_front : {X : Type 0} (P : X → Type 0) (xs ys : List X) → AllByRecursion P (xs ++ ys) → AllByRecursion P xs
 all_front P [] ys all = tt
 all_front P (x ∷ xs) ys all = (all.0, all_front P xs ys all.1)
 
-pub front_only : (pages : List ℕ) (changes : List Change) → IsFrontOf (changes_of pages) changes → OnlyRewrite pages changes
-front_only pages changes is = all_front (λ change. change ≡ RewritesPages pages) changes is.0 (subst (OnlyRewrite pages) is.1 (staging_only pages))
+pub all_joined : {X : Type 0} (P : X → Type 0) (xs ys : List X) → AllByRecursion P xs → AllByRecursion P ys → AllByRecursion P (xs ++ ys)
+all_joined P [] ys all more = more
+all_joined P (x ∷ xs) ys all more = (all.0, all_joined P xs ys all.1 more)
 
-rewritten : (g : Geometry) (pages : List ℕ) (change : Change) (a b : Image) → change ≡ RewritesPages pages → Makes g change a b → Rewrites g pages a b
-rewritten g pages change a b is makes = let P : Change → Type 0 = λ (c : Change). Makes g c a b in subst P is makes
+pub front_only : (pages : List ℕ) (all changes : List Change) → OnlyBefore pages all → IsFrontOf all changes → OnlyBefore pages changes
+front_only pages all changes only is = all_front (IsBefore pages) changes is.0 (subst (OnlyBefore pages) is.1 only)
+
+pub made_as : (g : Geometry) (change as' : Change) (a b : Image) → change ≡ as' → Makes g change a b → Makes g as' a b
+made_as g change as' a b is makes = let P : Change → Type 0 = λ (c : Change). Makes g c a b in subst P is makes
 
 -- they leave the groups, and the disk beside the pages
 pub record Keeps (g : Geometry) (pages : List ℕ) (old new : Image) : Type 0 where
   pub beside : IsBeside pages old.disk new.disk
   pub units : KeepsUnits (group_shape g) old new
 
-pub keeps_by : (g : Geometry) (pages : List ℕ) (changes : List Change) (a b : Image) → OnlyRewrite pages changes → Reaches g changes a b → Keeps g pages a b
+one_keeps : (g : Geometry) (pages : List ℕ) (change : Change) (a b : Image) → IsBefore pages change → Makes g change a b → Keeps g pages a b
+one_keeps g pages change a b (inl is) makes =
+    let first = made_as g change (RewritesPages pages) a b is makes in
+    record { beside = record { size = first.sizes Disk; beside = first.others }; units = first.rings Groups }
+one_keeps g pages change a b (inr is) makes =
+    let first = made_as g change (AppendsSegment is.0) a b is.1 makes in
+    record {
+      beside = record { size = first.sizes Disk; beside = λ place out. ap (λ (d : List ℕ). get_or d place 0) first.disk };
+      units = first.others Groups (λ same. cc);
+    }
+
+pub keeps_by : (g : Geometry) (pages : List ℕ) (changes : List Change) (a b : Image) → OnlyBefore pages changes → Reaches g changes a b → Keeps g pages a b
 keeps_by g pages [] a b only reaches = record {
   beside = record { size = reaches.sizes Disk; beside = λ place out. ap (λ (d : List ℕ). get_or d place 0) reaches.disk };
   units = reaches.rings Groups;
 }
 keeps_by g pages (change ∷ changes) a b only reaches =
     let mid : Image = reaches.0 in
-    let first = rewritten g pages change a mid only.0 reaches.1 in
+    let first = one_keeps g pages change a mid only.0 reaches.1 in
     let rest = keeps_by g pages changes mid b only.1 reaches.2 in
     record {
-      beside = record { size = rest.beside.size ∙ first.sizes Disk; beside = λ place out. rest.beside.beside place out ∙ first.others place out };
-      units = record { units = rest.units.units ∙ (first.rings Groups).units; form = λ form. rest.units.form ((first.rings Groups).form form) };
+      beside = record { size = rest.beside.size ∙ first.beside.size; beside = λ place out. rest.beside.beside place out ∙ first.beside.beside place out };
+      units = record { units = rest.units.units ∙ first.units.units; form = λ form. rest.units.form (first.units.form form) };
     }
 
 -- and once the group is appended, it stands behind the others
@@ -73,13 +97,13 @@ pub record Grown (g : Geometry) (content : List ℕ) (old new : Image) : Type 0 
   pub form : IsRing (group_shape g) new.flash
   pub units : units_on (group_shape g) new ≡ appended (group_shape g) (units_on (group_shape g) old) content
 
-pub grown_by : (g : Geometry) (pages : List ℕ) (content : List ℕ) (changes : List Change) (a b : Image) → OnlyRewrite pages changes → Reaches g (changes ++ AppendsGroup content ∷ []) a b → Grown g content a b
+pub grown_by : (g : Geometry) (pages : List ℕ) (content : List ℕ) (changes : List Change) (a b : Image) → OnlyBefore pages changes → Reaches g (changes ++ AppendsGroup content ∷ []) a b → Grown g content a b
 grown_by g pages content [] a b only reaches = record { form = (reaches.2.rings Groups).form reaches.1.form; units = (reaches.2.rings Groups).units ∙ reaches.1.units }
 grown_by g pages content (change ∷ changes) a b only reaches =
     let mid : Image = reaches.0 in
-    let first = rewritten g pages change a mid only.0 reaches.1 in
+    let first = one_keeps g pages change a mid only.0 reaches.1 in
     let rest = grown_by g pages content changes mid b only.1 reaches.2 in
-    record { form = rest.form; units = rest.units ∙ ap (λ (u : Units). appended (group_shape g) u content) (first.rings Groups).units }
+    record { form = rest.form; units = rest.units ∙ ap (λ (u : Units). appended (group_shape g) u content) first.units.units }
 
 -- the groups that stand there
 

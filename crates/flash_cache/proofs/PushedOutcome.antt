@@ -6,7 +6,7 @@ use Rattle.site.specs.declared.geometry.Geometry.{Geometry}
 use Rattle.site.specs.State.{State, Image, Snapshot}
 use Rattle.site.specs.Moments.{LeavesOnly}
 use Rattle.site.specs.Laws.{leaves_weaker}
-use Rattle.image_changes.specs.Changes.{Change, Reaches}
+use Rattle.image_changes.specs.Changes.{Change, AppendsGroup, Reaches}
 use Rattle.image_changes.specs.Reached.{IsFrontOf}
 use Rattle.stage_out.specs.Staged.{HasStaged, changes_of}
 use Rattle.frame_group.specs.Groups.{Frame, group}
@@ -15,16 +15,18 @@ use Rattle.frame_group.proofs.LastFrames.{last_by_index, none_by_index, last_is_
 use Rattle.second_chance.specs.Queue.{Queue, has_frame}
 use Rattle.second_chance.specs.Plans.{Placed, chances_given}
 use Rattle.second_chance.specs.Machine.{chance_frame}
+use Rattle.tail_rebuild.specs.Saving.{is_due, changes_of_save}
 use Rattle.flash_cache.specs.declared.cache.FlashCache.{FlashCache}
-use Rattle.flash_cache.specs.Held.{HasGroups, HasFrames, Holds, AllTogether, Shows, frames_on, disk_on, version_on, IsCleanOn}
+use Rattle.flash_cache.specs.Held.{MayGoOn, Fits, HasGroups, HasFrames, AreSaved, Holds, AllTogether, Shows, frames_on, disk_on, version_on, IsCleanOn}
 use Rattle.flash_cache.specs.Kept.{KeepsVersions, GivesVersions, LeavesVersions, AreCleanGiven, LeavesClean}
 use Rattle.flash_cache.specs.Laws.{UnframedIsDisk}
-use Rattle.flash_cache.specs.Pushed.{no_frame, front_leaves, staged_pages, staged_contents, chance_marks, chance_given, frames_given, known_given, frames_pushed, known_pushed, pushed_groups, pushed_queue, changes_of_push, LeavesPush}
+use Rattle.flash_cache.specs.Pushed.{no_frame, front_leaves, staged_pages, staged_contents, chance_marks, chance_given, frames_given, known_given, frames_pushed, known_pushed, pushed_groups, pushed_queue, changes_of_push, changes_before, changes_of_group, LeavesPushBehind}
 use Rattle.flash_cache.proofs.Given.{length-given, given_at}
 use Rattle.flash_cache.proofs.Queues.{joined}
 use Rattle.flash_cache.proofs.StagedFrames.{frames_at, not_in_groups}
 use Rattle.flash_cache.proofs.PushedVersions.{AreStaged, page_beside, unframed, staged_versions, staged_clean, dropped_version, dropped_clean}
-use Rattle.flash_cache.proofs.PushedImages.{Keeps, Grown, front_of, rest_of, joined_parts, joined_more, frames_are, kept_groups, grown_groups, last_stands, are_staged, chances_stored, keeps_by, grown_by, front_only, staging_only}
+use Rattle.flash_cache.proofs.PushedImages.{OnlyBefore, Keeps, Grown, front_of, rest_of, joined_parts, joined_more, frames_are, kept_groups, grown_groups, last_stands, are_staged, chances_stored, keeps_by, grown_by, front_only, all_joined, staging_only, saving_only}
+use Rattle.flash_cache.proofs.Segments.{groups_are, saved_front, saved_behind, with_pushed}
 
 -- a page without a frame
 pub unframed_is_disk : UnframedIsDisk
@@ -92,9 +94,10 @@ module _ (cache : FlashCache) (groups : List (List Frame)) (old : Image) (few : 
     new_frames : frames_on g new ≡ front ++ rest
     new_frames = frames_are g cache.directory.first groups new has_still ∙ sym (joined_parts leaves groups)
 
-    pub keeps_versions : KeepsVersions g cache.directory.first groups old new
-    keeps_versions = record {
+    pub keeps_versions : AreSaved g groups new → KeepsVersions g cache.directory.first groups old new
+    keeps_versions saved = record {
       has = has_still;
+      saved = saved;
       versions = λ page.
           ap (λ (l : List Frame). version (disk_on new) l page) new_frames
           ∙ staged_versions front rest chances (staged_pages cache) (staged_contents cache groups) are (disk_on old) (disk_on new) same page
@@ -127,9 +130,11 @@ module _ (cache : FlashCache) (groups : List (List Frame)) (old : Image) (few : 
         frames_are g (pushed_queue cache (known_pushed cache pages changed)).first (pushed_groups cache groups new_group) new has_then ∙ joined_more (rest_of leaves groups) new_group
         ∙ ap (λ (l : List Frame). rest ++ (l ++ given)) stored ∙ sym (append_assoc rest chances given)
 
-    pub gives_versions : IsCleanOn g old → GivesVersions g (pushed_queue cache (known_pushed cache pages changed)).first (pushed_groups cache groups new_group) pages contents old new
-    gives_versions clean = record {
+    pub gives_versions : IsCleanOn g old → AreSaved g (pushed_groups cache groups new_group) new
+        → GivesVersions g (pushed_queue cache (known_pushed cache pages changed)).first (pushed_groups cache groups new_group) pages contents old new
+    gives_versions clean saved = record {
       has = has_then;
+      saved = saved;
       given = λ k lt.
           ap (λ (l : List Frame). version (disk_on new) l (get_or pages k 0)) frames_then
           ∙ new_version (disk_on new) (rest ++ chances) given (get_or pages k 0) (get_or given k no_frame) (given_last pages changed contents marks lists differ k lt)
@@ -162,36 +167,7 @@ module _ (cache : FlashCache) (groups : List (List Frame)) (old : Image) (few : 
         (dropped_clean front rest chances (staged_pages cache) (staged_contents cache groups) are (disk_on old) (disk_on new) same_then staged.here (subst (CleanAsDisk (disk_on old)) old_frames clean))
         (given_clean are_clean))
 
--- of each snapshot, and of the cache
-module _ (cache : FlashCache) (groups : List (List Frame)) (old : State) (few : length cache.directory.groups < cache.geometry.groups) (room : 8 ≤ cache.geometry.groups) (holds : Holds cache old.image groups)
-    (pages : List ℕ) (changed : List Bool) (contents : List (List ℕ)) (marks : length changed ≡ length pages) (lists : length contents ≡ length pages) (differ : AllPairs (λ a b. a ≢ b) pages)
-    (own : HasFrames cache.geometry (frames_pushed cache old.image pages changed contents) (group (frames_pushed cache old.image pages changed contents))) where
-  abbrev pushed_content : List ℕ
-  pushed_content = group (frames_pushed cache old.image pages changed contents)
-
-  abbrev Pushes : Snapshot → Type 0
-  Pushes = LeavesPush cache.geometry (staged_pages cache) (staged_contents cache groups) pushed_content old
-
-  kept_by : (s : Snapshot) (changes : List Change) → IsFrontOf (changes_of (staged_pages cache)) changes → Reaches cache.geometry changes old.image s.image → Keeps cache.geometry (staged_pages cache) old.image s.image
-  kept_by s changes front reaches = keeps_by cache.geometry (staged_pages cache) changes old.image s.image (front_only (staged_pages cache) changes front) reaches
-
-  pub made_by : (new : Image) → Reaches cache.geometry (changes_of_push (staged_pages cache) pushed_content) old.image new → Grown cache.geometry pushed_content old.image new
-  made_by new reaches = grown_by cache.geometry (staged_pages cache) pushed_content (changes_of (staged_pages cache)) old.image new (staging_only (staged_pages cache)) reaches
-
-  pub leaves_versions : (new : State) → IsCleanOn cache.geometry old.image → LeavesOnly old new Pushes → LeavesOnly old new (LeavesVersions cache groups pages changed contents old)
-  leaves_versions new clean leaves = leaves_weaker old new Pushes (LeavesVersions cache groups pages changed contents old) (λ s is. record {
-    told = is.told;
-    either = elim is.either [
-      | inl part ↦ inl (keeps_versions cache groups old.image few room holds s.image (kept_by s part.0 part.1 part.2))
-      | inr all ↦ inr (gives_versions cache groups old.image few room holds pages changed contents marks lists differ own s.image all.0 (made_by s.image all.1) clean)
-    ];
-  }) leaves
-
-  pub leaves_clean : (new : State) → IsCleanOn cache.geometry old.image → AreCleanGiven cache pages changed contents old.image → LeavesOnly old new Pushes → LeavesOnly old new (LeavesClean cache.geometry)
-  leaves_clean new clean given leaves = leaves_weaker old new Pushes (LeavesClean cache.geometry) (λ s is. elim is.either [
-    | inl part ↦ keeps_clean cache groups old.image few room holds s.image (kept_by s part.0 part.1 part.2) clean
-    | inr all ↦ gives_clean cache groups old.image few room holds pages changed contents marks lists differ own s.image all.0 (made_by s.image all.1) clean given
-  ]) leaves
+-- the cache
 
 together_more : {A B : Type 0} (R : A → B → Type 0) (xs : List A) (ys : List B) (x : A) (y : B) → AllTogether R xs ys → R x y → AllTogether R (xs ++ x ∷ []) (ys ++ y ∷ [])
 together_more R [] [] x y all r = (r, tt)
@@ -222,17 +198,106 @@ chances_shown : (versions : ℕ → List ℕ) (marks : List Placed) → AllToget
 chances_shown versions [] = tt
 chances_shown versions (f ∷ marks) = (record { page = refl; dirty = refl }, chances_shown versions marks)
 
-pub holds_pushed : (cache : FlashCache) (groups : List (List Frame)) (old : Image) (pages : List ℕ) (changed : List Bool) (contents : List (List ℕ)) (later : FlashCache) (new : Image) → Holds cache old groups
+holds_pushed : (cache : FlashCache) (groups : List (List Frame)) (old : Image) (pages : List ℕ) (changed : List Bool) (contents : List (List ℕ)) (later : FlashCache) (new : Image) → Holds cache old groups
     → length changed ≡ length pages → length contents ≡ length pages → later.geometry ≡ cache.geometry → later.directory ≡ pushed_queue cache (known_pushed cache pages changed)
     → HasGroups cache.geometry (pushed_queue cache (known_pushed cache pages changed)).first (pushed_groups cache groups (frames_pushed cache old pages changed contents)) new
-    → Holds later new (pushed_groups cache groups (frames_pushed cache old pages changed contents))
-holds_pushed cache groups old pages changed contents later new holds marks lists geometry queue has =
+    → AreSaved cache.geometry (pushed_groups cache groups (frames_pushed cache old pages changed contents)) new → Holds later new (pushed_groups cache groups (frames_pushed cache old pages changed contents))
+holds_pushed cache groups old pages changed contents later new holds marks lists geometry queue has saved =
     let pushed : List (List Frame) = pushed_groups cache groups (frames_pushed cache old pages changed contents) in
     record {
       has = subst (λ (g : Geometry). HasGroups g later.directory.first pushed new) (sym geometry)
           (subst (λ (q : Queue). HasGroups cache.geometry q.first pushed new) (sym queue) has);
+      saved = subst (λ (g : Geometry). AreSaved g pushed new) (sym geometry) saved;
       shown = subst (λ (q : Queue). AllTogether (AllTogether Shows) q.groups pushed) (sym queue)
           (together_more (AllTogether Shows) _ _ _ _ (together_behind (AllTogether Shows) (front_leaves cache) cache.directory.groups groups holds.shown)
           (together_append Shows (map chance_frame (chance_marks cache)) (known_given pages changed) (map (chance_given (version_on cache.geometry old)) (chance_marks cache)) (frames_given pages changed contents)
           (chances_shown (version_on cache.geometry old) (chance_marks cache)) (given_shown pages changed contents marks lists)));
     }
+
+-- of each snapshot, and behind the push
+module _ (cache : FlashCache) (groups : List (List Frame)) (old : State) (going : MayGoOn cache old) (fits : Fits cache old) (holds : Holds cache old.image groups)
+    (pages : List ℕ) (changed : List Bool) (contents : List (List ℕ)) (marks : length changed ≡ length pages) (lists : length contents ≡ length pages) (differ : AllPairs (λ a b. a ≢ b) pages)
+    (own : HasFrames cache.geometry (frames_pushed cache old.image pages changed contents) (group (frames_pushed cache old.image pages changed contents))) where
+  abbrev pushed_frames : List Frame
+  pushed_frames = frames_pushed cache old.image pages changed contents
+
+  abbrev pushed_content : List ℕ
+  pushed_content = group pushed_frames
+
+  abbrev due : Bool
+  due = is_due cache.ring.hi cache.segments.hi
+
+  abbrev before : List Change
+  before = changes_of_save due groups
+
+  few : length cache.directory.groups < cache.geometry.groups
+  few = going.few
+
+  room : 8 ≤ cache.geometry.groups
+  room = going.limits.groups
+
+  abbrev PushesBehind : List Change → Snapshot → Type 0
+  PushesBehind l = LeavesPushBehind cache.geometry l (staged_pages cache) (staged_contents cache groups) pushed_content old
+
+  abbrev Pushes : Snapshot → Type 0
+  Pushes = PushesBehind before
+
+  -- the groups that are read off the image are these
+  as_saved : (P : List Change → Type 0) → P (changes_before cache old.image) → P before
+  as_saved P is = subst (λ (gs : List (List Frame)). P (changes_of_save due gs)) (groups_are cache.geometry cache.directory.first groups old.image holds.has) is
+
+  only : OnlyBefore (staged_pages cache) (before ++ changes_of (staged_pages cache))
+  only = all_joined _ before (changes_of (staged_pages cache)) (saving_only due groups (staged_pages cache)) (staging_only (staged_pages cache))
+
+  kept_by : (s : Snapshot) (changes : List Change) → IsFrontOf (before ++ changes_of (staged_pages cache)) changes → Reaches cache.geometry changes old.image s.image → Keeps cache.geometry (staged_pages cache) old.image s.image
+  kept_by s changes front reaches = keeps_by cache.geometry (staged_pages cache) changes old.image s.image (front_only (staged_pages cache) (before ++ changes_of (staged_pages cache)) changes only front) reaches
+
+  saved_still : (s : Snapshot) (changes : List Change) → IsFrontOf (before ++ changes_of (staged_pages cache)) changes → Reaches cache.geometry changes old.image s.image → AreSaved cache.geometry groups s.image
+  saved_still s changes front reaches =
+      saved_front cache.geometry going.limits cache.directory.first groups old.image holds.has holds.saved cache.ring.hi cache.segments.hi fits.hi fits.segments_hi going.rings.high
+      (staged_pages cache) changes s.image due refl front reaches
+
+  made_by : (new : Image) → Reaches cache.geometry (before ++ changes_of_push (staged_pages cache) pushed_content) old.image new → Grown cache.geometry pushed_content old.image new
+  made_by new reaches =
+      grown_by cache.geometry (staged_pages cache) pushed_content (before ++ changes_of (staged_pages cache)) old.image new only
+      (subst (λ (l : List Change). Reaches cache.geometry l old.image new) (sym (append_assoc before (changes_of (staged_pages cache)) (AppendsGroup pushed_content ∷ []))) reaches)
+
+  saved_then : (new : Image) → Reaches cache.geometry (before ++ changes_of_push (staged_pages cache) pushed_content) old.image new → AreSaved cache.geometry (pushed_groups cache groups pushed_frames) new
+  saved_then new reaches =
+      subst (λ (gs : List (List Frame)). AreSaved cache.geometry gs new) (with_pushed cache groups pushed_frames holds.shown few room)
+      (saved_behind cache.geometry going.limits cache.directory.first groups old.image holds.has holds.saved cache.ring.hi cache.segments.hi fits.hi fits.segments_hi going.rings.high
+      (staged_pages cache) pushed_frames new due refl own reaches)
+
+  pub leaves_versions : (new : State) → IsCleanOn cache.geometry old.image → LeavesOnly old new (PushesBehind (changes_before cache old.image)) → LeavesOnly old new (LeavesVersions cache groups pages changed contents old)
+  leaves_versions new clean leaves = leaves_weaker old new Pushes (LeavesVersions cache groups pages changed contents old) (λ s is. record {
+    told = is.told;
+    either = elim is.either [
+      | inl part ↦ inl (keeps_versions cache groups old.image few room holds s.image (kept_by s part.0 part.1 part.2) (saved_still s part.0 part.1 part.2))
+      | inr all ↦ inr (gives_versions cache groups old.image few room holds pages changed contents marks lists differ own s.image all.0 (made_by s.image all.1) clean (saved_then s.image all.1))
+    ];
+  }) (as_saved (λ l. LeavesOnly old new (PushesBehind l)) leaves)
+
+  pub leaves_clean : (new : State) → IsCleanOn cache.geometry old.image → AreCleanGiven cache pages changed contents old.image → LeavesOnly old new (PushesBehind (changes_before cache old.image)) → LeavesOnly old new (LeavesClean cache.geometry)
+  leaves_clean new clean given leaves = leaves_weaker old new Pushes (LeavesClean cache.geometry) (λ s is. elim is.either [
+    | inl part ↦ keeps_clean cache groups old.image few room holds s.image (kept_by s part.0 part.1 part.2) clean
+    | inr all ↦ gives_clean cache groups old.image few room holds pages changed contents marks lists differ own s.image all.0 (made_by s.image all.1) clean given
+  ]) (as_saved (λ l. LeavesOnly old new (PushesBehind l)) leaves)
+
+  -- behind it
+  module _ (cache' : FlashCache) (new : Image) (staged : HasStaged (staged_pages cache) (staged_contents cache groups) old.image.disk new.disk)
+      (reaches : Reaches cache.geometry (changes_of_group cache old.image pages changed contents) old.image new) (queue : cache'.directory ≡ pushed_queue cache (known_pushed cache pages changed)) where
+    made : Reaches cache.geometry (before ++ changes_of_push (staged_pages cache) pushed_content) old.image new
+    made = as_saved (λ l. Reaches cache.geometry (l ++ changes_of_push (staged_pages cache) pushed_content) old.image new) reaches
+
+    pub gives_behind : IsCleanOn cache.geometry old.image → GivesVersions cache.geometry cache'.directory.first (pushed_groups cache groups pushed_frames) pages contents old.image new
+    gives_behind clean =
+        subst (λ (q : Queue). GivesVersions cache.geometry q.first (pushed_groups cache groups pushed_frames) pages contents old.image new) (sym queue)
+        (gives_versions cache groups old.image few room holds pages changed contents marks lists differ own new staged (made_by new made) clean (saved_then new made))
+
+    pub clean_behind : IsCleanOn cache.geometry old.image → AreCleanGiven cache pages changed contents old.image → IsCleanOn cache.geometry new
+    clean_behind clean given = gives_clean cache groups old.image few room holds pages changed contents marks lists differ own new staged (made_by new made) clean given
+
+    pub holds_behind : cache'.geometry ≡ cache.geometry → Holds cache' new (pushed_groups cache groups pushed_frames)
+    holds_behind geometry =
+        holds_pushed cache groups old.image pages changed contents cache' new holds marks lists geometry queue
+        (has_then cache groups old.image few room holds pages changed contents marks lists differ own new staged (made_by new made)) (saved_then new made)

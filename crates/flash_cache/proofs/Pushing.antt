@@ -1,8 +1,8 @@
 -- The cache behind an append of a group.
-use Rattle.std.proofs.Common.{◌≡◌, ℕ, ◌+◌, ◌-◌, ◌<◌, ◌≤◌, Bool, true, false, List, [], ◌∷◌, ◌++◌, length, drop, arith, refl, sym, ap, subst, ◌∙◌}
+use Rattle.std.proofs.Common.{◌≡◌, ℕ, ◌+◌, ◌-◌, ◌*◌, ◌<◌, ◌≤◌, Bool, true, false, List, [], ◌∷◌, ◌++◌, length, drop, arith, refl, sym, ap, subst, ◌∙◌}
 use Rattle.std.specs.Prelude.{IsTrue, ◌↔◌}
 use Rattle.std.specs.List.{AllByRecursion}
-use Rattle.std.proofs.lemmas.Bool.{leb-true, leb-false, le-leb}
+use Rattle.std.proofs.lemmas.Bool.{leb-true, leb-false, le-leb, eqb-false}
 use Rattle.std.proofs.lemmas.List.{length-append}
 use Rattle.site.specs.declared.outside.Dev.TheVariants.{Flash}
 use Rattle.site.specs.State.{State}
@@ -10,9 +10,9 @@ use Rattle.site.specs.Calls.{Goes}
 use Rattle.site.specs.Moments.{OnlyDevice}
 use Rattle.sealed_ring.specs.declared.slots.Shape.{Shape}
 use Rattle.sealed_ring.specs.declared.ring.Ring.{Ring}
-use Rattle.sealed_ring.specs.Ring.{FitsIn, IsRing, SameOutside, hi_of, appended}
+use Rattle.sealed_ring.specs.Ring.{Units, FitsIn, IsRing, SameOutside, hi_of, appended}
 use Rattle.sealed_ring.specs.Ready.{region, units_in, IsUsable, IsReady, Finds}
-use Rattle.image_changes.specs.Rings.{Groups, group_shape}
+use Rattle.image_changes.specs.Rings.{Groups, Segments, group_shape}
 use Rattle.image_changes.specs.Changes.{Appends}
 use Rattle.image_changes.proofs.AppendLaws.{append_done}
 use Rattle.byte_fields.specs.declared.frame_head.FrameHead.{FrameHead}
@@ -21,25 +21,35 @@ use Rattle.second_chance.specs.declared.frame.Frame.{Frame as Known}
 use Rattle.second_chance.specs.Queue.{Queue, pushed}
 use Rattle.flash_directory.specs.Heads.{frames_in}
 use Rattle.flash_directory.proofs.Opened.{size_of_heads}
+use Rattle.tail_rebuild.specs.Saving.{is_due}
 use Rattle.flash_cache.specs.declared.cache.FlashCache.{FlashCache}
 use Rattle.flash_cache.specs.Held.{MayGoOn, Fits, PagesExist}
 use Rattle.flash_cache.specs.Pushed.{front_leaves, pushed_queue}
 use Rattle.flash_cache.proofs.Given.{all_more, all_behind}
-use Rattle.flash_cache.proofs.Standing.{usable_later, exist_in}
+use Rattle.flash_cache.proofs.Standing.{usable_later, rings_later, exist_in}
 use Rattle.flash_cache.proofs.Fetching.{lengths_later}
 
 -- nothing but counts of the ring's device changed, as far as the cache knows
 pub goes_on_same : (cache : FlashCache) (ring : Ring) (queue : Queue) (old new : State) → MayGoOn cache old → Goes old new → ring.shape ≡ cache.ring.shape → ring.hi ≡ cache.ring.hi → queue ≡ cache.directory
     → MayGoOn (record cache { ring = ring; directory = queue }) new
 goes_on_same cache ring queue old new going goes shape hi is =
-    let usable = usable_later cache.ring old new goes going.usable in
+    let rings = rings_later cache.geometry cache.ring cache.segments old new goes going.rings in
+    let usable = rings.groups_usable in
     let bounded = usable.bounded in
     let next = going.next in
+    let low = rings.low in
+    let high = rings.high in
     subst (λ (q : Queue). MayGoOn (record cache { ring = ring; directory = q }) new) (sym is) (record {
       limits = going.limits;
       lengths = lengths_later cache.geometry old new goes going.lengths;
-      usable = record { fits = subst (λ (s : Shape). FitsIn s (length (region s new))) (sym shape) usable.fits; bounded = omega (arith, bounded, hi) };
-      shape = shape ∙ going.shape;
+      rings = record {
+        groups_usable = record { fits = subst (λ (s : Shape). FitsIn s (length (region s new))) (sym shape) usable.fits; bounded = omega (arith, bounded, hi) };
+        segments_usable = rings.segments_usable;
+        groups_shape = shape ∙ rings.groups_shape;
+        segments_shape = rings.segments_shape;
+        low = omega (arith, low, hi);
+        high = omega (arith, high, hi);
+      };
       next = omega (arith, next, hi);
       few = going.few;
       sizes = going.sizes;
@@ -88,10 +98,14 @@ module _ (cache : FlashCache) (group : List Known) (few : length cache.directory
   pushed_all P true all own = all_more P (drop 1 cache.directory.groups) group (all_behind P cache.directory.groups all) own
   pushed_all P false all own = all_more P cache.directory.groups group all own
 
+-- where no segment is due there is room for a group behind the segments
+pub none_is_due : (cache : FlashCache) → is_due cache.ring.hi cache.segments.hi ≡ false → cache.ring.hi ≤ 4 * cache.segments.hi + 4 → cache.ring.hi < 4 * cache.segments.hi + 4
+none_is_due cache none high = let other = eqb-false cache.ring.hi (4 * cache.segments.hi + 4) none in omega (arith, high, other)
+
 pub goes_on_pushed : (cache : FlashCache) (heads : List FrameHead) (ring : Ring) (queue : Queue) (old new : State) → MayGoOn cache old → Goes old new → AreGroupHeads heads → PagesExist cache.geometry.pages heads
     → ring.shape ≡ cache.ring.shape → ring.hi ≡ cache.ring.hi + 1 → IsUsable ring new → queue ≡ pushed_queue cache (frames_in heads)
-    → MayGoOn (record cache { ring = ring; directory = queue }) new
-goes_on_pushed cache heads ring queue old new going goes are exist shape hi usable is =
+    → is_due cache.ring.hi cache.segments.hi ≡ false → MayGoOn (record cache { ring = ring; directory = queue }) new
+goes_on_pushed cache heads ring queue old new going goes are exist shape hi usable is none =
     let group = frames_in heads in
     let room = going.limits.groups in
     let next = going.next in
@@ -99,8 +113,14 @@ goes_on_pushed cache heads ring queue old new going goes are exist shape hi usab
     subst (λ (q : Queue). MayGoOn (record cache { ring = ring; directory = q }) new) (sym is) (record {
       limits = going.limits;
       lengths = lengths_later cache.geometry old new goes going.lengths;
-      usable = usable;
-      shape = shape ∙ going.shape;
+      rings = record {
+        groups_usable = usable;
+        segments_usable = usable_later cache.segments old new goes going.rings.segments_usable;
+        groups_shape = shape ∙ going.rings.groups_shape;
+        segments_shape = going.rings.segments_shape;
+        low = let low = going.rings.low in omega (arith, low, hi);
+        high = let below = none_is_due cache none going.rings.high in omega (arith, below, hi);
+      };
       next = omega (arith, then, next, hi);
       few = pushed_few cache group going.few room (front_leaves cache) refl;
       sizes = pushed_all cache group going.few room (λ frames. (1 ≤ length frames) × (length frames ≤ 8)) (front_leaves cache) going.sizes (size_of_heads heads are);
@@ -115,21 +135,28 @@ ring_found cache site shape fits = record {
   hi = fits.hi ∙ ap (λ (s : Shape). hi_of s (region s site)) (sym shape);
 }
 
-pub fits_again : (cache : FlashCache) (ring : Ring) (queue : Queue) (site : State) → ring.shape ≡ group_shape cache.geometry → IsTrue site.honest → IsReady ring site → Fits (record cache { ring = ring; directory = queue }) site
-fits_again cache ring queue site shape honest ready = record {
-  honest = honest;
-  form = subst (λ (s : Shape). IsRing s (region s site)) shape ready.form;
-  hi = ready.hi ∙ ap (λ (s : Shape). hi_of s (region s site)) shape;
-}
-
 -- what an append to it has done
 pub append_is : (cache : FlashCache) (ring : Ring) (content : List ℕ) (old new : State) → MayGoOn cache old → length content ≡ 32896 → Goes old new → ring.shape ≡ cache.ring.shape → IsReady ring new
     → SameOutside cache.ring.shape (region cache.ring.shape old) (region cache.ring.shape new) → OnlyDevice cache.ring.shape.dev old new
     → units_in cache.ring.shape new ≡ appended cache.ring.shape (units_in cache.ring.shape old) content
     → Appends cache.geometry Groups content old.image new.image
 append_is cache ring content old new going room goes same ready outside only more =
+    let shape = going.rings.groups_shape in
     append_done cache.geometry Groups content old new going.limits going.lengths room (goes.sizes Flash)
-    (subst (λ (s : Shape). IsRing s (region s new)) (same ∙ going.shape) ready.form)
-    (subst (λ (s : Shape). SameOutside s (region s old) (region s new)) going.shape outside)
-    (subst (λ (s : Shape). OnlyDevice s.dev old new) going.shape only)
-    (subst (λ (s : Shape). units_in s new ≡ appended s (units_in s old) content) going.shape more)
+    (subst (λ (s : Shape). IsRing s (region s new)) (same ∙ shape) ready.form)
+    (subst (λ (s : Shape). SameOutside s (region s old) (region s new)) shape outside)
+    (subst (λ (s : Shape). OnlyDevice s.dev old new) shape only)
+    (subst (λ (s : Shape). units_in s new ≡ appended s (units_in s old) content) shape more)
+
+-- the cache fits again behind it
+pub fits_again : (cache : FlashCache) (ring : Ring) (queue : Queue) (content : List ℕ) (old new : State) → ring.shape ≡ group_shape cache.geometry → IsTrue new.honest → IsReady ring new
+    → Appends cache.geometry Groups content old.image new.image → Fits cache old → Fits (record cache { ring = ring; directory = queue }) new
+fits_again cache ring queue content old new shape honest ready appends fits =
+    let segments = appends.others Segments (λ same. cc) in
+    record {
+      honest = honest;
+      form = subst (λ (s : Shape). IsRing s (region s new)) shape ready.form;
+      hi = ready.hi ∙ ap (λ (s : Shape). hi_of s (region s new)) shape;
+      segments_form = segments.form fits.segments_form;
+      segments_hi = fits.segments_hi ∙ ap (λ (u : Units). u.hi) (sym segments.units);
+    }

@@ -27,7 +27,8 @@ use Rattle.flash_cache.proofs.Given.{length-given, known_of_given, all_append}
 use Rattle.flash_cache.proofs.StagedFrames.{frames_at}
 use Rattle.flash_cache.proofs.PushedOutcome.{stored}
 use Rattle.flash_cache.proofs.Queues.{together_length, has_at}
-use Rattle.flash_cache.proofs.Standing.{stands, known_heads, length-mapped}
+use Rattle.tail_rebuild.proofs.Standing.{stands}
+use Rattle.flash_cache.proofs.Standing.{known_heads, length-mapped}
 use Rattle.flash_cache.proofs.StagedMarks.{AreNumbered, length-marks, read_at, marks_exist, staged_numbered, chances_numbered}
 
 -- the pages given exist
@@ -67,7 +68,7 @@ module _ (cache : FlashCache) (site : State) (groups : List (List Frame)) (going
       let some = some_group groups i lt in
       let at : cache.directory.first ≡ cache.directory.first + 0 = omega arith in
       let is : unit ≡ group front =
-      ap (λ (s : Shape). unit_at s (units_in s site) cache.directory.first) going.shape
+      ap (λ (s : Shape). unit_at s (units_in s site) cache.directory.first) going.rings.groups_shape
       ∙ stands cache.geometry cache.directory.first groups site.image holds.has cache.directory.first 0 at some in
       ap (λ (u : List ℕ). page_at u i) is ∙ pages_stand (group front) front i no_frame (has_at cache.geometry groups 0 holds.has.are_groups some).is_group lt
 

@@ -1,4 +1,5 @@
 -- A push, device by device: pages are staged, and then a group is appended.
+use Rattle.std.specs.Prelude.{IsTrue}
 use Rattle.std.proofs.Common.{◌≡◌, ◌≢◌, ◌⊎◌, inl, ℕ, List, [], ◌∷◌, ◌++◌, length, drop, refl, sym, ap, subst, ◌∙◌}
 use Rattle.std.specs.List.{AllByRecursion}
 use Rattle.site.specs.declared.outside.Dev.{Dev}
@@ -8,7 +9,7 @@ use Rattle.site.specs.Calls.{Goes, IsUnchanged}
 use Rattle.site.specs.Moments.{Leaves, LeavesOnly, EachMoment, ChangesOnly, SameAt, Untouched}
 use Rattle.site.specs.Laws.{others_untouched, untouched_in_sequence, stays_honest, no_call, unchanged_calm, quiet_leaves, leaves_weaker}
 use Rattle.sealed_ring.specs.Ring.{IsRing, hi_of}
-use Rattle.image_changes.specs.Rings.{Groups, group_shape}
+use Rattle.image_changes.specs.Rings.{Groups, group_shape, segment_shape}
 use Rattle.image_changes.specs.Changes.{Change, AppendsGroup, Appends, Reaches}
 use Rattle.image_changes.specs.Reached.{IsFrontOf}
 use Rattle.image_changes.proofs.Sequence.{changes_add_up, reads_itself}
@@ -22,15 +23,18 @@ use Rattle.flash_cache.proofs.Pushing.{goes_on_same}
 pub goes_on_later : (cache : FlashCache) (old new : State) → MayGoOn cache old → Goes old new → MayGoOn cache new
 goes_on_later cache old new going goes = goes_on_same cache cache.ring cache.directory old new going goes refl refl refl
 
--- where only the disk changes, the cache fits on
+-- where the flash has what it had, the cache fits on
+pub fits_same : (cache : FlashCache) (old new : State) → new.image.flash ≡ old.image.flash → IsTrue new.honest → Fits cache old → Fits cache new
+fits_same cache old new flash honest fits = record {
+  honest = honest;
+  form = subst (IsRing (group_shape cache.geometry)) (sym flash) fits.form;
+  hi = fits.hi ∙ ap (hi_of (group_shape cache.geometry)) (sym flash);
+  segments_form = subst (IsRing (segment_shape cache.geometry)) (sym flash) fits.segments_form;
+  segments_hi = fits.segments_hi ∙ ap (hi_of (segment_shape cache.geometry)) (sym flash);
+}
+
 pub fits_on : (cache : FlashCache) (old mid : State) → Fits cache old → Goes old mid → ChangesOnly Disk old mid → Fits cache mid
-fits_on cache old mid fits goes changes =
-    let flash : mid.image.flash ≡ old.image.flash = changes.only.now.content Flash (λ h. cc) in
-    record {
-      honest = stays_honest old mid goes fits.honest;
-      form = subst (IsRing (group_shape cache.geometry)) (sym flash) fits.form;
-      hi = fits.hi ∙ ap (hi_of (group_shape cache.geometry)) (sym flash);
-    }
+fits_on cache old mid fits goes changes = fits_same cache old mid (changes.only.now.content Flash (λ h. cc)) (stays_honest old mid goes fits.honest) fits
 
 -- the log's device stays as it is
 
@@ -47,11 +51,7 @@ all_made g pages group old mid new made more = changes_add_up g (changes_of page
 -- Calls that only read come first.
 
 pub fits_read : (cache : FlashCache) (old mid : State) → Fits cache old → Goes old mid → IsUnchanged old mid → Fits cache mid
-fits_read cache old mid fits goes same = record {
-  honest = stays_honest old mid goes fits.honest;
-  form = subst (λ (i : Image). IsRing (group_shape cache.geometry) i.flash) (sym same.image) fits.form;
-  hi = fits.hi ∙ ap (λ (i : Image). hi_of (group_shape cache.geometry) i.flash) (sym same.image);
-}
+fits_read cache old mid fits goes same = fits_same cache old mid (ap (λ (i : Image). i.flash) same.image) (stays_honest old mid goes fits.honest) fits
 
 pub read_untouched : (d : Dev) (old new : State) → IsUnchanged old new → Untouched d old new
 read_untouched d old new same = unchanged_calm old old new (SameAt d old) (no_call old (SameAt d old) (record { content = refl; loose = refl })) same

@@ -14,18 +14,18 @@ ghost use Rattle.byte_fields.specs.FrameHeads.{AreGroupHeads};
 ghost use Rattle.image_changes.specs.Rings.{group_shape, Groups as GroupRing};
 ghost use Rattle.image_changes.specs.Changes.{Appends, Reaches};
 ghost use Rattle.image_changes.specs.Reached.{LeavesFront};
-ghost use Rattle.frame_group.specs.Groups.{Frame, group};
+ghost use Rattle.frame_group.specs.Groups.{Frame, IsFrame, heads_of, group};
 ghost use Rattle.tail_rebuild.specs.Saving.{is_due};
 ghost use Rattle.second_chance.specs.Queue.{has_frame, with_read, marks, front_marks};
 ghost use Rattle.second_chance.specs.Machine.{rules_of, leaving};
 ghost use Rattle.stage_out.specs.Staged.{HasStaged};
 ghost use Rattle.flash_directory.specs.Heads.{frames_in};
 ghost use Rattle.flash_cache.specs.Held.{MayGoOn, Fits, IsWorn, HasGroups, HasFrames, AreSaved, Holds, queue_of, version_on, PagesExist, IsCleanOn, start_reads};
-ghost use Rattle.flash_cache.specs.Pushed.{staged_marks, staged_pages, staged_contents, chance_marks, pages_pushed, frames_pushed, known_pushed, pushed_groups, pushed_queue, changes_of_push, changes_before, changes_of_group, LeavesPush, LeavesPushBehind, ChangesPages};
+ghost use Rattle.flash_cache.specs.Pushed.{staged_marks, staged_pages, staged_contents, chance_marks, pages_pushed, frames_given, frames_pushed, known_pushed, pushed_groups, pushed_queue, changes_of_push, changes_before, changes_of_group, LeavesPush, LeavesPushBehind, ChangesPages};
 ghost use Rattle.flash_cache.specs.Kept.{GivesVersions, LeavesVersions, AreCleanGiven, LeavesClean};
 
 use crate::leaving::frames_leaving;
-use crate::making::{group_content, heads_given};
+use crate::making::{Given, group_content, heads_given};
 use byte_fields::{FrameHead, Mark};
 use flash_directory::{Directory, HeadView};
 use frame_group::{GROUP_LEN, HEADS_LEN, PAGE_LEN, group_heads};
@@ -34,8 +34,8 @@ use second_chance::Plan;
 use site::{Dev, Geometry, Site, Stop};
 use slotted_page::Page;
 use stage_out::stage;
-use tail_rebuild::{rebuild, save_due};
 use std::alloc::Global;
+use tail_rebuild::{rebuild, save_due};
 
 /// The queue of groups on flash. It is ended once a call that changes it gave an error.
 #[derive(Drop)]
@@ -180,8 +180,8 @@ impl FlashCache {
     /// are valid and dirty, are read, written to the disk, and synced there before the group is appended.
     ///
     /// At each moment of the call segments follow the groups, and the queue has its old groups, and the staged pages may
-    /// have any octets on the disk; or it has the new group, and the staged pages stand on the disk. So each page has the version that it had, or all
-    /// pages given have their contents, and every other page the version that it had.
+    /// have any octets on the disk; or it has the new group, and the staged pages stand on the disk. So each page has the
+    /// version that it had, or all pages given have their contents, and every other page the version that it had.
     ///
     /// `plan` is that of the machine for the front group. The lists are the pages given, of which none is given twice,
     /// whether each was changed, and the content of each. With the second chances they are 1 to 8 pages; a page that has
@@ -306,11 +306,18 @@ impl FlashCache {
             ⊎ ((stop ≡ Stop.Memory)
             ⊎ ((stop ≡ Stop.Worn Dev.Flash) ⊎ (stop ≡ Stop.Foreign))))) }
     {
+        let heads = heads_given(pages, changed, contents);
+        let given = Given {
+            pages,
+            changed,
+            contents,
+            heads,
+        };
         if let Err(stop) = save_due(site, &self.geometry, &self.ring, &mut self.segments) {
             self.ended = true;
             return Err(stop);
         }
-        if let Err(stop) = self.push(site, plan, pages, changed, contents) {
+        if let Err(stop) = self.push(site, plan, &given) {
             self.ended = true;
             return Err(stop);
         }
@@ -318,23 +325,20 @@ impl FlashCache {
     }
 
     // The same where no segment is due, but that an error doesn't end the cache.
-    fn push<S: Site>(
-        &mut self,
-        site: &mut S,
-        plan: &Plan,
-        pages: &[u32],
-        changed: &[bool],
-        contents: &[Page],
-    ) -> Result<(), Stop>
+    fn push<S: Site>(&mut self, site: &mut S, plan: &Plan, given: &Given) -> Result<(), Stop>
         requires going { MayGoOn self.old (S.state site.old) }
         requires none_due { is_due self.old.ring.hi self.old.segments.hi ≡ false }
         requires chances { plan.now.chances ≡ map (λ f. f.0) (chance_marks self.old) }
         requires staged { plan.now.staged ≡ map (λ f. f.0) (staged_marks self.old) }
-        requires marks { length changed.now ≡ length pages.now }
-        requires lists { length contents.now ≡ length pages.now }
-        requires some { 1 ≤ length (pages_pushed self.old pages.now) }
-        requires few { length (pages_pushed self.old pages.now) ≤ 8 }
-        requires exist { All (λ page. page < self.old.geometry.pages) pages.now }
+        requires marks { length given.now.changed.now ≡ length given.now.pages.now }
+        requires lists { length given.now.contents.now ≡ length given.now.pages.now }
+        requires some { 1 ≤ length (pages_pushed self.old given.now.pages.now) }
+        requires few { length (pages_pushed self.old given.now.pages.now) ≤ 8 }
+        requires exist { All (λ page. page < self.old.geometry.pages) given.now.pages.now }
+        requires heads { given.now.heads ≡ heads_of (frames_given given.now.pages.now given.now.changed.now
+            given.now.contents.now) }
+        requires are_frames { AllByRecursion IsFrame (frames_given given.now.pages.now given.now.changed.now
+            given.now.contents.now) }
 
         ensures any_moment { (groups : List (List Frame))
             → Fits self.old (S.state site.old) → Holds self.old (S.state site.old).image groups
@@ -342,12 +346,12 @@ impl FlashCache {
             → LeavesOnly (S.state site.old) (S.state site.new) (LeavesPush self.old.geometry
             (staged_pages self.old) (staged_contents self.old groups)
             (group (frames_pushed self.old (S.state site.old).image
-            pages.now changed.now contents.now)) (S.state site.old)) }
+            given.now.pages.now given.now.changed.now given.now.contents.now)) (S.state site.old)) }
         ensures reaches { (groups : List (List Frame))
             → Fits self.old (S.state site.old) → Holds self.old (S.state site.old).image groups
             → OnOk result (Reaches self.old.geometry (changes_of_push (staged_pages self.old)
             (group (frames_pushed self.old (S.state site.old).image
-            pages.now changed.now contents.now)))
+            given.now.pages.now given.now.changed.now given.now.contents.now)))
             (S.state site.old).image (S.state site.new).image) }
         ensures staged { (groups : List (List Frame))
             → Fits self.old (S.state site.old) → Holds self.old (S.state site.old).image groups
@@ -355,7 +359,8 @@ impl FlashCache {
             (S.state site.old).image.disk (S.state site.new).image.disk) }
         ensures frames { (groups : List (List Frame))
             → Fits self.old (S.state site.old) → Holds self.old (S.state site.old).image groups
-            → let frames = frames_pushed self.old (S.state site.old).image pages.now changed.now contents.now in
+            → let frames = frames_pushed self.old (S.state site.old).image
+            given.now.pages.now given.now.changed.now given.now.contents.now in
             HasFrames self.old.geometry frames (group frames) }
         ensures changes { IsTrue (S.state site.old).honest
             → ChangesPages (S.state site.old) (S.state site.new) }
@@ -369,7 +374,7 @@ impl FlashCache {
 
         // Of every site.
         ensures directory { OnOk result (self.new.directory
-            ≡ pushed_queue self.old (known_pushed self.old pages.now changed.now)) }
+            ≡ pushed_queue self.old (known_pushed self.old given.now.pages.now given.now.changed.now)) }
         ensures kept { OnErr result (self.new.directory ≡ self.old.directory) }
         ensures going { MayGoOn self.new (S.state site.new) }
         ensures geometry { self.new.geometry ≡ self.old.geometry }
@@ -391,7 +396,6 @@ impl FlashCache {
             ⊎ ((stop ≡ Stop.Device Dev.Disk)
             ⊎ ((stop ≡ Stop.Memory) ⊎ (stop ≡ Stop.Worn Dev.Flash)))) }
     {
-        let given = heads_given(pages, changed, contents);
         let (staged, chances) = match frames_leaving(
             self.alloc,
             site,
@@ -402,7 +406,7 @@ impl FlashCache {
             Ok(both) => both,
             Err(stop) => return Err(stop),
         };
-        let content = group_content(&chances, &given, contents);
+        let content = group_content(&chances, &given.heads, given.contents);
         let Ok(heads) = group_heads(&content) else {
             unreachable!()
         };

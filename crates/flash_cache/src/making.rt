@@ -10,6 +10,15 @@ use byte_fields::FrameHead;
 use frame_group::{GROUP_LEN, put_frame};
 use slotted_page::Page;
 
+/// What is given to a push: pages, whether each was changed, what each has, and the heads that they make.
+#[derive(Drop)]
+pub struct Given<'a> {
+    pub pages: &'a [u32],
+    pub changed: &'a [bool],
+    pub contents: &'a [Page],
+    pub heads: [FrameHead; 8],
+}
+
 /// The eight heads of a group with the frames given, of which there are at most eight.
 pub fn heads_given(pages: &[u32], changed: &[bool], contents: &[Page]) -> [FrameHead; 8]
     requires marks { length changed.now ≡ length pages.now }

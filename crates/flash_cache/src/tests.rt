@@ -21,6 +21,12 @@ const SMALL: Geometry = Geometry {
     blocks: 16,
 };
 
+const MANY: Geometry = Geometry {
+    pages: 16,
+    groups: 16_384,
+    blocks: 16,
+};
+
 const NO_MARK: Mark = Mark {
     page: 0,
     valid: false,
@@ -80,14 +86,11 @@ fn two_groups(alloc: Global) -> Result<MemSite, Stop>
 }
 
 #[test]
-fn a_blank_queue(rt: HostRuntime) -> Result<(), Fail> {
-    let mut site = MemSite::new(rt.alloc(), &SMALL)?;
-    let mut cache = FlashCache::start(rt.alloc(), &mut site, &SMALL)?;
+fn a_blank_queue_of_many_groups(rt: HostRuntime) -> Result<(), Fail> {
+    let mut site = MemSite::new(rt.alloc(), &MANY)?;
+    let cache = FlashCache::start(rt.alloc(), &mut site, &MANY)?;
     assert_eq!(rt; cache.groups(), 0);
-    assert!(rt; !cache.holds(3));
-    let mut page = Page::empty();
-    assert!(rt; !cache.fetch(&mut site, 3, &mut page)?);
-    assert!(rt; !cache.ended());
+    assert!(rt; site.reads(Dev::Flash) <= 8_210);
     Ok(())
 }
 
@@ -125,16 +128,6 @@ fn marks_of_the_queue(rt: HostRuntime) -> Result<(), Fail> {
             ..NO_MARK
         }
     );
-    Ok(())
-}
-
-#[test]
-fn a_page_that_is_past_the_last(rt: HostRuntime) -> Result<(), Fail> {
-    let mut site = blank(rt.alloc())?;
-    first_group(&mut site);
-    put(&mut site, 16, 16);
-    let opened = FlashCache::start(rt.alloc(), &mut site, &SMALL);
-    assert!(rt; matches!(opened, Err(Stop::Foreign)));
     Ok(())
 }
 
@@ -201,18 +194,6 @@ fn push_one(
     ensures geometry { cache.new.geometry ≡ small }
 {
     push(cache, site, &[page], &[changed], &[filled(octet)])
-}
-
-// Pushes pages 12 and 11 in one group, both dirty, with 1s and 2s.
-fn push_pair(cache: &mut FlashCache, site: &mut MemSite) -> Result<(), Stop>
-    requires going { MayGoOn cache.old (state_of site.old) }
-    requires geometry { cache.old.geometry ≡ small }
-
-    ensures going { MayGoOn cache.new (state_of site.new) }
-    ensures geometry { cache.new.geometry ≡ small }
-{
-    let contents = [filled(1), filled(2)];
-    push(cache, site, &[12, 11], &[true, true], &contents)
 }
 
 // Pushes pages one by one, each dirty and with its number as each octet.
@@ -361,58 +342,18 @@ fn a_push_to_a_queue_with_room(rt: HostRuntime) -> Result<(), Fail> {
 #[test]
 fn a_push_to_a_full_queue(rt: HostRuntime) -> Result<(), Fail> {
     let (mut cache, mut site) = full_queue(rt.alloc())?;
-    assert_eq!(rt; site.changes(), 35);
-    assert_eq!(rt; site.reads(Dev::Flash), 9);
+    // Seven groups and one segment; the two rings are found by six reads and one, and the segment has the heads of four groups.
+    assert_eq!(rt; site.changes(), 40);
+    assert_eq!(rt; site.reads(Dev::Flash), 11);
     push_one(&mut cache, &mut site, 10, true, 0x50)?;
     // One write and one sync of the disk, and five changes of an append.
-    assert_eq!(rt; site.changes(), 42);
-    assert_eq!(rt; site.reads(Dev::Flash), 10);
+    assert_eq!(rt; site.changes(), 47);
+    assert_eq!(rt; site.reads(Dev::Flash), 12);
     assert_eq!(rt; site.reads(Dev::Disk), 0);
     assert_eq!(rt; cache.groups(), 7);
     assert_eq!(rt; cache.first(), 1);
     assert!(rt; !cache.holds(3));
     assert!(rt; have_versions(&mut cache, &mut site)?);
-    Ok(())
-}
-
-#[test]
-fn an_older_frame_is_not_staged(rt: HostRuntime) -> Result<(), Fail> {
-    let (mut cache, mut site) = full_queue(rt.alloc())?;
-    push_one(&mut cache, &mut site, 4, true, 0x44)?;
-    // The front group has the older frame of page 4 now.
-    assert_eq!(rt; site.changes(), 42);
-    push_one(&mut cache, &mut site, 10, true, 0x50)?;
-    assert_eq!(rt; site.changes(), 47);
-    assert!(rt; has_version(&mut cache, &mut site, 4, 0x44)?);
-    Ok(())
-}
-
-#[test]
-fn a_clean_frame_is_not_staged(rt: HostRuntime) -> Result<(), Fail> {
-    let mut site = MemSite::new(rt.alloc(), &SMALL)?;
-    let mut cache = FlashCache::start(rt.alloc(), &mut site, &SMALL)?;
-    push_one(&mut cache, &mut site, 2, false, 0)?;
-    push_run(&mut cache, &mut site, 3, 9)?;
-    assert_eq!(rt; site.changes(), 35);
-    push_one(&mut cache, &mut site, 10, true, 0x50)?;
-    assert_eq!(rt; site.changes(), 40);
-    assert!(rt; !cache.holds(2));
-    assert!(rt; has_version(&mut cache, &mut site, 2, 0)?);
-    Ok(())
-}
-
-#[test]
-fn two_pages_of_one_group(rt: HostRuntime) -> Result<(), Fail> {
-    let mut site = MemSite::new(rt.alloc(), &SMALL)?;
-    let mut cache = FlashCache::start(rt.alloc(), &mut site, &SMALL)?;
-    push_pair(&mut cache, &mut site)?;
-    assert_eq!(rt; site.changes(), 5);
-    push_run(&mut cache, &mut site, 3, 9)?;
-    // Two writes and one sync of the disk, and five changes of an append.
-    push_one(&mut cache, &mut site, 10, true, 0x50)?;
-    assert_eq!(rt; site.changes(), 43);
-    assert!(rt; has_version(&mut cache, &mut site, 12, 1)?);
-    assert!(rt; has_version(&mut cache, &mut site, 11, 2)?);
     Ok(())
 }
 
@@ -425,5 +366,21 @@ fn a_sync_that_fails_ends_the_cache(rt: HostRuntime) -> Result<(), Fail> {
     assert!(rt; cache.ended());
     assert!(rt; !cache.holds(10));
     assert_eq!(rt; cache.first(), 0);
+    Ok(())
+}
+
+#[test]
+fn a_ring_of_segments_that_turned_over(rt: HostRuntime) -> Result<(), Fail> {
+    let (mut cache, mut site) = full_queue(rt.alloc())?;
+    push_run(&mut cache, &mut site, 3, 10)?;
+    push_run(&mut cache, &mut site, 3, 10)?;
+    push_run(&mut cache, &mut site, 3, 10)?;
+    // 28 groups were pushed, and six segments, of which the ring has five slots.
+    let before = site.reads(Dev::Flash);
+    let mut found = FlashCache::start(rt.alloc(), &mut site, &SMALL)?;
+    assert!(rt; site.reads(Dev::Flash) - before <= 19);
+    assert_eq!(rt; found.groups(), 7);
+    assert_eq!(rt; found.first(), 21);
+    assert!(rt; have_versions(&mut found, &mut site)?);
     Ok(())
 }

@@ -15,7 +15,7 @@ use Rattle.frame_group.proofs.Front.{heads_are_group, begins_with_heads}
 use Rattle.meta_segments.specs.Segments.{heads_of_group, IsSegment}
 use Rattle.meta_segments.specs.Following.{IsLive, heads_with, Follow}
 use Rattle.meta_segments.proofs.Numbers.{group_follows, segment_follows}
-use Rattle.tail_rebuild.specs.Standing.{HasFrames, HasGroups, HasSegments}
+use Rattle.tail_rebuild.specs.Standing.{HasFrames, HasGroups, HasSegments, HasSaved}
 use Rattle.tail_rebuild.specs.Saving.{segment_of, with_segment}
 use Rattle.tail_rebuild.specs.Laws.{StandsAgain, SegmentSaved, GroupPushed, with_group}
 use Rattle.tail_rebuild.proofs.Fours.{group_of_flat, length_flat, all_flat}
@@ -24,7 +24,7 @@ use Rattle.tail_rebuild.proofs.Saved.{segment_count}
 
 -- A ring that has the same units.
 
-groups_again : (g : Geometry) (first : ℕ) (groups : List (List Frame)) (old new : Image) → KeepsUnits (group_shape g) old new → HasGroups g first groups old → HasGroups g first groups new
+pub groups_again : (g : Geometry) (first : ℕ) (groups : List (List Frame)) (old new : Image) → KeepsUnits (group_shape g) old new → HasGroups g first groups old → HasGroups g first groups new
 groups_again g first groups old new keeps has = record {
   form = keeps.form has.form;
   next = has.next ∙ sym (ap (λ (u : Units). u.hi) keeps.units);
@@ -39,17 +39,17 @@ segments_again g segments old new keeps has = record {
   live = ap (λ (u : Units). u.live) keeps.units ∙ has.live;
 }
 
+pub saved_again : (g : Geometry) (groups : List (List Frame)) (segments : List (List FrameHead)) (old new : Image) → KeepsUnits (group_shape g) old new → KeepsUnits (segment_shape g) old new
+    → HasSaved g groups segments old → HasSaved g groups segments new
+saved_again g groups segments old new here there holds = record {
+  has = segments_again g segments old new there holds.has;
+  follow = subst (λ (h : ℕ). Follow (hi_of (segment_shape g) new.flash) segments h (map heads_of groups)) (sym (ap (λ (u : Units). u.hi) here.units))
+      (subst (λ (k : ℕ). Follow k segments (hi_of (group_shape g) old.flash) (map heads_of groups)) (sym (ap (λ (u : Units). u.hi) there.units)) holds.follow);
+}
+
 pub stands_again : StandsAgain
 stands_again g first groups segments old new same has holds =
-    let here = same.rings Groups in
-    let there = same.rings Segments in (
-      groups_again g first groups old new here has,
-      record {
-        has = segments_again g segments old new there holds.has;
-        follow = subst (λ (h : ℕ). Follow (hi_of (segment_shape g) new.flash) segments h (map heads_of groups)) (sym (ap (λ (u : Units). u.hi) here.units))
-            (subst (λ (k : ℕ). Follow k segments (hi_of (group_shape g) old.flash) (map heads_of groups)) (sym (ap (λ (u : Units). u.hi) there.units)) holds.follow);
-      },
-    )
+    (groups_again g first groups old new (same.rings Groups) has, saved_again g groups segments old new (same.rings Groups) (same.rings Segments) holds)
 
 -- Lists of units with one more.
 

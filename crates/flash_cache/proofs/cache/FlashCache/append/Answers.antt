@@ -27,13 +27,13 @@ pub returns-clause-going : goal.returns-clause-going
 returns-clause-going g c =
     let ok = c.in_ok-append.ensures.ok in
     goes_on_pushed c.args.self.now c.args.heads.now c.append.new.self c.push_group.new.self (g.S.Site.state c.args.site.now) (g.S.Site.state c.append.new.site) c.requires.going c.append.ensures.goes
-    c.requires.heads c.requires.exist c.append.ensures.shape (ap (λ (r : Ring). r.hi) ok) c.append.ensures.usable (returns-clause-ok g c)
+    c.requires.heads c.requires.exist c.append.ensures.shape (ap (λ (r : Ring). r.hi) ok) c.append.ensures.usable (returns-clause-ok g c) c.requires.none_due
 
 pub returns-clause-appends : goal.returns-clause-appends
 returns-clause-appends g c fits =
     let cache = c.args.self.now in
     let old = g.S.Site.state c.args.site.now in
-    let finds = ring_found cache old c.requires.going.shape fits in
+    let finds = ring_found cache old c.requires.going.rings.groups_shape fits in
     append_is cache c.append.new.self c.args.content.now old (g.S.Site.state c.append.new.site) c.requires.going c.requires.room c.append.ensures.goes c.append.ensures.shape
     (c.in_ok-append.ensures.ready fits.honest finds) (c.in_ok-append.ensures.outside fits.honest) (c.append.ensures.changes fits.honest).only (c.in_ok-append.ensures.stands fits.honest finds)
 
@@ -42,5 +42,6 @@ returns-clause-fits g c fits =
     let cache = c.args.self.now in
     let old = g.S.Site.state c.args.site.now in
     let new = g.S.Site.state c.append.new.site in
-    let finds = ring_found cache old c.requires.going.shape fits in
-    fits_again cache c.append.new.self c.push_group.new.self new (c.append.ensures.shape ∙ c.requires.going.shape) (stays_honest old new c.append.ensures.goes fits.honest) (c.in_ok-append.ensures.ready fits.honest finds)
+    let finds = ring_found cache old c.requires.going.rings.groups_shape fits in
+    fits_again cache c.append.new.self c.push_group.new.self c.args.content.now old new (c.append.ensures.shape ∙ c.requires.going.rings.groups_shape) (stays_honest old new c.append.ensures.goes fits.honest)
+    (c.in_ok-append.ensures.ready fits.honest finds) (returns-clause-appends g c fits) fits

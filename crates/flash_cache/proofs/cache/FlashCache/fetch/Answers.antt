@@ -23,8 +23,8 @@ returns-clause-fetched g c groups fits holds found =
     let old = g.S.Site.state c.args.site.now in
     let cache = c.args.self.now in
     let at = 128 + 4096 * c.in-Some.place.index in
-    let ring_fits : RingFits cache.ring old = fits.hi ∙ sym (ap (λ (s : Shape). hi_of s (region s old)) c.requires.shape) in
+    let ring_fits : RingFits cache.ring old = fits.hi ∙ sym (ap (λ (s : Shape). hi_of s (region s old)) c.requires.rings.groups_shape) in
     c.from_bytes.ensures ∙ c.in-Ok.ensures.part fits.honest ring_fits
     ∙ ap (λ (n : ℕ). take n (drop at (unit_at cache.ring.shape (units_of cache.ring.shape (region cache.ring.shape old)) c.in-Some.place.group))) (length-replicate {A = ℕ} 4096 0)
-    ∙ ap (λ (s : Shape). take 4096 (drop at (unit_at s (units_of s (region s old)) c.in-Some.place.group))) c.requires.shape
+    ∙ ap (λ (s : Shape). take 4096 (drop at (unit_at s (units_of s (region s old)) c.in-Some.place.group))) c.requires.rings.groups_shape
     ∙ page_fetched cache.geometry cache.directory groups old.image c.args.page c.in-Some.place holds.has holds.shown (sym c.in-Some.is ∙ c.newest.ensures.newest)

@@ -15,15 +15,12 @@ use Rattle.flash_cache.specs.Held.{PagesExist}
 use Rattle.flash_cache.specs.Leaving.{again}
 use Rattle.flash_cache.specs.Pushed.{staged_marks, chance_marks, frames_given, pushed_queue, changes_of_push, LeavesPush}
 use Rattle.flash_cache.proofs.Heads.{heads_make}
-use Rattle.flash_cache.proofs.Standing.{group_exists}
+use Rattle.tail_rebuild.proofs.Standing.{group_exists}
 use Rattle.flash_cache.proofs.Staging.{goes_on_later, fits_read, pages_read, read_untouched, pages_in_sequence, none_pushed, pushed_since}
 use Rattle.flash_cache.proofs.StagedMarks.{places_inside, reads_few, front_few, staged_numbered, chances_numbered, pages_apart, marks_exist}
-use Rattle.flash_cache.proofs.StagedContents.{pages_are, contents_are, dirty_long, contents_long, all_long, again_is, group_has, group_known, pushed_has, given_few, with_parts}
+use Rattle.flash_cache.proofs.StagedContents.{pages_are, contents_are, dirty_long, contents_long, all_long, again_is, group_has, group_known, pushed_has, with_parts}
 use Rattle.flash_cache.proofs.Pushing.{ring_found}
 use Rattle.flash_cache.proofs.cache.FlashCache.push.Goals as goal
-
-pub heads_given-given-requires-clause-few : goal.heads_given-given-requires-clause-few
-heads_given-given-requires-clause-few g c = given_few c.args.self.now c.args.pages.now c.requires.few
 
 pub frames_leaving-requires-clause-few : goal.frames_leaving-requires-clause-few
 frames_leaving-requires-clause-few g c = front_few c.args.self.now.directory.groups c.requires.going.sizes
@@ -42,13 +39,13 @@ returns-in-Err-clause-any_moment g c groups fits holds quiet =
 
 pub returns-in-Err-clause-frames : goal.returns-in-Err-clause-frames
 returns-in-Err-clause-frames g c groups fits holds =
-    pushed_has c.args.self.now (g.S.Site.state c.args.site.now) groups c.requires.going holds c.args.pages.now c.args.changed.now c.args.contents.now
-    c.requires.marks c.requires.lists c.requires.some c.requires.few c.requires.exist c.heads_given-given.ensures.are_frames
+    pushed_has c.args.self.now (g.S.Site.state c.args.site.now) groups c.requires.going holds c.args.given.now.pages.now c.args.given.now.changed.now c.args.given.now.contents.now
+    c.requires.marks c.requires.lists c.requires.some c.requires.few c.requires.exist c.requires.are_frames
 
 pub returns-clause-frames : goal.returns-clause-frames
 returns-clause-frames g c groups fits holds =
-    pushed_has c.args.self.now (g.S.Site.state c.args.site.now) groups c.requires.going holds c.args.pages.now c.args.changed.now c.args.contents.now
-    c.requires.marks c.requires.lists c.requires.some c.requires.few c.requires.exist c.heads_given-given.ensures.are_frames
+    pushed_has c.args.self.now (g.S.Site.state c.args.site.now) groups c.requires.going holds c.args.given.now.pages.now c.args.given.now.changed.now c.args.given.now.contents.now
+    c.requires.marks c.requires.lists c.requires.some c.requires.few c.requires.exist c.requires.are_frames
 
 pub returns-in-Err-clause-going : goal.returns-in-Err-clause-going
 returns-in-Err-clause-going g c = goes_on_later c.args.self.now (g.S.Site.state c.args.site.now) (g.S.Site.state c.frames_leaving.new.site) c.requires.going c.frames_leaving.ensures.goes
@@ -74,20 +71,20 @@ group_content-content-requires-clause-lists g c = contents_long c.args.self.now 
 
 pub group_content-content-requires-clause-few : goal.group_content-content-requires-clause-few
 group_content-content-requires-clause-few g c =
-    let all = all_long c.args.self.now c.args.plan.now.chances c.in-Ok.both.1 c.in-Ok.ensures.chances c.requires.chances c.args.pages.now in
+    let all = all_long c.args.self.now c.args.plan.now.chances c.in-Ok.both.1 c.in-Ok.ensures.chances c.requires.chances c.args.given.now.pages.now in
     omega (arith, all, c.requires.few, c.requires.lists)
 
 pub group_content-content-requires-clause-heads : goal.group_content-content-requires-clause-heads
 group_content-content-requires-clause-heads g c =
-    c.heads_given-given.ensures.heads
-    ∙ ap heads_of (sym (heads_make c.args.pages.now c.args.changed.now c.args.contents.now c.heads_given-given.result c.requires.marks c.requires.lists c.heads_given-given.ensures.heads))
+    c.requires.heads
+    ∙ ap heads_of (sym (heads_make c.args.given.now.pages.now c.args.given.now.changed.now c.args.given.now.contents.now c.args.given.now.heads c.requires.marks c.requires.lists c.requires.heads))
 
 pub unreachable-requires : goal.unreachable-requires
 unreachable-requires g c =
-    let pages = c.args.pages.now in
-    let changed = c.args.changed.now in
-    let contents = c.args.contents.now in
-    let made = heads_make pages changed contents c.heads_given-given.result c.requires.marks c.requires.lists c.heads_given-given.ensures.heads in
+    let pages = c.args.given.now.pages.now in
+    let changed = c.args.given.now.changed.now in
+    let contents = c.args.given.now.contents.now in
+    let made = heads_make pages changed contents c.args.given.now.heads c.requires.marks c.requires.lists c.requires.heads in
     let first : List Frame = again c.in-Ok.both.1 in
     let has = group_has c.args.self.now c.args.plan.now.chances c.in-Ok.both.1 c.in-Ok.ensures.chances c.requires.chances pages changed contents c.requires.marks c.requires.lists c.requires.some c.requires.few
     c.group_content-content.result c.requires.going.exist c.requires.exist
@@ -113,10 +110,10 @@ write-requires-clause-pages g c =
 
 pub write-requires-clause-exist : goal.write-requires-clause-exist
 write-requires-clause-exist g c =
-    let pages = c.args.pages.now in
-    let changed = c.args.changed.now in
-    let contents = c.args.contents.now in
-    let made = heads_make pages changed contents c.heads_given-given.result c.requires.marks c.requires.lists c.heads_given-given.ensures.heads in
+    let pages = c.args.given.now.pages.now in
+    let changed = c.args.given.now.changed.now in
+    let contents = c.args.given.now.contents.now in
+    let made = heads_make pages changed contents c.args.given.now.heads c.requires.marks c.requires.lists c.requires.heads in
     let first : List Frame = again c.in-Ok.both.1 in
     let frames : List Frame = first ++ frames_given pages changed contents in
     let has = group_has c.args.self.now c.args.plan.now.chances c.in-Ok.both.1 c.in-Ok.ensures.chances c.requires.chances pages changed contents c.requires.marks c.requires.lists c.requires.some c.requires.few
@@ -127,11 +124,11 @@ write-requires-clause-exist g c =
 
 pub returns-clause-directory : goal.returns-clause-directory
 returns-clause-directory g c =
-    let pages = c.args.pages.now in
-    let changed = c.args.changed.now in
-    let contents = c.args.contents.now in
+    let pages = c.args.given.now.pages.now in
+    let changed = c.args.given.now.changed.now in
+    let contents = c.args.given.now.contents.now in
     let cache = c.args.self.now in
-    let made = heads_make pages changed contents c.heads_given-given.result c.requires.marks c.requires.lists c.heads_given-given.ensures.heads in
+    let made = heads_make pages changed contents c.args.given.now.heads c.requires.marks c.requires.lists c.requires.heads in
     let first : List Frame = again c.in-Ok.both.1 in
     let frames : List Frame = first ++ frames_given pages changed contents in
     let has = group_has cache c.args.plan.now.chances c.in-Ok.both.1 c.in-Ok.ensures.chances c.requires.chances pages changed contents c.requires.marks c.requires.lists c.requires.some c.requires.few
@@ -145,20 +142,20 @@ returns-clause-directory g c =
 pub returns-clause-any_moment : goal.returns-clause-any_moment
 returns-clause-any_moment g c groups fits holds quiet =
     let cache = c.args.self.now in
-    let pages = c.args.pages.now in
-    let changed = c.args.changed.now in
-    let contents = c.args.contents.now in
+    let pages = c.args.given.now.pages.now in
+    let changed = c.args.given.now.changed.now in
+    let contents = c.args.given.now.contents.now in
     let plan = c.args.plan.now in
     let old = g.S.Site.state c.args.site.now in
     let mid = g.S.Site.state c.frames_leaving.new.site in
     let new = g.S.Site.state c.write.new.site in
     let same = c.frames_leaving.ensures.same fits.honest in
-    let ring = (ring_found cache old c.requires.going.shape fits).hi in
+    let ring = (ring_found cache old c.requires.going.rings.groups_shape fits).hi in
     let items : c.as_slice-pages.result.now ≡ c.in-Ok.both.0.pages.items = search rules in
     let numbers = items ∙ pages_are cache plan.staged c.in-Ok.both.0 c.in-Ok.ensures.staged c.requires.staged in
     let octets : c.as_slice-octets.result.now ≡ c.in-Ok.both.0.contents.items = search rules in
     let staged = octets ∙ c.in-Ok.ensures.staged_contents fits.honest ring ∙ contents_are cache old groups c.requires.going holds (staged_marks cache) plan.staged (staged_numbered cache) c.requires.staged in
-    let made = heads_make pages changed contents c.heads_given-given.result c.requires.marks c.requires.lists c.heads_given-given.ensures.heads in
+    let made = heads_make pages changed contents c.args.given.now.heads c.requires.marks c.requires.lists c.requires.heads in
     let first = again_is cache plan.chances c.in-Ok.both.1 c.in-Ok.ensures.chances c.requires.chances old groups c.requires.going holds (c.in-Ok.ensures.chances_contents fits.honest ring) in
     let all = c.group_content-content.ensures.content ∙ (λ i. group (first i ++ made i)) in
     with_parts (λ a b d. LeavesOnly old new (LeavesPush cache.geometry a b d old)) _ _ _ _ _ _ numbers staged all
@@ -168,18 +165,18 @@ returns-clause-any_moment g c groups fits holds quiet =
 pub returns-clause-reaches : goal.returns-clause-reaches
 returns-clause-reaches g c groups fits holds =
     let cache = c.args.self.now in
-    let pages = c.args.pages.now in
-    let changed = c.args.changed.now in
-    let contents = c.args.contents.now in
+    let pages = c.args.given.now.pages.now in
+    let changed = c.args.given.now.changed.now in
+    let contents = c.args.given.now.contents.now in
     let plan = c.args.plan.now in
     let old = g.S.Site.state c.args.site.now in
     let mid = g.S.Site.state c.frames_leaving.new.site in
     let new = g.S.Site.state c.write.new.site in
     let same = c.frames_leaving.ensures.same fits.honest in
-    let ring = (ring_found cache old c.requires.going.shape fits).hi in
+    let ring = (ring_found cache old c.requires.going.rings.groups_shape fits).hi in
     let items : c.as_slice-pages.result.now ≡ c.in-Ok.both.0.pages.items = search rules in
     let numbers = items ∙ pages_are cache plan.staged c.in-Ok.both.0 c.in-Ok.ensures.staged c.requires.staged in
-    let made = heads_make pages changed contents c.heads_given-given.result c.requires.marks c.requires.lists c.heads_given-given.ensures.heads in
+    let made = heads_make pages changed contents c.args.given.now.heads c.requires.marks c.requires.lists c.requires.heads in
     let first = again_is cache plan.chances c.in-Ok.both.1 c.in-Ok.ensures.chances c.requires.chances old groups c.requires.going holds (c.in-Ok.ensures.chances_contents fits.honest ring) in
     let all = c.group_content-content.ensures.content ∙ (λ i. group (first i ++ made i)) in
     on_ok_weaker c.write.result (λ reaches.
@@ -195,7 +192,7 @@ returns-clause-staged g c groups fits holds =
     let mid = g.S.Site.state c.frames_leaving.new.site in
     let new = g.S.Site.state c.write.new.site in
     let same = c.frames_leaving.ensures.same fits.honest in
-    let ring = (ring_found cache old c.requires.going.shape fits).hi in
+    let ring = (ring_found cache old c.requires.going.rings.groups_shape fits).hi in
     let items : c.as_slice-pages.result.now ≡ c.in-Ok.both.0.pages.items = search rules in
     let numbers = items ∙ pages_are cache plan.staged c.in-Ok.both.0 c.in-Ok.ensures.staged c.requires.staged in
     let octets : c.as_slice-octets.result.now ≡ c.in-Ok.both.0.contents.items = search rules in

@@ -1,83 +1,214 @@
-use Rattle.std.proofs.Common.{sym, subst}
+use Rattle.std.proofs.Common.{true}
+use Rattle.site.specs.declared.outside.Dev.TheVariants.{Flash, Disk}
+use Rattle.site.specs.Laws.{others_untouched, untouched_in_sequence, stays_honest}
+use Rattle.site.proofs.Working.{err_again}
 use Rattle.frame_group.specs.Groups.{group}
-use Rattle.second_chance.specs.Queue.{Queue}
-use Rattle.flash_cache.specs.Kept.{GivesVersions}
-use Rattle.flash_cache.specs.Pushed.{frames_pushed, pushed_groups, staged_pages, staged_contents}
+use Rattle.flash_cache.specs.Pushed.{frames_pushed}
+use Rattle.flash_cache.proofs.StagedContents.{pushed_has, given_few}
+use Rattle.flash_cache.proofs.Staging.{pages_changed, pages_in_sequence}
 use Rattle.flash_cache.proofs.PushLaws.{push_front}
-use Rattle.flash_cache.proofs.PushedOutcome.{leaves_versions, leaves_clean, made_by, gives_versions, gives_clean, has_then, holds_pushed}
+use Rattle.flash_cache.proofs.SavedFirst.{stands_there, goes_on_saved, is_behind, moment_behind, reaches_behind, staged_behind, failed_moment}
+use Rattle.flash_cache.proofs.PushedOutcome.{leaves_versions, leaves_clean, gives_behind, clean_behind, holds_behind}
 use Rattle.flash_cache.proofs.cache.FlashCache.push_group.Goals as goal
 
-pub returns-in-Err-clause-versions : goal.returns-in-Err-clause-versions
-returns-in-Err-clause-versions g c groups fits holds quiet clean =
-    leaves_versions c.args.self.now groups (g.S.Site.state c.args.site.now) c.requires.going.few c.requires.going.limits.groups holds
-    c.args.pages.now c.args.changed.now c.args.contents.now c.requires.marks c.requires.lists c.requires.apart (c.push.ensures.frames groups fits holds)
-    (g.S.Site.state c.push.new.site) clean (c.push.ensures.any_moment groups fits holds quiet)
+pub heads_given-heads-requires-clause-few : goal.heads_given-heads-requires-clause-few
+heads_given-heads-requires-clause-few g c = given_few c.args.self.now c.args.pages.now c.requires.few
 
-pub returns-in-Err-clause-clean_moment : goal.returns-in-Err-clause-clean_moment
-returns-in-Err-clause-clean_moment g c groups fits holds quiet clean given =
-    leaves_clean c.args.self.now groups (g.S.Site.state c.args.site.now) c.requires.going.few c.requires.going.limits.groups holds
-    c.args.pages.now c.args.changed.now c.args.contents.now c.requires.marks c.requires.lists c.requires.apart (c.push.ensures.frames groups fits holds)
-    (g.S.Site.state c.push.new.site) clean given (c.push.ensures.any_moment groups fits holds quiet)
+-- The save fails.
 
-pub returns-clause-versions : goal.returns-clause-versions
-returns-clause-versions g c groups fits holds quiet clean =
-    leaves_versions c.args.self.now groups (g.S.Site.state c.args.site.now) c.requires.going.few c.requires.going.limits.groups holds
-    c.args.pages.now c.args.changed.now c.args.contents.now c.requires.marks c.requires.lists c.requires.apart (c.push.ensures.frames groups fits holds)
-    (g.S.Site.state c.push.new.site) clean (c.push.ensures.any_moment groups fits holds quiet)
+pub returns-in-Err-clause-frames : goal.returns-in-Err-clause-frames
+returns-in-Err-clause-frames g c groups fits holds =
+    pushed_has c.args.self.now (g.S.Site.state c.args.site.now) groups c.requires.going holds c.args.pages.now c.args.changed.now c.args.contents.now
+    c.requires.marks c.requires.lists c.requires.some c.requires.few c.requires.exist c.heads_given-heads.ensures.are_frames
 
-pub returns-clause-clean_moment : goal.returns-clause-clean_moment
-returns-clause-clean_moment g c groups fits holds quiet clean given =
-    leaves_clean c.args.self.now groups (g.S.Site.state c.args.site.now) c.requires.going.few c.requires.going.limits.groups holds
-    c.args.pages.now c.args.changed.now c.args.contents.now c.requires.marks c.requires.lists c.requires.apart (c.push.ensures.frames groups fits holds)
-    (g.S.Site.state c.push.new.site) clean given (c.push.ensures.any_moment groups fits holds quiet)
+pub returns-in-Err-clause-going : goal.returns-in-Err-clause-going
+returns-in-Err-clause-going g c =
+    goes_on_saved c.args.self.now c.save_due.new.segments true (g.S.Site.state c.args.site.now) (g.S.Site.state c.save_due.new.site) c.requires.going c.save_due.ensures.goes c.save_due.ensures.rings
 
-pub returns-clause-gives : goal.returns-clause-gives
-returns-clause-gives g c groups fits holds clean =
+pub returns-in-Err-clause-any_moment : goal.returns-in-Err-clause-any_moment
+returns-in-Err-clause-any_moment g c groups fits holds quiet =
     let cache = c.args.self.now in
-    let pages = c.args.pages.now in
-    let changed = c.args.changed.now in
-    let contents = c.args.contents.now in
     let old = g.S.Site.state c.args.site.now in
-    let new = g.S.Site.state c.push.new.site in
-    let grown = made_by cache groups old c.requires.going.few c.requires.going.limits.groups holds pages changed contents c.requires.marks c.requires.lists c.requires.apart (c.push.ensures.frames groups fits holds)
-    new.image (c.in_default.ensures.reaches groups fits holds) in
-    subst (λ (q : Queue). GivesVersions cache.geometry q.first (pushed_groups cache groups (frames_pushed cache old.image pages changed contents)) pages contents old.image new.image) (sym c.in_default.ensures.directory)
-    (gives_versions cache groups old.image c.requires.going.few c.requires.going.limits.groups holds pages changed contents c.requires.marks c.requires.lists c.requires.apart (c.push.ensures.frames groups fits holds)
-    new.image (c.in_default.ensures.staged groups fits holds) grown clean)
-
-pub returns-clause-clean : goal.returns-clause-clean
-returns-clause-clean g c groups fits holds clean given =
-    let cache = c.args.self.now in
-    let pages = c.args.pages.now in
-    let changed = c.args.changed.now in
-    let contents = c.args.contents.now in
-    let old = g.S.Site.state c.args.site.now in
-    let new = g.S.Site.state c.push.new.site in
-    let grown = made_by cache groups old c.requires.going.few c.requires.going.limits.groups holds pages changed contents c.requires.marks c.requires.lists c.requires.apart (c.push.ensures.frames groups fits holds)
-    new.image (c.in_default.ensures.reaches groups fits holds) in
-    gives_clean cache groups old.image c.requires.going.few c.requires.going.limits.groups holds pages changed contents c.requires.marks c.requires.lists c.requires.apart (c.push.ensures.frames groups fits holds)
-    new.image (c.in_default.ensures.staged groups fits holds) grown clean given
-
-pub returns-clause-holds : goal.returns-clause-holds
-returns-clause-holds g c groups fits holds =
-    let cache = c.args.self.now in
-    let pages = c.args.pages.now in
-    let changed = c.args.changed.now in
-    let contents = c.args.contents.now in
-    let old = g.S.Site.state c.args.site.now in
-    let new = g.S.Site.state c.push.new.site in
-    let grown = made_by cache groups old c.requires.going.few c.requires.going.limits.groups holds pages changed contents c.requires.marks c.requires.lists c.requires.apart (c.push.ensures.frames groups fits holds)
-    new.image (c.in_default.ensures.reaches groups fits holds) in
-    holds_pushed cache groups old.image pages changed contents c.push.new.self new.image holds c.requires.marks c.requires.lists c.push.ensures.geometry c.in_default.ensures.directory
-    (has_then cache groups old.image c.requires.going.few c.requires.going.limits.groups holds pages changed contents c.requires.marks c.requires.lists c.requires.apart (c.push.ensures.frames groups fits holds)
-    new.image (c.in_default.ensures.staged groups fits holds) grown)
+    let saves = c.save_due.ensures.saves cache.directory.first groups holds.saved.segments (stands_there cache groups old c.requires.going fits holds) in
+    failed_moment cache groups old (g.S.Site.state c.save_due.new.site) (group (frames_pushed cache old.image c.args.pages.now c.args.changed.now c.args.contents.now)) holds (saves.any_moment quiet)
 
 pub returns-in-Err-clause-front : goal.returns-in-Err-clause-front
 returns-in-Err-clause-front g c groups fits holds quiet =
-    push_front c.args.self.now.geometry (staged_pages c.args.self.now) (staged_contents c.args.self.now groups) (group (frames_pushed c.args.self.now (g.S.Site.state c.args.site.now).image c.args.pages.now c.args.changed.now c.args.contents.now))
-    (g.S.Site.state c.args.site.now) (g.S.Site.state c.push.new.site) (c.push.ensures.any_moment groups fits holds quiet)
+    push_front c.args.self.now.geometry _ _ _ _ (g.S.Site.state c.args.site.now) (g.S.Site.state c.save_due.new.site) (returns-in-Err-clause-any_moment g c groups fits holds quiet)
+
+pub returns-in-Err-clause-versions : goal.returns-in-Err-clause-versions
+returns-in-Err-clause-versions g c groups fits holds quiet clean =
+    leaves_versions c.args.self.now groups (g.S.Site.state c.args.site.now) c.requires.going fits holds
+    c.args.pages.now c.args.changed.now c.args.contents.now c.requires.marks c.requires.lists c.requires.apart (returns-in-Err-clause-frames g c groups fits holds)
+    (g.S.Site.state c.save_due.new.site) clean (returns-in-Err-clause-any_moment g c groups fits holds quiet)
+
+pub returns-in-Err-clause-clean_moment : goal.returns-in-Err-clause-clean_moment
+returns-in-Err-clause-clean_moment g c groups fits holds quiet clean given =
+    leaves_clean c.args.self.now groups (g.S.Site.state c.args.site.now) c.requires.going fits holds
+    c.args.pages.now c.args.changed.now c.args.contents.now c.requires.marks c.requires.lists c.requires.apart (returns-in-Err-clause-frames g c groups fits holds)
+    (g.S.Site.state c.save_due.new.site) clean given (returns-in-Err-clause-any_moment g c groups fits holds quiet)
+
+pub returns-in-Err-clause-changes : goal.returns-in-Err-clause-changes
+returns-in-Err-clause-changes g c honest = pages_changed Flash (g.S.Site.state c.args.site.now) (g.S.Site.state c.save_due.new.site) (λ h. cc) (c.save_due.ensures.changes honest)
+
+pub returns-in-Err-clause-alone : goal.returns-in-Err-clause-alone
+returns-in-Err-clause-alone g c honest none = others_untouched Flash Disk (g.S.Site.state c.args.site.now) (g.S.Site.state c.save_due.new.site) (λ h. cc) (c.save_due.ensures.changes honest).only
+
+pub returns-in-Err-clause-foreign : goal.returns-in-Err-clause-foreign
+returns-in-Err-clause-foreign g c groups fits holds says =
+    let cache = c.args.self.now in
+    c.in-Err.ensures.foreign (err_again _ _ says) cache.directory.first groups holds.saved.segments (stands_there cache groups (g.S.Site.state c.args.site.now) c.requires.going fits holds)
+
+-- The push behind it.
+
+pub push-requires-clause-going : goal.push-requires-clause-going
+push-requires-clause-going g c =
+    goes_on_saved c.args.self.now c.save_due.new.segments c.args.self.now.ended (g.S.Site.state c.args.site.now) (g.S.Site.state c.save_due.new.site) c.requires.going c.save_due.ensures.goes c.save_due.ensures.rings
+
+pub returns-in-Err-push-clause-frames : goal.returns-in-Err-push-clause-frames
+returns-in-Err-push-clause-frames g c groups fits holds =
+    pushed_has c.args.self.now (g.S.Site.state c.args.site.now) groups c.requires.going holds c.args.pages.now c.args.changed.now c.args.contents.now
+    c.requires.marks c.requires.lists c.requires.some c.requires.few c.requires.exist c.heads_given-heads.ensures.are_frames
+
+pub returns-in-Err-push-clause-any_moment : goal.returns-in-Err-push-clause-any_moment
+returns-in-Err-push-clause-any_moment g c groups fits holds quiet =
+    let cache = c.args.self.now in
+    let old = g.S.Site.state c.args.site.now in
+    let mid = g.S.Site.state c.save_due.new.site in
+    let new = g.S.Site.state c.push.new.site in
+    let stands = stands_there cache groups old c.requires.going fits holds in
+    let b = is_behind cache groups c.save_due.new.segments old mid holds c.save_due.ensures.rings (c.save_due.ensures.changes fits.honest) (c.in_default.ensures.saves cache.directory.first groups holds.saved.segments stands) in
+    moment_behind cache groups c.save_due.new.segments old mid holds b c.args.pages.now c.args.changed.now c.args.contents.now new quiet
+    (c.push.ensures.any_moment groups b.fits b.holds (c.in_default.ensures.quiet fits.honest quiet))
+
+pub returns-in-Err-push-clause-changes : goal.returns-in-Err-push-clause-changes
+returns-in-Err-push-clause-changes g c honest =
+    let old = g.S.Site.state c.args.site.now in
+    let mid = g.S.Site.state c.save_due.new.site in
+    pages_in_sequence old mid (g.S.Site.state c.push.new.site) (pages_changed Flash old mid (λ h. cc) (c.save_due.ensures.changes honest)) (c.push.ensures.changes (stays_honest old mid c.save_due.ensures.goes honest))
+
+pub returns-in-Err-push-clause-alone : goal.returns-in-Err-push-clause-alone
+returns-in-Err-push-clause-alone g c honest none =
+    let old = g.S.Site.state c.args.site.now in
+    let mid = g.S.Site.state c.save_due.new.site in
+    untouched_in_sequence Disk old mid (g.S.Site.state c.push.new.site) (others_untouched Flash Disk old mid (λ h. cc) (c.save_due.ensures.changes honest).only)
+    (c.push.ensures.alone (stays_honest old mid c.save_due.ensures.goes honest) none)
+
+pub returns-in-Err-push-clause-front : goal.returns-in-Err-push-clause-front
+returns-in-Err-push-clause-front g c groups fits holds quiet =
+    push_front c.args.self.now.geometry _ _ _ _ (g.S.Site.state c.args.site.now) (g.S.Site.state c.push.new.site) (returns-in-Err-push-clause-any_moment g c groups fits holds quiet)
+
+pub returns-in-Err-push-clause-versions : goal.returns-in-Err-push-clause-versions
+returns-in-Err-push-clause-versions g c groups fits holds quiet clean =
+    leaves_versions c.args.self.now groups (g.S.Site.state c.args.site.now) c.requires.going fits holds
+    c.args.pages.now c.args.changed.now c.args.contents.now c.requires.marks c.requires.lists c.requires.apart (returns-in-Err-push-clause-frames g c groups fits holds)
+    (g.S.Site.state c.push.new.site) clean (returns-in-Err-push-clause-any_moment g c groups fits holds quiet)
+
+pub returns-in-Err-push-clause-clean_moment : goal.returns-in-Err-push-clause-clean_moment
+returns-in-Err-push-clause-clean_moment g c groups fits holds quiet clean given =
+    leaves_clean c.args.self.now groups (g.S.Site.state c.args.site.now) c.requires.going fits holds
+    c.args.pages.now c.args.changed.now c.args.contents.now c.requires.marks c.requires.lists c.requires.apart (returns-in-Err-push-clause-frames g c groups fits holds)
+    (g.S.Site.state c.push.new.site) clean given (returns-in-Err-push-clause-any_moment g c groups fits holds quiet)
+
+pub returns-in-Err-push-clause-worn_end : goal.returns-in-Err-push-clause-worn_end
+returns-in-Err-push-clause-worn_end g c groups fits holds says =
+    let cache = c.args.self.now in
+    let old = g.S.Site.state c.args.site.now in
+    let mid = g.S.Site.state c.save_due.new.site in
+    let new = g.S.Site.state c.push.new.site in
+    let stands = stands_there cache groups old c.requires.going fits holds in
+    let b = is_behind cache groups c.save_due.new.segments old mid holds c.save_due.ensures.rings (c.save_due.ensures.changes fits.honest) (c.in_default.ensures.saves cache.directory.first groups holds.saved.segments stands) in
+    c.in-Err-push.ensures.worn_end b.fits (err_again _ _ says)
+
+pub returns-clause-frames : goal.returns-clause-frames
+returns-clause-frames g c groups fits holds =
+    pushed_has c.args.self.now (g.S.Site.state c.args.site.now) groups c.requires.going holds c.args.pages.now c.args.changed.now c.args.contents.now
+    c.requires.marks c.requires.lists c.requires.some c.requires.few c.requires.exist c.heads_given-heads.ensures.are_frames
+
+pub returns-clause-any_moment : goal.returns-clause-any_moment
+returns-clause-any_moment g c groups fits holds quiet =
+    let cache = c.args.self.now in
+    let old = g.S.Site.state c.args.site.now in
+    let mid = g.S.Site.state c.save_due.new.site in
+    let new = g.S.Site.state c.push.new.site in
+    let stands = stands_there cache groups old c.requires.going fits holds in
+    let b = is_behind cache groups c.save_due.new.segments old mid holds c.save_due.ensures.rings (c.save_due.ensures.changes fits.honest) (c.in_default.ensures.saves cache.directory.first groups holds.saved.segments stands) in
+    moment_behind cache groups c.save_due.new.segments old mid holds b c.args.pages.now c.args.changed.now c.args.contents.now new quiet
+    (c.push.ensures.any_moment groups b.fits b.holds (c.in_default.ensures.quiet fits.honest quiet))
+
+pub returns-clause-changes : goal.returns-clause-changes
+returns-clause-changes g c honest =
+    let old = g.S.Site.state c.args.site.now in
+    let mid = g.S.Site.state c.save_due.new.site in
+    pages_in_sequence old mid (g.S.Site.state c.push.new.site) (pages_changed Flash old mid (λ h. cc) (c.save_due.ensures.changes honest)) (c.push.ensures.changes (stays_honest old mid c.save_due.ensures.goes honest))
+
+pub returns-clause-alone : goal.returns-clause-alone
+returns-clause-alone g c honest none =
+    let old = g.S.Site.state c.args.site.now in
+    let mid = g.S.Site.state c.save_due.new.site in
+    untouched_in_sequence Disk old mid (g.S.Site.state c.push.new.site) (others_untouched Flash Disk old mid (λ h. cc) (c.save_due.ensures.changes honest).only)
+    (c.push.ensures.alone (stays_honest old mid c.save_due.ensures.goes honest) none)
 
 pub returns-clause-front : goal.returns-clause-front
 returns-clause-front g c groups fits holds quiet =
-    push_front c.args.self.now.geometry (staged_pages c.args.self.now) (staged_contents c.args.self.now groups) (group (frames_pushed c.args.self.now (g.S.Site.state c.args.site.now).image c.args.pages.now c.args.changed.now c.args.contents.now))
-    (g.S.Site.state c.args.site.now) (g.S.Site.state c.push.new.site) (c.push.ensures.any_moment groups fits holds quiet)
+    push_front c.args.self.now.geometry _ _ _ _ (g.S.Site.state c.args.site.now) (g.S.Site.state c.push.new.site) (returns-clause-any_moment g c groups fits holds quiet)
+
+pub returns-clause-versions : goal.returns-clause-versions
+returns-clause-versions g c groups fits holds quiet clean =
+    leaves_versions c.args.self.now groups (g.S.Site.state c.args.site.now) c.requires.going fits holds
+    c.args.pages.now c.args.changed.now c.args.contents.now c.requires.marks c.requires.lists c.requires.apart (returns-clause-frames g c groups fits holds)
+    (g.S.Site.state c.push.new.site) clean (returns-clause-any_moment g c groups fits holds quiet)
+
+pub returns-clause-clean_moment : goal.returns-clause-clean_moment
+returns-clause-clean_moment g c groups fits holds quiet clean given =
+    leaves_clean c.args.self.now groups (g.S.Site.state c.args.site.now) c.requires.going fits holds
+    c.args.pages.now c.args.changed.now c.args.contents.now c.requires.marks c.requires.lists c.requires.apart (returns-clause-frames g c groups fits holds)
+    (g.S.Site.state c.push.new.site) clean given (returns-clause-any_moment g c groups fits holds quiet)
+
+pub returns-clause-reaches : goal.returns-clause-reaches
+returns-clause-reaches g c groups fits holds =
+    let cache = c.args.self.now in
+    let old = g.S.Site.state c.args.site.now in
+    let mid = g.S.Site.state c.save_due.new.site in
+    let new = g.S.Site.state c.push.new.site in
+    let stands = stands_there cache groups old c.requires.going fits holds in
+    let b = is_behind cache groups c.save_due.new.segments old mid holds c.save_due.ensures.rings (c.save_due.ensures.changes fits.honest) (c.in_default.ensures.saves cache.directory.first groups holds.saved.segments stands) in
+    reaches_behind cache groups c.save_due.new.segments old mid holds b c.args.pages.now c.args.changed.now c.args.contents.now new.image (c.in_default-push.ensures.reaches groups b.fits b.holds)
+
+pub returns-clause-staged : goal.returns-clause-staged
+returns-clause-staged g c groups fits holds =
+    let cache = c.args.self.now in
+    let old = g.S.Site.state c.args.site.now in
+    let mid = g.S.Site.state c.save_due.new.site in
+    let new = g.S.Site.state c.push.new.site in
+    let stands = stands_there cache groups old c.requires.going fits holds in
+    let b = is_behind cache groups c.save_due.new.segments old mid holds c.save_due.ensures.rings (c.save_due.ensures.changes fits.honest) (c.in_default.ensures.saves cache.directory.first groups holds.saved.segments stands) in
+    staged_behind cache groups c.save_due.new.segments old mid holds b c.args.pages.now c.args.changed.now c.args.contents.now new.image (c.in_default-push.ensures.staged groups b.fits b.holds)
+
+pub returns-clause-fits : goal.returns-clause-fits
+returns-clause-fits g c groups fits holds =
+    let cache = c.args.self.now in
+    let old = g.S.Site.state c.args.site.now in
+    let mid = g.S.Site.state c.save_due.new.site in
+    let new = g.S.Site.state c.push.new.site in
+    let stands = stands_there cache groups old c.requires.going fits holds in
+    let b = is_behind cache groups c.save_due.new.segments old mid holds c.save_due.ensures.rings (c.save_due.ensures.changes fits.honest) (c.in_default.ensures.saves cache.directory.first groups holds.saved.segments stands) in
+    c.in_default-push.ensures.fits b.fits
+
+pub returns-clause-gives : goal.returns-clause-gives
+returns-clause-gives g c groups fits holds clean =
+    gives_behind c.args.self.now groups (g.S.Site.state c.args.site.now) c.requires.going fits holds
+    c.args.pages.now c.args.changed.now c.args.contents.now c.requires.marks c.requires.lists c.requires.apart (returns-clause-frames g c groups fits holds)
+    c.push.new.self (g.S.Site.state c.push.new.site).image (returns-clause-staged g c groups fits holds) (returns-clause-reaches g c groups fits holds) c.in_default-push.ensures.directory clean
+
+pub returns-clause-clean : goal.returns-clause-clean
+returns-clause-clean g c groups fits holds clean given =
+    clean_behind c.args.self.now groups (g.S.Site.state c.args.site.now) c.requires.going fits holds
+    c.args.pages.now c.args.changed.now c.args.contents.now c.requires.marks c.requires.lists c.requires.apart (returns-clause-frames g c groups fits holds)
+    c.push.new.self (g.S.Site.state c.push.new.site).image (returns-clause-staged g c groups fits holds) (returns-clause-reaches g c groups fits holds) c.in_default-push.ensures.directory clean given
+
+pub returns-clause-holds : goal.returns-clause-holds
+returns-clause-holds g c groups fits holds =
+    holds_behind c.args.self.now groups (g.S.Site.state c.args.site.now) c.requires.going fits holds
+    c.args.pages.now c.args.changed.now c.args.contents.now c.requires.marks c.requires.lists c.requires.apart (returns-clause-frames g c groups fits holds)
+    c.push.new.self (g.S.Site.state c.push.new.site).image (returns-clause-staged g c groups fits holds) (returns-clause-reaches g c groups fits holds) c.in_default-push.ensures.directory c.push.ensures.geometry

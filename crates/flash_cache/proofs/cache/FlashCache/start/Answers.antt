@@ -1,79 +1,93 @@
 use Rattle.std.proofs.Common.{◌≡◌, List, map, false, sym, ◌∙◌, ap, subst, arith, rules}
-use Rattle.site.specs.Laws.{stays_honest, goes_in_sequence}
+use Rattle.std.specs.List.{All}
+use Rattle.site.specs.State.{Image}
+use Rattle.site.specs.Laws.{stays_honest}
 use Rattle.sealed_ring.specs.declared.slots.Shape.{Shape}
-use Rattle.sealed_ring.specs.Ring.{hi_of}
+use Rattle.sealed_ring.specs.Ring.{IsRing, hi_of}
 use Rattle.sealed_ring.specs.Ready.{region}
 use Rattle.byte_fields.specs.declared.frame_head.FrameHead.{FrameHead}
-use Rattle.image_changes.specs.Rings.{group_shape}
+use Rattle.byte_fields.specs.FrameHeads.{AreGroupHeads}
+use Rattle.image_changes.specs.Rings.{group_shape, segment_shape}
 use Rattle.second_chance.specs.Queue.{Queue}
 use Rattle.flash_directory.specs.Heads.{frames_in}
+use Rattle.tail_rebuild.proofs.Standing.{first_is}
 use Rattle.flash_cache.specs.declared.cache.FlashCache.{FlashCache}
-use Rattle.flash_cache.specs.Held.{HasGroups, MayGoOn, Holds}
+use Rattle.flash_cache.specs.Held.{HasGroups, AreSaved, MayGoOn, Holds}
 use Rattle.flash_cache.proofs.Queues.{err_again}
-use Rattle.flash_cache.proofs.Standing.{usable_later, first_is, known_groups, all_shown, sizes_known, exist_known, length-mapped}
+use Rattle.flash_cache.proofs.Standing.{known_groups, all_shown, sizes_known, exist_known, length-mapped}
 use Rattle.flash_cache.proofs.Fetching.{lengths_later}
 use Rattle.flash_cache.proofs.cache.FlashCache.start.Goals as goal
 
+pub of_groups-requires-clause-groups : goal.of_groups-requires-clause-groups
+of_groups-requires-clause-groups g c k d lt =
+    let items : c.as_slice.result.now ≡ c.in-Ok.heads.list = search rules in
+    subst (All (λ heads. AreGroupHeads heads)) (sym items) (λ k d lt. (c.in-Ok.ensures.start.are_heads k d lt).are_heads) k d lt
+
 pub returns-in-Err-clause-foreign : goal.returns-in-Err-clause-foreign
-returns-in-Err-clause-foreign g c says honest first groups has =
+returns-in-Err-clause-foreign g c says honest first groups has saved = c.in-Err.ensures.foreign (err_again _ _ says) honest first groups saved.segments has saved.follow
+
+pub returns-clause-fits : goal.returns-clause-fits
+returns-clause-fits g c honest first groups has saved =
     let old = g.S.Site.state c.args.site.now in
-    let mid = g.S.Site.state c.scan.new.site in
-    c.in-Err.ensures.foreign (err_again _ _ says) (stays_honest old mid c.scan.ensures.goes honest) (c.in_ok-ring.ensures.fits honest) first groups
-    (subst (HasGroups c.args.geometry.now first groups) (sym (c.in_ok-ring.ensures.same honest).image) has)
+    let new = g.S.Site.state c.rebuild.new.site in
+    let finds = c.in-Ok.ensures.finds honest first groups saved.segments has saved.follow in
+    let rings = c.in-Ok.ensures.start.rings in
+    let same = (c.in-Ok.ensures.reads.same honest).image in
+    record {
+      honest = stays_honest old new c.in-Ok.ensures.reads.goes honest;
+      form = subst (λ (i : Image). IsRing (group_shape c.args.geometry.now) i.flash) (sym same) has.form;
+      hi = finds.groups_fit ∙ ap (λ (s : Shape). hi_of s (region s new)) rings.groups_shape;
+      segments_form = subst (λ (i : Image). IsRing (segment_shape c.args.geometry.now) i.flash) (sym same) saved.follow.has.form;
+      segments_hi = finds.segments_fit ∙ ap (λ (s : Shape). hi_of s (region s new)) rings.segments_shape;
+    }
 
 pub returns-clause-queue : goal.returns-clause-queue
-returns-clause-queue g c honest first groups has =
+returns-clause-queue g c honest first groups has saved =
     let old = g.S.Site.state c.args.site.now in
-    let mid = g.S.Site.state c.scan.new.site in
+    let new = g.S.Site.state c.rebuild.new.site in
     let geometry = c.args.geometry.now in
-    let ring = c.in_ok-ring.ring in
-    let shape : ring.shape ≡ group_shape geometry = c.in_ok-ring.ensures.shape ∙ c.shape_of.ensures in
+    let finds = c.in-Ok.ensures.finds honest first groups saved.segments has saved.follow in
+    let shape = c.in-Ok.ensures.start.rings.groups_shape in
+    let ring = c.in-Ok.heads.groups in
     let slots : ring.shape.slots ≡ geometry.groups = ap (λ (s : Shape). s.slots) shape in
-    let there = subst (HasGroups geometry first groups) (sym (c.in_ok-ring.ensures.same honest).image) has in
-    let fits = c.in_ok-ring.ensures.fits honest in
-    let hi : ring.hi ≡ hi_of (group_shape geometry) mid.image.flash = fits ∙ ap (λ (s : Shape). hi_of s (region s mid)) shape in
-    let own = first_is geometry first groups mid.image there in
+    let hi : ring.hi ≡ hi_of (group_shape geometry) old.image.flash =
+    finds.groups_fit ∙ ap (λ (s : Shape). hi_of s (region s new)) shape ∙ ap (λ (i : Image). hi_of (group_shape geometry) i.flash) (c.in-Ok.ensures.reads.same honest).image in
+    let own = first_is geometry first groups old.image has in
     let oldest = c.oldest.ensures in
     let at : c.oldest.result ≡ first = omega (arith, oldest, hi, slots, own) in
-    let items : c.as_slice.result.now ≡ c.in-Ok.list.items = search rules in
-    let frames = c.in-Ok.ensures.frames (stays_honest old mid c.scan.ensures.goes honest) fits first groups there in
-    let same = ap (map frames_in) (items ∙ frames) ∙ known_groups groups in
-    c.in_ok-directory.ensures.ok ∙ (λ i. let q : Queue = record { first = at i; groups = same i } in q)
+    let items : c.as_slice.result.now ≡ c.in-Ok.heads.list = search rules in
+    let same = ap (map frames_in) (items ∙ finds.list) ∙ known_groups groups in
+    c.in-Ok-of_groups.ensures.ok ∙ (λ i. let q : Queue = record { first = at i; groups = same i } in q)
 
 pub returns-clause-holds : goal.returns-clause-holds
-returns-clause-holds g c honest first groups has =
-    let old = g.S.Site.state c.args.site.now in
-    let mid = g.S.Site.state c.scan.new.site in
-    let new = g.S.Site.state c.read_all.new.site in
+returns-clause-holds g c honest first groups has saved =
+    let new = g.S.Site.state c.rebuild.new.site in
     let geometry = c.args.geometry.now in
-    let ring = c.in_ok-ring.ring in
-    let there = subst (HasGroups geometry first groups) (sym ((c.read_all.ensures.same (stays_honest old mid c.scan.ensures.goes honest)).image ∙ (c.in_ok-ring.ensures.same honest).image)) has in
-    let is = returns-clause-queue g c honest first groups has in
-    subst (λ (q : Queue). let cache : FlashCache = record { alloc = c.args.alloc; geometry = geometry; ring = ring; directory = q; ended = false } in Holds cache new.image groups) (sym is)
-    (record { has = there; shown = all_shown groups })
+    let same = sym (c.in-Ok.ensures.reads.same honest).image in
+    subst (λ (q : Queue). let cache : FlashCache = record { alloc = c.args.alloc; geometry = geometry; ring = c.in-Ok.heads.groups; segments = c.in-Ok.heads.segments; directory = q; ended = false } in Holds cache new.image groups)
+    (sym (returns-clause-queue g c honest first groups has saved))
+    (record { has = subst (HasGroups geometry first groups) same has; saved = subst (AreSaved geometry groups) same saved; shown = all_shown groups })
 
 pub returns-clause-going : goal.returns-clause-going
 returns-clause-going g c =
     let old = g.S.Site.state c.args.site.now in
-    let mid = g.S.Site.state c.scan.new.site in
-    let new = g.S.Site.state c.read_all.new.site in
+    let new = g.S.Site.state c.rebuild.new.site in
     let geometry = c.args.geometry.now in
-    let ring = c.in_ok-ring.ring in
-    let shape : ring.shape ≡ group_shape geometry = c.in_ok-ring.ensures.shape ∙ c.shape_of.ensures in
-    let slots : ring.shape.slots ≡ geometry.groups = ap (λ (s : Shape). s.slots) shape in
-    let items : c.as_slice.result.now ≡ c.in-Ok.list.items = search rules in
-    let is = c.in_ok-directory.ensures.ok ∙ ap (λ (l : List (List FrameHead)). let q : Queue = record { first = c.oldest.result; groups = map frames_in l } in q) items in
-    let lists = c.in-Ok.list.items in
+    let ring = c.in-Ok.heads.groups in
+    let start = c.in-Ok.ensures.start in
+    let slots : ring.shape.slots ≡ geometry.groups = ap (λ (s : Shape). s.slots) start.rings.groups_shape in
+    let items : c.as_slice.result.now ≡ c.in-Ok.heads.list = search rules in
+    let is = c.in-Ok-of_groups.ensures.ok ∙ ap (λ (l : List (List FrameHead)). let q : Queue = record { first = c.oldest.result; groups = map frames_in l } in q) items in
+    let lists = c.in-Ok.heads.list in
     let many = length-mapped frames_in lists in
     let oldest = c.oldest.ensures in
-    let count = c.in-Ok.ensures.count in
-    subst (λ (q : Queue). let cache : FlashCache = record { alloc = c.args.alloc; geometry = geometry; ring = ring; directory = q; ended = false } in MayGoOn cache new) (sym is) (record {
+    let count = start.count in
+    subst (λ (q : Queue). let cache : FlashCache = record { alloc = c.args.alloc; geometry = geometry; ring = ring; segments = c.in-Ok.heads.segments; directory = q; ended = false } in MayGoOn cache new) (sym is) (record {
       limits = c.requires.limits;
-      lengths = lengths_later geometry old new (goes_in_sequence old mid new c.scan.ensures.goes c.read_all.ensures.goes) c.requires.lengths;
-      usable = usable_later ring mid new c.read_all.ensures.goes c.in_ok-ring.ensures.usable;
-      shape = shape;
+      lengths = lengths_later geometry old new c.in-Ok.ensures.reads.goes c.requires.lengths;
+      rings = start.rings;
       next = omega (arith, oldest, count, many, slots);
       few = let groups = c.requires.limits.groups in omega (arith, count, many, groups);
-      sizes = sizes_known lists c.in-Ok.ensures.heads;
-      exist = exist_known geometry.pages lists c.in-Ok.ensures.pages;
+      sizes = sizes_known lists (λ k d lt. (start.are_heads k d lt).are_heads);
+      exist = exist_known geometry.pages lists (λ k d lt. (start.are_heads k d lt).exist);
     })
