@@ -60,6 +60,14 @@ returns-in-Ok-keep_from-clause-ready g c honest newest blocks table commits soun
     (subst (λ (log : LogStore). log_held.HasBlocks log.geometry (kept_by newest) blocks mid.image) (sym keeps) held.blocks)
     (subst (λ (log : LogStore). log_held.HasTail log.tail log.used []) (sym keeps) held.tail) sound means
 
+pub returns-in-Ok-keep_from-clause-goes : goal.returns-in-Ok-keep_from-clause-goes
+returns-in-Ok-keep_from-clause-goes g c =
+    let old = g.S.Site.state c.args.site.now in
+    let mid = g.S.Site.state c.start.new.site in
+    let found = g.S.Site.state c.start-2.new.site in
+    let new = g.S.Site.state c.newest.new.site in
+    goes_in_sequence old mid new c.start.ensures.goes (goes_in_sequence mid found new c.start-2.ensures.goes c.newest.ensures.goes)
+
 pub returns-in-Ok-keep_from-clause-going : goal.returns-in-Ok-keep_from-clause-going
 returns-in-Ok-keep_from-clause-going g c = record {
   going = both_go_on c.stays_beside.ensures.going c.keep_from.new.log c.in-Ok-start.pages (g.S.Site.state c.start.new.site) (g.S.Site.state c.start-2.new.site) (g.S.Site.state c.newest.new.site) c.start-2.ensures.goes c.newest.ensures.goes

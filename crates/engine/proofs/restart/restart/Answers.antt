@@ -6,7 +6,7 @@ use Rattle.site.specs.declared.outside.Stop.TheVariants.{Worn, Foreign}
 use Rattle.log_records.specs.Log.{table_of}
 use Rattle.engine.proofs.Asking.{from_found, not_found}
 use Rattle.std.specs.Prelude.{Ok, IfOk}
-use Rattle.std.proofs.Common.{◌≡◌, ◌∙◌, sym, subst, ◌*◌, ap, refl, arith, ℕ}
+use Rattle.std.proofs.Common.{◌≡◌, ◌∙◌, sym, subst, ap, refl, arith, ℕ}
 use Rattle.site.specs.State.{IsQuiet}
 use Rattle.site.specs.declared.geometry.Geometry.{Geometry}
 use Rattle.log_records.specs.Sound.{Means, commit_count}
