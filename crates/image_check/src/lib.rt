@@ -1,0 +1,10 @@
+//! Judges devices: the rules by which their octets are sound.
+#![tactic(auto)]
+
+mod lengths;
+mod master;
+mod rings;
+
+pub use lengths::rule_lengths;
+pub use master::rule_master;
+pub use rings::{Rings, rule_rings};
