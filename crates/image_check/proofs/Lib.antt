@@ -1,1 +1,5 @@
 pub mod Lasting
+pub mod LiveUnits
+pub mod BlockLists
+pub mod Readings
+pub mod Standing

@@ -1,5 +1,5 @@
 // Whether the devices' lengths are those of sizes.
-ghost use Rattle.image_check.specs.Octets.{SizesAre};
+ghost use Rattle.image_check.specs.Findings.{SizesAre};
 
 use site::{Dev, Geometry, Site};
 

@@ -2,7 +2,8 @@
 ghost use Rattle.std.specs.Prelude.{◌≡◌, IsTrue, IfOk, IfSome};
 ghost use Rattle.image_changes.specs.Rings.{log_shape, group_shape, segment_shape, master_shape};
 ghost use Rattle.ring_check.specs.Looking.{OnlyReads};
-ghost use Rattle.image_check.specs.Octets.{HasSizes, RingsAre, MayRead};
+ghost use Rattle.image_check.specs.Octets.{HasSizes};
+ghost use Rattle.image_check.specs.Findings.{RingsAre, MayRead};
 
 use ring_check::judge;
 use sealed_ring::{Ring, Shape};
