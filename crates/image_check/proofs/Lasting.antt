@@ -10,7 +10,9 @@ use Rattle.sealed_ring.specs.declared.ring.Ring.{Ring}
 use Rattle.sealed_ring.specs.Ring.{FitsIn, IsRing, hi_of}
 use Rattle.sealed_ring.specs.Ready.{region, IsUsable, Fits}
 use Rattle.ring_check.specs.Judged.{IsJudged}
+use Rattle.image_check.specs.declared.rings.Rings.{Rings}
 use Rattle.image_check.specs.Octets.{HasSizes}
+use Rattle.image_check.specs.Findings.{MayRead}
 
 pub usable_later : (ring : Ring) (a b : State) → Goes a b → IsUsable ring a → IsUsable ring b
 usable_later ring a b goes usable = record {
@@ -41,3 +43,18 @@ usable_some o ring site is usable = subst (λ (x : Option Ring). IfSome x (λ fo
 
 pub shape_some : (s : Shape) (o : Option Ring) (ring : Ring) → o ≡ Some ring → IfSome o (λ found. found.shape ≡ s) → ring.shape ≡ s
 shape_some s o ring is shape = subst (λ (x : Option Ring). IfSome x (λ found. found.shape ≡ s)) is shape
+
+-- the four rings
+
+pub may_read_later : (g : Geometry) (rings : Rings) (a b : State) → Goes a b → MayRead g rings a → MayRead g rings b
+may_read_later g rings a b goes may = record {
+  sizes = sizes_later g a b goes may.sizes;
+  masters = usable_later rings.masters a b goes may.masters;
+  blocks = usable_later rings.blocks a b goes may.blocks;
+  groups = usable_later rings.groups a b goes may.groups;
+  segments = usable_later rings.segments a b goes may.segments;
+  masters_shape = may.masters_shape;
+  blocks_shape = may.blocks_shape;
+  groups_shape = may.groups_shape;
+  segments_shape = may.segments_shape;
+}

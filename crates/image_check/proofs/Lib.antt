@@ -6,3 +6,4 @@ pub mod BlockReading
 pub mod PagesRead
 pub mod Readings
 pub mod Standing
+pub mod UnitsJudged
