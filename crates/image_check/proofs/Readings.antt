@@ -1,0 +1,119 @@
+-- Devices are read in one way.
+use Rattle.std.proofs.Common.{◌≡◌, ℕ, zero, suc, ◌+◌, ◌-◌, min, List, [], ◌∷◌, length, drop, refl, sym, ap, ◌∙◌, subst, arith}
+use Rattle.std.specs.Prelude.{map}
+use Rattle.std.specs.List.{AllByRecursion}
+use Rattle.std.proofs.lemmas.List.{length-map, length-drop}
+use Rattle.site.specs.declared.geometry.Geometry.{Geometry}
+use Rattle.site.specs.State.{Image}
+use Rattle.sealed_ring.specs.declared.slots.Shape.{Shape}
+use Rattle.sealed_ring.specs.Ring.{IsLive, hi_of, units_from, last_of}
+use Rattle.sealed_ring.proofs.Heads.{unit_is}
+use Rattle.sealed_ring.proofs.Units.{live_count}
+use Rattle.image_changes.specs.Rings.{log_shape, units_on}
+use Rattle.log_records.specs.declared.log_record.LogRecord.{LogRecord}
+use Rattle.log_records.specs.Spelling.{block, AreBlock, IsBlock}
+use Rattle.checkpoint.specs.declared.master.Master.{Master}
+use Rattle.checkpoint.specs.Laws.{OneNewest}
+use Rattle.log_store.specs.Held.{HasBlocks}
+use Rattle.image_check.specs.Octets.{HasSizes}
+use Rattle.image_check.specs.Laws.{OneReading, AReading}
+use Rattle.image_check.proofs.BlockLists.{one_block}
+use Rattle.image_check.proofs.LiveUnits.{all_from}
+
+-- One reading.
+
+one_size : (a b : Geometry) (image : Image) → HasSizes a image → HasSizes b image → a ≡ b
+one_size a b image first second =
+    let log : a.blocks ≡ b.blocks = omega (arith, first.lengths.log, second.lengths.log) in
+    let disk : a.pages ≡ b.pages = omega (arith, first.lengths.disk, second.lengths.disk) in
+    let flash : a.groups ≡ b.groups = omega (arith, first.lengths.flash, second.lengths.flash, first.limits.fours, second.limits.fours) in
+    (λ i. record { pages = disk i; groups = flash i; blocks = log i })
+
+one_blocks : (a b : List (List LogRecord)) → AllByRecursion AreBlock a → AllByRecursion AreBlock b → map block a ≡ map block b → a ≡ b
+one_blocks [] [] all all' same = refl
+one_blocks [] (y ∷ b) all all' same = let none = ap length same in absurd (omega (arith, none))
+one_blocks (x ∷ a) [] all all' same = let none = ap length same in absurd (omega (arith, none))
+one_blocks (x ∷ a) (y ∷ b) all all' same =
+    let front : block x ≡ block y = ap (first_or []) same in
+    let here = one_block (block x) x y (record { are_block = all.0; spelled = refl }) (record { are_block = all'.0; spelled = front }) in
+    (λ i. here i ∷ one_blocks a b all.1 all'.1 (ap (drop 1) same) i)
+  where
+    first_or : List ℕ → List (List ℕ) → List ℕ
+    first_or none [] = none
+    first_or none (first ∷ rest) = first
+
+held_once : (g : Geometry) (kept : ℕ) (a b : List (List LogRecord)) (image : Image) → HasBlocks g kept a image → HasBlocks g kept b image → a ≡ b
+held_once g kept a b image first second =
+    let next = first.next in
+    let next' = second.next in
+    let count : length a ≡ length b = omega (arith, next, next') in
+    one_blocks a b first.are_blocks second.are_blocks (sym first.units ∙ ap (λ (n : ℕ). last_of n (units_on (log_shape g) image).live) count ∙ second.units)
+
+pub reads_once : OneNewest → OneReading
+reads_once newest image a b first second =
+    let sizes : a.g ≡ b.g = one_size a.g b.g image first.formed.sizes second.formed.sizes in
+    let masters : a.master ≡ b.master = newest image a.master b.master first.formed.master second.formed.master in
+    let moved : HasBlocks a.g a.master.kept b.blocks image = subst (λ (m : Master). HasBlocks a.g m.kept b.blocks image) (sym masters) (subst (λ (g : Geometry). HasBlocks g b.master.kept b.blocks image) (sym sizes) second.blocks) in
+    let blocks : a.blocks ≡ b.blocks = held_once a.g a.master.kept a.blocks b.blocks image first.blocks moved in
+    (λ i. record { g = sizes i; master = masters i; blocks = blocks i })
+
+-- There is one.
+
+drop_units : (s : Shape) (c : List ℕ) (d first k : ℕ) → drop d (units_from s c first (d + k)) ≡ units_from s c (first + d) k
+drop_units s c zero first k =
+    let here : first ≡ first + 0 = omega arith in
+    let all : 0 + k ≡ k = omega arith in
+    (λ i. units_from s c (here i) (all i))
+drop_units s c (suc d) first k =
+    let all : suc d + k ≡ suc (d + k) = omega arith in
+    let there : first + 1 + d ≡ first + suc d = omega arith in
+    ap (λ (n : ℕ). drop (suc d) (units_from s c first n)) all ∙ drop_units s c d (first + 1) k ∙ ap (λ (n : ℕ). units_from s c n k) there
+
+lists_of : (contents : List (List ℕ)) → AllByRecursion (λ content. (records : List LogRecord) × IsBlock content records) contents → (blocks : List (List LogRecord)) × AllByRecursion AreBlock blocks × (contents ≡ map block blocks)
+lists_of [] all = ([], tt, refl)
+lists_of (content ∷ contents) all =
+    let later = lists_of contents all.1 in
+    (all.0.0 ∷ later.0, (all.0.1.are_block, later.1), (λ i. all.0.1.spelled i ∷ later.2 i))
+
+pub a_reading : AReading
+a_reading g m image formed live =
+    let s : Shape = log_shape g in
+    let c : List ℕ = image.log in
+    let hi : ℕ = hi_of s c in
+    let k : ℕ = hi - m.kept in
+    let d : ℕ = min hi (g.blocks - 1) - k in
+    let sixteen = formed.sizes.limits.blocks in
+    let low = live.kept_before_redo in
+    let high = live.redo_before_end in
+    let few = live.kept_is_live in
+    let whole : min hi (g.blocks - 1) ≡ d + k = omega (arith, low, high, few, sixteen) in
+    let first : hi - (g.blocks - 1) + d ≡ m.kept = omega (arith, low, high, few, sixteen) in
+    let part : drop d (units_on s image).live ≡ units_from s c m.kept k =
+    ap (λ (n : ℕ). drop d (units_from s c (hi - (g.blocks - 1)) n)) whole ∙ drop_units s c d (hi - (g.blocks - 1)) k ∙ ap (λ (n : ℕ). units_from s c n k) first in
+    let all : AllByRecursion (λ content. (records : List LogRecord) × IsBlock content records) (units_from s c m.kept k) = all_from (λ content. (records : List LogRecord) × IsBlock content records) s c m.kept k (λ i less.
+    let n : ℕ = m.kept + i in
+    let lives : IsLive s hi n = record { below = omega (arith, less); near = omega (arith, less, few, sixteen) } in
+    let found = formed.blocks n lives (omega arith) in
+    (found.0, subst (λ (content : List ℕ). IsBlock content found.0) (unit_is s hi n c (omega (arith, sixteen)) refl lives) found.1.block)) in
+    let found = lists_of (units_from s c m.kept k) all in
+    let units : drop d (units_on s image).live ≡ map block found.0 = part ∙ found.2 in
+    let size : length (map block found.0) ≡ length found.0 = length-map found.0 block in
+    let dropped = length-drop d (units_on s image).live in
+    let same = ap length units in
+    let lived = live_count s c in
+    let count : length found.0 ≡ k = omega (arith, size, dropped, same, lived, whole) in (
+      found.0,
+      record {
+        formed = formed;
+        live = live;
+        blocks = record {
+          form = formed.rings.blocks;
+          next = omega (arith, count, low, high);
+          few = omega (arith, count, few);
+          are_blocks = found.1;
+          units =
+              let at : length (units_on s image).live - length found.0 ≡ d = omega (arith, count, lived, whole) in
+              ap (λ (n : ℕ). drop n (units_on s image).live) at ∙ units;
+        };
+      },
+    )

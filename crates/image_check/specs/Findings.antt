@@ -1,0 +1,44 @@
+-- What the judges of the first rule say.
+use Rattle.std.specs.Prelude.{◌≡◌, Option, Some, None}
+use Rattle.site.specs.declared.geometry.Geometry.{Geometry}
+use Rattle.site.specs.State.{State, Image}
+use Rattle.sealed_ring.specs.Ready.{IsUsable, Fits}
+use Rattle.image_changes.specs.Rings.{master_shape, log_shape, group_shape, segment_shape}
+use Rattle.checkpoint.specs.declared.master.Master.{Master}
+use Rattle.checkpoint.specs.Newest.{HasMaster}
+use Rattle.image_check.specs.declared.rings.Rings.{Rings}
+use Rattle.image_check.specs.Octets.{HasSizes, AreRings}
+
+-- these are the sizes; or no sizes are
+abbrev pub SizesAre : Option Geometry → Image → Type 0
+SizesAre (Some g) image = HasSizes g image
+SizesAre None image = (g : Geometry) → HasSizes g image → ⊥
+
+-- over every site: the four rings lie on its devices
+pub record MayRead (g : Geometry) (rings : Rings) (site : State) : Type 0 where
+  pub sizes : HasSizes g site.image
+  pub masters : IsUsable rings.masters site
+  pub blocks : IsUsable rings.blocks site
+  pub groups : IsUsable rings.groups site
+  pub segments : IsUsable rings.segments site
+  pub masters_shape : rings.masters.shape ≡ master_shape
+  pub blocks_shape : rings.blocks.shape ≡ log_shape g
+  pub groups_shape : rings.groups.shape ≡ group_shape g
+  pub segments_shape : rings.segments.shape ≡ segment_shape g
+
+-- the rings are those that stand there
+pub record AreFound (rings : Rings) (site : State) : Type 0 where
+  pub masters : Fits rings.masters site
+  pub blocks : Fits rings.blocks site
+  pub groups : Fits rings.groups site
+  pub segments : Fits rings.segments site
+
+-- these are the four rings, each of the form; or one isn't
+abbrev pub RingsAre : Geometry → Option Rings → State → Type 0
+RingsAre g (Some rings) site = AreRings g site.image × AreFound rings site
+RingsAre g None site = AreRings g site.image → ⊥
+
+-- its unit is that of this master; or it is that of none
+abbrev pub MasterIs : Option Master → Image → Type 0
+MasterIs (Some m) image = HasMaster image m
+MasterIs None image = (m : Master) → HasMaster image m → ⊥

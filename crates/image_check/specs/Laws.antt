@@ -1,0 +1,36 @@
+-- Laws on the rules.
+use Rattle.std.specs.Prelude.{◌≡◌, ℕ, List}
+use Rattle.site.specs.declared.geometry.Geometry.{Geometry}
+use Rattle.site.specs.State.{Image}
+use Rattle.image_changes.specs.Rings.{Segments}
+use Rattle.record_model.specs.State.{Content}
+use Rattle.log_records.specs.declared.log_record.LogRecord.{LogRecord}
+use Rattle.log_records.specs.Sound.{Means}
+use Rattle.checkpoint.specs.declared.master.Master.{Master}
+use Rattle.image_meaning.specs.Meaning.{IsUnused, StandsFor}
+use Rattle.image_check.specs.Verdict.{Reading, Reads, Rule1, Rule2, HoldBefore, Rule8, picture_of}
+
+-- Devices on which no segment stands and for which all rules hold stand for the table and the commits that they are read as.
+abbrev pub SoundStands : Type 0
+SoundStands = (r : Reading) (image : Image) (table : List Content) (commits : ℕ) → Reads r image → HoldBefore 12 r image → IsUnused r.g Segments image →
+    Means (picture_of r image) table commits → StandsFor r.g image table commits
+
+-- a reading by which all rules hold, with this table and so many commits
+pub record IsReadAs (g : Geometry) (image : Image) (table : List Content) (commits : ℕ) : Type 0 where
+  pub reading : Reading
+  pub sizes : reading.g ≡ g
+  pub reads : Reads reading image
+  pub rules : HoldBefore 12 reading image
+  pub means : Means (picture_of reading image) table commits
+
+-- And devices that stand for a table, whose segments have the heads of the groups, are sound by all rules, and read as that.
+abbrev pub StandingIsSound : Type 0
+StandingIsSound = (g : Geometry) (image : Image) (table : List Content) (commits : ℕ) → StandsFor g image table commits → Rule8 g image → IsReadAs g image table commits
+
+-- Devices are read in one way: no two readings are of one image,
+abbrev pub OneReading : Type 0
+OneReading = (image : Image) (a b : Reading) → Reads a image → Reads b image → a ≡ b
+
+-- and where the first two rules hold there is one, with their sizes and master.
+abbrev pub AReading : Type 0
+AReading = (g : Geometry) (m : Master) (image : Image) → Rule1 g m image → Rule2 g m image → (blocks : List (List LogRecord)) × Reads (record { g = g; master = m; blocks = blocks }) image

@@ -1,0 +1,20 @@
+//! Judges devices: the rules by which their octets are sound.
+#![tactic(auto)]
+
+mod blocks;
+mod kept;
+mod laws;
+mod lengths;
+mod master;
+mod rings;
+mod segments;
+#[cfg(test)]
+mod tests;
+
+pub use blocks::rule_blocks;
+pub use kept::rule_kept;
+pub use laws::{one_reading, sound_is_standing};
+pub use lengths::rule_lengths;
+pub use master::rule_master;
+pub use rings::{Rings, rule_rings};
+pub use segments::rule_segments;

@@ -1,0 +1,61 @@
+// The live segments.
+ghost use Rattle.std.specs.Prelude.{◌≡◌, ◌↔◌, List, length, IsTrue, IfOk};
+ghost use Rattle.byte_fields.specs.declared.frame_head.FrameHead.{FrameHead};
+ghost use Rattle.flash_cache.specs.Held.{PagesExist};
+ghost use Rattle.ring_check.specs.Looking.{OnlyReads};
+ghost use Rattle.image_check.specs.Octets.{IsSegmentOn, AreSegments};
+ghost use Rattle.image_check.specs.Findings.{MayRead, AreFound};
+
+use crate::rings::Rings;
+use byte_fields::FrameHead;
+use meta_segments::{SEGMENT_LEN, one_segment, segment_heads};
+use site::{Geometry, Site, Stop};
+
+// Whether each head that is present names a page that the disk has.
+fn pages_exist(heads: &[FrameHead; 32], pages: u32) -> bool
+    ensures { IsTrue result ↔ PagesExist pages heads.now }
+{
+    for head in heads {
+        if head.present && head.page >= pages {
+            return false;
+        }
+    }
+    true
+}
+
+// Whether a content is that of a segment, with heads of pages that the disk has.
+fn is_segment_on(content: &[u8], pages: u32) -> bool
+    requires { length content.now ≡ SEGMENT_LEN }
+    ensures { IsTrue result ↔ ((heads : List FrameHead) × IsSegmentOn pages content.now heads) }
+{
+    one_segment();
+    match segment_heads(content) {
+        Ok(heads) => pages_exist(&heads, pages),
+        Err(_) => false,
+    }
+}
+
+/// Whether each live segment is of the form, with heads of pages that the disk has: reads each once.
+pub fn rule_segments<S: Site>(
+    site: &mut S,
+    geometry: &Geometry,
+    rings: &Rings,
+) -> Result<bool, Stop>
+    requires { MayRead geometry.now rings.now (S.state site.old) }
+
+    ensures segments { IsTrue (S.state site.old).honest → AreFound rings.now (S.state site.old)
+        → IfOk result (λ stand. IsTrue stand ↔ AreSegments geometry.now (S.state site.old).image) }
+    ensures reads { OnlyReads result (S.state site.old) (S.state site.new) }
+{
+    let ring = &rings.segments;
+    for segment in ring.oldest()..ring.hi() {
+        let mut content = [0u8; SEGMENT_LEN];
+        if let Err(stop) = ring.read_part(site, segment, 0, &mut content) {
+            return Err(stop);
+        }
+        if !is_segment_on(&content, geometry.pages) {
+            return Ok(false);
+        }
+    }
+    Ok(true)
+}

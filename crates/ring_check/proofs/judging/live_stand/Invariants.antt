@@ -1,0 +1,17 @@
+use Rattle.std.proofs.Common.{ℕ, ◌<◌, length, IsTrue}
+use Rattle.std.specs.Prelude.{Ok}
+use Rattle.sealed_ring.specs.Ring.{FitsIn, IsLive}
+use Rattle.sealed_ring.specs.Ready.{region}
+use Rattle.ring_check.specs.Looking.{OnlyReads}
+use Rattle.ring_check.specs.Judged.{StandsIn}
+use Rattle.ring_check.proofs.judging.live_stand.Given as goal
+
+abbrev pub invariant-loop-n : goal.invariant-loop-n
+invariant-loop-n g l =
+    let old = g.S.Site.state l.fn.site in
+    let now = g.S.Site.state l.site in
+    record {
+      fits : FitsIn l.shape (length (region l.shape now));
+      stand : IsTrue old.honest → (n : ℕ) → IsLive l.shape l.hi n → n < l.n → StandsIn l.shape l.hi (region l.shape old) n;
+      reads : OnlyReads {T = Unit {0}} (Ok tt) old now;
+    }

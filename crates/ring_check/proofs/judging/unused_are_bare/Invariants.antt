@@ -1,0 +1,16 @@
+use Rattle.std.proofs.Common.{◌≢◌, ◌%◌, ℕ, ◌<◌, length, IsTrue}
+use Rattle.std.specs.Prelude.{Ok}
+use Rattle.sealed_ring.specs.Ring.{FitsIn, number}
+use Rattle.sealed_ring.specs.Ready.{region}
+use Rattle.ring_check.specs.Looking.{OnlyReads}
+use Rattle.ring_check.proofs.judging.unused_are_bare.Given as goal
+
+abbrev pub invariant-loop-slot : goal.invariant-loop-slot
+invariant-loop-slot g l =
+    let old = g.S.Site.state l.fn.site in
+    let now = g.S.Site.state l.site in
+    record {
+      fits : FitsIn l.shape (length (region l.shape now));
+      bare : IsTrue old.honest → (j : ℕ) → l.hi < j → j < l.slot → number l.shape (region l.shape old) j % l.shape.slots ≢ j;
+      reads : OnlyReads {T = Unit {0}} (Ok tt) old now;
+    }
