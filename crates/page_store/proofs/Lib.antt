@@ -23,3 +23,5 @@ pub mod Changing
 pub mod Lines
 pub mod Left
 pub mod Departures
+pub mod Written
+pub mod StagingLaws
