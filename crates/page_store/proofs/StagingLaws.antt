@@ -67,7 +67,7 @@ written_then g staged more next next' a b c one two = record {
 
 -- what fits has its queue on flash
 pub fits_queue : (store : PageStore) (site : State) → MayGoOn store site → Fits store site → HasQueueOn store site
-fits_queue store site going fits = record { fits = fits.flash; groups = fits.groups; holds = fits.holds; next = going.flash.next ∙ fits.flash.hi }
+fits_queue store site going fits = record { fits = fits.flash; groups = fits.groups; holds = fits.holds; next = going.flash.next ∙ fits.flash.hi; room = (let least = going.flash.limits.groups in omega (arith, least)) }
 
 -- so does another store with the same cache, on a site with the same flash
 pub queue_same : (store other : PageStore) (old new : State) → other.flash ≡ store.flash → new.image.flash ≡ old.image.flash → IsTrue new.honest → HasQueueOn store old → HasQueueOn other new
@@ -77,6 +77,7 @@ queue_same store other old new same flash honest has =
       groups = has.groups;
       holds = flash_holds_same store.flash old.image new.image has.groups flash has.holds;
       next = has.next ∙ ap (hi_of (group_shape store.flash.geometry)) (sym flash);
+      room = has.room;
     })
 
 -- What a crash leaves.
@@ -186,7 +187,7 @@ stages_none {T} {r} {old = old} {new = new} {now = now} low same =
     stages_still low (λ honest. unchanged now) (ap (λ (f : FlashCache). f.geometry) same) (λ has. ok_always r (HasQueueOn new now) (queue_same old new now now same refl has.fits.honest has))
 
 -- a call behind one that was Ok
-pub stages_then : {A B : Type 0} {a : A} {r : Result B Stop} {staged more : List Staged} {next next' : ℕ} {old mid new : PageStore} {before between now : State} → next ≤ next' →
+pub stages_then : {A B : Type 0} {a : A} {r : Result B Stop} {staged more : List Staged} {next next' : ℕ} {old mid new : PageStore} {before between now : State} → (HasQueueOn old before → next ≤ next') →
     Stages {T = A} (Ok a) staged next old mid before between → Stages r more next' mid new between now → Stages r (staged ++ more) next' old new before now
 stages_then {staged = staged} {more = more} {next = next} {next' = next'} {old = old} {mid = mid} {before = before} {between = between} {now = now} up one two =
     let g = old.flash.geometry in
@@ -200,7 +201,7 @@ stages_then {staged = staged} {more = more} {next = next} {next' = next'} {old =
           let stands : WritesOnly g staged next before.image between.image = holds_now before between only first in
           let second : Leaving g more next' between now = subst (λ (h : Geometry). Leaving h more next' between now) one.sizes (two.writes (one.holds has) (one.quiet has quiet)) in
           in_sequence before between now (Leaves all)
-          (leaves_weaker before between only all (λ s is. written_weaker g staged (staged ++ more) next next' before.image s.image (among_first staged more) up is) first)
+          (leaves_weaker before between only all (λ s is. written_weaker g staged (staged ++ more) next next' before.image s.image (among_first staged more) (up has) is) first)
           (leaves_weaker between now (λ s. WritesOnly g more next' between.image s.image) all (λ s is. written_then g staged more next next' before.image between.image s.image stands is) second);
       sizes = two.sizes ∙ one.sizes;
     }
@@ -225,7 +226,7 @@ push_leaves store group old now has front =
 
 pub queue_pushed : {T : Type 0} (r : Result T Stop) (flash : FlashCache) (store : PageStore) (groups : List (List Stored)) (now : State) → held.MayGoOn flash now → OnOk r (held.Fits flash now) → OnOk r (held.Holds flash now.image groups) →
     OnOk r (HasQueueOn (record store { flash = flash }) now)
-queue_pushed (Ok x) flash store groups now going fits holds = record { fits = fits; groups = groups; holds = holds; next = going.next ∙ fits.hi }
+queue_pushed (Ok x) flash store groups now going fits holds = record { fits = fits; groups = groups; holds = holds; next = going.next ∙ fits.hi; room = (let least = going.limits.groups in omega (arith, least)) }
 queue_pushed (Err stop) flash store groups now going fits holds = tt
 
 -- An eviction.
@@ -258,7 +259,7 @@ flushing_more goes_on first store after old mid new same wants machine next so_f
       staged = so_far.staged ++ one;
       split = so_far.split ∙ ap (λ (l : List Staged). so_far.staged ++ l) ((goes_on (rules first) (cache_of store) wants).1 ∙ ap (λ (k : Cache). one ++ staged_by (rules first) flush k) (sym there))
           ∙ sym (append_assoc so_far.staged one (staged_by (rules first) flush (cache_of after)));
-      stages = stages_then (omega (arith, next)) so_far.stages (stages_ok (stages_as turned next push));
+      stages = stages_then (λ has. omega (arith, next)) so_far.stages (stages_ok (stages_as turned next push));
     }
 
 -- a push that stops
@@ -271,7 +272,7 @@ flushing_stopped goes_on stop first store after old mid new next same wants up s
     let rest : List Staged = staged_by (rules first) flush (push_changed (rules first) (cache_of store)) in
     let all : staged_by (rules first) flush (cache_of first) ≡ (so_far.staged ++ one) ++ rest =
     so_far.split ∙ ap (λ (l : List Staged). so_far.staged ++ l) (goes_on (rules first) (cache_of store) wants).1 ∙ sym (append_assoc so_far.staged one rest) in
-    stages_weaker (λ page is. subst (λ (l : List Staged). Contains (pages_staged l) page) (sym all) (among_first (so_far.staged ++ one) rest page is)) up (stages_then (omega arith) so_far.stages (stages_as turned refl push))
+    stages_weaker (λ page is. subst (λ (l : List Staged). Contains (pages_staged l) page) (sym all) (among_first (so_far.staged ++ one) rest page is)) up (stages_then (λ has. omega arith) so_far.stages (stages_as turned refl push))
 
 -- the last one
 pub flushing_done : FlushEnds → {T : Type 0} {x : T} (first store : PageStore) (old now : State) (next : ℕ) → wants_flush (cache_of store) ≡ false → next_group (cache_of store) ≡ next → IsFlushing first store old now →

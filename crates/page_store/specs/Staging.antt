@@ -11,7 +11,7 @@ use Rattle.flash_cache.specs.Held as held
 use Rattle.flash_cache.specs.Held.{disk_on}
 use Rattle.second_chance.specs.Machine.{Rules, Cache, Staged, staged_in_eviction}
 use Rattle.page_store.specs.declared.store.PageStore.{PageStore}
-use Rattle.page_store.specs.Caching.{cache_of, next_group}
+use Rattle.page_store.specs.Caching.{cache_of, rules, next_group}
 
 -- what the eviction of the coldest page stages
 abbrev pub staged_by_eviction : Rules → Cache → List Staged
@@ -31,6 +31,7 @@ pub record HasQueueOn (store : PageStore) (site : State) : Type 0 where
   pub groups : List (List Stored)
   pub holds : held.Holds store.flash site.image groups
   pub next : next_group (cache_of store) ≡ hi_of (group_shape store.flash.geometry) site.image.flash
+  pub room : 1 ≤ (rules store).groups
 
 -- A call beside which at most these frames are staged, and groups appended below this number, whatever the log has: a crash
 -- meanwhile leaves no more than that.

@@ -94,4 +94,4 @@ returns-in-Ok-clause-stages g c =
     let some : 1 ≤ (rules_for store).groups = omega (arith, c.requires.going.pages_going.flash.limits.groups) in
     let next = ap next_group c.in-Ok.ensures.machine ∙ way_next store some in
     let staged : List Staged = if is_full store then staged_by_eviction (rules_for store) (cache_of store) else [] in
-    stages_as (append-nil staged) refl (stages_then (omega arith) c.in-Ok.ensures.stages (stages_weaker (λ page is. is) (omega (arith, next)) c.read_in.ensures.stages))
+    stages_as (append-nil staged) refl (stages_then (λ has. omega arith) c.in-Ok.ensures.stages (stages_weaker (λ page is. is) (omega (arith, next)) c.read_in.ensures.stages))

@@ -238,4 +238,4 @@ returns-in-Ok-clause-stages g c =
       writes = λ has quiet. push_writes store _ mid new has (c.push_group.ensures.front has.groups has.fits has.holds quiet);
       sizes = c.push_group.ensures.geometry;
     } in
-    stages_then (omega arith) first second
+    stages_then (λ has. omega arith) first second
