@@ -35,7 +35,7 @@ use Rattle.image_meaning.specs.Redone.{ShowsAll}
 use Rattle.image_meaning.specs.Moments.{LeavesTableUnder, LeavesEitherUnder}
 use Rattle.image_meaning.specs.Beside.{AreRingsSoundUnder, KeepsRings}
 use Rattle.redo_undo.specs.Running.{RunsOn}
-use Rattle.redo_undo.specs.Holding.{Holds, KeepsPages}
+use Rattle.redo_undo.specs.Holding.{Holds}
 use Rattle.redo_undo.specs.Committing.{MayCommit, EndsWith, CommitLaws}
 use Rattle.redo_undo.specs.Laws.{LogLaws, PageLaws, BesideLaws}
 use Rattle.redo_undo.proofs.Standing.{more_blocks, stands_now, current_sound, last_of_all}

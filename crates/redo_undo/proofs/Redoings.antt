@@ -1,6 +1,6 @@
 -- Log and pages while the records of an opened log are redone.
 use Rattle.std.proofs.Common.{◌≡◌, ◌⊎◌, inl, inr, ◌+◌, ◌*◌, ◌<◌, ◌==◌, ◌||◌, ◌&&◌, nat_lt, Bool, false, IsTrue, List, [], append-nil, length, refl, sym, ap, subst, ◌∙◌, arith, ℕ, true≢false}
-use Rattle.std.specs.Prelude.{Result, Ok, Err, OnOk, Option}
+use Rattle.std.specs.Prelude.{Option}
 use Rattle.std.specs.List.{AllByRecursion}
 use Rattle.std.proofs.lemmas.Bool.Decides.{nat_tests}
 use Rattle.site.specs.declared.geometry.Geometry.{Geometry}
