@@ -1,13 +1,14 @@
 -- The numbers of the groups that a flush appends.
-use Rattle.std.proofs.Common.{◌≡◌, ℕ, zero, suc, ◌+◌, ◌≤◌, Bool, true, false, List, [], ◌∷◌, length, drop, refl, ap, arith}
+use Rattle.std.proofs.Common.{◌≡◌, ℕ, zero, suc, ◌+◌, ◌≤◌, Bool, true, false, ◌&&◌, List, [], ◌∷◌, length, drop, reverse, refl, ap, arith}
 use Rattle.std.specs.Prelude.{if◌then◌else◌}
 use Rattle.std.proofs.lemmas.Bool.{leb-true}
 use Rattle.std.proofs.lemmas.List.{length-append, length-drop}
 use Rattle.second_chance.specs.declared.frame.Frame.{Frame}
 use Rattle.second_chance.specs.Queue.{Queue, pushed}
-use Rattle.second_chance.specs.Machine.{Rules, Cache, is_full, push_changed, flushed_by, flushed, wants_flush}
+use Rattle.second_chance.specs.Machine.{Rules, PoolPage, Cache, is_full, push_evicted, must_be_pushed, after_eviction, evict_first, evict_coldest, push_changed, flushed_by, flushed, wants_flush}
 use Rattle.second_chance.specs.Laws.{FlushGoesOn}
-use Rattle.page_store.specs.Caching.{next_group}
+use Rattle.page_store.specs.declared.store.PageStore.{PageStore}
+use Rattle.page_store.specs.Caching.{next_group, cache_of, rules as rules_for, is_full as has_no_room, first_pushed, is_pushed, with_way}
 
 full_has_one : (rules : Rules) (queue : Queue) → 1 ≤ rules.groups → is_full rules queue ≡ true → 1 ≤ length queue.groups
 full_has_one rules queue some full = omega (arith, some, leb-true rules.groups (length queue.groups) full)
@@ -41,3 +42,28 @@ flushed_more goes_on rules cache some wants =
     let later = flushed_next rules (push_changed rules cache) some in
     let one = changed_next rules cache some in
     omega (arith, same, later, one)
+
+-- An eviction appends one group where it pushes.
+
+evicted_next : (rules : Rules) (own : PoolPage) (cache : Cache) → 1 ≤ rules.groups → next_group (push_evicted rules own cache) ≡ next_group cache + 1
+evicted_next rules own cache some = pushed_next (is_full rules cache.queue) _ cache.queue (full_has_one rules cache.queue some)
+
+after_next : (rules : Rules) (own : PoolPage) (cache : Cache) → 1 ≤ rules.groups →
+    next_group (after_eviction rules own cache) ≡ next_group cache + (if must_be_pushed cache.queue own then 1 else 0)
+after_next rules own cache some = by (must_be_pushed cache.queue own)
+  where
+    by : (b : Bool) → next_group (if b then push_evicted rules own cache else cache) ≡ next_group cache + (if b then 1 else 0)
+    by true = evicted_next rules own cache some
+    by false = omega arith
+
+first_next : (rules : Rules) (pool : List PoolPage) (cache : Cache) → 1 ≤ rules.groups →
+    next_group (evict_first rules pool cache) ≡ next_group cache + (if first_pushed cache.queue pool then 1 else 0)
+first_next rules [] cache some = omega arith
+first_next rules (coldest ∷ warmer) cache some = after_next rules coldest (record cache { pool = reverse warmer }) some
+
+pub way_next : (store : PageStore) → 1 ≤ (rules_for store).groups → next_group (with_way store) ≡ next_group (cache_of store) + (if (has_no_room store && is_pushed (cache_of store)) then 1 else 0)
+way_next store some = by (has_no_room store)
+  where
+    by : (b : Bool) → next_group (if b then evict_coldest (rules_for store) (cache_of store) else cache_of store) ≡ next_group (cache_of store) + (if (b && is_pushed (cache_of store)) then 1 else 0)
+    by true = first_next (rules_for store) (reverse (cache_of store).pool) (cache_of store) some
+    by false = omega arith

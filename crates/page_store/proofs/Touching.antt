@@ -1,6 +1,9 @@
 -- A touch, of a page that is in the pool and of one that isn't.
 use Rattle.std.proofs.Common.{◌≡◌, ℕ, ◌≤◌, ◌==◌, Bool, true, false, not, ◌&&◌, cond, IsTrue, is_some, List, [], ◌∷◌, length, Some, None, refl, sym, ap, subst, ◌∙◌}
-use Rattle.std.specs.Prelude.{nat_le}
+use Rattle.std.specs.Prelude.{nat_le, ◌+◌, if◌then◌else◌}
+use Rattle.record_model.specs.Touches.{touch}
+use Rattle.second_chance.specs.Machine.{staged_by}
+use Rattle.page_store.specs.Staging.{staged_by_eviction}
 use Rattle.std.specs.List.{AllByRecursion}
 use Rattle.std.proofs.lemmas.Option.{none-some}
 use Rattle.std.proofs.lemmas.List.{length-map}
@@ -14,7 +17,7 @@ use Rattle.log_store.specs.declared.store.LogStore.{LogStore}
 use Rattle.log_store.specs.LogList.{LogList}
 use Rattle.page_store.specs.declared.store.PageStore.{PageStore}
 use Rattle.page_store.specs.Held.{IsPage, MayGoOn, Fits, content_by}
-use Rattle.page_store.specs.Caching.{pool_page, cache_of, rules, is_full, is_pushed, with_way, pushes}
+use Rattle.page_store.specs.Caching.{pool_page, cache_of, rules, is_full, is_pushed, with_way, pushes, next_group}
 use Rattle.page_store.specs.Ahead.{forces, evicted, pushed_for_room, pushed_by_touch}
 use Rattle.flash_cache.specs.Held.{version_on}
 use Rattle.page_store.specs.Leaves.{KeepsCurrent}
@@ -24,10 +27,10 @@ use Rattle.page_store.proofs.Evictions.{not_forced}
 
 -- A page that isn't in the pool.
 module _ (store : PageStore) (page : ℕ) (none : frame_of store.pool.frames page ≡ None) where
-  unheld : holds (cache_of store).pool page ≡ false
+  pub unheld : holds (cache_of store).pool page ≡ false
   unheld = not_held store.pool.frames page none
 
-  lacks : lacks_room (rules store) page (cache_of store) ≡ is_full store
+  pub lacks : lacks_room (rules store) page (cache_of store) ≡ is_full store
   lacks = ap (λ b. not b && nat_le store.pool.size (length (cache_of store).pool)) unheld ∙ ap (λ n. nat_le store.pool.size n) (length-map store.pool.frames pool_page)
 
   pub way : with_way store ≡ with_room (rules store) page (cache_of store)
@@ -41,6 +44,12 @@ module _ (store : PageStore) (page : ℕ) (none : frame_of store.pool.frames pag
 
   pub pushes_same : (is_full store && is_pushed (cache_of store)) ≡ pushes (rules store) page (cache_of store)
   pushes_same = ap (λ b. b && is_pushed (cache_of store)) (sym lacks)
+
+  pub room_staged : (if is_full store then staged_by_eviction (rules store) (cache_of store) else []) ≡ staged_by (rules store) (touch page false) (cache_of store)
+  room_staged = sym (ap (λ b. cond b (staged_by_eviction (rules store) (cache_of store)) []) lacks)
+
+  pub room_next : next_group (cache_of store) + (if (is_full store && is_pushed (cache_of store)) then 1 else 0) ≡ next_group (cache_of store) + (if pushes (rules store) page (cache_of store) then 1 else 0)
+  room_next = ap (λ b. next_group (cache_of store) + cond b 1 0) pushes_same
 
   pub finds_same : has_frame (with_way store).queue page ≡ finds (rules store) page (cache_of store)
   finds_same = ap (λ (k : Cache). has_frame k.queue page) way ∙ sym (ap (λ b. not b && has_frame (with_room (rules store) page (cache_of store)).queue page) unheld)

@@ -10,3 +10,4 @@ pub mod Flushing
 pub mod Taking
 pub mod Trying
 pub mod Laws
+pub mod Staging

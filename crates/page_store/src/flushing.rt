@@ -14,6 +14,11 @@ ghost use Rattle.page_store.specs.Flushing.{saved_next, content_in, cleared_all,
 ghost use Rattle.page_store.specs.Pulling.{mark_for};
 ghost use Rattle.page_store.specs.Changing.{standing, push_changes, flush_changes};
 ghost use Rattle.page_store.specs.Calls.{MayWork, Pushes, Saves, Flushes, Keeps, Stands};
+ghost use Rattle.std.specs.Prelude.{◌+◌};
+ghost use Rattle.record_model.specs.Touches.{flush};
+ghost use Rattle.second_chance.specs.Machine.{staged_in_push, staged_by, flushed};
+ghost use Rattle.page_store.specs.Caching.{next_group, rules};
+ghost use Rattle.page_store.specs.Staging.{Stages};
 
 use crate::pushing::{GROUP_SIZE, NO_MARK, leaving, room_for_pages};
 use crate::store::PageStore;
@@ -131,6 +136,8 @@ impl PageStore {
         // Of every site.
         ensures pushes { Pushes result log.old log.new self.old self.new (S.state site.old) (S.state site.new)
             (forces log.old (flushed_first self.old)) }
+        ensures stages { Stages result (staged_in_push (rules self.old) self.old.flash.directory)
+            (next_group (cache_of self.old) + 1) self.old self.new (S.state site.old) (S.state site.new) }
         ensures saves { Saves result log.old self.old self.new (S.state site.old) (S.state site.new) }
     {
         frames_of_pages();
@@ -168,6 +175,8 @@ impl PageStore {
         // Of every site.
         ensures pushes { Pushes result log.old log.new self.old self.new (S.state site.old) (S.state site.new)
             (forces log.old (flushed_first self.old)) }
+        ensures stages { Stages result (staged_in_push (rules self.old) self.old.flash.directory)
+            (next_group (cache_of self.old) + 1) self.old self.new (S.state site.old) (S.state site.new) }
         ensures saves { Saves result log.old self.old self.new (S.state site.old) (S.state site.new) }
     {
         let plan = self.plan_for_changed(pages)?;
@@ -194,6 +203,9 @@ impl PageStore {
         // Of every site.
         ensures pushes { Pushes result log.old log.new self.old self.new (S.state site.old) (S.state site.new)
             (forces log.old (flushed_contents self.old)) }
+        ensures stages { Stages result (staged_by (rules self.old) flush (cache_of self.old))
+            (next_group (flushed (rules self.old) (cache_of self.old)))
+            self.old self.new (S.state site.old) (S.state site.new) }
         ensures flushes { Flushes result log.old self.old self.new (S.state site.old) (S.state site.new) }
     {
         flushes_save_all();

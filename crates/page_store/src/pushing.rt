@@ -14,6 +14,9 @@ ghost use Rattle.page_store.specs.Ahead.{forces, evicted, pushed_for_room};
 ghost use Rattle.page_store.specs.Leaves.{AreReady};
 ghost use Rattle.page_store.specs.Changing.{given_changes, eviction_changes, room_changes};
 ghost use Rattle.page_store.specs.Calls.{MayWork, Pushes, StopsAtEnd, Keeps, Stands, KeepsGiven, StandsGiven};
+ghost use Rattle.second_chance.specs.Machine.{staged_in_push};
+ghost use Rattle.page_store.specs.Caching.{next_group};
+ghost use Rattle.page_store.specs.Staging.{staged_by_eviction, Stages};
 
 use crate::forcing::force_for;
 use crate::store::PageStore;
@@ -105,6 +108,8 @@ impl PageStore {
         // Of every site.
         ensures pushes { Pushes result log.old log.new self.old self.new (S.state site.old) (S.state site.new)
             (forces log.old contents.now) }
+        ensures stages { Stages result (staged_in_push (rules self.old) self.old.flash.directory)
+            (next_group (cache_of self.old) + 1) self.old self.new (S.state site.old) (S.state site.new) }
         ensures worn { StopsAtEnd result log.old self.old (forces log.old contents.now) true }
         ensures worn_at { IsErrOf result (Stop.Worn Dev.Flash) → self.new.flash.ring.hi ≡ 2 ^ 40 }
         ensures pool { self.new.pool ≡ self.old.pool }
@@ -139,6 +144,9 @@ impl PageStore {
         // Of every site.
         ensures pushes { Pushes result log.old log.new self.old self.new (S.state site.old) (S.state site.new)
             (forces log.old (evicted self.old)) }
+        ensures stages { Stages result (staged_by_eviction (rules self.old) (cache_of self.old))
+            (next_group (cache_of self.old) + (if is_pushed (cache_of self.old) then 1 else 0))
+            self.old self.new (S.state site.old) (S.state site.new) }
         ensures worn { StopsAtEnd result log.old self.old (forces log.old (evicted self.old))
             (is_pushed (cache_of self.old)) }
         ensures machine { OnOk result (cache_of self.new ≡ evict_coldest (rules self.old) (cache_of self.old)) }
@@ -189,6 +197,10 @@ impl PageStore {
         // Of every site.
         ensures pushes { Pushes result log.old log.new self.old self.new (S.state site.old) (S.state site.new)
             (forces log.old (pushed_for_room self.old)) }
+        ensures stages { Stages result
+            (if is_full self.old then staged_by_eviction (rules self.old) (cache_of self.old) else [])
+            (next_group (cache_of self.old) + (if (is_full self.old && is_pushed (cache_of self.old)) then 1 else 0))
+            self.old self.new (S.state site.old) (S.state site.new) }
         ensures worn { StopsAtEnd result log.old self.old (forces log.old (pushed_for_room self.old))
             (is_full self.old && is_pushed (cache_of self.old)) }
         ensures machine { OnOk result (cache_of self.new ≡ with_way self.old) }

@@ -17,6 +17,9 @@ ghost use Rattle.page_store.specs.Leaves.{AreReady, KeepsCurrent, PutsIn};
 ghost use Rattle.page_store.specs.Changing.{room_changes};
 ghost use Rattle.site.specs.Work.{Calls};
 ghost use Rattle.page_store.specs.Calls.{MayWork, Works, StopsAtEnd, Reads, Keeps, Stands};
+ghost use Rattle.std.specs.Prelude.{[]};
+ghost use Rattle.page_store.specs.Caching.{next_group, rules};
+ghost use Rattle.page_store.specs.Staging.{staged_by_eviction, Stages};
 
 use crate::store::PageStore;
 use disk_pages::{PAGE_LEN, read_page};
@@ -65,6 +68,8 @@ impl PageStore {
         requires exists { page < self.old.flash.geometry.pages }
 
         ensures reads { Reads result self.old self.new (S.state site.old) (S.state site.new) page }
+        ensures stages { Stages result [] (next_group (cache_of self.old))
+            self.old self.new (S.state site.old) (S.state site.new) }
         ensures read { Fits self.old (S.state site.old) → IfOk result (λ content.
             content ≡ version_on self.old.flash.geometry (S.state site.old).image page) }
         ensures sound { IfOk result (λ content. IsSound content) }
@@ -96,6 +101,8 @@ impl PageStore {
         requires room { length self.old.pool.frames < self.old.pool.size }
 
         ensures reads { Reads result self.old self.new (S.state site.old) (S.state site.new) page }
+        ensures stages { Stages result [] (next_group (cache_of self.old))
+            self.old self.new (S.state site.old) (S.state site.new) }
         ensures read { Fits self.old (S.state site.old) → OnOk result ((front_of self.new.pool.frames).content
             ≡ version_on self.old.flash.geometry (S.state site.old).image page) }
         ensures current { Fits self.old (S.state site.old)
@@ -134,6 +141,10 @@ impl PageStore {
         // Of every site.
         ensures works { Works result log.old log.new self.old self.new (S.state site.old) (S.state site.new)
             (forces log.old (pushed_for_room self.old)) }
+        ensures stages { Stages result
+            (if is_full self.old then staged_by_eviction (rules self.old) (cache_of self.old) else [])
+            (next_group (cache_of self.old) + (if (is_full self.old && is_pushed (cache_of self.old)) then 1 else 0))
+            self.old self.new (S.state site.old) (S.state site.new) }
         ensures worn { StopsAtEnd result log.old self.old (forces log.old (pushed_for_room self.old))
             (is_full self.old && is_pushed (cache_of self.old)) }
         ensures ended { self.new.ended ≡ self.old.ended }

@@ -20,6 +20,10 @@ ghost use Rattle.page_store.specs.Leaves.{AreReady};
 ghost use Rattle.page_store.specs.Flushing.{flushed_contents};
 ghost use Rattle.page_store.specs.Changing.{touch_changes, flush_changes};
 ghost use Rattle.page_store.specs.Calls.{MayWork, Works, StopsAtEnd, Flushes, Keeps, Stands};
+ghost use Rattle.record_model.specs.Touches.{touch, flush};
+ghost use Rattle.second_chance.specs.Machine.{staged_by, flushed};
+ghost use Rattle.page_store.specs.Caching.{next_group};
+ghost use Rattle.page_store.specs.Staging.{Stages};
 
 use buffer_pool::{Pool, frames_of_pages};
 use byte_fields::VALUE_MAX;
@@ -192,6 +196,9 @@ impl PageStore {
         // Of every site.
         ensures works { Works result log.old log.new self.old self.new (S.state site.old) (S.state site.new)
             (forces log.old (pushed_by_touch self.old page)) }
+        ensures stages { Stages result (staged_by (rules self.old) (touch page false) (cache_of self.old))
+            (next_group (cache_of self.old) + (if pushes (rules self.old) page (cache_of self.old) then 1 else 0))
+            self.old self.new (S.state site.old) (S.state site.new) }
         ensures worn { StopsAtEnd result log.old self.old (forces log.old (pushed_by_touch self.old page))
             (pushes (rules self.old) page (cache_of self.old)) }
         ensures machine { OnOk result (cache_of self.new ≡ touched (rules self.old) page false (cache_of self.old)) }
@@ -235,6 +242,9 @@ impl PageStore {
         // Of every site.
         ensures works { Works result log.old log.new self.old self.new (S.state site.old) (S.state site.new)
             (forces log.old (flushed_contents self.old)) }
+        ensures stages { Stages result (staged_by (rules self.old) flush (cache_of self.old))
+            (next_group (flushed (rules self.old) (cache_of self.old)))
+            self.old self.new (S.state site.old) (S.state site.new) }
         ensures flushes { Flushes result log.old self.old self.new (S.state site.old) (S.state site.new) }
         ensures clean { OnOk result (wants_flush (cache_of self.new) ≡ false) }
         ensures ended { OnOk result (self.new.ended ≡ self.old.ended) }

@@ -4,15 +4,24 @@ use Rattle.std.specs.Prelude.{Result, Ok, Err, IsErrOf, if◌then◌else◌}
 use Rattle.site.specs.declared.outside.Dev.TheVariants.{Flash, Disk}
 use Rattle.site.specs.declared.outside.Stop.{Stop}
 use Rattle.site.specs.declared.outside.Stop.TheVariants.{Worn}
-use Rattle.site.specs.State.{State}
-use Rattle.site.specs.Calls.{SameReads}
+use Rattle.site.specs.State.{State, IsQuiet}
+use Rattle.site.specs.Calls.{SameReads, IsUnchanged, Goes}
+use Rattle.site.specs.Laws.{stays_honest}
+use Rattle.std.specs.List.{Contains}
+use Rattle.log_store.specs.declared.store.LogStore.{LogStore}
+use Rattle.page_store.specs.Staging.{pages_staged, HasQueueOn, Stages}
+use Rattle.site.specs.Moments.{ChangesOnly}
+use Rattle.page_store.proofs.StagingLaws.{log_leaves, among_first, queue_same, stages_ok, stages_err, stages_as, stages_weaker, stages_then, stages_none, stages_still, stages_beside}
+use Rattle.redo_undo.specs.Calls.{WorksBeside}
 use Rattle.record_model.specs.Touches.{CacheWork}
-use Rattle.second_chance.specs.Machine.{Rules, Cache, touched, finds, misses, after_works}
+use Rattle.second_chance.specs.Machine.{Rules, Cache, Staged, touched, finds, misses, after_works, staged_by_works}
 use Rattle.page_store.specs.declared.store.PageStore.{PageStore}
 use Rattle.page_store.specs.Caching.{cache_of, rules, pushes}
-use Rattle.redo_undo.specs.Works.{next_group, one_touch, one_change, Overflows, ReadsFor, Asks}
-use Rattle.redo_undo.proofs.Costs.{works_add_up, reads_add_up, reads_for_more, overflows_with_more, touched_next}
+use Rattle.redo_undo.specs.Works.{next_group, one_touch, one_change, Overflows, ReadsFor, Asks, StagesFor}
+use Rattle.redo_undo.proofs.Costs.{works_add_up, staged_add_up, reads_add_up, reads_for_more, overflows_with_more, touched_next, more_next}
 use Rattle.site.proofs.Working.{err_again, no_error, ok_as, ok_always}
+use Rattle.std.specs.Prelude.{IsTrue, OnOk}
+use Rattle.site.specs.declared.outside.Dev.TheVariants.{Log}
 
 pub stop_is : {U : Type 0} (stop is : Stop) → IsErrOf {T = U} (Err stop) is → stop ≡ is
 stop_is stop is same = cc
@@ -51,18 +60,39 @@ change_reads r page cache before now some reads = record {
 pub change_overflows : (r : Rules) (page : ℕ) (cache : Cache) → 1 ≤ r.groups → Overflows r (one_touch page) cache → Overflows r (one_change page) cache
 change_overflows r page cache some over = omega (arith, over, change_next r page cache some)
 
+pub change_stages : {T : Type 0} (result : Result T Stop) (page : ℕ) (old new : PageStore) (before now : State) → 1 ≤ (rules old).groups → StagesFor result (one_touch page) old new before now → StagesFor result (one_change page) old new before now
+change_stages result page old new before now some stages = stages_as refl (sym (change_next (rules old) page (cache_of old) some)) stages
+
+-- calls on the log alone
+pub stages_log : {T : Type 0} {result : Result T Stop} {log log' : LogStore} {pages : PageStore} {before now : State} → WorksBeside result log log' before now → Stages result [] (next_group (cache_of pages)) pages pages before now
+stages_log works = stages_beside (omega arith) works.changes works.calls refl
+
+pub stages_alone : {A : Type 0} {result : Result A Stop} {pages : PageStore} {before now : State} → (IsTrue before.honest → ChangesOnly Log before now) → Goes before now → (IsTrue before.honest → IsQuiet before → OnOk result (IsQuiet now)) →
+    Stages result [] (next_group (cache_of pages)) pages pages before now
+stages_alone {result = result} {pages = pages} {before = before} {now = now} changes goes quiet = record {
+  holds = λ has. ok_always result (HasQueueOn pages now) (queue_same pages pages before now refl ((changes has.fits.honest).only.now.content Flash (λ h. cc)) (stays_honest before now goes has.fits.honest) has);
+  quiet = λ has. quiet has.fits.honest;
+  writes = λ has calm. (let is = has.next in log_leaves pages.flash.geometry [] (next_group (cache_of pages)) before now (omega (arith, is)) calm (changes has.fits.honest));
+  sizes = refl;
+}
+
+pub stages_read : {A : Type 0} {result : Result A Stop} {pages : PageStore} {before now : State} → (IsTrue before.honest → IsUnchanged before now) → Goes before now → Stages result [] (next_group (cache_of pages)) pages pages before now
+stages_read {A} {result = result} {pages = pages} {before = before} {now = now} same goes =
+    stages_still (omega arith) same refl (λ has. ok_always result (HasQueueOn pages now) (queue_same pages pages before now refl (ap (λ i. i.flash) (same has.fits.honest).image) (stays_honest before now goes has.fits.honest) has))
+
 -- no work
 pub no_reads : (r : Rules) (cache : Cache) (before now : State) → SameReads before now → ReadsFor r [] cache before now
 no_reads r cache before now same = record { flash = omega (arith, same Flash); disk = omega (arith, same Disk) }
 
 -- a call that does no work and can't find flash worn
 pub asks_nothing : {T : Type 0} (result : Result T Stop) (pages : PageStore) (before now : State) → SameReads before now → (IsErrOf result (Worn Flash) → ⊥) →
-    Asks result [] pages pages before now
-asks_nothing result pages before now same never = record {
+    Stages result [] (next_group (cache_of pages)) pages pages before now → Asks result [] pages pages before now
+asks_nothing result pages before now same never stages = record {
   machine = ok_always result _ refl;
   worn = λ is. absurd (never is);
   reads = no_reads (rules pages) (cache_of pages) before now same;
   rules_are = refl;
+  stages = stages;
 }
 
 -- a call after one that was Ok
@@ -79,6 +109,10 @@ asks_then a result first later old mid new before between now one two =
       reads = reads_add_up (rules old) first later (cache_of old) before between now one.reads
           (subst (λ (c : Cache). ReadsFor (rules old) later c between now) start (subst (λ (r : Rules). ReadsFor r later (cache_of mid) between now) one.rules_are two.reads));
       rules_are = two.rules_are ∙ one.rules_are;
+      stages = stages_as (sym (staged_add_up (rules old) first later (cache_of old)))
+          (ap next_group there)
+          (stages_then (λ has. omega (arith, more_next (rules old) first later (cache_of old) has.room, ap next_group there)) one.stages
+          (stages_as (ap (λ (k : Cache). staged_by_works (rules mid) later k) start ∙ ap (λ (r : Rules). staged_by_works r later (after_works (rules old) first (cache_of old))) one.rules_are) refl two.stages));
     }
 
 -- a call that stops before all of some work is done
@@ -89,6 +123,8 @@ asks_stopped {A} {B} stop first later old new before now some asks = record {
   worn = λ is. overflows_with_more (rules old) first later (cache_of old) some (asks.worn (err_again stop (Worn Flash) is));
   reads = reads_for_more (rules old) first later (cache_of old) before now some asks.reads;
   rules_are = asks.rules_are;
+  stages = stages_err (stages_weaker (λ page is. subst (λ (l : List Staged). Contains (pages_staged l) page) (sym (staged_add_up (rules old) first later (cache_of old))) (among_first (staged_by_works (rules old) first (cache_of old)) _ page is))
+      (more_next (rules old) first later (cache_of old) some) asks.stages);
 }
 
 -- Another answer of the same call.
@@ -99,14 +135,14 @@ asks_same result works other old new before now same asks = subst (λ (w : List 
 
 -- before any call
 pub no_asks : (pages : PageStore) (now : State) → Asks {T = Unit {0}} (Ok tt) [] pages pages now now
-no_asks pages now = record { machine = refl; worn = λ is. absurd (no_error {T = Unit {0}} {x = tt} {e = Worn Flash} is); reads = record { flash = omega arith; disk = omega arith }; rules_are = refl }
+no_asks pages now = record { machine = refl; worn = λ is. absurd (no_error {T = Unit {0}} {x = tt} {e = Worn Flash} is); reads = record { flash = omega arith; disk = omega arith }; rules_are = refl; stages = stages_none (omega arith) refl }
 
 -- another answer of the same call
 pub asks_ok : {A B : Type 0} (a : A) (b : B) (works : List CacheWork) (old new : PageStore) (before now : State) → Asks {T = A} (Ok a) works old new before now → Asks {T = B} (Ok b) works old new before now
-asks_ok {A} {B} a b works old new before now asks = record { machine = asks.machine; worn = λ is. absurd (no_error {T = B} {x = b} {e = Worn Flash} is); reads = asks.reads; rules_are = asks.rules_are }
+asks_ok {A} {B} a b works old new before now asks = record { machine = asks.machine; worn = λ is. absurd (no_error {T = B} {x = b} {e = Worn Flash} is); reads = asks.reads; rules_are = asks.rules_are; stages = stages_ok asks.stages }
 
 pub asks_err : {A B : Type 0} (stop : Stop) (works : List CacheWork) (old new : PageStore) (before now : State) → Asks {T = A} (Err stop) works old new before now → Asks {T = B} (Err stop) works old new before now
-asks_err stop works old new before now asks = record { machine = tt; worn = λ is. asks.worn (err_again stop (Worn Flash) is); reads = asks.reads; rules_are = asks.rules_are }
+asks_err stop works old new before now asks = record { machine = tt; worn = λ is. asks.worn (err_again stop (Worn Flash) is); reads = asks.reads; rules_are = asks.rules_are; stages = stages_err asks.stages }
 
 -- a call that fails behind it for another reason
 pub asks_fails : {A B : Type 0} (a : A) (stop : Stop) (works : List CacheWork) (old new : PageStore) (before now : State) → (stop ≡ Worn Flash → ⊥) → Asks {T = A} (Ok a) works old new before now → Asks {T = B} (Err stop) works old new before now
@@ -115,4 +151,5 @@ asks_fails {A} {B} a stop works old new before now never asks = record {
   worn = λ is. absurd (never (stop_is {U = B} stop (Worn Flash) is));
   reads = asks.reads;
   rules_are = asks.rules_are;
+  stages = stages_err asks.stages;
 }

@@ -1,16 +1,19 @@
 -- What a checkpoint asks of the page cache.
-use Rattle.std.proofs.Common.{◌≡◌, ◌⊎◌, List, arith}
-use Rattle.std.specs.Prelude.{Result, Ok, Err, OnOk, IfErr, IsErrOf}
+use Rattle.std.proofs.Common.{◌≡◌, ◌⊎◌, List, [], arith, ap, append-nil}
+use Rattle.std.specs.Prelude.{⊤, Result, Ok, Err, OnOk, IfErr, IsErrOf}
 use Rattle.site.specs.declared.outside.Dev.TheVariants.{Log, Flash, Disk}
 use Rattle.site.specs.declared.outside.Stop.{Stop}
 use Rattle.site.specs.declared.outside.Stop.TheVariants.{Device, Worn}
 use Rattle.site.specs.State.{State}
 use Rattle.site.specs.Calls.{SameReads}
 use Rattle.record_model.specs.Touches.{CacheWork}
-use Rattle.second_chance.specs.Machine.{after_works}
+use Rattle.second_chance.specs.Machine.{after_works, staged_by_works}
 use Rattle.page_store.specs.declared.store.PageStore.{PageStore}
 use Rattle.page_store.specs.Caching.{cache_of, rules}
-use Rattle.redo_undo.specs.Works.{Asks}
+use Rattle.page_store.specs.Staging.{Stages}
+use Rattle.page_store.proofs.StagingLaws.{stages_as, stages_then}
+use Rattle.redo_undo.specs.Works.{Asks, StagesFor, next_group}
+use Rattle.redo_undo.proofs.Costs.{more_next}
 use Rattle.redo_undo.proofs.AskingUndo.{not_worn_flash}
 
 pub never_worn_flash : {A : Type 0} (r : Result A Stop) → IfErr r (λ stop. (stop ≡ Device Log) ⊎ (stop ≡ Worn Log)) → IsErrOf r (Worn Flash) → ⊥
@@ -19,8 +22,9 @@ never_worn_flash (Err stop) stops is = let equal : stop ≡ Worn Flash = cc in n
 
 -- between calls that read no page
 pub asks_around : {A B : Type 0} (r : Result A Stop) (s : Result B Stop) (works : List CacheWork) (pages pages' : PageStore) (old mid flushed new : State) → SameReads old mid → SameReads flushed new →
-    OnOk s (cache_of pages' ≡ after_works (rules pages) works (cache_of pages)) → (IsErrOf s (Worn Flash) → IsErrOf r (Worn Flash)) → Asks r works pages pages' mid flushed → Asks s works pages pages' old new
-asks_around r s works pages pages' old mid flushed new first last machine stops asks =
+    OnOk s (cache_of pages' ≡ after_works (rules pages) works (cache_of pages)) → (IsErrOf s (Worn Flash) → IsErrOf r (Worn Flash)) → Stages {T = ⊤} (Ok tt) [] (next_group (cache_of pages)) pages pages old mid → Stages s (staged_by_works (rules pages) works (cache_of pages)) (next_group (after_works (rules pages) works (cache_of pages))) pages pages' mid new →
+    Asks r works pages pages' mid flushed → Asks s works pages pages' old new
+asks_around r s works pages pages' old mid flushed new first last machine stops still later asks =
     let a = first Flash in
     let b = last Flash in
     let c = first Disk in
@@ -32,4 +36,11 @@ asks_around r s works pages pages' old mid flushed new first last machine stops 
       worn = λ is. asks.worn (stops is);
       reads = record { flash = omega (arith, a, b, flash); disk = omega (arith, c, d, disk) };
       rules_are = asks.rules_are;
+      stages = stages_then (λ has. more_next (rules pages) [] works (cache_of pages) has.room) still later;
     }
+
+-- what is written behind a flush that was Ok
+pub flush_then : {A B : Type 0} {a : A} {r : Result B Stop} (works : List CacheWork) {pages pages' : PageStore} {old mid new : State} → cache_of pages' ≡ after_works (rules pages) works (cache_of pages) → StagesFor {T = A} (Ok a) works pages pages' old mid →
+    Stages r [] (next_group (cache_of pages')) pages' pages' mid new → StagesFor r works pages pages' old new
+flush_then works {pages = pages} machine one still =
+    stages_as (append-nil (staged_by_works (rules pages) works (cache_of pages))) (ap next_group machine) (stages_then (λ has. omega (arith, ap next_group machine)) one still)

@@ -1,5 +1,5 @@
 -- What undo asks of the cache: calls on the log alone, and one Update after the other.
-use Rattle.std.proofs.Common.{◌≡◌, ◌≢◌, ◌⊎◌, inl, inr, ◌+◌, ◌*◌, ◌<◌, ◌≤◌, true, List, [], ◌∷◌, ◌++◌, append_assoc, Option, Some, arith, refl, sym, ap, subst, ◌∙◌, ℕ}
+use Rattle.std.proofs.Common.{◌≡◌, ◌≢◌, ◌⊎◌, inl, inr, ◌+◌, ◌*◌, ◌<◌, ◌≤◌, true, List, [], ◌∷◌, ◌++◌, append_assoc, append-nil, Option, Some, arith, refl, sym, ap, subst, ◌∙◌, ℕ}
 use Rattle.std.specs.Prelude.{Result, Ok, Err, OnOk, IfErr, IsErrOf, option_map, ⊤}
 use Rattle.std.specs.List.{cons_option}
 use Rattle.std.proofs.lemmas.List.Elements.{filter_map-append}
@@ -12,14 +12,16 @@ use Rattle.site.specs.Calls.{SameReads}
 use Rattle.record_model.specs.Touches.{CacheWork, touch, page_of, write_touch}
 use Rattle.log_records.specs.Log.{Entry, number_of}
 use Rattle.log_records.specs.Restart.{undo_touch}
-use Rattle.second_chance.specs.Machine.{Rules, Cache, touched}
+use Rattle.second_chance.specs.Machine.{Rules, Cache, touched, staged_by_works}
 use Rattle.page_store.specs.declared.store.PageStore.{PageStore}
 use Rattle.page_store.specs.Caching.{cache_of, rules, with_change}
 use Rattle.page_store.specs.Laws.{TouchThenChange}
-use Rattle.redo_undo.specs.Works.{one_touch, one_change, ReadsFor, Asks}
+use Rattle.page_store.specs.Staging.{Stages}
+use Rattle.page_store.proofs.StagingLaws.{stages_ok, stages_err, stages_as, stages_then}
+use Rattle.redo_undo.specs.Works.{next_group, one_touch, one_change, ReadsFor, Asks}
 use Rattle.redo_undo.specs.UndoWorks.{works_of}
-use Rattle.redo_undo.proofs.Costs.{reads_add_up}
-use Rattle.redo_undo.proofs.Asking.{change_reads, change_overflows, asks_then, asks_stopped, stop_is}
+use Rattle.redo_undo.proofs.Costs.{reads_add_up, more_next}
+use Rattle.redo_undo.proofs.Asking.{change_reads, change_overflows, change_stages, asks_then, asks_stopped, stop_is}
 use Rattle.site.proofs.Working.{err_again, ok_as, ok_always}
 
 -- Calls on the log alone.
@@ -58,25 +60,26 @@ never_worn (Err stop) stops is = let equal : stop ≡ Worn Flash = cc in not_wor
 
 -- a call that stops before it asks for anything
 pub asks_refused : {T : Type 0} (stop : Stop) (works : List CacheWork) (pages : PageStore) (before now : State) → 1 ≤ (rules pages).groups → stop ≢ Worn Flash → SameElse before now →
-    Asks {T = T} (Err stop) works pages pages before now
-asks_refused {T} stop works pages before now some other same =
+    Stages {T = T} (Err stop) [] (next_group (cache_of pages)) pages pages before now → Asks {T = T} (Err stop) works pages pages before now
+asks_refused {T} stop works pages before now some other same stages =
     asks_stopped {A = T} stop [] works pages pages before now some
-    (record { machine = tt; worn = λ is. absurd (other (stop_is {U = T} stop (Worn Flash) is)); reads = no_reads_else (rules pages) (cache_of pages) before now same; rules_are = refl })
+    (record { machine = tt; worn = λ is. absurd (other (stop_is {U = T} stop (Worn Flash) is)); reads = no_reads_else (rules pages) (cache_of pages) before now same; rules_are = refl; stages = stages })
 
 -- a call that reads the log before it asks
-pub asks_later : {T : Type 0} (result : Result T Stop) (works : List CacheWork) (old new : PageStore) (before between now : State) → SameElse before between → Asks result works old new between now →
-    Asks result works old new before now
-asks_later result works old new before between now same asks = record {
+pub asks_later : {T : Type 0} (result : Result T Stop) (works : List CacheWork) (old new : PageStore) (before between now : State) → SameElse before between → Stages {T = ⊤} (Ok tt) [] (next_group (cache_of old)) old old before between →
+    Asks result works old new between now → Asks result works old new before now
+asks_later result works old new before between now same still asks = record {
   machine = asks.machine;
   worn = asks.worn;
   reads = reads_add_up (rules old) [] works (cache_of old) before between now (no_reads_else (rules old) (cache_of old) before between same) asks.reads;
   rules_are = asks.rules_are;
+  stages = stages_then (λ has. more_next (rules old) [] works (cache_of old) has.room) still asks.stages;
 }
 
 -- a call that goes on with the log once all that it asked for is done
 pub asks_before : {A B : Type 0} (a : A) (result : Result B Stop) (works : List CacheWork) (old new : PageStore) (before between now : State) → 1 ≤ (rules old).groups → SameElse between now →
-    (IsErrOf result (Worn Flash) → ⊥) → Asks {T = A} (Ok a) works old new before between → Asks result works old new before now
-asks_before a result works old new before between now some same never asks = record {
+    (IsErrOf result (Worn Flash) → ⊥) → Stages result [] (next_group (cache_of new)) new new between now → Asks {T = A} (Ok a) works old new before between → Asks result works old new before now
+asks_before a result works old new before between now some same never still asks = record {
   machine = ok_always result _ asks.machine;
   worn = λ is. absurd (never is);
   reads = record {
@@ -84,6 +87,7 @@ asks_before a result works old new before between now some same never asks = rec
     disk = (let read = asks.reads.disk in omega (arith, read, same.disk));
   };
   rules_are = asks.rules_are;
+  stages = stages_as (append-nil (staged_by_works (rules old) works (cache_of old))) (ap next_group asks.machine) (stages_then (λ has. omega (arith, ap next_group asks.machine)) asks.stages still);
 }
 
 -- One Update.
@@ -96,13 +100,14 @@ change_stopped {A} {B} stop page old new before now some asks = record {
   worn = λ is. change_overflows (rules old) page (cache_of old) some (asks.worn (err_again stop (Worn Flash) is));
   reads = change_reads (rules old) page (cache_of old) before now some asks.reads;
   rules_are = asks.rules_are;
+  stages = change_stages (Err stop) page old new before now some (stages_err asks.stages);
 }
 
 -- and changed then
 pub change_made : {A B : Type 0} (a : A) (result : Result B Stop) (page : ℕ) (old mid new : PageStore) (before between now : State) → 1 ≤ (rules old).groups → TouchThenChange →
     Asks {T = A} (Ok a) (one_touch page) old mid before between → OnOk result (cache_of new ≡ with_change (cache_of mid)) → rules new ≡ rules mid → SameReads between now →
-    (IsErrOf result (Worn Flash) → ⊥) → Asks result (one_change page) old new before now
-change_made a result page old mid new before between now some law asks changed same read never =
+    (IsErrOf result (Worn Flash) → ⊥) → Stages result [] (next_group (cache_of mid)) mid new between now → Asks result (one_change page) old new before now
+change_made a result page old mid new before between now some law asks changed same read never still =
     let there : with_change (cache_of mid) ≡ touched (rules old) page true (cache_of old) = ap with_change asks.machine ∙ sym (law (rules old) page (cache_of old)) in
     let none = none_read between now read in
     let touches = asks.reads in
@@ -114,6 +119,8 @@ change_made a result page old mid new before between now some law asks changed s
         disk = (let reads = touches.disk in omega (arith, reads, none.disk));
       });
       rules_are = same ∙ asks.rules_are;
+      stages = change_stages result page old new before now some
+          (stages_as (append-nil (staged_by_works (rules old) (one_touch page) (cache_of old))) (ap next_group asks.machine) (stages_then (λ has. omega (arith, ap next_group asks.machine)) asks.stages still));
     }
 
 page_is : (page slot : ℕ) → slot < 32 → page_of (32 * page + slot) ≡ page
@@ -138,7 +145,7 @@ pub one_more_work : {A B : Type 0} (a : A) (b : B) (done : List Entry) (u : Entr
 one_more_work a b done u old mid new before between now first second =
     let both = asks_then a (Ok b) (works_of done) (works_of (u ∷ [])) old mid new before between now first second in
     subst (λ (w : List CacheWork). Asks {T = ⊤} (Ok tt) w old new before now) (sym (filter_map-append undo_touch done (u ∷ [])))
-    (record { machine = both.machine; worn = λ is. cc; reads = both.reads; rules_are = both.rules_are })
+    (record { machine = both.machine; worn = λ is. cc; reads = both.reads; rules_are = both.rules_are; stages = stages_ok both.stages })
 
 -- or it stops there
 pub more_work_stopped : {A B C : Type 0} (a : A) (stop : Stop) (all done rest : List Entry) (u : Entry) (old mid new : PageStore) (before between now : State) → 1 ≤ (rules old).groups → all ≡ done ++ u ∷ rest →
@@ -153,10 +160,10 @@ pub all_work : {A B : Type 0} (a : A) (b : B) (all done : List Entry) (old new :
     Asks {T = B} (Ok b) (works_of all) old new before now
 all_work {A} {B} a b all done old new before now is asks =
     subst (λ (l : List Entry). Asks {T = B} (Ok b) (works_of l) old new before now) (sym is)
-    (record { machine = asks.machine; worn = λ is. cc; reads = asks.reads; rules_are = asks.rules_are })
+    (record { machine = asks.machine; worn = λ is. cc; reads = asks.reads; rules_are = asks.rules_are; stages = stages_ok asks.stages })
 
 -- an Update is undone behind a read of the log
 pub asks_of_update : {T : Type 0} (result : Result T Stop) (u : Entry) (page slot : ℕ) (old new : PageStore) (before between now : State) → slot < 32 → number_of u.rec ≡ Some (32 * page + slot) → SameElse before between →
-    Asks result (one_change page) old new between now → Asks result (works_of (u ∷ [])) old new before now
-asks_of_update result u page slot old new before between now less is same asks =
-    asks_later result (works_of (u ∷ [])) old new before between now same (subst (λ (w : List CacheWork). Asks result w old new between now) (work_is u page slot less is) asks)
+    Stages {T = ⊤} (Ok tt) [] (next_group (cache_of old)) old old before between → Asks result (one_change page) old new between now → Asks result (works_of (u ∷ [])) old new before now
+asks_of_update result u page slot old new before between now less is same still asks =
+    asks_later result (works_of (u ∷ [])) old new before between now same still (subst (λ (w : List CacheWork). Asks result w old new between now) (work_is u page slot less is) asks)

@@ -7,7 +7,9 @@ use Rattle.site.specs.declared.outside.Dev.TheVariants.{Log, Flash, Disk}
 use Rattle.site.specs.declared.outside.Stop.{Stop}
 use Rattle.site.specs.declared.outside.Stop.TheVariants.{Device, Worn, Foreign, Memory}
 use Rattle.site.specs.State.{State, Snapshot, IsQuiet}
+use Rattle.site.specs.Moments.{LeavesOnly, ChangesOnly, SameBut}
 use Rattle.site.specs.Calls.{IsUnchanged, FaultRose}
+use Rattle.site.specs.Laws.{no_call, changes_in_sequence, stays_honest}
 use Rattle.record_model.specs.State.{Content}
 use Rattle.log_records.specs.Log.{Entry}
 use Rattle.sealed_ring.specs.Ring.{hi_of}
@@ -34,7 +36,6 @@ use Rattle.redo_undo.proofs.Sames.{and_then, going_still, holds_still, leaves_st
 use Rattle.redo_undo.proofs.RingNumbers.{then_skips, skips_again, skips_answered, skips_weaker, skips_on}
 use Rattle.redo_undo.proofs.LeftNumbers.{skips_not_saved}
 use Rattle.redo_undo.proofs.UndoneNumbers.{skips_so_far, masters_hi}
-use Rattle.site.specs.Moments.{LeavesOnly}
 use Rattle.site.proofs.Working.{err_again, ok_as, ok_always, no_error, of_error, err_as, err_always, calls_nothing, calls_then, calls_failed, calls_answered, calls_refused}
 
 -- The errors of calls on the log.
@@ -180,25 +181,29 @@ logs_refused other stops first = record { works = works_refused other stops firs
 
 -- The log alone, on every site.
 
+log_unchanged : (site : State) → ChangesOnly Log site site
+log_unchanged site = record { only = no_call site (SameBut Log site) (record { told = refl; telling = refl; content = λ d other. refl; loose = λ d other. refl }); left = refl }
+
 pub beside_nothing : {T : Type 0} {x : T} {log : LogStore} {site : State} → log_held.MayGoOn log site → WorksBeside {T = T} (Ok x) log log site site
-beside_nothing going = record { calls = calls_nothing; going = λ pages may. may; log_going = going; kept = refl; geometry = refl; reads = λ d. refl }
+beside_nothing {site = site} going = record { calls = calls_nothing; going = λ pages may. may; log_going = going; kept = refl; geometry = refl; reads = λ d. refl; changes = λ honest. log_unchanged site }
 
 pub beside_then : {A B : Type 0} {a : A} {r : Result B Stop} {old mid new : LogStore} {before between now : State} → WorksBeside {T = A} (Ok a) old mid before between → WorksBeside r mid new between now → WorksBeside r old new before now
-beside_then first second = record {
+beside_then {before = before} {between = between} {now = now} first second = record {
   calls = calls_then first.calls second.calls;
   going = λ pages may. second.going pages (first.going pages may);
   log_going = second.log_going;
   kept = second.kept ∙ first.kept;
   geometry = second.geometry ∙ first.geometry;
   reads = λ d. second.reads d ∙ first.reads d;
+  changes = λ honest. changes_in_sequence Log before between now (first.changes honest) (second.changes (stays_honest before between first.calls.goes honest));
 }
 
 pub beside_answered : {A B : Type 0} {a : A} {b : B} {old new : LogStore} {before now : State} → WorksBeside {T = A} (Ok a) old new before now → WorksBeside {T = B} (Ok b) old new before now
-beside_answered first = record { calls = calls_answered first.calls; going = first.going; log_going = first.log_going; kept = first.kept; geometry = first.geometry; reads = first.reads }
+beside_answered first = record { calls = calls_answered first.calls; going = first.going; log_going = first.log_going; kept = first.kept; geometry = first.geometry; reads = first.reads; changes = first.changes }
 
 -- there is no room for it
 pub beside_foreign : {T : Type 0} {log : LogStore} {site : State} → log_held.MayGoOn log site → WorksBeside {T = T} (Err Foreign) log log site site
-beside_foreign {T = T} going = record { calls = calls_refused {A = Unit {0}} {B = T} {a = tt} (λ d same. cc) calls_nothing; going = λ pages may. tt; log_going = going; kept = refl; geometry = refl; reads = λ d. refl }
+beside_foreign {T = T} {site = site} going = record { calls = calls_refused {A = Unit {0}} {B = T} {a = tt} (λ d same. cc) calls_nothing; going = λ pages may. tt; log_going = going; kept = refl; geometry = refl; reads = λ d. refl; changes = λ honest. log_unchanged site }
 
 -- Log and pages, on an honest site.
 

@@ -1,12 +1,12 @@
 -- What work costs the cache: the groups that it appends, and the pages that it reads.
-use Rattle.std.proofs.Common.{◌≡◌, ℕ, zero, suc, ◌+◌, ◌≤◌, Bool, true, false, ◌&&◌, List, [], ◌∷◌, ◌++◌, length, drop, reverse, arith, refl, ap, ◌∙◌, length-append}
+use Rattle.std.proofs.Common.{◌≡◌, ℕ, zero, suc, ◌+◌, ◌≤◌, Bool, true, false, ◌&&◌, List, [], ◌∷◌, ◌++◌, length, drop, reverse, arith, refl, sym, append_assoc, ap, ◌∙◌, length-append}
 use Rattle.std.specs.Prelude.{if◌then◌else◌}
 use Rattle.std.proofs.lemmas.Bool.{leb-true}
 use Rattle.std.proofs.lemmas.List.{length-drop}
 use Rattle.record_model.specs.Touches.{CacheWork, touch, flush}
 use Rattle.second_chance.specs.declared.frame.Frame.{Frame}
 use Rattle.second_chance.specs.Queue.{Queue, pushed, groups_read, with_read}
-use Rattle.second_chance.specs.Machine.{Rules, PoolPage, Cache, holds, is_full, push_evicted, push_changed, must_be_pushed, after_eviction, evict_first, evict_coldest, lacks_room, with_room, in_front, touched, wants_flush, flushed_by, worked, after_works}
+use Rattle.second_chance.specs.Machine.{Rules, PoolPage, Cache, holds, is_full, push_evicted, push_changed, must_be_pushed, after_eviction, evict_first, evict_coldest, lacks_room, with_room, in_front, touched, wants_flush, flushed_by, worked, after_works, Staged, staged_by, staged_by_works}
 use Rattle.page_store.specs.Caching.{first_pushed, is_pushed, pushes}
 use Rattle.redo_undo.specs.Works.{next_group, finds_in, misses_in, WorksAddUp, ReadsAddUp, ReadsForMore, NumbersRise, OverflowsWithMore}
 
@@ -15,6 +15,12 @@ use Rattle.redo_undo.specs.Works.{next_group, finds_in, misses_in, WorksAddUp, R
 pub works_add_up : WorksAddUp
 works_add_up rules [] later cache = refl
 works_add_up rules (work ∷ works) later cache = works_add_up rules works later (worked rules work cache)
+
+pub staged_add_up : (rules : Rules) (first later : List CacheWork) (cache : Cache) → staged_by_works rules (first ++ later) cache ≡ staged_by_works rules first cache ++ staged_by_works rules later (after_works rules first cache)
+staged_add_up rules [] later cache = refl
+staged_add_up rules (work ∷ works) later cache =
+    ap (λ (l : List Staged). staged_by rules work cache ++ l) (staged_add_up rules works later (worked rules work cache))
+    ∙ sym (append_assoc (staged_by rules work cache) (staged_by_works rules works (worked rules work cache)) (staged_by_works rules later (after_works rules works (worked rules work cache))))
 
 finds_add_up : (rules : Rules) (first later : List CacheWork) (cache : Cache) → finds_in rules (first ++ later) cache ≡ finds_in rules first cache + finds_in rules later (after_works rules first cache)
 finds_add_up rules [] later cache = omega arith
@@ -105,7 +111,7 @@ pub numbers_rise : NumbersRise
 numbers_rise rules [] cache some = omega arith
 numbers_rise rules (work ∷ works) cache some = omega (arith, work_next rules work cache some, numbers_rise rules works (worked rules work cache) some)
 
-more_next : (rules : Rules) (first later : List CacheWork) (cache : Cache) → 1 ≤ rules.groups →
+pub more_next : (rules : Rules) (first later : List CacheWork) (cache : Cache) → 1 ≤ rules.groups →
     next_group (after_works rules first cache) ≤ next_group (after_works rules (first ++ later) cache)
 more_next rules first later cache some =
     let all : next_group (after_works rules (first ++ later) cache) ≡ next_group (after_works rules later (after_works rules first cache)) = ap next_group (works_add_up rules first later cache) in

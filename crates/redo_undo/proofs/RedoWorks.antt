@@ -21,20 +21,22 @@ use Rattle.page_store.specs.Laws.{TouchThenChange}
 use Rattle.redo_undo.specs.Laws.{PageLaws}
 use Rattle.redo_undo.specs.RedoLaws.{RedoLaws}
 use Rattle.redo_undo.specs.Redoing.{Opening, opened, touches_of, IsFrom, IsRedoing, asked_of}
-use Rattle.redo_undo.specs.Works.{one_touch, one_change, Asks}
-use Rattle.redo_undo.proofs.Asking.{change_reads, change_overflows, asks_nothing, asks_then, asks_stopped}
+use Rattle.page_store.specs.Staging.{Stages}
+use Rattle.page_store.proofs.StagingLaws.{stages_ok, stages_none, stages_between}
+use Rattle.redo_undo.specs.Works.{next_group, one_touch, one_change, Asks}
+use Rattle.redo_undo.proofs.Asking.{change_reads, change_overflows, change_stages, asks_nothing, asks_then, asks_stopped}
 use Rattle.image_meaning.specs.Meaning.{kept_by}
 use Rattle.redo_undo.proofs.NextRecords.{last_below, page_exists}
 
 -- nothing is asked yet
 pub nothing_asked : (pages : PageStore) (site : State) → Asks {T = ⊤} (Ok tt) [] pages pages site site
-nothing_asked pages site = asks_nothing {T = ⊤} (Ok tt) pages site site (λ dev. refl) (λ is. cc)
+nothing_asked pages site = asks_nothing {T = ⊤} (Ok tt) pages site site (λ dev. refl) (λ is. cc) (stages_none (omega arith) refl)
 
 -- a call that stops before it asks for anything, and not since flash is worn
 pub stops_first : {A : Type 0} (stop : Stop) (works : List CacheWork) (pages : PageStore) (site : State) → 1 ≤ (rules pages).groups → stop ≢ Worn Flash → Asks {T = A} (Err stop) works pages pages site site
 stops_first {A} stop works pages site some never =
     asks_stopped {A = A} {B = A} stop [] works pages pages site site some
-    (asks_nothing {T = A} (Err stop) pages site site (λ dev. refl) (λ is. never (let same : stop ≡ Worn Flash = cc in same)))
+    (asks_nothing {T = A} (Err stop) pages site site (λ dev. refl) (λ is. never (let same : stop ≡ Worn Flash = cc in same)) (stages_none (omega arith) refl))
 
 -- why analysis stops
 pub not_worn : (stop : Stop) → (stop ≡ Memory) ⊎ (stop ≡ Foreign) → stop ≢ Worn Flash
@@ -48,8 +50,8 @@ not_worn_log stop (inr is) = λ same. cc
 
 -- a call that reads the log alone
 pub asks_reading : {A : Type 0} (result : Result A Stop) (pages : PageStore) (old new : State) → ((dev : Dev) → dev ≢ Log → reads_of dev new ≡ reads_of dev old) → (IsErrOf result (Worn Flash) → ⊥) →
-    Asks result [] pages pages old new
-asks_reading result pages old new same never =
+    Stages result [] (next_group (cache_of pages)) pages pages old new → Asks result [] pages pages old new
+asks_reading result pages old new same never still =
     let flash = same Flash (λ is. cc) in
     let disk = same Disk (λ is. cc) in
     let none = nothing_asked pages old in
@@ -58,6 +60,7 @@ asks_reading result pages old new same never =
       worn = λ is. absurd (never is);
       reads = record { flash = omega (arith, none.reads.flash, flash); disk = omega (arith, none.reads.disk, disk) };
       rules_are = refl;
+      stages = still;
     }
   where
     every_ok : {A : Type 0} {P : Type 0} (r : Result A Stop) → P → OnOk r P
@@ -90,7 +93,7 @@ module _ (o : Opening) (entry mid new : PageStore) (old between now : State) (do
       let both = asks_then tt (Ok x) (asked_of o done) (asked_of o more) entry mid new old between now asked asks in
       let split : asked_of o all ≡ asked_of o done ++ asked_of o more = ap (asked_of o) is ∙ asked_append o done more in
       subst (λ (works : List CacheWork). Asks {T = ⊤} (Ok tt) works entry new old now) (sym split)
-      (record { machine = both.machine; worn = λ worn. cc; reads = both.reads; rules_are = both.rules_are })
+      (record { machine = both.machine; worn = λ worn. cc; reads = both.reads; rules_are = both.rules_are; stages = stages_ok both.stages })
 
   pub stops_within : {A B : Type 0} (stop : Stop) (more others all : List Entry) → 1 ≤ (rules entry).groups → all ≡ done ++ (more ++ others) → Asks {T = A} (Err stop) (asked_of o more) mid new between now →
       Asks {T = B} (Err stop) (asked_of o all) entry new old now
@@ -103,23 +106,23 @@ module _ (o : Opening) (entry mid new : PageStore) (old between now : State) (do
       (asks_stopped {A = A} {B = B} stop (asked_of o done ++ asked_of o more) (asked_of o others) entry new old now some both)
 
 -- and with a read of the log behind it
-pub stops_reading : {A : Type 0} (stop : Stop) (pages : PageStore) (old new : State) → ((dev : Dev) → dev ≢ Log → reads_of dev new ≡ reads_of dev old) → stop ≢ Worn Flash → Asks {T = A} (Err stop) [] pages pages old new
-stops_reading {A} stop pages old new same never = asks_reading {A = A} (Err stop) pages old new same (λ is. never (let equal : stop ≡ Worn Flash = cc in equal))
+pub stops_reading : {A : Type 0} (stop : Stop) (pages : PageStore) (old new : State) → ((dev : Dev) → dev ≢ Log → reads_of dev new ≡ reads_of dev old) → stop ≢ Worn Flash → Stages {T = A} (Err stop) [] (next_group (cache_of pages)) pages pages old new → Asks {T = A} (Err stop) [] pages pages old new
+stops_reading {A} stop pages old new same never still = asks_reading {A = A} (Err stop) pages old new same (λ is. never (let equal : stop ≡ Worn Flash = cc in equal)) still
 
 pub asks_with_read : (o : Opening) (entry pages : PageStore) (old mid new : State) (done : List Entry) → Asks {T = ⊤} (Ok tt) (asked_of o done) entry pages old mid → ((dev : Dev) → dev ≢ Log → reads_of dev new ≡ reads_of dev mid) →
-    Asks {T = ⊤} (Ok tt) (asked_of o done) entry pages old new
-asks_with_read o entry pages old mid new done asked same =
-    asks_more o entry pages pages old mid new done asked tt [] done (sym (append-nil done)) (asks_reading {A = ⊤} (Ok tt) pages mid new same (λ is. cc))
+    Stages {T = ⊤} (Ok tt) [] (next_group (cache_of pages)) pages pages mid new → Asks {T = ⊤} (Ok tt) (asked_of o done) entry pages old new
+asks_with_read o entry pages old mid new done asked same still =
+    asks_more o entry pages pages old mid new done asked tt [] done (sym (append-nil done)) (asks_reading {A = ⊤} (Ok tt) pages mid new same (λ is. cc) still)
 
 -- all of some records
 pub asks_all : {A : Type 0} (x : A) (o : Opening) (old new : PageStore) (before now : State) (done all : List Entry) → done ≡ all → Asks {T = ⊤} (Ok tt) (asked_of o done) old new before now → Asks {T = A} (Ok x) (asked_of o all) old new before now
 asks_all {A} x o old new before now done all is asked =
     subst (λ (l : List Entry). Asks {T = A} (Ok x) (asked_of o l) old new before now) is
-    (record { machine = asked.machine; worn = λ worn. cc; reads = asked.reads; rules_are = asked.rules_are })
+    (record { machine = asked.machine; worn = λ worn. cc; reads = asked.reads; rules_are = asked.rules_are; stages = stages_ok asked.stages })
 
 pub asks_early : {A : Type 0} (x : A) (o : Opening) (e : Entry) (pages : PageStore) (site : State) → e.lsn < 512 * (opened o).master.redo → Asks {T = A} (Ok x) (asked_of o (e ∷ [])) pages pages site site
 asks_early {A} x o e pages site early =
-    subst (λ (works : List CacheWork). Asks {T = A} (Ok x) works pages pages site site) (sym (asked_early o e early)) (asks_nothing {T = A} (Ok x) pages site site (λ dev. refl) (λ is. cc))
+    subst (λ (works : List CacheWork). Asks {T = A} (Ok x) works pages pages site site) (sym (asked_early o e early)) (asks_nothing {T = A} (Ok x) pages site site (λ dev. refl) (λ is. cc) (stages_none (omega arith) refl))
 
 pub asks_late : {A : Type 0} (result : Result A Stop) (o : Opening) (e : Entry) (old new : PageStore) (before now : State) → 512 * (opened o).master.redo ≤ e.lsn → Asks result (touches_of o (e ∷ [])) old new before now → Asks result (asked_of o (e ∷ [])) old new before now
 asks_late result o e old new before now late asks = subst (λ (works : List CacheWork). Asks result works old new before now) (sym (asked_late o e late)) asks
@@ -133,16 +136,18 @@ change_stops stop page old new before now some asks = record {
   worn = λ is. change_overflows (rules old) page (cache_of old) some (asks.worn is);
   reads = change_reads (rules old) page (cache_of old) before now some asks.reads;
   rules_are = asks.rules_are;
+  stages = change_stages (Err stop) page old new before now some asks.stages;
 }
 
 -- a touch, and then a change of the page in front
 change_asks : TouchThenChange → {A : Type 0} (x : A) (page : ℕ) (old mid new : PageStore) (before now : State) → 1 ≤ (rules old).groups → Asks {T = A} (Ok x) (one_touch page) old mid before now →
-    cache_of new ≡ with_change (cache_of mid) → rules new ≡ rules mid → Asks {T = A} (Ok x) (one_change page) old new before now
-change_asks law x page old mid new before now some asks changed same = record {
+    cache_of new ≡ with_change (cache_of mid) → rules new ≡ rules mid → new.flash ≡ mid.flash → Asks {T = A} (Ok x) (one_change page) old new before now
+change_asks law x page old mid new before now some asks changed same flash = record {
   machine = changed ∙ ap with_change asks.machine ∙ sym (law (rules old) page (cache_of old));
   worn = λ is. cc;
   reads = change_reads (rules old) page (cache_of old) before now some asks.reads;
   rules_are = same ∙ asks.rules_are;
+  stages = change_stages (Ok x) page old new before now some (stages_between refl flash asks.stages);
 }
 
 -- What the next record asks for.
@@ -159,7 +164,7 @@ touch_of o e page number change own at is =
 
 pub asks_no_page : {A : Type 0} (x : A) (o : Opening) (e : Entry) (pages : PageStore) (site : State) → number_of e.rec ≡ None → Asks {T = A} (Ok x) (touches_of o (e ∷ [])) pages pages site site
 asks_no_page {A} x o e pages site none =
-    subst (λ (works : List CacheWork). Asks {T = A} (Ok x) works pages pages site site) (sym (no_touch o e none)) (asks_nothing {T = A} (Ok x) pages site site (λ dev. refl) (λ is. cc))
+    subst (λ (works : List CacheWork). Asks {T = A} (Ok x) works pages pages site site) (sym (no_touch o e none)) (asks_nothing {T = A} (Ok x) pages site site (λ dev. refl) (λ is. cc) (stages_none (omega arith) refl))
 
 pub stops_in_touch : {A : Type 0} (stop : Stop) (o : Opening) (e : Entry) (page number : ℕ) (old new : PageStore) (before now : State) → number_of e.rec ≡ Some number → number / 32 ≡ page → 1 ≤ (rules old).groups →
     Asks {T = A} (Err stop) (one_touch page) old new before now → Asks {T = A} (Err stop) (touches_of o (e ∷ [])) old new before now
@@ -186,10 +191,10 @@ module _ (laws : PageLaws) (redo : RedoLaws) (o : Opening) (log : LogStore) (mid
       let known = older_version o front page (lsn_of (current mid between.image page)) e.lsn below (h.from page exists) least in
       subst (λ (works : List CacheWork). Asks {T = A} (Ok x) works old mid before between) (sym (touch_of o e page number false own at (le-ltb (version_at (opened o).pages page).lsn e.lsn known))) asks
 
-  pub asks_redone : lsn_of (current mid between.image page) < e.lsn → (new : PageStore) → 1 ≤ (rules old).groups → cache_of new ≡ with_change (cache_of mid) → rules new ≡ rules mid →
+  pub asks_redone : lsn_of (current mid between.image page) < e.lsn → (new : PageStore) → 1 ≤ (rules old).groups → cache_of new ≡ with_change (cache_of mid) → rules new ≡ rules mid → new.flash ≡ mid.flash →
       Asks {T = A} (Ok x) (touches_of o (e ∷ [])) old new before between
-  asks_redone less new some changed same =
+  asks_redone less new some changed same flash =
       let later = (h.redone page exists).later in
       let older : (version_at (opened o).pages page).lsn < e.lsn = omega (arith, later, less) in
       subst (λ (works : List CacheWork). Asks {T = A} (Ok x) works old new before between) (sym (touch_of o e page number true own at (lt-ltb (version_at (opened o).pages page).lsn e.lsn older)))
-      (change_asks redo.change x page old mid new before between some asks changed same)
+      (change_asks redo.change x page old mid new before between some asks changed same flash)

@@ -20,6 +20,7 @@ use Rattle.redo_undo.specs.Laws.{PageLaws, UndoLaws}
 use Rattle.redo_undo.specs.Works.{Asks}
 use Rattle.redo_undo.specs.UndoWorks.{works_of}
 use Rattle.redo_undo.proofs.Rollbacks.{starts, goes_on}
+use Rattle.page_store.proofs.StagingLaws.{stages_none}
 use Rattle.redo_undo.proofs.Asking.{asks_nothing}
 use Rattle.redo_undo.proofs.AskingUndo.{one_more_work}
 use Rattle.redo_undo.proofs.LeftUpdates.{AsksSoFar, left_after_clr}
@@ -29,7 +30,7 @@ pub asks_none : (records : List Entry) (txn : ℕ) (pages : PageStore) (site : S
 asks_none records txn pages site = record {
   done = [];
   are = sym (ap (λ (l : List Entry). left_open l txn) (append-nil records));
-  asks = asks_nothing {T = ⊤} (Ok tt) pages site site (λ d. refl) (λ (is : IsErrOf {T = ⊤} (Ok tt) (Worn Flash)). cc);
+  asks = asks_nothing {T = ⊤} (Ok tt) pages site site (λ d. refl) (λ (is : IsErrOf {T = ⊤} (Ok tt) (Worn Flash)). cc) (stages_none (omega arith) refl);
 }
 
 -- one CLR more

@@ -9,7 +9,7 @@ use Rattle.site.specs.State.{State, Snapshot, IsQuiet, reads_of}
 use Rattle.site.specs.Calls.{Goes, IsUnchanged, SameReads, FaultRose}
 use Rattle.site.specs.Faults.{WorkFaults}
 use Rattle.site.specs.Work.{Calls}
-use Rattle.site.specs.Moments.{LeavesOnly}
+use Rattle.site.specs.Moments.{LeavesOnly, ChangesOnly}
 use Rattle.image_changes.specs.Rings.{KeepsUnits, master_shape}
 use Rattle.flash_cache.specs.Held.{IsWorn}
 use Rattle.log_store.specs.declared.store.LogStore.{LogStore}
@@ -38,7 +38,7 @@ pub record LogsNothing {T : Type 0} (result : Result T Stop) (old new : LogStore
   pub hi : OnOk result (old.ring.hi ≤ new.ring.hi)
   pub log_reads : now.log_reads ≡ before.log_reads
 
--- A call of the log alone, on every site: nothing is read, and any pages that might go on beside it still may.
+-- A call of the log alone, on every site: nothing is read, no other device is written, and any pages that might go on beside it still may.
 pub record WorksBeside {T : Type 0} (result : Result T Stop) (old new : LogStore) (before now : State) : Type 0 where
   pub calls : Calls result before now
   pub going : (pages : PageStore) → MayGoOn old pages before → OnOk result (MayGoOn new pages now)
@@ -46,6 +46,7 @@ pub record WorksBeside {T : Type 0} (result : Result T Stop) (old new : LogStore
   pub kept : new.kept ≡ old.kept
   pub geometry : new.geometry ≡ old.geometry
   pub reads : SameReads before now
+  pub changes : IsTrue before.honest → ChangesOnly Log before now
 
 -- A call that reads one record of the log: nothing else is read, and an honest site stays as it is.
 pub record ReadsOne {T : Type 0} (result : Result T Stop) (before now : State) : Type 0 where

@@ -16,7 +16,8 @@ use Rattle.image_meaning.specs.Meaning.{master_of}
 use Rattle.page_store.specs.declared.store.PageStore.{PageStore}
 use Rattle.page_store.specs.Caching.{cache_of, rules}
 pub use Rattle.page_store.specs.Caching.{next_group}
-use Rattle.second_chance.specs.Machine.{Rules, Cache, worked, after_works, finds, misses}
+use Rattle.page_store.specs.Staging.{Stages}
+use Rattle.second_chance.specs.Machine.{Rules, Cache, worked, after_works, finds, misses, staged_by_works}
 
 -- Work.
 
@@ -75,13 +76,20 @@ pub record ReadsFor (rules : Rules) (works : List CacheWork) (cache : Cache) (ol
   pub flash : new.flash_reads + 12 * next_group cache ≤ old.flash_reads + 12 * next_group (after_works rules works cache) + finds_in rules works cache
   pub disk : new.disk_reads ≤ old.disk_reads + misses_in rules works cache
 
+-- Of an honest site on which the queue in memory is the one on flash: a crash meanwhile leaves no more groups than the work appends, and
+-- each disk page that it doesn't stage as it was.
+abbrev pub StagesFor : {T : Type 0} → Result T Stop → List CacheWork → PageStore → PageStore → State → State → Type 0
+StagesFor result works old new before now =
+    Stages result (staged_by_works (rules old) works (cache_of old)) (next_group (after_works (rules old) works (cache_of old))) old new before now
+
 -- A call asks for this work, and answers. At Ok the machine has done it. The call answers that flash is worn only where the work overflows.
--- It reads no more than the work needs, however it ends.
+-- It reads and writes no more than the work needs, however it ends.
 pub record Asks {T : Type 0} (result : Result T Stop) (works : List CacheWork) (old new : PageStore) (before now : State) : Type 0 where
   pub machine : OnOk result (cache_of new ≡ after_works (rules old) works (cache_of old))
   pub worn : IsErrOf result (Worn Flash) → Overflows (rules old) works (cache_of old)
   pub reads : ReadsFor (rules old) works (cache_of old) before now
   pub rules_are : rules new ≡ rules old
+  pub stages : StagesFor result works old new before now
 
 -- Laws. A queue on flash has room for a group.
 

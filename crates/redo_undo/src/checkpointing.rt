@@ -24,6 +24,8 @@ ghost use Rattle.redo_undo.specs.StoreCalls as stores;
 ghost use Rattle.redo_undo.specs.Works.{Asks, checkpoint_works};
 ghost use Rattle.redo_undo.specs.Calls.{Works, Keeps};
 ghost use Rattle.site.specs.Work.{Calls};
+ghost use Rattle.std.specs.Prelude.{IsTrue};
+ghost use Rattle.site.specs.Moments.{ChangesOnly};
 
 use crate::forcing::force;
 use crate::laws::{beside_laws, log_laws, page_laws};
@@ -149,6 +151,7 @@ fn save_master<S: Site>(
     ensures usable { IsUsable masters.new (S.state site.new) }
     ensures calls { Calls result (S.state site.old) (S.state site.new) }
     ensures reads { SameReads (S.state site.old) (S.state site.new) }
+    ensures changes { IsTrue (S.state site.old).honest → ChangesOnly Dev.Log (S.state site.old) (S.state site.new) }
     ensures stops { IfErr result (λ stop. (stop ≡ Stop.Device Dev.Log) ⊎ (stop ≡ Stop.Worn Dev.Log)) }
 {
     save_laws();

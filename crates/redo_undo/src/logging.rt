@@ -22,6 +22,8 @@ ghost use Rattle.redo_undo.specs.Committing.{EndsWith};
 ghost use Rattle.redo_undo.specs.Works.{Asks, one_touch};
 ghost use Rattle.redo_undo.specs.Redoing.{Opening, IsRedoing, LeavesOpened};
 ghost use Rattle.redo_undo.specs.Calls.{Works, LogsNothing, WorksBeside, Keeps, KeepsBeside};
+ghost use Rattle.page_store.specs.Caching.{next_group};
+ghost use Rattle.page_store.specs.Staging.{Stages};
 
 use crate::changing::change_front;
 use crate::laws::{beside_laws, log_laws, page_laws};
@@ -170,6 +172,7 @@ pub(crate) fn log_change<S: Site>(
     ensures works { Works result log.old log.new pages.old pages.new (S.state site.old) (S.state site.new) }
     ensures blocks { OnOk result (blocks_to log.new ≤ blocks_to log.old + 1) }
     ensures reads { SameReads (S.state site.old) (S.state site.new) }
+    ensures stages { Stages result [] (next_group (cache_of pages.old)) pages.old pages.new (S.state site.old) (S.state site.new) }
 
     // When each answer comes.
     ensures stops { IfErr result (λ stop. (stop ≡ Stop.Device Dev.Log)

@@ -23,6 +23,8 @@ ghost use Rattle.record_model.specs.Touches.{write_touch};
 ghost use Rattle.redo_undo.specs.Works.{Asks, one_touch};
 ghost use Rattle.page_store.specs.Caching.{cache_of, rules, with_change};
 ghost use Rattle.site.specs.Calls.{SameReads};
+ghost use Rattle.page_store.specs.Caching.{next_group};
+ghost use Rattle.page_store.specs.Staging.{Stages};
 
 use crate::laws::hold_together;
 use crate::logging::{log_change, log_record, touch};
@@ -187,6 +189,8 @@ impl Store {
         ensures machine { OnOk result (cache_of self.new.pages ≡ with_change (cache_of self.old.pages)) }
         ensures rules_stay { rules self.new.pages ≡ rules self.old.pages }
         ensures reads { SameReads (S.state site.old) (S.state site.new) }
+        ensures stages { Stages result [] (next_group (cache_of self.old.pages)) self.old.pages self.new.pages
+            (S.state site.old) (S.state site.new) }
         ensures stops { IfErr result (λ stop. (stop ≡ Stop.Device Dev.Log) ⊎ ((stop ≡ Stop.Worn Dev.Log) ⊎ (stop ≡ Stop.Foreign))) }
     {
         let update = LogRecord::Update {

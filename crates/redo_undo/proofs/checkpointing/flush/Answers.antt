@@ -1,5 +1,8 @@
-use Rattle.std.proofs.Common.{Bool, sym, subst, ◌∙◌, arith, inl}
-use Rattle.second_chance.specs.Machine.{rules_of}
+use Rattle.std.proofs.Common.{append-nil, Bool, sym, subst, ◌∙◌, arith, inl, refl, ◌≢◌}
+use Rattle.record_model.specs.Touches.{flush}
+use Rattle.page_store.specs.Caching.{cache_of, rules}
+use Rattle.page_store.proofs.StagingLaws.{stages_as}
+use Rattle.second_chance.specs.Machine.{rules_of, staged_by}
 use Rattle.site.specs.declared.outside.Dev.TheVariants.{Disk}
 use Rattle.site.specs.declared.geometry.Geometry.{Geometry}
 use Rattle.image_changes.specs.Rings.{KeepsUnits, master_shape}
@@ -37,6 +40,7 @@ returns-clause-asks g c =
       machine = c.flush_all.ensures.flushes.machine;
       worn = c.flush_all.ensures.flushes.overflows;
       reads = record { flash = omega (arith, asked); disk = omega (arith, other) };
+      stages = stages_as (sym (append-nil (staged_by (rules c.args.pages.now) flush (cache_of c.args.pages.now)))) refl c.flush_all.ensures.stages;
       rules_are = (λ i. rules_of (c.flush_all.ensures.works.size i) (c.flush_all.ensures.works.geometry i).groups);
     }
 

@@ -1,10 +1,12 @@
-use Rattle.std.proofs.Common.{◌≡◌, ◌∷◌, [], ◌++◌, sym, ap, subst, arith}
+use Rattle.std.proofs.Common.{refl, ◌≡◌, ◌∷◌, [], ◌++◌, sym, ap, subst, arith}
 use Rattle.slotted_page.specs.Layout.{lsn_of}
 use Rattle.site.specs.declared.geometry.Geometry.{Geometry}
 use Rattle.page_store.specs.Held.{current}
 use Rattle.flash_cache.specs.declared.cache.FlashCache.{FlashCache}
 use Rattle.redo_undo.specs.Holding.{HoldsIn}
 use Rattle.redo_undo.proofs.Changed.{holds_on, other_pages, front_exists, front_is_current}
+use Rattle.page_store.proofs.StagingLaws.{stages_between, stages_ok, stages_err}
+use Rattle.redo_undo.proofs.Asking.{stages_log}
 use Rattle.redo_undo.proofs.logging.log_change.Goals as goal
 use Rattle.buffer_pool.specs.Frames.{front_of}
 use Rattle.redo_undo.proofs.Calling.{keeps_appended}
@@ -46,3 +48,12 @@ returns-then-front_lsn-lsn-clause-keeps g c newest records table commits h =
 
 pub returns-clause-keeps : goal.returns-clause-keeps
 returns-clause-keeps g c newest records table commits h = keeps_appended c.requires.going tt (c.in-Ok.ensures.keeps c.args.pages.now newest records table commits h)
+
+pub returns-in-Err-clause-stages : goal.returns-in-Err-clause-stages
+returns-in-Err-clause-stages g c = stages_log c.in-Err.ensures.works
+
+pub returns-then-front_lsn-lsn-clause-stages : goal.returns-then-front_lsn-lsn-clause-stages
+returns-then-front_lsn-lsn-clause-stages g c = stages_err (stages_log c.in-Ok.ensures.works)
+
+pub returns-clause-stages : goal.returns-clause-stages
+returns-clause-stages g c = stages_between {mid = c.args.pages.now} {new = c.args.pages.now} refl c.change_front.ensures.flash (stages_ok (stages_log c.in-Ok.ensures.works))

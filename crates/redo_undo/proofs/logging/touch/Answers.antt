@@ -4,14 +4,17 @@ use Rattle.page_store.specs.Ahead.{forces, pushed_by_touch}
 use Rattle.log_store.specs.LogList.{LogList}
 use Rattle.redo_undo.specs.Redoing.{IsRedoing}
 use Rattle.redo_undo.proofs.Redoings.{never_forced, rings_given, rings_of, touch_leaves, touched}
-use Rattle.second_chance.specs.Machine.{rules_of}
+use Rattle.record_model.specs.Touches.{touch}
+use Rattle.page_store.proofs.StagingLaws.{stages_as}
+use Rattle.redo_undo.proofs.Costs.{touched_next}
+use Rattle.second_chance.specs.Machine.{rules_of, staged_by}
 use Rattle.page_store.specs.Caching.{cache_of, rules}
 use Rattle.redo_undo.proofs.Asking.{touch_overflows, touch_reads}
 use Rattle.image_meaning.specs.Meaning.{kept_by}
 use Rattle.redo_undo.proofs.UndoneNumbers.{skips_touch}
 use Rattle.image_changes.specs.Rings.{KeepsUnits, master_shape}
 use Rattle.site.proofs.Working.{ok_as}
-use Rattle.std.proofs.Common.{sym, subst}
+use Rattle.std.proofs.Common.{sym, subst, append-nil}
 use Rattle.site.specs.declared.geometry.Geometry.{Geometry}
 use Rattle.redo_undo.specs.Holding.{HoldsIn, Holds}
 use Rattle.redo_undo.proofs.Touched.{forced_tail, leaves_table, touched_holds, ok_both}
@@ -44,6 +47,7 @@ returns-clause-asks g c =
       machine = c.touch.ensures.machine;
       worn = λ is. (let full = c.touch.ensures.worn.worn_flash is in touch_overflows (rules pages) c.args.page (cache_of pages) some full.0 (c.requires.going.pages_going.flash.next ∙ full.1));
       reads = touch_reads (rules pages) c.args.page (cache_of pages) (g.S.Site.state c.args.site.now) (g.S.Site.state c.touch.new.site) some c.touch.ensures.flash_reads c.touch.ensures.disk_reads;
+      stages = stages_as (sym (append-nil (staged_by (rules pages) (touch c.args.page false) (cache_of pages)))) (sym (touched_next (rules pages) c.args.page false (cache_of pages) some)) c.touch.ensures.stages;
       rules_are = (λ i. rules_of (c.touch.ensures.works.size i) (c.touch.ensures.works.geometry i).groups);
     }
 

@@ -13,6 +13,7 @@ use Rattle.redo_undo.proofs.Redoings.{begins, holds_all}
 use Rattle.redo_undo.proofs.TakenRecords.{asks_first, up_to_none, opened_count, finds, next_block, one_more_block, all_blocks, same_stop, unfinished_by}
 use Rattle.site.specs.declared.outside.Stop.TheVariants.{Worn, Device, Foreign}
 use Rattle.site.specs.declared.outside.Dev.TheVariants.{Log}
+use Rattle.redo_undo.proofs.Asking.{stages_read}
 use Rattle.redo_undo.proofs.RedoWorks.{stops_first, not_worn_log, stops_reading, asks_with_read, asks_more, asks_all, stops_within}
 use Rattle.redo_undo.specs.Calls.{ReadsOne}
 use Rattle.redo_undo.proofs.Calling.{calls_read, keeps_answered, keeps_failed, keeps_opened, keeps_redoing, keeps_refused_by, keeps_then, logs_refused_by, works_answered, works_nothing, works_read, works_stopped, works_then, reads_worn}
@@ -114,7 +115,7 @@ loop-block-preserved g c =
           up.taken.pages_are.ready.records (let from = up.from in omega (arith, from))) in
           let front = log_from (kept_by newest) (take (c.loop-block.block - kept_by newest) blocks) in
           asks_more o c.args.pages.now c.loop-block.pages c.take_block.new.pages old read new front
-          (asks_with_read o c.args.pages.now c.loop-block.pages old mid read front (i.asked newest blocks table commits own h) c.read_block.ensures.reads.others) _ _ _ (sym (one_more_block o c.loop-block.block up.from inside))
+          (asks_with_read o c.args.pages.now c.loop-block.pages old mid read front (i.asked newest blocks table commits own h) c.read_block.ensures.reads.others (stages_read c.read_block.ensures.same c.read_block.ensures.goes)) _ _ _ (sym (one_more_block o c.loop-block.block up.from inside))
           (t.takes o front (log_from (c.loop-block.block + 1) (drop (suc (c.loop-block.block - kept_by newest)) blocks)) (block_of blocks (c.loop-block.block - kept_by newest)) own next.taken next.content_is next.used_is next.split).asks;
       keeps = λ newest blocks table commits own h.
           let o : Opening = record { sizes = c.args.pages.now.flash.geometry; image = old.image; newest = newest; blocks = blocks; table = table; commits = commits } in
@@ -188,7 +189,7 @@ returns-in-Err-read_block-clause-asks g c newest blocks table commits own h =
     let inside : c.loop-block.block - kept_by newest < length blocks = omega (arith, count, c.sealed_end-block-end.ensures, c.loop-block-test.true, from, c.kept-block.ensures, own_kept) in
     (stops_within o c.args.pages.now pages pages old mid read (log_from (kept_by newest) (take (c.loop-block.block - kept_by newest) blocks)) (c.loop-block.invariant.asked newest blocks table commits own h)
     {A = ⊤} c.in-Err-read_block.stop [] _ (log_from (kept_by newest) blocks) some (log_split (kept_by newest) (c.loop-block.block - kept_by newest) c.loop-block.block blocks (omega (arith, from, c.kept-block.ensures, own_kept)) inside)
-    (stops_reading c.in-Err-read_block.stop pages mid read c.read_block.ensures.reads.others (not_worn_log c.in-Err-read_block.stop c.in-Err-read_block.ensures.stops)))
+    (stops_reading c.in-Err-read_block.stop pages mid read c.read_block.ensures.reads.others (not_worn_log c.in-Err-read_block.stop c.in-Err-read_block.ensures.stops) (stages_read c.read_block.ensures.same c.read_block.ensures.goes)))
 
 pub returns-in-Err-take_block-clause-asks : goal.returns-in-Err-take_block-clause-asks
 returns-in-Err-take_block-clause-asks g c newest blocks table commits own h =
@@ -209,7 +210,7 @@ returns-in-Err-take_block-clause-asks g c newest blocks table commits own h =
     let front = log_from (kept_by newest) (take (c.loop-block.block - kept_by newest) blocks) in
     let behind = log_from (c.loop-block.block + 1) (drop (suc (c.loop-block.block - kept_by newest)) blocks) in
     (stops_within o c.args.pages.now c.loop-block.pages c.take_block.new.pages old read (g.S.Site.state c.take_block.new.site) front
-    (asks_with_read o c.args.pages.now c.loop-block.pages old mid read front (c.loop-block.invariant.asked newest blocks table commits own h) c.read_block.ensures.reads.others)
+    (asks_with_read o c.args.pages.now c.loop-block.pages old mid read front (c.loop-block.invariant.asked newest blocks table commits own h) c.read_block.ensures.reads.others (stages_read c.read_block.ensures.same c.read_block.ensures.goes))
     c.in-Err-take_block.stop _ behind (log_from (kept_by newest) blocks) some next.split
     (c.in-Err-take_block.ensures.takes o front behind (block_of blocks (c.loop-block.block - kept_by newest)) own next.taken next.content_is next.used_is next.split).asks)
 

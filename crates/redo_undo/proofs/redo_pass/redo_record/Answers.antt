@@ -82,7 +82,7 @@ returns-clause-asks g c o front rest h is =
     asks_redone c.page_laws.ensures c.redo_laws.ensures o c.touch.new.log pages site front (c.in-Ok.ensures.redoing o front h) (record { lsn = c.args.lsn; rec = c.args.rec.now }) rest is
     c.in-Some.page on.0 on.1 on.2 c.args.pages.now (g.S.Site.state c.args.site.now) _ c.in-Ok.ensures.asks
     (omega (arith, content, c.front_lsn.ensures, c.if-front_lsn-lsn.false)) c.change_front.new.pages some c.change_front.ensures.machine
-    (λ i. rules_of (c.change_front.ensures.size i) (c.change_front.ensures.flash i).geometry.groups)
+    (λ i. rules_of (c.change_front.ensures.size i) (c.change_front.ensures.flash i).geometry.groups) c.change_front.ensures.flash
 
 pub returns-in_default-clause-keeps : goal.returns-in_default-clause-keeps
 returns-in_default-clause-keeps g c o front rest h is = keeps_redoing c.page_laws.ensures c.redo_laws.ensures c.requires.going.sizes h

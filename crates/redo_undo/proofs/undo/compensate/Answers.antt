@@ -42,7 +42,7 @@ returns-in-Ok-clause-asks g c =
     let some : 1 ≤ (rules pages).groups = omega (arith, c.requires.going.pages_going.flash.limits.groups) in
     change_made tt c.log_change.result c.args.wanted.page pages mid new (g.S.Site.state c.args.site.now) (g.S.Site.state c.touch.new.site) (g.S.Site.state c.log_change.new.site) some c.touch_then_change.ensures
     c.in-Ok.ensures.asks c.log_change.ensures.machine (λ i. rules_of (c.log_change.ensures.works.size i) (c.log_change.ensures.works.geometry i).groups) c.log_change.ensures.reads
-    (never_worn c.log_change.result c.log_change.ensures.stops)
+    (never_worn c.log_change.result c.log_change.ensures.stops) c.log_change.ensures.stages
 
 pub returns-in-Err-clause-asks : goal.returns-in-Err-clause-asks
 returns-in-Err-clause-asks g c =

@@ -14,7 +14,8 @@ use Rattle.redo_undo.specs.Works.{Asks, undo_one_works}
 use Rattle.redo_undo.proofs.AskingUndo.{log_alone, none_read, not_worn, not_worn_flash, asks_refused, asks_later, asks_before}
 use Rattle.redo_undo.proofs.Calling.{calls_read, held_read, keeps_answered, keeps_appended, keeps_failed, keeps_few, keeps_read, keeps_then, works_answered, works_appended, works_failed, works_foreign, works_read, works_stopped, works_then}
 use Rattle.site.proofs.Working.{calls_then}
-use Rattle.redo_undo.proofs.Asking.{stop_is, asks_err}
+use Rattle.page_store.proofs.StagingLaws.{stages_ok, stages_err, stages_none}
+use Rattle.redo_undo.proofs.Asking.{stop_is, asks_err, stages_read, stages_log}
 use Rattle.redo_undo.proofs.undo.undo_one.Goals as goal
 
 pub undo_updates-requires-clause-going : goal.undo_updates-requires-clause-going
@@ -103,7 +104,7 @@ returns-in-Err-clause-asks g c newest records table commits x h unfinished own l
     let mid = g.S.Site.state c.read_last.new.site in
     let some : 1 ≤ (rules pages).groups = omega (arith, c.requires.going.pages_going.flash.limits.groups) in
     let alone = log_alone old mid c.read_last.ensures.reads.others in
-    asks_refused c.in-Err.stop (undo_one_works records c.args.txn) pages old mid some (not_worn c.in-Err.stop c.in-Err.ensures.reads.stops) alone
+    asks_refused c.in-Err.stop (undo_one_works records c.args.txn) pages old mid some (not_worn c.in-Err.stop c.in-Err.ensures.reads.stops) alone (stages_read c.in-Err.ensures.reads.same c.in-Err.ensures.reads.goes)
 
 pub returns-in-Err-undo_updates-clause-asks : goal.returns-in-Err-undo_updates-clause-asks
 returns-in-Err-undo_updates-clause-asks g c newest records table commits x h unfinished own last =
@@ -119,7 +120,7 @@ returns-in-Err-undo_updates-clause-asks g c newest records table commits x h unf
     let stop = c.in-Err-undo_updates.stop in
     subst (λ (t : ℕ). Asks {T = ⊤} (Err stop) (undo_one_works records t) pages new old now) own
     (asks_err stop (undo_one_works records x.txn) pages new old now
-    (asks_later (Err stop) (undo_one_works records x.txn) pages new old mid now alone (c.in-Err-undo_updates.ensures.asks newest records table commits x still unfinished at)))
+    (asks_later (Err stop) (undo_one_works records x.txn) pages new old mid now alone (stages_read c.read_last.ensures.reads.same c.read_last.ensures.reads.goes) (c.in-Err-undo_updates.ensures.asks newest records table commits x still unfinished at)))
 
 pub returns-then-not-has_room-clause-asks : goal.returns-then-not-has_room-clause-asks
 returns-then-not-has_room-clause-asks g c newest records table commits x h unfinished own last =
@@ -134,8 +135,8 @@ returns-then-not-has_room-clause-asks g c newest records table commits x h unfin
     let new = c.undo_updates.new.pages in
     let asks = c.in-Ok-undo_updates.ensures.asks newest records table commits x still unfinished at in
     subst (λ (t : ℕ). Asks {T = ⊤} (Err Foreign) (undo_one_works records t) pages new old now) own
-    (asks_before c.in-Ok-undo_updates.at (Err Foreign) (undo_one_works records x.txn) pages new old now now some (record { flash = refl; disk = refl }) (λ is. not_worn Foreign (inr refl) (stop_is Foreign (Worn Flash) is))
-    (asks_later (Ok c.in-Ok-undo_updates.at) (undo_one_works records x.txn) pages new old mid now alone asks))
+    (asks_before c.in-Ok-undo_updates.at (Err Foreign) (undo_one_works records x.txn) pages new old now now some (record { flash = refl; disk = refl }) (λ is. not_worn Foreign (inr refl) (stop_is Foreign (Worn Flash) is)) (stages_none (omega arith) refl)
+    (asks_later (Ok c.in-Ok-undo_updates.at) (undo_one_works records x.txn) pages new old mid now alone (stages_read c.read_last.ensures.reads.same c.read_last.ensures.reads.goes) asks))
 
 pub returns-in-Ok-log_record-clause-asks : goal.returns-in-Ok-log_record-clause-asks
 returns-in-Ok-log_record-clause-asks g c newest records table commits x h unfinished own last =
@@ -150,8 +151,8 @@ returns-in-Ok-log_record-clause-asks g c newest records table commits x h unfini
     let new = c.undo_updates.new.pages in
     let asks = c.in-Ok-undo_updates.ensures.asks newest records table commits x still unfinished at in
     subst (λ (t : ℕ). Asks {T = ⊤} (Ok tt) (undo_one_works records t) pages new old (g.S.Site.state c.log_record.new.site)) own
-    (asks_before c.in-Ok-undo_updates.at (Ok tt) (undo_one_works records x.txn) pages new old now (g.S.Site.state c.log_record.new.site) some (none_read now (g.S.Site.state c.log_record.new.site) c.log_record.ensures.works.reads) (λ (is : IsErrOf {T = ⊤} (Ok tt) (Worn Flash)). cc)
-    (asks_later (Ok c.in-Ok-undo_updates.at) (undo_one_works records x.txn) pages new old mid now alone asks))
+    (asks_before c.in-Ok-undo_updates.at (Ok tt) (undo_one_works records x.txn) pages new old now (g.S.Site.state c.log_record.new.site) some (none_read now (g.S.Site.state c.log_record.new.site) c.log_record.ensures.works.reads) (λ (is : IsErrOf {T = ⊤} (Ok tt) (Worn Flash)). cc) (stages_ok (stages_log c.in-Ok-log_record.ensures.works))
+    (asks_later (Ok c.in-Ok-undo_updates.at) (undo_one_works records x.txn) pages new old mid now alone (stages_read c.read_last.ensures.reads.same c.read_last.ensures.reads.goes) asks))
 
 pub returns-in-Err-log_record-clause-asks : goal.returns-in-Err-log_record-clause-asks
 returns-in-Err-log_record-clause-asks g c newest records table commits x h unfinished own last =
@@ -166,8 +167,8 @@ returns-in-Err-log_record-clause-asks g c newest records table commits x h unfin
     let new = c.undo_updates.new.pages in
     let asks = c.in-Ok-undo_updates.ensures.asks newest records table commits x still unfinished at in
     subst (λ (t : ℕ). Asks {T = ⊤} (Err c.in-Err-log_record.stop) (undo_one_works records t) pages new old (g.S.Site.state c.log_record.new.site)) own
-    (asks_before c.in-Ok-undo_updates.at (Err c.in-Err-log_record.stop) (undo_one_works records x.txn) pages new old now (g.S.Site.state c.log_record.new.site) some (none_read now (g.S.Site.state c.log_record.new.site) c.log_record.ensures.works.reads) (λ is. not_worn_flash c.in-Err-log_record.stop c.in-Err-log_record.ensures.stops (stop_is c.in-Err-log_record.stop (Worn Flash) is))
-    (asks_later (Ok c.in-Ok-undo_updates.at) (undo_one_works records x.txn) pages new old mid now alone asks))
+    (asks_before c.in-Ok-undo_updates.at (Err c.in-Err-log_record.stop) (undo_one_works records x.txn) pages new old now (g.S.Site.state c.log_record.new.site) some (none_read now (g.S.Site.state c.log_record.new.site) c.log_record.ensures.works.reads) (λ is. not_worn_flash c.in-Err-log_record.stop c.in-Err-log_record.ensures.stops (stop_is c.in-Err-log_record.stop (Worn Flash) is)) (stages_err (stages_log c.in-Err-log_record.ensures.works))
+    (asks_later (Ok c.in-Ok-undo_updates.at) (undo_one_works records x.txn) pages new old mid now alone (stages_read c.read_last.ensures.reads.same c.read_last.ensures.reads.goes) asks))
 
 pub returns-then-not-has_room-clause-keeps : goal.returns-then-not-has_room-clause-keeps
 returns-then-not-has_room-clause-keeps g c newest records table commits x h unfinished own last =

@@ -10,7 +10,7 @@ use Rattle.page_store.specs.Caching.{rules}
 use Rattle.redo_undo.specs.UndoWorks.{works_of}
 use Rattle.redo_undo.proofs.AskingUndo.{log_alone, not_worn, asks_refused, asks_of_update}
 use Rattle.redo_undo.proofs.Calling.{calls_read, held_read, keeps_answered, keeps_failed, keeps_few, keeps_read, keeps_then, works_answered, works_failed, works_foreign, works_read, works_stopped, works_then}
-use Rattle.redo_undo.proofs.Asking.{asks_err, asks_ok}
+use Rattle.redo_undo.proofs.Asking.{asks_err, asks_ok, stages_read}
 use Rattle.redo_undo.proofs.undo.undo_update.Goals as goal
 
 pub compensate-requires-clause-going : goal.compensate-requires-clause-going
@@ -38,14 +38,14 @@ returns-in-Err-clause-asks g c newest records table commits x u rest h unfinishe
     let pages = c.args.pages.now in
     let some : 1 ≤ (rules pages).groups = omega (arith, c.requires.going.pages_going.flash.limits.groups) in
     asks_refused c.in-Err.stop (works_of (u ∷ [])) pages (g.S.Site.state c.args.site.now) (g.S.Site.state c.read_update.new.site) some (not_worn c.in-Err.stop c.in-Err.ensures.reads.stops)
-    (log_alone (g.S.Site.state c.args.site.now) (g.S.Site.state c.read_update.new.site) c.read_update.ensures.reads.others)
+    (log_alone (g.S.Site.state c.args.site.now) (g.S.Site.state c.read_update.new.site) c.read_update.ensures.reads.others) (stages_read c.read_update.ensures.reads.same c.read_update.ensures.reads.goes)
 
 pub returns-then-not-has_room-clause-asks : goal.returns-then-not-has_room-clause-asks
 returns-then-not-has_room-clause-asks g c newest records table commits x u rest h unfinished at left =
     let pages = c.args.pages.now in
     let some : 1 ≤ (rules pages).groups = omega (arith, c.requires.going.pages_going.flash.limits.groups) in
     asks_refused Foreign (works_of (u ∷ [])) pages (g.S.Site.state c.args.site.now) (g.S.Site.state c.read_update.new.site) some (not_worn Foreign (inr refl))
-    (log_alone (g.S.Site.state c.args.site.now) (g.S.Site.state c.read_update.new.site) c.read_update.ensures.reads.others)
+    (log_alone (g.S.Site.state c.args.site.now) (g.S.Site.state c.read_update.new.site) c.read_update.ensures.reads.others) (stages_read c.read_update.ensures.reads.same c.read_update.ensures.reads.goes)
 
 pub returns-in-Err-compensate-clause-asks : goal.returns-in-Err-compensate-clause-asks
 returns-in-Err-compensate-clause-asks g c newest records table commits x u rest h unfinished at left =
@@ -57,7 +57,7 @@ returns-in-Err-compensate-clause-asks g c newest records table commits x u rest 
     let w = c.in-Ok.wanted in
     asks_err c.in-Err-compensate.stop (works_of (u ∷ [])) pages new old now
     (asks_of_update (Err c.in-Err-compensate.stop) u w.page w.slot pages new old mid now c.in-Ok.ensures.form.0
-    (c.in-Ok.ensures.last_left pages newest records table commits x u rest c.requires.going.sizes h unfinished at left) (log_alone old mid c.read_update.ensures.reads.others) c.in-Err-compensate.ensures.asks)
+    (c.in-Ok.ensures.last_left pages newest records table commits x u rest c.requires.going.sizes h unfinished at left) (log_alone old mid c.read_update.ensures.reads.others) (stages_read c.read_update.ensures.reads.same c.read_update.ensures.reads.goes) c.in-Err-compensate.ensures.asks)
 
 pub returns-clause-asks : goal.returns-clause-asks
 returns-clause-asks g c newest records table commits x u rest h unfinished at left =
@@ -69,7 +69,7 @@ returns-clause-asks g c newest records table commits x u rest h unfinished at le
     let w = c.in-Ok.wanted in
     asks_ok c.in-Ok-compensate.last _ (works_of (u ∷ [])) pages new old now
     (asks_of_update (Ok c.in-Ok-compensate.last) u w.page w.slot pages new old mid now c.in-Ok.ensures.form.0
-    (c.in-Ok.ensures.last_left pages newest records table commits x u rest c.requires.going.sizes h unfinished at left) (log_alone old mid c.read_update.ensures.reads.others) c.in-Ok-compensate.ensures.asks)
+    (c.in-Ok.ensures.last_left pages newest records table commits x u rest c.requires.going.sizes h unfinished at left) (log_alone old mid c.read_update.ensures.reads.others) (stages_read c.read_update.ensures.reads.same c.read_update.ensures.reads.goes) c.in-Ok-compensate.ensures.asks)
 
 pub returns-in-Err-clause-works : goal.returns-in-Err-clause-works
 returns-in-Err-clause-works g c = works_failed (works_read c.requires.going c.in-Err.ensures.reads)

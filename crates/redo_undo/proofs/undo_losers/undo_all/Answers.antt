@@ -9,7 +9,8 @@ use Rattle.site.specs.declared.outside.Stop.TheVariants.{Worn}
 use Rattle.site.specs.declared.outside.Dev.TheVariants.{Flash, Log}
 use Rattle.page_store.specs.Caching.{rules}
 use Rattle.redo_undo.specs.Works.{undo_works}
-use Rattle.redo_undo.proofs.Asking.{asks_nothing}
+use Rattle.page_store.proofs.StagingLaws.{stages_ok, stages_err}
+use Rattle.redo_undo.proofs.Asking.{asks_nothing, stages_log}
 use Rattle.redo_undo.proofs.AskingUndo.{none_read, not_worn_either, asks_refused}
 use Rattle.redo_undo.proofs.UndoneUpdates.{next_is_last, none_is_next, updates_asked_more, updates_asked_stopped, updates_asked}
 use Rattle.redo_undo.specs.UndoingAll.{IsUndoing}
@@ -34,7 +35,7 @@ loop-next-init g c =
         done = [];
         updates = c.in-Ok.ensures.updates c.args.pages.now newest records table commits c.requires.going
             (record { holds = h; analysis = is; up_to = sealed_up_to c.page_laws.ensures c.undo_laws.ensures c.args.log.now c.args.pages.now old newest records table commits (c.sealed_end-sealed.result + 1) h none (omega (arith, c.sealed_end-sealed.ensures)) });
-        asks = asks_nothing {T = ⊤} (Ok tt) c.args.pages.now old (g.S.Site.state c.end_undone.new.site) c.end_undone.ensures.works.reads (λ (worn : IsErrOf {T = ⊤} (Ok tt) (Worn Flash)). cc);
+        asks = asks_nothing {T = ⊤} (Ok tt) c.args.pages.now old (g.S.Site.state c.end_undone.new.site) c.end_undone.ensures.works.reads (λ (worn : IsErrOf {T = ⊤} (Ok tt) (Worn Flash)). cc) (stages_ok (stages_log c.in-Ok.ensures.works));
       };
       keeps = λ newest records table commits none h is.
           let undoing : IsUndoing c.args.log.now c.args.pages.now old newest records table commits c.args.found.now (c.sealed_end-sealed.result + 1) = (record { holds = h; analysis = is; up_to = sealed_up_to c.page_laws.ensures c.undo_laws.ensures c.args.log.now c.args.pages.now old newest records table commits (c.sealed_end-sealed.result + 1) h none (omega (arith, c.sealed_end-sealed.ensures)) }) in
@@ -106,7 +107,7 @@ returns-in-Err-clause-asks g c newest records table commits none h is =
     let some : 1 ≤ (rules pages).groups = omega (arith, c.requires.going.pages_going.flash.limits.groups) in
     let old = g.S.Site.state c.args.site.now in
     let new = g.S.Site.state c.end_undone.new.site in
-    asks_refused c.in-Err.stop (undo_works records) pages old new some (not_worn_either c.in-Err.stop c.in-Err.ensures.stops) (none_read old new c.end_undone.ensures.works.reads)
+    asks_refused c.in-Err.stop (undo_works records) pages old new some (not_worn_either c.in-Err.stop c.in-Err.ensures.stops) (none_read old new c.end_undone.ensures.works.reads) (stages_err (stages_log c.in-Err.ensures.works))
 
 pub returns-in-Err-undo_next-clause-asks : goal.returns-in-Err-undo_next-clause-asks
 returns-in-Err-undo_next-clause-asks g c newest records table commits none h is =

@@ -1,4 +1,4 @@
-use Rattle.std.proofs.Common.{rules, ℕ, sym, subst, ap, ◌∙◌, arith}
+use Rattle.std.proofs.Common.{rules, List, [], ◌≤◌, append-nil, refl, ℕ, sym, subst, ap, ◌∙◌, arith}
 use Rattle.std.specs.Prelude.{if◌then◌else◌}
 use Rattle.site.specs.declared.outside.Dev.TheVariants.{Disk}
 use Rattle.site.specs.State.{Image}
@@ -8,6 +8,10 @@ use Rattle.second_chance.specs.Queue.{has_frame}
 use Rattle.second_chance.specs.Machine.{Cache}
 use Rattle.log_store.specs.LogList.{sealed_if}
 use Rattle.image_meaning.specs.Beside.{AreRingsSoundUnder}
+use Rattle.second_chance.specs.Machine.{Staged}
+use Rattle.page_store.specs.Caching.{cache_of, next_group, is_full, rules as rules_for}
+use Rattle.page_store.specs.Staging.{staged_by_eviction}
+use Rattle.page_store.proofs.Numbers.{way_next}
 use Rattle.page_store.specs.Held.{current}
 use Rattle.page_store.specs.Ahead.{AreSealed, forces, pushed_for_room}
 use Rattle.page_store.specs.Changing.{room_changes}
@@ -16,6 +20,7 @@ use Rattle.page_store.specs.Calls.{Stands}
 use Rattle.page_store.proofs.PushLaws.{ok_four}
 use Rattle.page_store.proofs.Bringing.{snapshot_same, ready_same, current_again, ahead_in}
 use Rattle.page_store.proofs.Calling.{forces_again, keeps_read}
+use Rattle.page_store.proofs.StagingLaws.{stages_then, stages_as, stages_weaker}
 use Rattle.page_store.proofs.store.PageStore.bring_in.Goals as goal
 
 pub returns-in-Err-clause-disk_reads : goal.returns-in-Err-clause-disk_reads
@@ -79,3 +84,14 @@ returns-in-Ok-clause-stands g c list ready =
       reaches = subst (λ (i : Image). Reaches store.flash.geometry changes old.image i) (sym same.image) stands.reaches;
     })
     (read.fits fits) (c.read_in.ensures.current fits) c.read_in.ensures.put (c.read_in.ensures.read fits)
+
+pub returns-in-Err-clause-stages : goal.returns-in-Err-clause-stages
+returns-in-Err-clause-stages g c = c.in-Err.ensures.stages
+
+pub returns-in-Ok-clause-stages : goal.returns-in-Ok-clause-stages
+returns-in-Ok-clause-stages g c =
+    let store = c.args.self.now in
+    let some : 1 ≤ (rules_for store).groups = omega (arith, c.requires.going.pages_going.flash.limits.groups) in
+    let next = ap next_group c.in-Ok.ensures.machine ∙ way_next store some in
+    let staged : List Staged = if is_full store then staged_by_eviction (rules_for store) (cache_of store) else [] in
+    stages_as (append-nil staged) refl (stages_then (λ has. omega arith) c.in-Ok.ensures.stages (stages_weaker (λ page is. is) (omega (arith, next)) c.read_in.ensures.stages))

@@ -1,8 +1,9 @@
-use Rattle.std.proofs.Common.{rules, ◌≡◌, inr, ◌<◌, ◌≤◌, true, false, ℕ, List, [], ◌∷◌, ◌++◌, length, map, sym, subst, ◌∙◌, ap, arith, reverse, refl, length-append}
+use Rattle.std.proofs.Common.{rules, ◌+◌, ◌≡◌, inr, ◌<◌, ◌≤◌, true, false, ℕ, List, [], ◌∷◌, ◌++◌, length, map, sym, subst, ◌∙◌, ap, arith, reverse, refl, length-append}
 use Rattle.std.specs.Prelude.{All}
 use Rattle.buffer_pool.specs.declared.frame.Frame.{Frame}
 use Rattle.buffer_pool.specs.Frames.{State as Pool, AreDistinct, frame_of}
-use Rattle.second_chance.specs.Machine.{Cache, must_be_pushed, evict_coldest}
+use Rattle.second_chance.specs.Machine.{Cache, must_be_pushed, evict_coldest, rules_of, staged_in_push}
+use Rattle.flash_cache.specs.declared.cache.FlashCache.{FlashCache}
 use Rattle.site.proofs.Working.{ok_as}
 use Rattle.page_store.specs.declared.store.PageStore.{PageStore}
 use Rattle.page_store.specs.Held.{MayGoOn}
@@ -20,6 +21,7 @@ use Rattle.page_store.proofs.Calling.{forces_nothing, pushes_as, keeps_as, keeps
 use Rattle.page_store.proofs.Changing.{eviction_is}
 use Rattle.page_store.proofs.PushLaws.{ok_under}
 use Rattle.page_store.proofs.Bringing.{ok_two}
+use Rattle.page_store.proofs.StagingLaws.{stages_none, stages_as, stages_between, evicted_staged, evicted_next}
 use Rattle.page_store.proofs.store.PageStore.evict.Goals as goal
 
 -- the pool is empty
@@ -310,3 +312,26 @@ returns-in-Err-clause-absent g c page none =
     let is : store.pool.frames ≡ rest.frames ++ last ∷ [] = c.in-Some.ensures.some in
     let one = c.frames_of_pages.ensures.last rest.frames last (subst AreDistinct is c.requires.going.pages_going.own.pool.distinct) in
     absent_part c.frames_of_pages.ensures.without rest.frames c.take_with.new.self.pool.frames c.take_with.ensures.part page (absent_rest store rest last is one page none)
+
+-- what is written
+
+pub returns-in_default-clause-stages : goal.returns-in_default-clause-stages
+returns-in_default-clause-stages g c = stages_none (omega arith) refl
+
+pub returns-then-not-must_be_pushed-clause-stages : goal.returns-then-not-must_be_pushed-clause-stages
+returns-then-not-must_be_pushed-clause-stages g c = stages_none (omega arith) refl
+
+pub returns-in-Err-clause-stages : goal.returns-in-Err-clause-stages
+returns-in-Err-clause-stages g c = stages_none (omega arith) (ap (λ (s : PageStore). s.flash) c.take_with.ensures.kept)
+
+pub returns-in-Ok-clause-stages : goal.returns-in-Ok-clause-stages
+returns-in-Ok-clause-stages g c =
+    let store = c.args.self.now in
+    let rest : Pool = c.take_coldest.new.self in
+    let last : Frame = record { page = c.in-Some.page; changed = c.in-Some.changed; content = c.in-Some.content } in
+    let is : store.pool.frames ≡ rest.frames ++ last ∷ [] = c.in-Some.ensures.some in
+    let must : must_be_pushed store.flash.directory (pool_page last) ≡ true = sym c.must_be_pushed.ensures ∙ c.if-not-must_be_pushed.false in
+    let kept : c.take_with.new.self.flash ≡ store.flash = ap (λ (s : PageStore). s.flash) c.take_with.ensures.kept in
+    stages_as (ap (λ (f : FlashCache). staged_in_push (rules_of 0 f.geometry.groups) f.directory) kept ∙ evicted_staged store rest.frames last is must)
+    (ap (λ (f : FlashCache). f.directory.first + length f.directory.groups + 1) kept ∙ evicted_next store rest.frames last is must)
+    (stages_between kept refl c.push.ensures.stages)

@@ -1,4 +1,4 @@
-use Rattle.std.proofs.Common.{rules, ◌≡◌, true, false, ◌&&◌, [], length, cond, arith, sym, ap, refl, ◌∙◌}
+use Rattle.std.proofs.Common.{rules, ◌+◌, ◌≡◌, true, false, ◌&&◌, [], length, cond, arith, sym, ap, refl, ◌∙◌}
 use Rattle.std.specs.Prelude.{nat_le}
 use Rattle.std.proofs.lemmas.Bool.Decides.{nat_tests}
 use Rattle.site.proofs.Working.{ok_as}
@@ -8,6 +8,9 @@ use Rattle.page_store.specs.Changing.{eviction_changes, room_changes}
 use Rattle.page_store.specs.Calls.{Stands}
 use Rattle.page_store.proofs.Evictions.{not_forced}
 use Rattle.page_store.proofs.Calling.{pushes_as, stops_as, keeps_as, stands_as, keeps_nothing, stands_still}
+use Rattle.page_store.proofs.StagingLaws.{stages_none, stages_as}
+use Rattle.page_store.specs.Caching.{rules as rules_for, next_group}
+use Rattle.page_store.specs.Staging.{staged_by_eviction}
 use Rattle.page_store.proofs.store.PageStore.make_room.Goals as goal
 
 pub returns-then-not-is_full-clause-keeps : goal.returns-then-not-is_full-clause-keeps
@@ -52,3 +55,14 @@ returns-clause-worn g c =
     let full : length store.pool.frames ≡ store.pool.size = c.is_full.ensures.full.0 c.if-not-is_full.false in
     let is : nat_le store.pool.size (length store.pool.frames) ≡ true = grind (arith, nat_tests) in
     stops_as (sym (ap (λ b. forces log (cond b (evicted store) [])) is)) (sym (ap (λ b. b && is_pushed (cache_of store)) is)) c.evict.ensures.worn
+
+pub returns-then-not-is_full-clause-stages : goal.returns-then-not-is_full-clause-stages
+returns-then-not-is_full-clause-stages g c = stages_none (omega arith) refl
+
+pub returns-clause-stages : goal.returns-clause-stages
+returns-clause-stages g c =
+    let store = c.args.self.now in
+    let full : length store.pool.frames ≡ store.pool.size = c.is_full.ensures.full.0 c.if-not-is_full.false in
+    let is : nat_le store.pool.size (length store.pool.frames) ≡ true = grind (arith, nat_tests) in
+    stages_as (sym (ap (λ b. cond b (staged_by_eviction (rules_for store) (cache_of store)) []) is))
+    (sym (ap (λ b. next_group (cache_of store) + (cond (b && is_pushed (cache_of store)) 1 0)) is)) c.evict.ensures.stages

@@ -1,4 +1,5 @@
-use Rattle.std.proofs.Common.{rules, length, ◌≡◌, ◌++◌, ◌<◌, ◌+◌, ◌*◌, ℕ, Bool, arith, sym, ap, ◌∙◌, subst, List}
+use Rattle.std.specs.Prelude.{Ok}
+use Rattle.std.proofs.Common.{rules, refl, [], length, ◌≡◌, ◌++◌, ◌<◌, ◌+◌, ◌*◌, ℕ, Bool, arith, sym, ap, ◌∙◌, subst, List}
 use Rattle.site.specs.declared.outside.Dev.TheVariants.{Log, Flash}
 use Rattle.site.specs.declared.geometry.Geometry.{Geometry}
 use Rattle.site.specs.State.{IsQuiet, snapshot_of}
@@ -21,6 +22,10 @@ use Rattle.page_store.proofs.Rings.{sealing_keeps, sound_pushed, pushing_keeps, 
 use Rattle.page_store.proofs.PushLaws.{version_same, group_changes_since, kept_where, masters_kept, own_sealing, force_leaves, force_sealed, between, Pushed, pushed, pushed_now, pushed_pages, push_leaves, pushed_sealed, reached_all, clean_given_same, gives_since, ok_under, ok_six, fits_behind, log_fits, log_found, log_units_same}
 use Rattle.page_store.specs.Changing.{given_changes}
 use Rattle.page_store.proofs.Changing.{front_more}
+use Rattle.second_chance.specs.Machine.{Staged, staged_in_push}
+use Rattle.page_store.specs.Caching.{cache_of, rules as rules_for, next_group}
+use Rattle.page_store.specs.Staging.{Stages}
+use Rattle.page_store.proofs.StagingLaws.{stages_beside, stages_then, push_leaves as push_writes, queue_pushed}
 use Rattle.page_store.proofs.store.PageStore.push.Goals as goal
 
 pub returns-in-Err-clause-reads : goal.returns-in-Err-clause-reads
@@ -212,3 +217,24 @@ returns-in-Ok-clause-worn_at g c says =
     let kept = kept_where c.push_group.result _ _ says c.push_group.ensures.kept in
     let same = ap (λ (q : Queue). q.first + length q.groups) kept in
     omega (arith, before, next, first, same)
+
+pub returns-in-Err-clause-stages : goal.returns-in-Err-clause-stages
+returns-in-Err-clause-stages g c = stages_beside (omega arith) c.force_for.ensures.changes c.in-Err.ensures.calls refl
+
+pub returns-in-Ok-clause-stages : goal.returns-in-Ok-clause-stages
+returns-in-Ok-clause-stages g c =
+    let store = c.args.self.now in
+    let store' : PageStore = record store { flash = c.push_group.new.self } in
+    let old = g.S.Site.state c.args.site.now in
+    let mid = g.S.Site.state c.force_for.new.site in
+    let new = g.S.Site.state c.push_group.new.site in
+    let staged : List Staged = staged_in_push (rules_for store) store.flash.directory in
+    let next : ℕ = next_group (cache_of store) in
+    let first : Stages {T = Unit {0}} (Ok tt) [] next store store old mid = stages_beside (omega arith) c.force_for.ensures.changes c.in-Ok.ensures.calls refl in
+    let second : Stages c.push_group.result staged (next + 1) store store' mid new = record {
+      holds = λ has. queue_pushed c.push_group.result c.push_group.new.self store _ new c.push_group.ensures.going (c.push_group.ensures.fits has.fits) (c.push_group.ensures.holds has.groups has.fits has.holds);
+      quiet = λ has quiet. c.push_group.ensures.quiet has.fits.honest quiet;
+      writes = λ has quiet. push_writes store _ mid new has (c.push_group.ensures.front has.groups has.fits has.holds quiet);
+      sizes = c.push_group.ensures.geometry;
+    } in
+    stages_then (λ has. omega arith) first second

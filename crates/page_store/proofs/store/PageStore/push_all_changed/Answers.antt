@@ -22,6 +22,7 @@ use Rattle.page_store.proofs.Rounds.{kept_block, no_tail, risen, sealed_again, a
 use Rattle.page_store.proofs.Appending.{has_pushed}
 use Rattle.page_store.proofs.Changing.{HasMade, gives_versions, standing_after, none_to_come, one_to_come}
 use Rattle.page_store.proofs.Calling.{forces_nothing, pushes_as, pushes_then, pushes_failed, keeps_as, keeps_still, keeps_nothing, keeps_then, keeps_more, stands_as, stands_still, stands_then}
+use Rattle.page_store.proofs.StagingLaws.{stages_none, flushing_more, flushing_stopped, flushing_done}
 use Rattle.page_store.proofs.store.PageStore.push_all_changed.Goals as goal
 
 pub loop-rest-init : goal.loop-rest-init
@@ -60,6 +61,7 @@ loop-rest-init g c =
       machine = refl;
       reads = omega arith;
       asked = omega arith;
+      stages = record { staged = []; split = refl; stages = stages_none (omega arith) refl };
       pages = c.as_slice-rest.ensures.value ∙ c.in_ok-pages.ensures.pages ∙ all_changed store.pool.frames c.len.result c.len.ensures.len;
     }
 
@@ -209,6 +211,8 @@ loop-rest-preserved g c =
           ∙ ap (flushed (rules_for first)) (ap (λ (r : Rules). push_changed r (cache_of store)) (sym same) ∙ sym save.machine);
       reads = omega (arith, inv.reads, save.reads, saves, count);
       asked = (let one = ap next_group save.machine in let groups : 1 ≤ (rules_for store).groups = omega (arith, inv.going.pages_going.flash.limits.groups) in let next = changed_next (rules_for store) (cache_of store) groups in omega (arith, inv.asked, save.reads, one, next));
+      stages = (let groups : 1 ≤ (rules_for store).groups = omega (arith, inv.going.pages_going.flash.limits.groups) in
+          flushing_more c.flushes_save_all.ensures.goes_on first store store' old (g.S.Site.state c.loop-rest.site) new same wants save.machine (sym (ap next_group save.machine ∙ changed_next (rules_for store) (cache_of store) groups)) inv.stages c.in_default.ensures.stages);
       pages = c.split_at.ensures.back ∙ back_pages store.pool.frames c.loop-rest.rest.now inv.pages c.room_for_pages-room.result c.min.result c.min.ensures store'.pool.frames inv.going.pages_going.own.pool.distinct
           (save.frames ∙ ap (λ (n : ℕ). cleared_all (map (λ (f : Frame). f.page) (first_changed n store.pool.frames)) store.pool.frames) (sym c.room_for_pages-room.ensures.room));
     }
@@ -269,3 +273,34 @@ returns-clause-flushes g c =
       worn_flash = search rules;
       never_past = λ some past. true≢false (sym some ∙ sym (ap (λ (s : PageStore). wants_flush (cache_of s)) (inv.untouched some past)) ∙ none);
     }
+
+-- what is written
+
+pub returns-in_err-pages-clause-stages : goal.returns-in_err-pages-clause-stages
+returns-in_err-pages-clause-stages g c =
+    let store = c.args.self.now in
+    let some : 1 ≤ (rules_for store).groups = omega (arith, c.requires.going.pages_going.flash.limits.groups) in
+    stages_none (flushed_next (rules_for store) (cache_of store) some) refl
+
+pub returns-in-Err-clause-stages : goal.returns-in-Err-clause-stages
+returns-in-Err-clause-stages g c =
+    let first = c.args.self.now in
+    let store = c.loop-rest.self in
+    let inv = c.loop-rest.invariant in
+    let works = inv.pushes.works in
+    let wants : wants_flush (cache_of store) ≡ true = some_left store.pool.frames c.loop-rest.rest.now inv.pages (sym c.is_empty.ensures ∙ c.loop-rest-test.true) in
+    let same : rules_for store ≡ rules_for first = λ i. rules_of (works.size i) (works.geometry i).groups in
+    let some : 1 ≤ (rules_for first).groups = omega (arith, c.requires.going.pages_going.flash.limits.groups) in
+    let more = flushed_more c.flushes_save_all.ensures.goes_on (rules_for first) (cache_of store) some wants in
+    let next = ap next_group inv.machine in
+    flushing_stopped c.flushes_save_all.ensures.goes_on c.in-Err.stop first store c.push_changed.new.self (g.S.Site.state c.args.site.now) (g.S.Site.state c.loop-rest.site) (g.S.Site.state c.push_changed.new.site) _ same wants
+    (omega (arith, more, next)) inv.stages c.in-Err.ensures.stages
+
+pub returns-clause-stages : goal.returns-clause-stages
+returns-clause-stages g c =
+    let first = c.args.self.now in
+    let store = c.loop-rest.self in
+    let inv = c.loop-rest.invariant in
+    let none : wants_flush (cache_of store) ≡ false = none_left store.pool.frames c.loop-rest.rest.now inv.pages (sym c.is_empty.ensures ∙ c.loop-rest-test.false) in
+    flushing_done c.flushes_save_all.ensures.ends first store (g.S.Site.state c.args.site.now) (g.S.Site.state c.loop-rest.site) _ none
+    (ap next_group (sym (inv.machine ∙ (c.flushes_save_all.ensures.ends (rules_for first) (cache_of store) none).0))) inv.stages

@@ -11,6 +11,7 @@ use Rattle.page_store.specs.Leaves.{AreReady}
 use Rattle.page_store.specs.Changing.{flush_changes}
 use Rattle.page_store.specs.Calls.{Pushes, MayWork}
 use Rattle.page_store.proofs.Flushes.{SoFar}
+use Rattle.page_store.proofs.StagingLaws.{IsFlushing}
 use Rattle.page_store.proofs.store.PageStore.push_all_changed.Given as goal
 
 abbrev pub invariant-loop-rest : goal.invariant-loop-rest
@@ -27,6 +28,7 @@ invariant-loop-rest g l =
       machine : flushed (rules first) (cache_of first) ≡ flushed (rules first) (cache_of l.self);
       reads : now.flash_reads + 12 * changed_count (cache_of l.self).pool ≤ old.flash_reads + 12 * changed_count (cache_of first).pool;
       asked : now.flash_reads + 12 * next_group (cache_of first) ≤ old.flash_reads + 12 * next_group (cache_of l.self);
+      stages : IsFlushing first l.self old now;
       pages : l.rest ≡ map (λ (f : Frame). f.page) (changed_frames l.self.pool.frames);
     }
 

@@ -1,10 +1,11 @@
-use Rattle.std.proofs.Common.{rules, ℕ, sym, subst}
+use Rattle.std.proofs.Common.{rules, arith, refl, ℕ, sym, subst}
 use Rattle.std.specs.Prelude.{All, IsSome}
 use Rattle.buffer_pool.specs.Frames.{frame_of}
 use Rattle.page_store.specs.Caching.{rules as rules_for}
 use Rattle.page_store.specs.Pulling.{room_for_pages}
 use Rattle.page_store.proofs.Saving.{pages_there}
 use Rattle.page_store.proofs.Calling.{keeps_still}
+use Rattle.page_store.proofs.StagingLaws.{stages_none}
 use Rattle.page_store.proofs.store.PageStore.push_changed.Goals as goal
 
 pub contents_of-requires : goal.contents_of-requires
@@ -17,3 +18,9 @@ returns-in_err-plan-clause-keeps g c list ready = keeps_still c.requires.going.s
 
 pub returns-in_err-contents-clause-keeps : goal.returns-in_err-contents-clause-keeps
 returns-in_err-contents-clause-keeps g c list ready = keeps_still c.requires.going.sizes ready (search rules) (search rules) (search rules)
+
+pub returns-in_err-plan-clause-stages : goal.returns-in_err-plan-clause-stages
+returns-in_err-plan-clause-stages g c = stages_none (omega arith) refl
+
+pub returns-in_err-contents-clause-stages : goal.returns-in_err-contents-clause-stages
+returns-in_err-contents-clause-stages g c = stages_none (omega arith) refl

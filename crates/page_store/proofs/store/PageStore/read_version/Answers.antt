@@ -1,3 +1,6 @@
+use Rattle.std.specs.Prelude.{Ok, Bool}
+use Rattle.page_store.specs.declared.store.PageStore.{PageStore}
+use Rattle.page_store.specs.Staging.{HasQueueOn}
 use Rattle.std.proofs.Common.{rules, ◌≡◌, true, false, arith, sym, ap, subst, ◌∙◌, refl}
 use Rattle.site.specs.declared.outside.Dev.TheVariants.{Log, Disk}
 use Rattle.site.specs.declared.outside.Stop.TheVariants.{Foreign}
@@ -5,12 +8,13 @@ use Rattle.site.specs.State.{Image}
 use Rattle.disk_pages.specs.Pages.{page_on}
 use Rattle.slotted_page.specs.Layout.{IsSound}
 use Rattle.site.specs.Laws.{unchanged_in_sequence, stays_honest}
-use Rattle.site.proofs.Working.{ok_as}
+use Rattle.site.proofs.Working.{ok_as, ok_always}
 use Rattle.second_chance.specs.Queue.{has_frame, with_read}
 use Rattle.flash_cache.specs.declared.cache.FlashCache.{FlashCache}
 use Rattle.page_store.specs.Held.{Fits}
 use Rattle.page_store.proofs.PushLaws.{flash_fits_same, flash_holds_same, kept_where}
 use Rattle.page_store.proofs.Versions.{read_same, flash_later, store_with, fits_with}
+use Rattle.page_store.proofs.StagingLaws.{stages_still, queue_same, queue_pushed}
 use Rattle.page_store.proofs.store.PageStore.read_version.Goals as goal
 
 pub returns-in-Err-clause-reads : goal.returns-in-Err-clause-reads
@@ -110,3 +114,28 @@ returns-in-Err-read_disk-clause-reads g c =
       log_reads = search rules;
       foreign = search rules;
     }
+
+pub returns-in-Err-clause-stages : goal.returns-in-Err-clause-stages
+returns-in-Err-clause-stages g c = stages_still (omega arith) c.fetch.ensures.same c.fetch.ensures.geometry (λ has. tt)
+
+pub returns-then-found-clause-stages : goal.returns-then-found-clause-stages
+returns-then-found-clause-stages g c =
+    stages_still (omega arith) c.fetch.ensures.same c.fetch.ensures.geometry (λ has.
+    ok_always c.sound_page.result (HasQueueOn (record c.args.self.now { flash = c.fetch.new.self }) (g.S.Site.state c.fetch.new.site))
+    (queue_pushed {T = Bool} (Ok c.in-Ok.found) c.fetch.new.self c.args.self.now has.groups (g.S.Site.state c.fetch.new.site) c.fetch.ensures.going (c.in-Ok.ensures.fits has.fits) (c.in-Ok.ensures.holds has.groups has.fits has.holds)))
+
+pub returns-in-Ok-read_disk-clause-stages : goal.returns-in-Ok-read_disk-clause-stages
+returns-in-Ok-read_disk-clause-stages g c =
+    let store = c.args.self.now in
+    let mid = g.S.Site.state c.fetch.new.site in
+    let new = g.S.Site.state c.read_disk.new.site in
+    let after : PageStore = record store { flash = c.fetch.new.self } in
+    stages_still (omega arith) (search rules) c.fetch.ensures.geometry (λ has.
+    let honest = stays_honest (g.S.Site.state c.args.site.now) mid c.fetch.ensures.goes has.fits.honest in
+    let second = c.read_disk.ensures.same honest in
+    ok_always c.sound_page-in-Ok-read_disk.result (HasQueueOn after new)
+    (queue_same after after mid new refl (ap (λ i. i.flash) second.image) (stays_honest mid new c.read_disk.ensures.calls.goes honest)
+    (queue_pushed {T = Bool} (Ok c.in-Ok.found) c.fetch.new.self store has.groups mid c.fetch.ensures.going (c.in-Ok.ensures.fits has.fits) (c.in-Ok.ensures.holds has.groups has.fits has.holds))))
+
+pub returns-in-Err-read_disk-clause-stages : goal.returns-in-Err-read_disk-clause-stages
+returns-in-Err-read_disk-clause-stages g c = stages_still (omega arith) (search rules) c.fetch.ensures.geometry (λ has. tt)

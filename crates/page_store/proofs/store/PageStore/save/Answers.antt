@@ -25,6 +25,7 @@ use Rattle.page_store.proofs.Clearing.{all_contents}
 use Rattle.page_store.proofs.Flushes.{is_saving, saved_fits, saved_current, machine_saved, pages_cleared}
 use Rattle.page_store.proofs.Changing.{known_pages}
 use Rattle.page_store.proofs.Calling.{pushes_as, keeps_as, stands_as, keeps_given, stands_given}
+use Rattle.page_store.proofs.StagingLaws.{stages_between}
 use Rattle.page_store.proofs.store.PageStore.save.Goals as goal
 
 pub push-requires-clause-some : goal.push-requires-clause-some
@@ -169,3 +170,9 @@ returns-in-Ok-clause-saves g c =
       worn_at = search rules;
       never_past = c.in-Ok.ensures.worn.never_past refl;
     }
+
+pub returns-in-Err-clause-stages : goal.returns-in-Err-clause-stages
+returns-in-Err-clause-stages g c = c.in-Err.ensures.stages
+
+pub returns-in-Ok-clause-stages : goal.returns-in-Ok-clause-stages
+returns-in-Ok-clause-stages g c = stages_between refl (ap (λ (s : PageStore). s.flash) c.clear_all.ensures.cleared) c.in-Ok.ensures.stages

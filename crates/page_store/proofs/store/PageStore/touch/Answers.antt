@@ -10,8 +10,9 @@ use Rattle.page_store.specs.Held.{IsPage}
 use Rattle.page_store.specs.Caching.{pool_page, rules as rules_for, cache_of, with_way}
 use Rattle.page_store.specs.Ahead.{IsLogged, end_forced, forces}
 use Rattle.page_store.proofs.Pools.{page_is, touched_held}
-use Rattle.page_store.proofs.Touching.{way, pushed_same, pushes_same, finds_same, misses_same, not_there, count_if, count_unless, other_count, nothing_forced, nothing_pushed, all_touched, order_fits, order_current, pool_going, changes_same, nothing_changes}
+use Rattle.page_store.proofs.Touching.{way, pushed_same, pushes_same, finds_same, misses_same, not_there, count_if, count_unless, other_count, nothing_forced, nothing_pushed, all_touched, order_fits, order_current, pool_going, changes_same, nothing_changes, room_staged, room_next}
 use Rattle.page_store.proofs.Calling.{forces_nothing, works_as, stops_as, keeps_as, stands_as, keeps_nothing, stands_still}
+use Rattle.page_store.proofs.StagingLaws.{stages_none, stages_as, stages_between}
 use Rattle.page_store.proofs.store.PageStore.touch.Goals as goal
 
 -- the page is in the pool
@@ -183,3 +184,20 @@ returns-clause-disk_reads g c =
     let one : count_unless (has_frame (with_way store).queue page) ≡ count_if (misses (rules_for store) page (cache_of store)) =
     other_count (has_frame (with_way store).queue page) ∙ ap count_if (misses_same store page none) in
     omega (arith, c.bring_in.ensures.disk_reads, one)
+
+-- what is written
+
+pub returns-then-is_some-clause-stages : goal.returns-then-is_some-clause-stages
+returns-then-is_some-clause-stages g c = stages_none (omega arith) refl
+
+pub returns-in-Err-clause-stages : goal.returns-in-Err-clause-stages
+returns-in-Err-clause-stages g c =
+    let store = c.args.self.now in
+    let none : frame_of store.pool.frames c.args.page ≡ None = search rules in
+    stages_between refl refl (stages_as (room_staged store c.args.page none) (room_next store c.args.page none) c.in-Err.ensures.stages)
+
+pub returns-clause-stages : goal.returns-clause-stages
+returns-clause-stages g c =
+    let store = c.args.self.now in
+    let none : frame_of store.pool.frames c.args.page ≡ None = search rules in
+    stages_as (room_staged store c.args.page none) (room_next store c.args.page none) c.in_default.ensures.stages

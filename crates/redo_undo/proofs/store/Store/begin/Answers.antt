@@ -1,6 +1,7 @@
 use Rattle.std.proofs.Common.{refl}
 use Rattle.image_meaning.proofs.Leaving.{under_leaves_for}
-use Rattle.redo_undo.proofs.Asking.{asks_nothing}
+use Rattle.page_store.proofs.StagingLaws.{stages_ok, stages_err}
+use Rattle.redo_undo.proofs.Asking.{asks_nothing, stages_log}
 use Rattle.redo_undo.proofs.AskingFlush.{never_worn_flash}
 use Rattle.redo_undo.proofs.Calling.{keeps_appended}
 use Rattle.redo_undo.proofs.StoreCalling.{keeps_of}
@@ -18,10 +19,10 @@ returns-in-Ok-clause-holds g c newest records table commits h = λ may.
     }
 
 pub returns-in-Ok-clause-asks : goal.returns-in-Ok-clause-asks
-returns-in-Ok-clause-asks g c = asks_nothing _ c.args.self.now.pages _ _ c.log_record.ensures.works.reads (λ is. cc)
+returns-in-Ok-clause-asks g c = asks_nothing _ c.args.self.now.pages _ _ c.log_record.ensures.works.reads (λ is. cc) (stages_ok (stages_log c.in-Ok.ensures.works))
 
 pub returns-in-Err-clause-asks : goal.returns-in-Err-clause-asks
-returns-in-Err-clause-asks g c = asks_nothing _ c.args.self.now.pages _ _ c.log_record.ensures.works.reads (never_worn_flash (Err c.in-Err.stop) c.in-Err.ensures.stops)
+returns-in-Err-clause-asks g c = asks_nothing _ c.args.self.now.pages _ _ c.log_record.ensures.works.reads (never_worn_flash (Err c.in-Err.stop) c.in-Err.ensures.stops) (stages_err (stages_log c.in-Err.ensures.works))
 
 pub returns-in-Ok-clause-keeps : goal.returns-in-Ok-clause-keeps
 returns-in-Ok-clause-keeps g c newest records table commits h =

@@ -13,7 +13,8 @@ use Rattle.image_meaning.specs.Meaning.{kept_by, versions_on, master_of}
 use Rattle.image_meaning.proofs.Leaving.{under_leaves_either_for}
 use Rattle.redo_undo.specs.Holding.{IsLogWorn}
 use Rattle.redo_undo.proofs.Appended.{found_fits}
-use Rattle.redo_undo.proofs.Asking.{asks_nothing}
+use Rattle.page_store.proofs.StagingLaws.{stages_err, stages_then}
+use Rattle.redo_undo.proofs.Asking.{asks_nothing, stages_log, stages_alone}
 use Rattle.redo_undo.proofs.AskingFlush.{never_worn_flash}
 use Rattle.redo_undo.proofs.Calling.{appends_foreign, keeps_appended}
 use Rattle.redo_undo.proofs.Committed.{leaves_either, rings_then, sealed_then, commit_holds, before_only, either_after}
@@ -137,10 +138,10 @@ returns-in-Ok-force-clause-keeps g c newest records table commits held may =
     (c.force.ensures.any_moment list (fits quiet) m.ready.records) (c.force.ensures.front list (fits quiet) m.ready.records (calm quiet)) (same_at_most log c.force.new.self c.in-Ok.ensures.some c.in-Ok-force.ensures.next c.in-Ok-force.ensures.empty))) (omega arith) refl)
 
 pub returns-in-Err-clause-asks : goal.returns-in-Err-clause-asks
-returns-in-Err-clause-asks g c = asks_nothing _ c.args.self.now.pages _ _ c.log_record.ensures.works.reads (never_worn_flash (Err c.in-Err.stop) c.in-Err.ensures.stops)
+returns-in-Err-clause-asks g c = asks_nothing _ c.args.self.now.pages _ _ c.log_record.ensures.works.reads (never_worn_flash (Err c.in-Err.stop) c.in-Err.ensures.stops) (stages_err (stages_log c.in-Err.ensures.works))
 
 pub returns-in-Err-force-clause-asks : goal.returns-in-Err-force-clause-asks
-returns-in-Err-force-clause-asks g c = asks_nothing _ c.args.self.now.pages _ _ (λ d. c.force.ensures.reads d ∙ c.log_record.ensures.works.reads d) (never_worn_flash (Err c.in-Err-force.stop) c.in-Err-force.ensures.stops)
+returns-in-Err-force-clause-asks g c = asks_nothing _ c.args.self.now.pages _ _ (λ d. c.force.ensures.reads d ∙ c.log_record.ensures.works.reads d) (never_worn_flash (Err c.in-Err-force.stop) c.in-Err-force.ensures.stops) (stages_then (λ has. omega arith) (stages_log c.in-Ok.ensures.works) (stages_alone c.in-Err-force.ensures.changes c.in-Err-force.ensures.goes (λ honest quiet. tt)))
 
 pub returns-in-Ok-force-clause-asks : goal.returns-in-Ok-force-clause-asks
-returns-in-Ok-force-clause-asks g c = asks_nothing _ c.args.self.now.pages _ _ (λ d. c.force.ensures.reads d ∙ c.log_record.ensures.works.reads d) (λ is. cc)
+returns-in-Ok-force-clause-asks g c = asks_nothing _ c.args.self.now.pages _ _ (λ d. c.force.ensures.reads d ∙ c.log_record.ensures.works.reads d) (λ is. cc) (stages_then (λ has. omega arith) (stages_log c.in-Ok.ensures.works) (stages_alone c.in-Ok-force.ensures.changes c.in-Ok-force.ensures.goes c.in-Ok-force.ensures.quiet))

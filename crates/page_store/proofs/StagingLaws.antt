@@ -1,0 +1,282 @@
+-- What calls on pages write, one after the other.
+use Rattle.std.proofs.Common.{◌≡◌, ◌≢◌, IsTrue, ℕ, ◌+◌, ◌≤◌, List, [], ◌∷◌, ◌++◌, map, reverse, Bool, true, false, append_assoc, append-nil, arith, refl, sym, ap, subst, ◌∙◌}
+use Rattle.std.specs.Prelude.{Result, Ok, Err, OnOk, if◌then◌else◌}
+use Rattle.std.specs.List.{Contains}
+use Rattle.std.proofs.lemmas.List.{map-append}
+use Rattle.std.proofs.lemmas.List.Elements.{Contains-append_left, Contains-append_right}
+use Rattle.site.specs.declared.outside.Dev.{Dev}
+use Rattle.site.specs.declared.outside.Dev.TheVariants.{Log, Flash, Disk}
+use Rattle.site.specs.declared.outside.Stop.{Stop}
+use Rattle.site.specs.declared.geometry.Geometry.{Geometry}
+use Rattle.site.specs.State.{State, Image, Snapshot, MayStand, loose_of, content_of, IsQuiet}
+use Rattle.site.specs.Calls.{IsUnchanged}
+use Rattle.site.specs.Work.{Calls}
+use Rattle.site.specs.Moments.{Leaves, LeavesOnly, ChangesOnly}
+use Rattle.site.specs.Laws.{in_sequence, leaves_weaker, untouched_leaves, others_untouched, each_both, each_weaker, settled_is, quiet_settled, quiet_leaves, no_call, unchanged_calm, holds_now, stays_honest, unchanged}
+use Rattle.site.proofs.Working.{ok_as, ok_always}
+use Rattle.sealed_ring.specs.Ring.{hi_of}
+use Rattle.image_changes.specs.Rings.{group_shape}
+use Rattle.image_changes.specs.Changes.{Change}
+use Rattle.image_changes.specs.Reached.{LeavesFront, IsReached, IsFrontOf}
+use Rattle.disk_pages.specs.Pages.{page_on}
+use Rattle.second_chance.specs.Queue.{Queue}
+use Rattle.second_chance.specs.Plans.{Placed}
+use Rattle.second_chance.specs.Machine.{Rules, Cache, Staged, PoolPage, must_be_pushed, staged_in_push, staged_in_eviction, staged_by, push_changed, wants_flush}
+use Rattle.second_chance.specs.Laws.{FlushGoesOn, FlushEnds}
+use Rattle.record_model.specs.Touches.{flush}
+use Rattle.flash_cache.specs.declared.cache.FlashCache.{FlashCache}
+use Rattle.flash_cache.specs.Held as held
+use Rattle.flash_cache.specs.Held.{disk_on}
+use Rattle.flash_cache.specs.Pushed.{staged_pages, staged_marks, changes_of_push}
+use Rattle.frame_group.specs.Groups.{Frame as Stored}
+use Rattle.buffer_pool.specs.declared.frame.Frame.{Frame}
+use Rattle.page_store.specs.declared.store.PageStore.{PageStore}
+use Rattle.page_store.specs.Caching.{pool_page, cache_of, rules, next_group, first_pushed, is_pushed}
+use Rattle.page_store.specs.Held.{MayGoOn, Fits}
+use Rattle.page_store.specs.Staging.{pages_staged, staged_by_eviction, WritesOnly, HasQueueOn, Stages}
+use Rattle.page_store.proofs.PushLaws.{flash_fits_same, flash_holds_same}
+use Rattle.page_store.proofs.Evictions.{reverse_last}
+use Rattle.page_store.proofs.Written.{wrote, rewritten, groups_in, front_rewritten, front_groups, push_rewrites, push_groups}
+
+-- Images.
+
+-- where flash and disk are as they were nothing is written
+pub nothing_written : (g : Geometry) (staged : List Staged) (next : ℕ) (old now : Image) → hi_of (group_shape g) old.flash ≤ next → now.flash ≡ old.flash → now.disk ≡ old.disk → WritesOnly g staged next old now
+nothing_written g staged next old now low flash disk =
+    let same = ap (hi_of (group_shape g)) flash in
+    record { groups = omega (arith, same, low); disk = λ page out. ap (page_on page) disk }
+
+pub written_weaker : (g : Geometry) (staged more : List Staged) (next next' : ℕ) (old now : Image) → ((page : ℕ) → Contains (pages_staged staged) page → Contains (pages_staged more) page) → next ≤ next' →
+    WritesOnly g staged next old now → WritesOnly g more next' old now
+written_weaker g staged more next next' old now among up only = record { groups = (let low = only.groups in omega (arith, low, up)); disk = λ page out. only.disk page (λ is. out (among page is)) }
+
+pub among_first : (staged more : List Staged) (page : ℕ) → Contains (pages_staged staged) page → Contains (pages_staged (staged ++ more)) page
+among_first staged more page is = subst (λ (l : List ℕ). Contains l page) (sym (map-append (λ (f : Staged). f.page) staged more)) (Contains-append_left (pages_staged staged) (pages_staged more) page is)
+
+pub among_later : (staged more : List Staged) (page : ℕ) → Contains (pages_staged more) page → Contains (pages_staged (staged ++ more)) page
+among_later staged more page is = subst (λ (l : List ℕ). Contains l page) (sym (map-append (λ (f : Staged). f.page) staged more)) (Contains-append_right (pages_staged staged) (pages_staged more) page is)
+
+-- one after the other
+pub written_then : (g : Geometry) (staged more : List Staged) (next next' : ℕ) (a b c : Image) → WritesOnly g staged next a b → WritesOnly g more next' b c → WritesOnly g (staged ++ more) next' a c
+written_then g staged more next next' a b c one two = record {
+  groups = two.groups;
+  disk = λ page out. two.disk page (λ is. out (among_later staged more page is)) ∙ one.disk page (λ is. out (among_first staged more page is));
+}
+
+-- Stores.
+
+-- what fits has its queue on flash
+pub fits_queue : (store : PageStore) (site : State) → MayGoOn store site → Fits store site → HasQueueOn store site
+fits_queue store site going fits = record { fits = fits.flash; groups = fits.groups; holds = fits.holds; next = going.flash.next ∙ fits.flash.hi; room = (let least = going.flash.limits.groups in omega (arith, least)) }
+
+-- so does another store with the same cache, on a site with the same flash
+pub queue_same : (store other : PageStore) (old new : State) → other.flash ≡ store.flash → new.image.flash ≡ old.image.flash → IsTrue new.honest → HasQueueOn store old → HasQueueOn other new
+queue_same store other old new same flash honest has =
+    subst (λ (f : FlashCache). HasQueueOn (record other { flash = f }) new) (sym same) (record {
+      fits = flash_fits_same store.flash old new flash honest has.fits;
+      groups = has.groups;
+      holds = flash_holds_same store.flash old.image new.image has.groups flash has.holds;
+      next = has.next ∙ ap (hi_of (group_shape store.flash.geometry)) (sym flash);
+      room = has.room;
+    })
+
+-- What a crash leaves.
+
+abbrev pub Leaving : Geometry → List Staged → ℕ → State → State → Type 0
+Leaving g staged next old now = LeavesOnly old now (λ s. WritesOnly g staged next old.image s.image)
+
+-- of the first ones of some changes
+pub front_writes : (g : Geometry) (changes : List Change) (staged : List Staged) (next : ℕ) (old now : State) → hi_of (group_shape g) old.image.flash + groups_in changes ≤ next →
+    ((page : ℕ) → Contains (rewritten changes) page → Contains (pages_staged staged) page) → LeavesFront g changes old now → Leaving g staged next old now
+front_writes g changes staged next old now low among front = leaves_weaker old now (IsReached g (IsFrontOf changes) old) (λ s. WritesOnly g staged next old.image s.image) within front
+  where
+    within : (s : Snapshot) → IsReached g (IsFrontOf changes) old s → WritesOnly g staged next old.image s.image
+    within s is =
+        let made = wrote g is.changes old.image s.image is.reaches in
+        let same = made.groups_are in
+        let few = front_groups changes is.changes is.made in
+        record {
+          groups = omega (arith, same, few, low);
+          disk = λ page out. made.disk page (λ listed. out (among page (front_rewritten changes is.changes is.made page listed)));
+        }
+
+-- of a site that stays as it is
+pub still_leaves : (g : Geometry) (staged : List Staged) (next : ℕ) (old now : State) → hi_of (group_shape g) old.image.flash ≤ next → IsQuiet old → IsUnchanged old now → Leaving g staged next old now
+still_leaves g staged next old now low quiet same =
+    unchanged_calm old old now (Leaves (λ s. WritesOnly g staged next old.image s.image)) (no_call old (Leaves (λ s. WritesOnly g staged next old.image s.image)) (λ s left.
+    subst (λ (t : Snapshot). WritesOnly g staged next old.image t.image) (sym (quiet_leaves old s quiet left)) (nothing_written g staged next old.image old.image low refl refl))) same
+
+-- of calls on the log alone
+pub log_leaves : (g : Geometry) (staged : List Staged) (next : ℕ) (old now : State) → hi_of (group_shape g) old.image.flash ≤ next → IsQuiet old → ChangesOnly Log old now → Leaving g staged next old now
+log_leaves g staged next old now low quiet changes =
+    let stands = λ (d : Dev). λ (s : Snapshot). MayStand (loose_of d old.loose) (content_of d old.image) (content_of d s.image) in
+    let one = λ (d : Dev). λ (ne : d ≢ Log). untouched_leaves d old now (others_untouched Log d old now ne changes.only) in
+    each_weaker old now (λ m. Leaves (stands Flash) m × Leaves (stands Disk) m) (Leaves (λ s. WritesOnly g staged next old.image s.image))
+    (λ m both s left. nothing_written g staged next old.image s.image low (settled Flash s (both.0 s left)) (settled Disk s (both.1 s left)))
+    (each_both old now (Leaves (stands Flash)) (Leaves (stands Disk)) (one Flash (λ h. cc)) (one Disk (λ h. cc)))
+  where
+    settled : (d : Dev) (s : Snapshot) → MayStand (loose_of d old.loose) (content_of d old.image) (content_of d s.image) → content_of d s.image ≡ content_of d old.image
+    settled d s stands = settled_is (content_of d old.image) (content_of d s.image) (subst (λ rs. MayStand rs (content_of d old.image) (content_of d s.image)) (quiet_settled d old quiet) stands)
+
+-- Calls, each by its result.
+
+-- another answer, which is Ok where the first one is
+pub stages_result : {A B : Type 0} {r : Result A Stop} {s : Result B Stop} {staged : List Staged} {next : ℕ} {old new : PageStore} {before now : State} → ((P : Type 0) → OnOk r P → OnOk s P) →
+    Stages r staged next old new before now → Stages s staged next old new before now
+stages_result {new = new} {now = now} turns stages = record {
+  holds = λ has. turns (HasQueueOn new now) (stages.holds has);
+  quiet = λ has quiet. turns (IsQuiet now) (stages.quiet has quiet);
+  writes = stages.writes;
+  sizes = stages.sizes;
+}
+
+pub stages_ok : {A B : Type 0} {a : A} {b : B} {staged : List Staged} {next : ℕ} {old new : PageStore} {before now : State} → Stages {T = A} (Ok a) staged next old new before now → Stages {T = B} (Ok b) staged next old new before now
+stages_ok {A} {B} {a} {b} stages = stages_result {r = Ok a} {s = Ok b} (λ P p. p) stages
+
+pub stages_err : {A B : Type 0} {r : Result A Stop} {stop : Stop} {staged : List Staged} {next : ℕ} {old new : PageStore} {before now : State} → Stages r staged next old new before now → Stages {T = B} (Err stop) staged next old new before now
+stages_err {A} {B} {r} {stop} stages = stages_result {r = r} {s = Err stop} (λ P p. tt) stages
+
+-- where more may be written
+pub stages_weaker : {T : Type 0} {r : Result T Stop} {staged more : List Staged} {next next' : ℕ} {old new : PageStore} {before now : State} →
+    ((page : ℕ) → Contains (pages_staged staged) page → Contains (pages_staged more) page) → next ≤ next' → Stages r staged next old new before now → Stages r more next' old new before now
+stages_weaker {staged = staged} {more = more} {next = next} {next' = next'} {old = old} {before = before} {now = now} among up stages = record {
+  holds = stages.holds;
+  quiet = stages.quiet;
+  writes = λ has quiet. leaves_weaker before now (λ s. WritesOnly old.flash.geometry staged next before.image s.image) (λ s. WritesOnly old.flash.geometry more next' before.image s.image)
+      (λ s only. written_weaker old.flash.geometry staged more next next' before.image s.image among up only) (stages.writes has quiet);
+  sizes = stages.sizes;
+}
+
+pub stages_as : {T : Type 0} {r : Result T Stop} {staged more : List Staged} {next next' : ℕ} {old new : PageStore} {before now : State} → staged ≡ more → next ≡ next' → Stages r staged next old new before now → Stages r more next' old new before now
+stages_as {next = next} among up stages = stages_weaker (λ page is. subst (λ (l : List Staged). Contains (pages_staged l) page) among is) (omega (arith, up)) stages
+
+-- stores whose caches are the same
+pub stages_between : {T : Type 0} {r : Result T Stop} {staged : List Staged} {next : ℕ} {old mid new after : PageStore} {before now : State} → mid.flash ≡ old.flash → after.flash ≡ new.flash → Stages r staged next mid new before now → Stages r staged next old after before now
+stages_between {r = r} {staged = staged} {next = next} {old = old} {mid = mid} {new = new} {after = after} {before = before} {now = now} first last stages =
+    let there = λ (has : HasQueueOn old before). queue_same old mid before before first refl has.fits.honest has in
+    record {
+      holds = λ has. ok_as r _ _ (λ (is : HasQueueOn new now). queue_same new after now now last refl is.fits.honest is) (stages.holds (there has));
+      quiet = λ has quiet. stages.quiet (there has) quiet;
+      writes = λ has quiet. subst (λ (f : FlashCache). Leaving f.geometry staged next before now) first (stages.writes (there has) quiet);
+      sizes = ap (λ (f : FlashCache). f.geometry) last ∙ stages.sizes ∙ ap (λ (f : FlashCache). f.geometry) first;
+    }
+
+-- a call that writes nothing
+pub stages_still : {T : Type 0} {r : Result T Stop} {staged : List Staged} {next : ℕ} {old new : PageStore} {before now : State} → next_group (cache_of old) ≤ next → (IsTrue before.honest → IsUnchanged before now) →
+    new.flash.geometry ≡ old.flash.geometry → (HasQueueOn old before → OnOk r (HasQueueOn new now)) → Stages r staged next old new before now
+stages_still {r = r} {staged = staged} {next = next} {old = old} {before = before} {now = now} low same sizes holds = record {
+  holds = holds;
+  quiet = λ has quiet. ok_always r (IsQuiet now) ((same has.fits.honest).loose ∙ quiet);
+  writes = λ has quiet. (let is = has.next in still_leaves old.flash.geometry staged next before now (omega (arith, is, low)) quiet (same has.fits.honest));
+  sizes = sizes;
+}
+
+-- a call on the log alone
+pub stages_beside : {T : Type 0} {r : Result T Stop} {staged : List Staged} {next : ℕ} {old new : PageStore} {before now : State} → next_group (cache_of old) ≤ next → (IsTrue before.honest → ChangesOnly Log before now) → Calls r before now →
+    new.flash ≡ old.flash → Stages r staged next old new before now
+stages_beside {r = r} {staged = staged} {next = next} {old = old} {new = new} {before = before} {now = now} low changes calls same = record {
+  holds = λ has. ok_always r (HasQueueOn new now) (queue_same old new before now same ((changes has.fits.honest).only.now.content Flash (λ h. cc)) (stays_honest before now calls.goes has.fits.honest) has);
+  quiet = λ has quiet. calls.stays_quiet has.fits.honest quiet;
+  writes = λ has quiet. (let is = has.next in log_leaves old.flash.geometry staged next before now (omega (arith, is, low)) quiet (changes has.fits.honest));
+  sizes = ap (λ (f : FlashCache). f.geometry) same;
+}
+
+-- no call
+pub stages_none : {T : Type 0} {r : Result T Stop} {staged : List Staged} {next : ℕ} {old new : PageStore} {now : State} → next_group (cache_of old) ≤ next → new.flash ≡ old.flash → Stages r staged next old new now now
+stages_none {T} {r} {old = old} {new = new} {now = now} low same =
+    stages_still low (λ honest. unchanged now) (ap (λ (f : FlashCache). f.geometry) same) (λ has. ok_always r (HasQueueOn new now) (queue_same old new now now same refl has.fits.honest has))
+
+-- a call behind one that was Ok
+pub stages_then : {A B : Type 0} {a : A} {r : Result B Stop} {staged more : List Staged} {next next' : ℕ} {old mid new : PageStore} {before between now : State} → (HasQueueOn old before → next ≤ next') →
+    Stages {T = A} (Ok a) staged next old mid before between → Stages r more next' mid new between now → Stages r (staged ++ more) next' old new before now
+stages_then {staged = staged} {more = more} {next = next} {next' = next'} {old = old} {mid = mid} {before = before} {between = between} {now = now} up one two =
+    let g = old.flash.geometry in
+    let only = λ (s : Snapshot). WritesOnly g staged next before.image s.image in
+    let all = λ (s : Snapshot). WritesOnly g (staged ++ more) next' before.image s.image in
+    record {
+      holds = λ has. two.holds (one.holds has);
+      quiet = λ has quiet. two.quiet (one.holds has) (one.quiet has quiet);
+      writes = λ has quiet.
+          let first : Leaving g staged next before between = one.writes has quiet in
+          let stands : WritesOnly g staged next before.image between.image = holds_now before between only first in
+          let second : Leaving g more next' between now = subst (λ (h : Geometry). Leaving h more next' between now) one.sizes (two.writes (one.holds has) (one.quiet has quiet)) in
+          in_sequence before between now (Leaves all)
+          (leaves_weaker before between only all (λ s is. written_weaker g staged (staged ++ more) next next' before.image s.image (among_first staged more) (up has) is) first)
+          (leaves_weaker between now (λ s. WritesOnly g more next' between.image s.image) all (λ s is. written_then g staged more next next' before.image between.image s.image stands is) second);
+      sizes = two.sizes ∙ one.sizes;
+    }
+
+-- A push of a group.
+
+-- the pages that it stages are those of the machine's frames
+staged_are : (queue : Queue) (frames : List Placed) → map (λ f. f.1.page) frames ≡ pages_staged (map (λ f. record { group = queue.first; index = f.0; page = f.1.page }) frames)
+staged_are queue [] = refl
+staged_are queue (frame ∷ frames) = ap (λ (l : List ℕ). frame.1.page ∷ l) (staged_are queue frames)
+
+pub pages_are : (store : PageStore) → staged_pages store.flash ≡ pages_staged (staged_in_push (rules store) store.flash.directory)
+pages_are store = staged_are store.flash.directory (staged_marks store.flash)
+
+pub push_leaves : (store : PageStore) (group : List ℕ) (old now : State) → HasQueueOn store old → LeavesFront store.flash.geometry (changes_of_push (staged_pages store.flash) group) old now →
+    Leaving store.flash.geometry (staged_in_push (rules store) store.flash.directory) (next_group (cache_of store) + 1) old now
+push_leaves store group old now has front =
+    let is = has.next in
+    let one = push_groups (staged_pages store.flash) group in
+    front_writes store.flash.geometry (changes_of_push (staged_pages store.flash) group) (staged_in_push (rules store) store.flash.directory) (next_group (cache_of store) + 1) old now (omega (arith, is, one))
+    (λ page listed. subst (λ (l : List ℕ). Contains l page) (pages_are store) (push_rewrites (staged_pages store.flash) group page listed)) front
+
+pub queue_pushed : {T : Type 0} (r : Result T Stop) (flash : FlashCache) (store : PageStore) (groups : List (List Stored)) (now : State) → held.MayGoOn flash now → OnOk r (held.Fits flash now) → OnOk r (held.Holds flash now.image groups) →
+    OnOk r (HasQueueOn (record store { flash = flash }) now)
+queue_pushed (Ok x) flash store groups now going fits holds = record { fits = fits; groups = groups; holds = holds; next = going.next ∙ fits.hi; room = (let least = going.limits.groups in omega (arith, least)) }
+queue_pushed (Err stop) flash store groups now going fits holds = tt
+
+-- An eviction.
+
+module _ (store : PageStore) (frames : List Frame) (last : Frame) (is : store.pool.frames ≡ frames ++ last ∷ []) where
+  turned : reverse (cache_of store).pool ≡ pool_page last ∷ reverse (map pool_page frames)
+  turned = ap (λ (l : List Frame). reverse (map pool_page l)) is ∙ ap reverse (map-append pool_page frames (last ∷ [])) ∙ reverse_last (map pool_page frames) (pool_page last)
+
+  pub evicted_staged : must_be_pushed store.flash.directory (pool_page last) ≡ true → staged_in_push (rules store) store.flash.directory ≡ staged_by_eviction (rules store) (cache_of store)
+  evicted_staged must = sym (ap (λ (l : List PoolPage). staged_in_eviction (rules store) l store.flash.directory) turned
+      ∙ ap (λ (b : Bool). if b then staged_in_push (rules store) store.flash.directory else []) must)
+
+  pub evicted_next : must_be_pushed store.flash.directory (pool_page last) ≡ true → next_group (cache_of store) + 1 ≡ next_group (cache_of store) + (if is_pushed (cache_of store) then 1 else 0)
+  evicted_next must = ap (λ (b : Bool). next_group (cache_of store) + (if b then 1 else 0)) (sym (ap (first_pushed store.flash.directory) turned ∙ must))
+
+-- A flush that goes on: these frames are staged so far, and the others come.
+pub record IsFlushing (first store : PageStore) (old now : State) : Type 0 where
+  pub staged : List Staged
+  pub split : staged_by (rules first) flush (cache_of first) ≡ staged ++ staged_by (rules first) flush (cache_of store)
+  pub stages : Stages {T = Unit {0}} (Ok tt) staged (next_group (cache_of store)) first store old now
+
+-- one push more
+pub flushing_more : FlushGoesOn → {x : Unit {0}} (first store after : PageStore) (old mid new : State) → rules store ≡ rules first → wants_flush (cache_of store) ≡ true → cache_of after ≡ push_changed (rules store) (cache_of store) →
+    next_group (cache_of store) + 1 ≡ next_group (cache_of after) → IsFlushing first store old mid → Stages {T = Unit {0}} (Ok x) (staged_in_push (rules store) store.flash.directory) (next_group (cache_of store) + 1) store after mid new → IsFlushing first after old new
+flushing_more goes_on first store after old mid new same wants machine next so_far push =
+    let one : List Staged = staged_in_push (rules first) store.flash.directory in
+    let turned : staged_in_push (rules store) store.flash.directory ≡ one = ap (λ (r : Rules). staged_in_push r store.flash.directory) same in
+    let there : cache_of after ≡ push_changed (rules first) (cache_of store) = machine ∙ ap (λ (r : Rules). push_changed r (cache_of store)) same in
+    record {
+      staged = so_far.staged ++ one;
+      split = so_far.split ∙ ap (λ (l : List Staged). so_far.staged ++ l) ((goes_on (rules first) (cache_of store) wants).1 ∙ ap (λ (k : Cache). one ++ staged_by (rules first) flush k) (sym there))
+          ∙ sym (append_assoc so_far.staged one (staged_by (rules first) flush (cache_of after)));
+      stages = stages_then (λ has. omega (arith, next)) so_far.stages (stages_ok (stages_as turned next push));
+    }
+
+-- a push that stops
+pub flushing_stopped : FlushGoesOn → {T : Type 0} (stop : Stop) (first store after : PageStore) (old mid new : State) (next : ℕ) → rules store ≡ rules first → wants_flush (cache_of store) ≡ true → next_group (cache_of store) + 1 ≤ next →
+    IsFlushing first store old mid → Stages {T = T} (Err stop) (staged_in_push (rules store) store.flash.directory) (next_group (cache_of store) + 1) store after mid new →
+    Stages {T = T} (Err stop) (staged_by (rules first) flush (cache_of first)) next first after old new
+flushing_stopped goes_on stop first store after old mid new next same wants up so_far push =
+    let one : List Staged = staged_in_push (rules first) store.flash.directory in
+    let turned : staged_in_push (rules store) store.flash.directory ≡ one = ap (λ (r : Rules). staged_in_push r store.flash.directory) same in
+    let rest : List Staged = staged_by (rules first) flush (push_changed (rules first) (cache_of store)) in
+    let all : staged_by (rules first) flush (cache_of first) ≡ (so_far.staged ++ one) ++ rest =
+    so_far.split ∙ ap (λ (l : List Staged). so_far.staged ++ l) (goes_on (rules first) (cache_of store) wants).1 ∙ sym (append_assoc so_far.staged one rest) in
+    stages_weaker (λ page is. subst (λ (l : List Staged). Contains (pages_staged l) page) (sym all) (among_first (so_far.staged ++ one) rest page is)) up (stages_then (λ has. omega arith) so_far.stages (stages_as turned refl push))
+
+-- the last one
+pub flushing_done : FlushEnds → {T : Type 0} {x : T} (first store : PageStore) (old now : State) (next : ℕ) → wants_flush (cache_of store) ≡ false → next_group (cache_of store) ≡ next → IsFlushing first store old now →
+    Stages {T = T} (Ok x) (staged_by (rules first) flush (cache_of first)) next first store old now
+flushing_done ends first store old now next none up so_far =
+    let all : staged_by (rules first) flush (cache_of first) ≡ so_far.staged = so_far.split ∙ ap (λ (l : List Staged). so_far.staged ++ l) (ends (rules first) (cache_of store) none).1 ∙ append-nil so_far.staged in
+    stages_as (sym all) up (stages_ok so_far.stages)
