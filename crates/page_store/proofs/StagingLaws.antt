@@ -24,6 +24,7 @@ use Rattle.second_chance.specs.Plans.{Placed}
 use Rattle.second_chance.specs.Machine.{Rules, Cache, Staged, PoolPage, must_be_pushed, staged_in_push, staged_in_eviction, staged_by, push_changed, wants_flush}
 use Rattle.second_chance.specs.Laws.{FlushGoesOn, FlushEnds}
 use Rattle.record_model.specs.Touches.{flush}
+use Rattle.tail_rebuild.specs.Saving.{changes_of_save}
 use Rattle.flash_cache.specs.declared.cache.FlashCache.{FlashCache}
 use Rattle.flash_cache.specs.Held as held
 use Rattle.flash_cache.specs.Held.{disk_on}
@@ -36,7 +37,7 @@ use Rattle.page_store.specs.Held.{MayGoOn, Fits}
 use Rattle.page_store.specs.Staging.{pages_staged, staged_by_eviction, WritesOnly, HasQueueOn, Stages}
 use Rattle.page_store.proofs.PushLaws.{flash_fits_same, flash_holds_same}
 use Rattle.page_store.proofs.Evictions.{reverse_last}
-use Rattle.page_store.proofs.Written.{wrote, rewritten, groups_in, front_rewritten, front_groups, push_rewrites, push_groups}
+use Rattle.page_store.proofs.Written.{wrote, rewritten, groups_in, front_rewritten, front_groups, push_rewrites, push_groups, save_rewrites, save_groups}
 
 -- Images.
 
@@ -216,13 +217,17 @@ staged_are queue (frame ∷ frames) = ap (λ (l : List ℕ). frame.1.page ∷ l)
 pub pages_are : (store : PageStore) → staged_pages store.flash ≡ pages_staged (staged_in_push (rules store) store.flash.directory)
 pages_are store = staged_are store.flash.directory (staged_marks store.flash)
 
-pub push_leaves : (store : PageStore) (group : List ℕ) (old now : State) → HasQueueOn store old → LeavesFront store.flash.geometry (changes_of_push (staged_pages store.flash) group) old now →
+pub push_leaves : (store : PageStore) (due : Bool) (saved : List (List Stored)) (group : List ℕ) (old now : State) → HasQueueOn store old →
+    LeavesFront store.flash.geometry (changes_of_save due saved ++ changes_of_push (staged_pages store.flash) group) old now →
     Leaving store.flash.geometry (staged_in_push (rules store) store.flash.directory) (next_group (cache_of store) + 1) old now
-push_leaves store group old now has front =
+push_leaves store due saved group old now has front =
     let is = has.next in
+    let pushed = changes_of_push (staged_pages store.flash) group in
     let one = push_groups (staged_pages store.flash) group in
-    front_writes store.flash.geometry (changes_of_push (staged_pages store.flash) group) (staged_in_push (rules store) store.flash.directory) (next_group (cache_of store) + 1) old now (omega (arith, is, one))
-    (λ page listed. subst (λ (l : List ℕ). Contains l page) (pages_are store) (push_rewrites (staged_pages store.flash) group page listed)) front
+    let none = save_groups due saved pushed in
+    front_writes store.flash.geometry (changes_of_save due saved ++ pushed) (staged_in_push (rules store) store.flash.directory) (next_group (cache_of store) + 1) old now (omega (arith, is, one, none))
+    (λ page listed. subst (λ (l : List ℕ). Contains l page) (pages_are store)
+    (push_rewrites (staged_pages store.flash) group page (subst (λ (l : List ℕ). Contains l page) (save_rewrites due saved pushed) listed))) front
 
 pub queue_pushed : {T : Type 0} (r : Result T Stop) (flash : FlashCache) (store : PageStore) (groups : List (List Stored)) (now : State) → held.MayGoOn flash now → OnOk r (held.Fits flash now) → OnOk r (held.Holds flash now.image groups) →
     OnOk r (HasQueueOn (record store { flash = flash }) now)

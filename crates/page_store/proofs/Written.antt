@@ -1,5 +1,5 @@
 -- Which disk pages some changes of an image rewrite, and how many groups they append.
-use Rattle.std.proofs.Common.{◌≡◌, ◌≢◌, inl, inr, ℕ, ◌+◌, ◌*◌, ◌<◌, ◌≤◌, List, [], ◌∷◌, ◌++◌, length, get_or, drop, arith, refl, sym, ap, subst, ◌∙◌, append_assoc, append-nil}
+use Rattle.std.proofs.Common.{◌≡◌, ◌≢◌, inl, inr, Bool, true, false, ℕ, ◌+◌, ◌*◌, ◌<◌, ◌≤◌, List, [], ◌∷◌, ◌++◌, length, get_or, drop, arith, refl, sym, ap, subst, ◌∙◌, append_assoc, append-nil}
 use Rattle.std.specs.List.{Contains}
 use Rattle.std.proofs.lemmas.Bool.{cases_order}
 use Rattle.std.proofs.lemmas.List.{same_lists, get_or_default, get_or-take, get_or-drop, length-take, length-drop}
@@ -13,6 +13,8 @@ use Rattle.disk_pages.specs.Laws.{IsBesidePage}
 use Rattle.image_changes.specs.Rings.{Groups, group_shape}
 use Rattle.image_changes.specs.Changes.{Change, SealsBlock, RewritesPages, AppendsGroup, AppendsSegment, AppendsMaster, Makes, Reaches}
 use Rattle.image_changes.specs.Reached.{IsFrontOf}
+use Rattle.frame_group.specs.Groups.{Frame as Stored}
+use Rattle.tail_rebuild.specs.Saving.{changes_of_save}
 use Rattle.flash_cache.specs.Held.{disk_on}
 use Rattle.flash_cache.specs.Pushed.{changes_of_push}
 
@@ -153,3 +155,12 @@ push_rewrites (first ∷ pages) group page listed = subst (λ (l : List ℕ). Co
 pub push_groups : (pages group : List ℕ) → groups_in (changes_of_push pages group) ≡ 1
 push_groups [] group = refl
 push_groups (first ∷ pages) group = refl
+
+-- a segment that is saved before them changes nothing of that
+pub save_rewrites : (due : Bool) (saved : List (List Stored)) (changes : List Change) → rewritten (changes_of_save due saved ++ changes) ≡ rewritten changes
+save_rewrites true saved changes = refl
+save_rewrites false saved changes = refl
+
+pub save_groups : (due : Bool) (saved : List (List Stored)) (changes : List Change) → groups_in (changes_of_save due saved ++ changes) ≡ groups_in changes
+save_groups true saved changes = refl
+save_groups false saved changes = refl

@@ -25,6 +25,8 @@ use Rattle.page_store.proofs.Changing.{front_more}
 use Rattle.second_chance.specs.Machine.{Staged, staged_in_push}
 use Rattle.page_store.specs.Caching.{cache_of, rules as rules_for, next_group}
 use Rattle.page_store.specs.Staging.{Stages}
+use Rattle.tail_rebuild.specs.Saving.{is_due}
+use Rattle.flash_cache.specs.Held.{groups_on}
 use Rattle.page_store.proofs.StagingLaws.{stages_beside, stages_then, push_leaves as push_writes, queue_pushed}
 use Rattle.page_store.proofs.store.PageStore.push.Goals as goal
 
@@ -148,7 +150,7 @@ returns-in-Ok-clause-keeps g c list ready =
           (subst (λ (k : Geometry). Reaches k first old.image mid.image) sizes (c.in-Ok.ensures.reaches list ready.blocks ready.records)) b.told (pushing quiet));
       quiet = λ quiet. c.push_group.ensures.quiet_err b.honest (still quiet);
       worn_log = search rules;
-      worn = c.push_group.ensures.worn_end groups b.fits b.holds;
+      worn = c.push_group.ensures.worn_end b.fits;
       readable = c.push_group.ensures.foreign groups b.fits b.holds;
     }
 
@@ -207,7 +209,7 @@ returns-in-Ok-clause-stands g c list ready =
       };
     })
     c.push_group.ensures.directory (c.push_group.ensures.gives groups b.fits b.holds b.clean) (c.push_group.ensures.reaches groups b.fits b.holds)
-    (ok_under c.push_group.result _ _ (c.push_group.ensures.clean groups b.fits b.holds b.clean)) (c.push_group.ensures.fits groups b.fits b.holds) (c.push_group.ensures.holds groups b.fits b.holds)
+    (ok_under c.push_group.result _ _ (c.push_group.ensures.clean groups b.fits b.holds b.clean)) (c.push_group.ensures.fits b.fits) (c.push_group.ensures.holds groups b.fits b.holds)
 
 pub returns-in-Ok-clause-worn_at : goal.returns-in-Ok-clause-worn_at
 returns-in-Ok-clause-worn_at g c says =
@@ -234,7 +236,7 @@ returns-in-Ok-clause-stages g c =
     let second : Stages c.push_group.result staged (next + 1) store store' mid new = record {
       holds = λ has. queue_pushed c.push_group.result c.push_group.new.self store _ new c.push_group.ensures.going (c.push_group.ensures.fits has.fits) (c.push_group.ensures.holds has.groups has.fits has.holds);
       quiet = λ has quiet. c.push_group.ensures.quiet has.fits.honest quiet;
-      writes = λ has quiet. push_writes store _ mid new has (c.push_group.ensures.front has.groups has.fits has.holds quiet);
+      writes = λ has quiet. push_writes store (is_due store.flash.ring.hi store.flash.segments.hi) (groups_on store.flash.geometry mid.image) _ mid new has (c.push_group.ensures.front has.groups has.fits has.holds quiet);
       sizes = c.push_group.ensures.geometry;
     } in
     stages_then (λ has. omega arith) first second
