@@ -4,20 +4,30 @@ use Rattle.std.specs.Prelude.{Result, Ok, Err, IsErrOf}
 use Rattle.site.specs.declared.outside.Dev.TheVariants.{Flash, Disk}
 use Rattle.site.specs.declared.outside.Stop.{Stop}
 use Rattle.site.specs.declared.outside.Stop.TheVariants.{Worn, Memory}
-use Rattle.site.specs.State.{State as Site}
-use Rattle.site.specs.Calls.{SameReads}
+use Rattle.site.specs.State.{State as Site, Image, Snapshot, IsQuiet}
+use Rattle.site.specs.declared.geometry.Geometry.{Geometry}
+use Rattle.site.specs.Moments.{Leaves, LeavesOnly}
+use Rattle.site.specs.Laws.{in_sequence}
+use Rattle.sealed_ring.specs.Ring.{hi_of}
+use Rattle.image_changes.specs.Rings.{group_shape, units_on}
+use Rattle.frame_group.specs.Groups.{Frame, frames_in}
+use Rattle.second_chance.specs.Queue.{frame_of as known_of}
+use Rattle.page_store.proofs.StagingLaws.{still_leaves}
+use Rattle.std.proofs.lemmas.List.{length-map}
+use Rattle.site.specs.Calls.{SameReads, IsUnchanged}
 use Rattle.std.specs.List.{range_with_len}
 use Rattle.std.proofs.lemmas.List.{map-append}
 use Rattle.record_model.specs.Touches.{CacheWork, read_touch}
 use Rattle.engine.proofs.Scans.{range_more, range_at}
-use Rattle.second_chance.specs.Machine.{Rules, Cache}
+use Rattle.second_chance.specs.Machine.{Rules, Cache, after_works, staged_by_works}
 use Rattle.page_store.specs.declared.store.PageStore.{PageStore}
-use Rattle.page_store.specs.Caching.{cache_of, rules, with_change}
+use Rattle.page_store.specs.Caching.{cache_of, rules, with_change, next_group}
 use Rattle.redo_undo.specs.Works.{one_touch, Asks, NumbersRise, one_change}
 use Rattle.redo_undo.specs.declared.store.Store.{Store}
 use Rattle.engine.specs.declared.engine.Engine.{Engine}
 use Rattle.engine.specs.Going.{MayGoOn}
-use Rattle.engine.specs.Paging.{AsksFrom}
+use Rattle.engine.specs.Paging.{AsksFrom, WritesFrom, cache_on}
+use Rattle.page_store.specs.Staging.{HasQueueOn, Stages, WritesOnly}
 use Rattle.site.proofs.Working.{err_again, no_error}
 use Rattle.redo_undo.specs.Stores.{MayWork}
 use Rattle.redo_undo.proofs.Asking.{asks_then, asks_stopped, asks_same, stop_is}
@@ -26,8 +36,9 @@ use Rattle.page_store.specs.Laws.{TouchThenChange}
 
 -- A page that is touched, and then changed.
 pub change_ok : {A B : Type 0} (a : A) (b : B) (page : ℕ) (old mid new : PageStore) (before between now : Site) → 1 ≤ (rules old).groups → TouchThenChange → Asks {T = A} (Ok a) (one_touch page) old mid before between →
-    cache_of new ≡ with_change (cache_of mid) → rules new ≡ rules mid → SameReads between now → Asks {T = B} (Ok b) (one_change page) old new before now
-change_ok {A} {B} a b page old mid new before between now some law asks changed same read = change_made a (Ok b) page old mid new before between now some law asks changed same read (no_error {T = B} {x = b} {e = Worn Flash})
+    cache_of new ≡ with_change (cache_of mid) → rules new ≡ rules mid → SameReads between now → Stages {T = B} (Ok b) [] (next_group (cache_of mid)) mid new between now →
+    Asks {T = B} (Ok b) (one_change page) old new before now
+change_ok {A} {B} a b page old mid new before between now some law asks changed same read still = change_made a (Ok b) page old mid new before between now some law asks changed same read (no_error {T = B} {x = b} {e = Worn Flash}) still
 
 -- What is asked of each call.
 
@@ -82,6 +93,11 @@ from_err stop pages works old new before now asks = record {
   disk = asks.reads.disk;
 }
 
+-- what is written however it ends
+pub writes_stopped : {A : Type 0} (stop : Stop) (first later : List CacheWork) (old new : PageStore) (before now : Site) → 1 ≤ (rules old).groups → Asks {T = A} (Err stop) first old new before now → HasQueueOn old before → IsQuiet before →
+    WritesFrom old.flash.geometry (rules old) (first ++ later) (cache_of old) before now
+writes_stopped {A} stop first later old new before now some asks has quiet = (asks_stopped {A = A} {B = A} stop first later old new before now some asks).stages.writes has quiet
+
 -- it stopped before all of the work was done
 pub from_stopped : {A B : Type 0} (stop : Stop) (pages : B → PageStore) (first later : List CacheWork) (old new : PageStore) (before now : Site) → 1 ≤ (rules old).groups →
     Asks {T = A} (Err stop) first old new before now → AsksFrom {T = B} (Err stop) pages (rules old) (first ++ later) (cache_of old) 0 before now
@@ -129,3 +145,28 @@ from_other_err stop pages others r works start scanned old new asks = record { m
 pub from_other_fails : {A B : Type 0} (a : A) (stop : Stop) (pages : A → PageStore) (others : B → PageStore) (r : Rules) (works : List CacheWork) (start : Cache) (scanned : ℕ) (old new : Site) → (stop ≡ Worn Flash → ⊥) →
     AsksFrom {T = A} (Ok a) pages r works start scanned old new → AsksFrom {T = B} (Err stop) others r works start scanned old new
 from_other_fails {A} {B} a stop pages others r works start scanned old new never asks = record { machine = tt; worn = λ is. absurd (never (stop_is {U = B} stop (Worn Flash) is)); flash = asks.flash; disk = asks.disk }
+
+-- What a restart writes.
+
+-- the next group of a run at its beginning
+opened_next : (g : Geometry) (image : Image) → hi_of (group_shape g) image.flash ≤ next_group (cache_on g image)
+opened_next g image =
+    let groups = map frames_in (units_on (group_shape g) image).live in
+    omega (arith, length-map groups (map (λ (frame : Frame). known_of frame.page frame.dirty)))
+
+pub still_writes : NumbersRise → (g : Geometry) (r : Rules) (works : List CacheWork) (old now : Site) → 1 ≤ r.groups → IsQuiet old → IsUnchanged old now → WritesFrom g r works (cache_on g old.image) old now
+still_writes rise g r works old now some quiet same =
+    let up = rise r works (cache_on g old.image) some in
+    still_leaves g (staged_by_works r works (cache_on g old.image)) (next_group (after_works r works (cache_on g old.image))) old now (omega (arith, up, opened_next g old.image)) quiet same
+
+pub writes_found : NumbersRise → (g : Geometry) (r : Rules) (works : List CacheWork) (h : Geometry) (r' : Rules) (works' : List CacheWork) (start : Cache) (old mid new : Site) → 1 ≤ r.groups → IsQuiet old → IsUnchanged old mid → h ≡ g → r' ≡ r → works' ≡ works →
+    start ≡ cache_on g old.image → WritesFrom h r' works' start mid new → WritesFrom g r works (cache_on g old.image) old new
+writes_found rise g r works h r' works' start old mid new some quiet same sizes same_rules same_works same_start writes =
+    let staged = staged_by_works r works (cache_on g old.image) in
+    let next = next_group (after_works r works (cache_on g old.image)) in
+    let P = λ (s : Snapshot). WritesOnly g staged next old.image s.image in
+    let there : LeavesOnly mid new P =
+    subst (λ (i : Image). LeavesOnly mid new (λ (s : Snapshot). WritesOnly g staged next i s.image)) same.image
+    (subst (λ (k : Cache). LeavesOnly mid new (λ (s : Snapshot). WritesOnly g (staged_by_works r works k) (next_group (after_works r works k)) mid.image s.image)) same_start
+    (subst (λ (w : List CacheWork). WritesFrom g r w start mid new) same_works (subst (λ (x : Rules). WritesFrom g x works' start mid new) same_rules (subst (λ (x : Geometry). WritesFrom x r' works' start mid new) sizes writes)))) in
+    in_sequence old mid new (Leaves P) (still_writes rise g r works old mid some quiet same) there

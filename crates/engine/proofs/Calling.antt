@@ -40,6 +40,7 @@ use Rattle.site.proofs.Working.{err_again, no_error, calls_nothing, calls_then, 
 use Rattle.site.specs.Work.{Calls}
 use Rattle.redo_undo.specs.StoreCalls.{Works, Keeps}
 use Rattle.redo_undo.proofs.Asking.{stop_is}
+use Rattle.page_store.proofs.StagingLaws.{stages_none}
 use Rattle.redo_undo.proofs.Asking.{asks_nothing, asks_same, asks_then, asks_stopped}
 
 -- On every site.
@@ -213,7 +214,7 @@ answered {P = P} is does reply asks = answered_as (λ o. P) is does reply asks
 
 -- nothing is asked
 pub asks_rest : {T : Type 0} {x : T} {pages : PageStore} {site : Site} → Asks {T = T} (Ok x) [] pages pages site site
-asks_rest {T = T} {x = x} {pages = pages} {site = site} = asks_nothing {T = T} (Ok x) pages site site (λ dev. refl) (no_error {T = T} {x = x} {e = Worn Flash})
+asks_rest {T = T} {x = x} {pages = pages} {site = site} = asks_nothing {T = T} (Ok x) pages site site (λ dev. refl) (no_error {T = T} {x = x} {e = Worn Flash}) (stages_none (omega arith) refl)
 
 -- a command that is refused, or only answers: nothing is called
 pub does_nothing : {T : Type 0} {x : T} {engine : Engine} {site : Site} {s : State} {P : Snapshot → Type 0} → Fits engine site s → MayGoOn engine site → (IsQuiet site → LeavesOnly site site P) → Does {T = T} (Ok x) engine engine site site s s P 0

@@ -12,9 +12,11 @@ use Rattle.frame_group.specs.Groups.{frames_in}
 use Rattle.second_chance.specs.Queue.{Queue}
 use Rattle.flash_cache.specs.Held.{queue_of}
 use Rattle.sealed_ring.specs.Ring.{hi_of}
-use Rattle.second_chance.specs.Machine.{Rules, Cache, after_works}
+use Rattle.second_chance.specs.Machine.{Rules, Cache, after_works, staged_by_works}
 use Rattle.page_store.specs.declared.store.PageStore.{PageStore}
 use Rattle.page_store.specs.Caching.{cache_of, rules}
+use Rattle.page_store.specs.Staging.{WritesOnly}
+use Rattle.site.specs.Moments.{LeavesOnly}
 use Rattle.redo_undo.specs.Works.{redo_works, undo_works, checkpoint_works, next_group, Overflows, finds_in, misses_in}
 
 -- the queue on flash: the live groups, none of their frames referenced
@@ -30,6 +32,12 @@ cache_on g image = record { pool = []; queue = queue_on g image }
 -- a restart: redo, then undo, then a checkpoint
 abbrev pub restart_works : Picture → List CacheWork
 restart_works p = redo_works p ++ undo_works p.log ++ checkpoint_works
+
+-- A crash meanwhile leaves no more groups than this work appends, beginning with a cache, and each disk page that it doesn't stage as it
+-- was.
+abbrev pub WritesFrom : Geometry → Rules → List CacheWork → Cache → State → State → Type 0
+WritesFrom g r works start before now =
+    LeavesOnly before now (λ s. WritesOnly g (staged_by_works r works start) (next_group (after_works r works start)) before.image s.image)
 
 -- A call that opens pages asks for this work, beginning with a cache. At Ok the machine has done it. It answers that flash is worn only
 -- where the work overflows. Beside so many reads of flash that find the queue it reads no more pages than the work needs.

@@ -24,7 +24,7 @@ use Rattle.engine.specs.Image.{log_under}
 use Rattle.engine.specs.Leaves.{LeavesTable}
 use Rattle.engine.specs.Calls.{Ends}
 use Rattle.engine.specs.Numbers.{RestartsWithin}
-use Rattle.engine.specs.Paging.{AsksFrom, restart_works}
+use Rattle.engine.specs.Paging.{AsksFrom, WritesFrom, restart_works}
 use Rattle.site.specs.Work.{Calls}
 use Rattle.analysis.specs.Laws.{OneTable, TableOfUnfinished, OwedOfUnfinished}
 use Rattle.analysis.specs.Taken.{TakenCommits}
@@ -76,6 +76,9 @@ pub record Recovers (result : Result Restarted Stop) (opened : Opened) (before n
   pub asks : AsksFrom result (λ restarted. restarted.store.pages) (rules opened.pages)
       (restart_works (picture_under newest opened.pages.flash.geometry before.image blocks))
       (cache_of opened.pages) 0 before now
+  pub writes : IsQuiet before → WritesFrom opened.pages.flash.geometry (rules opened.pages)
+      (restart_works (picture_under newest opened.pages.flash.geometry before.image blocks))
+      (cache_of opened.pages) before now
 
 -- the laws of the layers below on what a restart takes of a log
 pub record RecoveryLaws : Type 0 where

@@ -24,6 +24,7 @@ ghost use Rattle.engine.specs.Listings.{listing_of};
 ghost use Rattle.engine.specs.Calls.{Ends};
 ghost use Rattle.engine.specs.Numbers.{RestartsWithin};
 ghost use Rattle.site.specs.Work.{Calls};
+ghost use Rattle.engine.specs.Paging.{WritesFrom};
 
 use crate::restart::restart;
 use lock_table::LockTable;
@@ -73,6 +74,10 @@ impl Engine {
             → AsksFrom result (λ engine. engine.store.pages) (rules_of pool g.groups)
             (restart_works (picture_under newest g (S.state site.old).image blocks)) (cache_on g (S.state site.old).image)
             (start_reads g) (S.state site.old) (S.state site.new) }
+        ensures writes { IsTrue (S.state site.old).honest → IsQuiet (S.state site.old)
+            → (g : Geometry) (newest : Option Master) (blocks : List (List LogRecord)) → IsSound newest g (S.state site.old).image blocks
+            → WritesFrom g (rules_of pool g.groups) (restart_works (picture_under newest g (S.state site.old).image blocks))
+            (cache_on g (S.state site.old).image) (S.state site.old) (S.state site.new) }
 
         // Of every site.
         ensures calls { Calls result (S.state site.old) (S.state site.new) }

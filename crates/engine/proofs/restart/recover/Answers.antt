@@ -17,7 +17,8 @@ use Rattle.engine.proofs.Calling.{ends_ok, ends_failed, ends_answered, ends_then
 use Rattle.redo_undo.specs.Stores.{HasCheckpoint}
 use Rattle.engine.specs.Image.{log_under}
 use Rattle.engine.specs.Leaves.{LeavesTable}
-use Rattle.engine.proofs.Asking.{from_ok, from_err, from_stopped}
+use Rattle.page_store.proofs.StagingLaws.{fits_queue}
+use Rattle.engine.proofs.Asking.{from_ok, from_err, from_stopped, writes_stopped}
 use Rattle.site.specs.Work.{Calls}
 use Rattle.engine.proofs.Recovers.{no_tail_still, owed_found, commits_fit, commits_found, may_be_made, restarted_as}
 use Rattle.engine.proofs.RingCounts.{opened_next, restart_failed, restart_done}
@@ -50,6 +51,7 @@ returns-in-Err-clause-recovers g c newest blocks table commits h =
       ends = ends_failed ends;
       numbers = λ quiet. restart_failed c.in-Err.stop _ k (log_under newest blocks) c.args.opened.log c.redo.new.log old mid 0 0 next (omega arith) (omega arith) ((c.in-Err.ensures.keeps newest blocks table commits h.master h.opened_is).numbers quiet);
       asks = from_stopped c.in-Err.stop _ (redo_works p ++ undo_works p.log) checkpoint_works _ _ _ _ some two;
+      writes = writes_stopped c.in-Err.stop (redo_works p ++ undo_works p.log) checkpoint_works _ _ _ _ some two (fits_queue c.args.opened.pages old c.requires.may.going.pages_going h.opened_is.ready.pages);
     }
 
 -- what undo may take has room
@@ -103,6 +105,8 @@ returns-in-Err-undo_all-clause-recovers g c newest blocks table commits h =
           restart_failed c.in-Err-undo_all.stop _ k records c.args.opened.log c.undo_all.new.log old und n 0 next (omega (arith, owes)) (omega arith) two;
       asks = from_stopped c.in-Err-undo_all.stop _ (redo_works p ++ undo_works p.log) checkpoint_works _ _ _ _ some
           (asks_then c.in-Ok.redone _ (redo_works p) (undo_works p.log) _ _ _ old mid und (c.in-Ok.ensures.asks newest blocks table commits h.master h.opened_is) (c.in-Err-undo_all.ensures.asks newest records table commits none holds read));
+      writes = writes_stopped c.in-Err-undo_all.stop (redo_works p ++ undo_works p.log) checkpoint_works _ _ _ _ some
+          (asks_then c.in-Ok.redone _ (redo_works p) (undo_works p.log) _ _ _ old mid und (c.in-Ok.ensures.asks newest blocks table commits h.master h.opened_is) (c.in-Err-undo_all.ensures.asks newest records table commits none holds read)) (fits_queue c.args.opened.pages old c.requires.may.going.pages_going h.opened_is.ready.pages);
     }
 
 -- there are no more commits than blocks
@@ -176,6 +180,9 @@ returns-in-Ok-checkpoint-clause-recovers g c newest blocks table commits h =
           let two = asks_then c.in-Ok.redone _ (redo_works p) (undo_works p.log) _ _ _ old mid und (c.in-Ok.ensures.asks newest blocks table commits h.master h.opened_is) (c.in-Ok-undo_all.ensures.asks newest records table commits none holds read) in
           let all = asks_then c.in-Ok-undo_all.field-0 _ (redo_works p ++ undo_works p.log) checkpoint_works _ _ _ old und new two c.in-Ok-checkpoint.ensures.asks in
           from_ok c.in-Ok-checkpoint.field-0 _ _ (redo_works p ++ undo_works p.log ++ checkpoint_works) _ _ _ _ _ refl (λ dev. refl) all;
+      writes =
+          let two = asks_then c.in-Ok.redone _ (redo_works p) (undo_works p.log) _ _ _ old mid und (c.in-Ok.ensures.asks newest blocks table commits h.master h.opened_is) (c.in-Ok-undo_all.ensures.asks newest records table commits none holds read) in
+          (asks_then c.in-Ok-undo_all.field-0 _ (redo_works p ++ undo_works p.log) checkpoint_works _ _ _ old und new two c.in-Ok-checkpoint.ensures.asks).stages.writes (fits_queue c.args.opened.pages old c.requires.may.going.pages_going h.opened_is.ready.pages);
     }
 
 pub returns-clause-recovers : goal.returns-clause-recovers
@@ -224,6 +231,9 @@ returns-clause-recovers g c newest blocks table commits h =
           let two = asks_then c.in-Ok.redone _ (redo_works p) (undo_works p.log) _ _ _ old mid und (c.in-Ok.ensures.asks newest blocks table commits h.master h.opened_is) (c.in-Ok-undo_all.ensures.asks newest records table commits none holds read) in
           let all = asks_then c.in-Ok-undo_all.field-0 _ (redo_works p ++ undo_works p.log) checkpoint_works _ _ _ old und new two c.in-Err-checkpoint.ensures.asks in
           from_err c.in-Err-checkpoint.stop _ (redo_works p ++ undo_works p.log ++ checkpoint_works) _ _ _ _ all;
+      writes =
+          let two = asks_then c.in-Ok.redone _ (redo_works p) (undo_works p.log) _ _ _ old mid und (c.in-Ok.ensures.asks newest blocks table commits h.master h.opened_is) (c.in-Ok-undo_all.ensures.asks newest records table commits none holds read) in
+          (asks_then c.in-Ok-undo_all.field-0 _ (redo_works p ++ undo_works p.log) checkpoint_works _ _ _ old und new two c.in-Err-checkpoint.ensures.asks).stages.writes (fits_queue c.args.opened.pages old c.requires.may.going.pages_going h.opened_is.ready.pages);
     }
 
 pub returns-in-Ok-checkpoint-clause-restarts : goal.returns-in-Ok-checkpoint-clause-restarts

@@ -4,7 +4,8 @@ use Rattle.second_chance.specs.Machine.{rules_of}
 use Rattle.site.specs.declared.outside.Dev.TheVariants.{Log, Flash}
 use Rattle.site.specs.declared.outside.Stop.TheVariants.{Worn, Foreign}
 use Rattle.log_records.specs.Log.{table_of}
-use Rattle.engine.proofs.Asking.{from_found, not_found}
+use Rattle.page_store.specs.Caching.{cache_of, rules}
+use Rattle.engine.proofs.Asking.{from_found, not_found, still_writes, writes_found}
 use Rattle.std.specs.Prelude.{Ok, IfOk}
 use Rattle.std.proofs.Common.{◌≡◌, ◌∙◌, sym, subst, ap, refl, arith, ℕ}
 use Rattle.site.specs.State.{IsQuiet}
@@ -116,6 +117,31 @@ returns-clause-asks g c honest k newest blocks sound =
     from_found _ _ _ (rules_of c.args.pool k.groups) _ (restart_works p) _ (cache_on k old.image) (start_reads k) old mid new
     (λ i. rules_of (c.in-Ok-open.ensures.pool i) (sizes i).groups) (λ i. restart_works (picture_under newest (sizes i) (unchanged.image i) blocks)) (c.in-Ok-open.ensures.cache honest newest blocks there ∙ ap (λ (x : Geometry). cache_on x old.image) same)
     (omega (arith, flash, groups)) c.open.ensures.disk_reads (c.recover.ensures.recovers newest blocks (table_of p.log p.pages) (commit_count p) ready).asks
+
+pub returns-in-Err-clause-writes : goal.returns-in-Err-clause-writes
+returns-in-Err-clause-writes g c honest quiet k newest blocks sound = absurd (c.in-Err.ensures.found k sound.octets.limits sound.octets.lengths).0
+
+pub returns-in-Err-open-clause-writes : goal.returns-in-Err-open-clause-writes
+returns-in-Err-open-clause-writes g c honest quiet k newest blocks sound =
+    let least = sound.octets.limits.groups in
+    still_writes c.works_add_up.ensures.rise k (rules_of c.args.pool k.groups) (restart_works (picture_under newest k (g.S.Site.state c.args.site.now).image blocks)) (g.S.Site.state c.args.site.now) (g.S.Site.state c.open.new.site) (omega (arith, least)) quiet (c.open.ensures.same honest)
+
+pub returns-clause-writes : goal.returns-clause-writes
+returns-clause-writes g c honest quiet k newest blocks sound =
+    let old = g.S.Site.state c.args.site.now in
+    let mid = g.S.Site.state c.open.new.site in
+    let new = g.S.Site.state c.recover.new.site in
+    let same : c.in-Ok.geometry ≡ k = (c.in-Ok.ensures.found k sound.octets.limits sound.octets.lengths).1 in
+    let least = sound.octets.limits.groups in
+    let there = subst (λ (x : Geometry). IsSound newest x old.image blocks) (sym same) sound in
+    let p = picture_under newest k old.image blocks in
+    let means : Means (picture_under newest k old.image blocks) (table_of p.log p.pages) (commit_count p) = record { table_is = refl; count_is = refl } in
+    let ready : IsReady c.in-Ok-open.opened mid newest blocks (table_of p.log p.pages) (commit_count p) = c.in-Ok-open.ensures.ready honest newest blocks (table_of p.log p.pages) (commit_count p) there (subst (λ (x : Geometry). Means (picture_under newest x old.image blocks) (table_of p.log p.pages) (commit_count p)) (sym same) means) in
+    let sizes = c.in-Ok-open.ensures.sizes ∙ same in
+    let unchanged = c.open.ensures.same honest in
+    writes_found c.works_add_up.ensures.rise k (rules_of c.args.pool k.groups) (restart_works p) c.in-Ok-open.opened.pages.flash.geometry (rules c.in-Ok-open.opened.pages) (restart_works (picture_under newest c.in-Ok-open.opened.pages.flash.geometry mid.image blocks)) (cache_of c.in-Ok-open.opened.pages) old mid new (omega (arith, least)) quiet unchanged sizes
+    (λ i. rules_of (c.in-Ok-open.ensures.pool i) (sizes i).groups) (λ i. restart_works (picture_under newest (sizes i) (unchanged.image i) blocks)) (c.in-Ok-open.ensures.cache honest newest blocks there ∙ ap (λ (x : Geometry). cache_on x old.image) same)
+    ((c.recover.ensures.recovers newest blocks (table_of p.log p.pages) (commit_count p) ready).writes (unchanged.loose ∙ quiet))
 
 pub returns-in-Err-clause-numbers : goal.returns-in-Err-clause-numbers
 returns-in-Err-clause-numbers g c honest quiet k newest blocks sound = absurd (c.in-Err.ensures.found k sound.octets.limits sound.octets.lengths).0

@@ -1,10 +1,11 @@
 use Rattle.std.proofs.Common.{◌≡◌, Bool, true, false, sym, subst, rules, arith}
-use Rattle.std.specs.Prelude.{Ok, Err, if◌then◌else◌}
+use Rattle.std.specs.Prelude.{Ok, Err, [], if◌then◌else◌}
 use Rattle.engine.specs.Going.{sizes_of}
 use Rattle.engine.specs.Fits.{checkpointed_if}
 use Rattle.engine.specs.Leaves.{LeavesTable}
 use Rattle.engine.specs.Calls.{Does}
-use Rattle.engine.proofs.Calling.{does_nothing, does_answered, does_failed, serves_nothing, serves_answered, serves_ended, still}
+use Rattle.redo_undo.specs.Works.{Asks, checkpoint_works}
+use Rattle.engine.proofs.Calling.{does_nothing, does_answered, does_failed, serves_nothing, serves_answered, serves_ended, still, asks_rest}
 use Rattle.engine.proofs.engine.Engine.checkpoint_if.Goals as goal
 
 pub returns-then-not-wanted-clause-does : goal.returns-then-not-wanted-clause-does
@@ -36,3 +37,10 @@ returns-in-Ok-clause-serves g c = serves_answered c.in-Ok.ensures.serves
 
 pub returns-in-Err-clause-serves : goal.returns-in-Err-clause-serves
 returns-in-Err-clause-serves g c = serves_ended true c.in-Err.ensures.serves
+
+pub returns-then-not-wanted-clause-asks : goal.returns-then-not-wanted-clause-asks
+returns-then-not-wanted-clause-asks g c =
+    let is : c.args.wanted ≡ false = search rules in
+    let pages = c.args.self.now.store.pages in
+    let old = g.S.Site.state c.args.site.now in
+    subst (λ (b : Bool). Asks {T = Unit {0}} (Ok tt) (if b then checkpoint_works else []) pages pages old old) (sym is) asks_rest

@@ -8,6 +8,7 @@ use Rattle.engine.proofs.Settings.{begin_at, may_begin, may_update, one_write}
 use Rattle.redo_undo.proofs.Asking.{asks_then, asks_stopped}
 use Rattle.std.specs.Prelude.{Err}
 use Rattle.redo_undo.proofs.AskingUndo.{change_stopped, change_made, never_worn}
+use Rattle.page_store.proofs.StagingLaws.{stages_err, stages_ok}
 use Rattle.engine.proofs.engine.Engine.log_set.Goals as goal
 
 pub returns-in-Err-clause-works : goal.returns-in-Err-clause-works
@@ -100,9 +101,9 @@ returns-in-Err-touch-clause-asks g c =
 pub returns-in-Err-update-clause-asks : goal.returns-in-Err-update-clause-asks
 returns-in-Err-update-clause-asks g c =
     asks_then c.in-Ok.txn _ [] (one_change (c.args.number / 32)) _ _ _ _ _ _ c.in-Ok.ensures.asks
-    (change_made c.in-Ok-touch.field-0 (Err c.in-Err-update.stop) (c.args.number / 32) _ _ _ _ _ _ (store_has_group c.in-Ok.ensures.works.going) c.touch_then_change.ensures c.in-Ok-touch.ensures.asks tt c.update.ensures.rules_stay c.update.ensures.reads (never_worn (Err c.in-Err-update.stop) c.in-Err-update.ensures.stops))
+    (change_made c.in-Ok-touch.field-0 (Err c.in-Err-update.stop) (c.args.number / 32) _ _ _ _ _ _ (store_has_group c.in-Ok.ensures.works.going) c.touch_then_change.ensures c.in-Ok-touch.ensures.asks tt c.update.ensures.rules_stay c.update.ensures.reads (never_worn (Err c.in-Err-update.stop) c.in-Err-update.ensures.stops) (stages_err c.in-Err-update.ensures.stages))
 
 pub returns-in-Ok-update-clause-asks : goal.returns-in-Ok-update-clause-asks
 returns-in-Ok-update-clause-asks g c =
     asks_then c.in-Ok.txn _ [] (one_change (c.args.number / 32)) _ _ _ _ _ _ c.in-Ok.ensures.asks
-    (change_ok c.in-Ok-touch.field-0 _ (c.args.number / 32) _ _ _ _ _ _ (store_has_group c.in-Ok.ensures.works.going) c.touch_then_change.ensures c.in-Ok-touch.ensures.asks c.in-Ok-update.ensures.machine c.update.ensures.rules_stay c.update.ensures.reads)
+    (change_ok c.in-Ok-touch.field-0 _ (c.args.number / 32) _ _ _ _ _ _ (store_has_group c.in-Ok.ensures.works.going) c.touch_then_change.ensures c.in-Ok-touch.ensures.asks c.in-Ok-update.ensures.machine c.update.ensures.rules_stay c.update.ensures.reads (stages_ok c.in-Ok-update.ensures.stages))

@@ -43,6 +43,15 @@ returns-in-Err-new-clause-asks g c honest k newest blocks sound = from_other_fai
 pub returns-clause-asks : goal.returns-clause-asks
 returns-clause-asks g c honest k newest blocks sound = from_other c.in-Ok.restarted _ _ _ _ _ _ _ _ _ refl (c.in-Ok.ensures.asks honest k newest blocks sound)
 
+pub returns-in-Err-clause-writes : goal.returns-in-Err-clause-writes
+returns-in-Err-clause-writes g c = c.in-Err.ensures.writes
+
+pub returns-in-Err-new-clause-writes : goal.returns-in-Err-new-clause-writes
+returns-in-Err-new-clause-writes g c = c.in-Ok.ensures.writes
+
+pub returns-clause-writes : goal.returns-clause-writes
+returns-clause-writes g c = c.in-Ok.ensures.writes
+
 pub returns-in-Err-clause-numbers : goal.returns-in-Err-clause-numbers
 returns-in-Err-clause-numbers g c honest quiet k newest blocks sound = restart_again c.in-Err.stop _ _ k _ _ _ (c.in-Err.ensures.numbers honest quiet k newest blocks sound)
 
