@@ -22,7 +22,8 @@ import sys
 import tempfile
 import time
 
-ROOT = os.path.dirname(os.path.dirname(os.path.realpath(__file__)))
+from program import ROOT, find_program
+
 COUNT = int(sys.argv[2]) if len(sys.argv) > 2 else 2000
 SEED = 7
 
@@ -49,14 +50,6 @@ QUEUES = [8, 1024, 16384]
 # how many sets stand in the log behind the last checkpoint, each a block of its own, and how many groups stand in the queue
 LIVE_SETS = [0, 1000, 4000, 16000]
 LIVE_GROUPS = [0, 1000, 4000, 16000]
-
-
-def program():
-    face = os.environ.get("FACE")
-    if not face:
-        subprocess.run([f"{ROOT}/bin/face", "help"], stdout=subprocess.DEVNULL, stdin=subprocess.DEVNULL)
-        face = f"{ROOT}/crates/face/out/face"
-    return os.path.realpath(face)
 
 
 def timed(words, lines=""):
@@ -227,7 +220,7 @@ def restart_by_groups(face, groups):
 def main():
     if len(sys.argv) < 2:
         raise SystemExit(__doc__)
-    face = program()
+    face = find_program()
     folder = os.path.realpath(tempfile.mkdtemp(dir=sys.argv[1]))
     try:
         os.chdir(folder)

@@ -16,7 +16,8 @@ import subprocess
 import sys
 import tempfile
 
-ROOT = os.path.dirname(os.path.dirname(os.path.realpath(__file__)))
+from program import find_program
+
 PAGES, POOL, BLOCKS, COUNT, SEED = 1024, 64, 4096, 4000, 7
 GROUPS = [8, 64, 256]
 CHOICES = {"uniform": 1, "skewed": 6}
@@ -50,7 +51,7 @@ def counted(face, groups, power):
 
 
 def main():
-    programs = [os.path.realpath(name) for name in sys.argv[1:]] or [f"{ROOT}/crates/face/out/face"]
+    programs = [os.path.realpath(name) for name in sys.argv[1:]] or [find_program()]
     folder = tempfile.mkdtemp(dir=".")
     home = os.getcwd()
     try:

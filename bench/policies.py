@@ -16,7 +16,8 @@ import random
 import subprocess
 import sys
 
-ROOT = os.path.dirname(os.path.dirname(os.path.realpath(__file__)))
+from program import ROOT, find_program
+
 FIGURES = f"{ROOT}/docs/figures"
 PAGES = 4096
 TOUCHES = 100_000
@@ -30,14 +31,6 @@ RATES = [
     ("staged pages", "a touch"),
     ("pushes", "a touch"),
 ]
-
-
-def program():
-    face = os.environ.get("FACE")
-    if not face:
-        subprocess.run([f"{ROOT}/bin/face", "help"], stdout=subprocess.DEVNULL, stdin=subprocess.DEVNULL)
-        face = f"{ROOT}/crates/face/out/face"
-    return os.path.realpath(face)
 
 
 def uniform(rng):
@@ -146,7 +139,7 @@ def plotter():
 
 
 def main():
-    face = program()
+    face = find_program()
     if len(sys.argv) > 1:
         with open(sys.argv[1], "rb") as file:
             trace = file.read()

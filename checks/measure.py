@@ -15,6 +15,9 @@ import tempfile
 import time
 
 ROOT = os.path.dirname(os.path.dirname(os.path.realpath(__file__)))
+sys.path.insert(0, f"{ROOT}/bench")
+from program import find_program
+
 COUNT = int(sys.argv[1]) if len(sys.argv) > 1 else 3000
 POOL = int(sys.argv[2]) if len(sys.argv) > 2 else None
 BLOCKS = 400
@@ -43,11 +46,7 @@ def fill(child, pages):
 
 
 def main():
-    face = os.environ.get("FACE")
-    if not face:
-        subprocess.run([f"{ROOT}/bin/face", "help"], stdout=subprocess.DEVNULL, stdin=subprocess.DEVNULL)
-        face = f"{ROOT}/crates/face/out/face"
-    face = os.path.realpath(face)
+    face = find_program()
     folder = tempfile.mkdtemp(dir=".")
     try:
         os.chdir(folder)

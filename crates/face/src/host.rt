@@ -47,10 +47,8 @@ where
         return FileSite::fresh(rt, rt.alloc(), log, flash, disk);
     }
     match read_words(rt.alloc(), words) {
-        Ok(Request::Simulate(_) | Request::Trial(_)) | Err(Unread::Words) => FileSite::bare(
-            rt,
-            rt.alloc(),
-        ),
+        Ok(Request::Simulate(_)) => FileSite::for_trace(rt, rt.alloc()),
+        Ok(Request::Trial(_)) | Err(Unread::Words) => FileSite::bare(rt, rt.alloc()),
         Ok(_) => FileSite::existing(rt, rt.alloc()),
         Err(Unread::Memory) => Err(Stop::Memory),
     }

@@ -234,7 +234,7 @@ pub struct Seen {
 /// What is known of this site.
 pub fn see<R>(site: &FileSite<R>) -> Seen
 where
-    R: Files + Input + Print + Clock + Drop,
+    R: Files + Input + Print + Eprint + Clock + Drop,
     R::File: FileExt + LockFile,
 {
     Seen {

@@ -11,6 +11,7 @@ use crate::lock::LockFile;
 use crate::making::{Lengths, fresh};
 use crate::opening::{existing, hold_streams};
 use crate::outlet::tells;
+use crate::progress::{Pace, say_heard};
 use crate::trouble::{Absence, Call, Failure, Failures};
 use crate::watch::Watch;
 use site::{Dev, Failed, Site, Stop};
@@ -34,6 +35,8 @@ pub struct FileSite<R: Files + Input + Print + Clock> {
     book: Book,
     failures: Failures,
     watch: Watch,
+    // Where the input is a trace: when it was last said how much of it is heard.
+    pace: Option<Pace>,
 }
 
 // The files that are there, if files may be opened at all.
@@ -91,7 +94,19 @@ where
             book: Book::new(0, 0, 0),
             failures: Failures::new(),
             watch: Watch::new(),
+            pace: None,
         })
+    }
+
+    /// As `bare`, for a trace on standard input: where it takes long to hear it, standard error says how far it has come.
+    pub fn for_trace(rt: R, alloc: Global) -> Result<FileSite<R>, Stop>
+        ensures fresh { IfOk result (λ site. IsFresh (state_of site.book)) }
+        ensures bare { IfOk result (λ site. IsBare (state_of site.book)) }
+        ensures memory { IfErr result (λ stop. stop ≡ Stop.Memory) }
+    {
+        let mut site = FileSite::bare(rt, alloc)?;
+        site.pace = Some(Pace::new(&site.rt));
+        Ok(site)
     }
 
     // The site over these devices, with this buffer for the input.
@@ -107,6 +122,7 @@ where
             book,
             failures: Failures::new(),
             watch: Watch::new(),
+            pace: None,
         }
     }
 
@@ -162,7 +178,7 @@ where
     }
 }
 
-impl<R: Files + Input + Print + Clock + Drop> Site for FileSite<R>
+impl<R: Files + Input + Print + Clock + Eprint + Drop> Site for FileSite<R>
 where
     R::File: FileExt + LockFile,
 {
@@ -228,6 +244,9 @@ where
         match self.input.take(&self.rt, into) {
             Ok(count) => {
                 self.watch.hears(&into[..count]);
+                if let Some(pace) = &mut self.pace {
+                    say_heard(&self.rt, pace, &self.watch);
+                }
                 Ok(count)
             }
             Err(error) => {

@@ -1,5 +1,6 @@
-// What is said on standard error while a large file is made.
+// What is said on standard error while a large file is made, or a long trace is heard.
 
+use crate::watch::Watch;
 use std::io::Eprint;
 use std::rt::Clock;
 use std::time::Duration;
@@ -9,6 +10,45 @@ const PAUSE_SECONDS: u64 = 2;
 
 const MEBIBYTE: u64 = 1 << 20;
 
+/// When something was said last.
+#[derive(Drop)]
+pub struct Pace {
+    said_at: Option<Duration>,
+}
+
+impl Pace {
+    /// The first pause begins.
+    pub fn new<C: Clock>(clock: &C) -> Pace {
+        Pace {
+            said_at: clock.monotonic().ok(),
+        }
+    }
+
+    // Whether the pause since the last word is over; if so a new one begins.
+    fn is_due<C: Clock>(&mut self, clock: &C) -> bool {
+        let Some(said_at) = self.said_at else {
+            return false;
+        };
+        let Ok(now) = clock.monotonic() else {
+            return false;
+        };
+        if now.saturating_sub(said_at).as_secs() < PAUSE_SECONDS {
+            return false;
+        }
+        self.said_at = Some(now);
+        true
+    }
+}
+
+/// Says how many lines of a trace are heard, from time to time. What can't be said is left unsaid.
+pub fn say_heard<R: Clock + Eprint>(rt: &R, pace: &mut Pace, watch: &Watch) {
+    if !pace.is_due(rt) {
+        return;
+    }
+    let lines = watch.lines();
+    let _ = eprintln!(rt; "trace: {lines} lines are heard");
+}
+
 /// How much of a file is written. What can't be said is left unsaid.
 #[derive(Drop)]
 pub struct Progress<'a, R> {
@@ -16,7 +56,7 @@ pub struct Progress<'a, R> {
     path: &'static str,
     len: u64,
     written: u64,
-    said_at: Option<Duration>,
+    pace: Pace,
 }
 
 impl<'a, R: Clock + Eprint> Progress<'a, R> {
@@ -27,29 +67,14 @@ impl<'a, R: Clock + Eprint> Progress<'a, R> {
             path,
             len,
             written: 0,
-            said_at: rt.monotonic().ok(),
+            pace: Pace::new(rt),
         }
-    }
-
-    // Whether the pause since the last word is over; if so a new one begins.
-    fn is_due(&mut self) -> bool {
-        let Some(said_at) = self.said_at else {
-            return false;
-        };
-        let Ok(now) = self.rt.monotonic() else {
-            return false;
-        };
-        if now.saturating_sub(said_at).as_secs() < PAUSE_SECONDS {
-            return false;
-        }
-        self.said_at = Some(now);
-        true
     }
 
     /// So many octets more are written. Says how many are, from time to time.
     pub fn add(&mut self, octets: u64) {
         self.written = self.written.saturating_add(octets);
-        if !self.is_due() {
+        if !self.pace.is_due(self.rt) {
             return;
         }
         let path = self.path;

@@ -25,6 +25,11 @@ impl Watch {
         }
     }
 
+    /// The lines of the input that have passed whole, up to the first that ends with a carriage return.
+    pub fn lines(&self) -> u64 {
+        self.line.saturating_sub(1)
+    }
+
     /// The replies that refused a line.
     pub fn refused(&self) -> u64 {
         self.refused

@@ -24,6 +24,10 @@ pending trace = take (trace.to - trace.from) (drop trace.from trace.buffer)
 abbrev pub to_hear : Trace → State → List ℕ
 to_hear trace site = pending trace ++ site.left
 
+-- once a take has answered that the input ended none is made any more
+abbrev pub TakesNoMore : Trace → Trace → State → State → Type 0
+TakesNoMore old new before after = old.ended ≡ true → (new.ended ≡ true) × (after ≡ before)
+
 -- nothing but the octets left to hear changed
 pub record HearsOnly (old new : State) : Type 0 where
   pub image : new.image ≡ old.image

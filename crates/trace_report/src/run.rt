@@ -39,7 +39,12 @@ fn work<S: Site>(alloc: Global, groups: u32, pool: u32, site: &mut S) -> Result<
     for number in 0..LINES + 1 {
         match trace.next(site) {
             Err(_) => return Err(Halt::Input),
-            Ok(Heard::End) => return Ok(report_of(&machines)),
+            Ok(Heard::End) => {
+                let Ok(text) = report_of(&mut machines) else {
+                    return Err(Halt::Memory);
+                };
+                return Ok(text);
+            }
             Ok(Heard::Wrong) => return Err(Halt::Trace(number + 1)),
             Ok(Heard::Touch(page, change)) => {
                 if number == LINES {

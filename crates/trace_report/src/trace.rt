@@ -2,7 +2,7 @@
 ghost use Rattle.std.specs.Prelude.{◌≡◌, ◌<◌, true, false, IsTrue, IfOk, OnOk, OnErr, IfSome, IfNone};
 ghost use Rattle.site.specs.Calls.{Goes, Rose, SameReads};
 ghost use Rattle.site.specs.Faults.{TakeFaults};
-ghost use Rattle.trace_report.specs.Hearing.{IsUsable, HasEnded, to_hear, HearsOnly, HearsOctet, Hears};
+ghost use Rattle.trace_report.specs.Hearing.{IsUsable, HasEnded, TakesNoMore, to_hear, HearsOnly, HearsOctet, Hears};
 ghost use Rattle.trace_report.specs.Hearing.{IsSaid};
 
 use crate::touch_line::read_touch;
@@ -63,6 +63,7 @@ impl Trace {
         ensures reads { SameReads (S.state site.old) (S.state site.new) }
         ensures cause { OnErr result (Rose (S.state site.old).input_faults (S.state site.new).input_faults) }
         ensures faults { TakeFaults result (S.state site.old) (S.state site.new) }
+        ensures no_more { TakesNoMore self.old self.new (S.state site.old) (S.state site.new) }
     {
         if self.from < self.to {
             return Ok(true);
@@ -94,6 +95,7 @@ impl Trace {
         ensures reads { SameReads (S.state site.old) (S.state site.new) }
         ensures cause { OnErr result (Rose (S.state site.old).input_faults (S.state site.new).input_faults) }
         ensures faults { TakeFaults result (S.state site.old) (S.state site.new) }
+        ensures no_more { TakesNoMore self.old self.new (S.state site.old) (S.state site.new) }
     {
         match self.fill(site) {
             Err(failed) => Err(failed),
@@ -119,6 +121,7 @@ impl Trace {
         ensures reads { SameReads (S.state site.old) (S.state site.new) }
         ensures cause { OnErr result (Rose (S.state site.old).input_faults (S.state site.new).input_faults) }
         ensures faults { TakeFaults result (S.state site.old) (S.state site.new) }
+        ensures no_more { TakesNoMore self.old self.new (S.state site.old) (S.state site.new) }
     {
         let mut line = ArrayVec::<u8, LONG>::new();
         for _octet in 0..LONG {

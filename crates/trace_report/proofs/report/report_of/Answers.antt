@@ -1,15 +1,21 @@
-use Rattle.std.proofs.Common.{refl}
+use Rattle.std.proofs.Common.{◌≡◌, ◌++◌, List, append-nil, refl, sym, ap, subst, ◌∙◌}
+use Rattle.policy_sim.specs.declared.policy.Policy.{Policy}
 use Rattle.policy_sim.specs.declared.policy.Policy.TheVariants.{Fifo, Group, Chance}
+use Rattle.trace_report.specs.Traces.{Touch}
+use Rattle.trace_report.specs.Counting.{HaveServed}
 use Rattle.trace_report.proofs.report.report_of.Goals as goal
 
-pub returns : goal.returns
-returns c groups pool touches served =
+pub returns-clause-report : goal.returns-clause-report
+returns-clause-report c groups pool touches heard =
+    let after = c.in_ok-serve.ensures.served groups pool touches heard in
+    let all : after.served ≡ touches = sym (after.all ∙ ap (λ l. after.served ++ l) c.in_ok-serve.ensures.none ∙ append-nil after.served) in
     rw (
       c.push_counts-3.ensures.text,
       c.push_counts-2.ensures.text,
       c.push_counts.ensures.text,
       c.new-line.ensures,
-      c.counts.ensures.counts_are_the_machines Fifo groups pool touches served.fifo,
-      c.counts-2.ensures.counts_are_the_machines Group groups pool touches served.group,
-      c.counts-3.ensures.counts_are_the_machines Chance groups pool touches served.chance,
+      c.counts.ensures.counts_are_the_machines Fifo groups pool after.served after.fifo,
+      c.counts-2.ensures.counts_are_the_machines Group groups pool after.served after.group,
+      c.counts-3.ensures.counts_are_the_machines Chance groups pool after.served after.chance,
+      all,
     ) refl

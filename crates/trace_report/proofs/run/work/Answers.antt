@@ -30,7 +30,7 @@ returns-in-Ok-End-clause-report g c honest =
     let few = c.loop-number.invariant.few in (
       s.touches,
       served_all c.args.groups c.args.pool old.left (to_hear c.loop-number.trace now) c.loop-number.number c.loop-number.machines s (to_hear c.next.new.self (g.S.Site.state c.next.new.site)) hears few,
-      c.report_of.ensures c.args.groups c.args.pool s.touches s.served,
+      c.in-Ok-report_of.ensures.report c.args.groups c.args.pool s.touches s.served,
     )
 
 pub returns-in-Ok-Wrong-clause-cause : goal.returns-in-Ok-Wrong-clause-cause
@@ -70,3 +70,34 @@ loop-number-preserved g c =
           served_more c.args.groups c.args.pool old.left (to_hear c.loop-number.trace now) c.loop-number.number c.loop-number.machines s (to_hear c.next.new.self (g.S.Site.state c.next.new.site)) c.in-Ok-Touch.page c.in-Ok-Touch.change c.touch.new.self hears
           (c.in-Ok-touch.ensures.served c.args.groups c.args.pool s.touches s.served);
     }
+
+pub returns-in-Err-clause-same : goal.returns-in-Err-clause-same
+returns-in-Err-clause-same g c honest =
+    let old = g.S.Site.state c.args.site.now in
+    let now = g.S.Site.state c.loop-number.site in
+    let new = g.S.Site.state c.next.new.site in
+    hears_then old now new (c.loop-number.invariant.same honest) (c.next.ensures.same (stays_honest old now c.loop-number.invariant.goes honest))
+
+pub returns-in-Err-clause-goes : goal.returns-in-Err-clause-goes
+returns-in-Err-clause-goes g c =
+    goes_in_sequence (g.S.Site.state c.args.site.now) (g.S.Site.state c.loop-number.site) (g.S.Site.state c.next.new.site) c.loop-number.invariant.goes c.next.ensures.goes
+
+pub returns-in_default-report_of-clause-goes : goal.returns-in_default-report_of-clause-goes
+returns-in_default-report_of-clause-goes g c =
+    goes_in_sequence (g.S.Site.state c.args.site.now) (g.S.Site.state c.loop-number.site) (g.S.Site.state c.next.new.site) c.loop-number.invariant.goes c.next.ensures.goes
+
+pub returns-in-Ok-End-clause-goes : goal.returns-in-Ok-End-clause-goes
+returns-in-Ok-End-clause-goes g c =
+    goes_in_sequence (g.S.Site.state c.args.site.now) (g.S.Site.state c.loop-number.site) (g.S.Site.state c.next.new.site) c.loop-number.invariant.goes c.next.ensures.goes
+
+pub returns-in-Ok-Wrong-clause-goes : goal.returns-in-Ok-Wrong-clause-goes
+returns-in-Ok-Wrong-clause-goes g c =
+    goes_in_sequence (g.S.Site.state c.args.site.now) (g.S.Site.state c.loop-number.site) (g.S.Site.state c.next.new.site) c.loop-number.invariant.goes c.next.ensures.goes
+
+pub returns-then-number-eq-LINES-clause-goes : goal.returns-then-number-eq-LINES-clause-goes
+returns-then-number-eq-LINES-clause-goes g c =
+    goes_in_sequence (g.S.Site.state c.args.site.now) (g.S.Site.state c.loop-number.site) (g.S.Site.state c.next.new.site) c.loop-number.invariant.goes c.next.ensures.goes
+
+pub returns-in_default-touch-clause-goes : goal.returns-in_default-touch-clause-goes
+returns-in_default-touch-clause-goes g c =
+    goes_in_sequence (g.S.Site.state c.args.site.now) (g.S.Site.state c.loop-number.site) (g.S.Site.state c.next.new.site) c.loop-number.invariant.goes c.next.ensures.goes

@@ -1,7 +1,7 @@
 use Rattle.std.proofs.Common.{◌≡◌, length, IsTrue}
 use Rattle.site.specs.Calls.{Goes, SameReads}
 use Rattle.site.specs.Faults.{faults_in}
-use Rattle.trace_report.specs.Hearing.{IsUsable, HasEnded, to_hear, HearsOnly}
+use Rattle.trace_report.specs.Hearing.{IsUsable, HasEnded, TakesNoMore, to_hear, HearsOnly}
 use Rattle.trace_report.proofs.Heard.{SoFar}
 use Rattle.trace_report.proofs.trace.Trace.next.Given as goal
 
@@ -14,6 +14,7 @@ invariant-loop-octet g l =
       reads : SameReads old now;
       faults : faults_in now ≡ faults_in old;
       usable : IsUsable l.self;
+      no_more : TakesNoMore l.fn.self l.self old now;
       count : length l.line.items ≡ l._octet;
       same : IsTrue old.honest → HearsOnly old now;
       ended : IsTrue old.honest → HasEnded l.fn.self old → HasEnded l.self now;
