@@ -7,3 +7,4 @@ pub mod PagesRead
 pub mod Readings
 pub mod Standing
 pub mod UnitsJudged
+pub mod Walks

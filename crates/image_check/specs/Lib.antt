@@ -2,3 +2,4 @@ pub mod Findings
 pub mod Laws
 pub mod Octets
 pub mod Verdict
+pub mod Walking

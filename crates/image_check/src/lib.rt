@@ -10,6 +10,7 @@ mod rings;
 mod segments;
 #[cfg(test)]
 mod tests;
+mod walk;
 
 pub use blocks::rule_blocks;
 pub use kept::rule_kept;
@@ -18,3 +19,4 @@ pub use lengths::rule_lengths;
 pub use master::rule_master;
 pub use rings::{Rings, rule_rings};
 pub use segments::rule_segments;
+pub use walk::Walk;
