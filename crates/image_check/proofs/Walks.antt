@@ -1,6 +1,7 @@
 -- A walk over the records of a log.
-use Rattle.std.proofs.Common.{◌≡◌, ℕ, ◌+◌, ◌-◌, ◌*◌, ◌≤◌, ◌<◌, List, [], ◌∷◌, ◌++◌, length, drop, refl, sym, ap, ◌∙◌, subst, arith}
-use Rattle.std.specs.Prelude.{Some, max, slice_index_or}
+use Rattle.std.proofs.Common.{◌≡◌, ℕ, ◌+◌, ◌-◌, ◌*◌, ◌≤◌, ◌<◌, List, [], ◌∷◌, ◌++◌, length, drop, refl, sym, ap, ◌∙◌, subst, append_assoc, arith}
+use Rattle.std.specs.Prelude.{Option, Some, max, slice_index_or}
+use Rattle.std.proofs.lemmas.List.{append-nil}
 use Rattle.site.specs.declared.geometry.Geometry.{Geometry}
 use Rattle.site.specs.State.{Image}
 use Rattle.sealed_ring.specs.Ring.{hi_of}
@@ -97,3 +98,36 @@ block_there log walk image left s below =
     let count = s.behind.next in
     let list : LogList = record { first = walk.block; blocks = s.blocks; tail = [] } in
     (_, stands_there g list image walk.block s.behind (omega arith) (omega (arith, count, below)))
+
+-- Of all entries some were taken, and the walk stands before the others.
+pub record Walked (walk : Walk) (log : LogStore) (image : Image) (all : List Entry) : Type 0 where
+  pub done : List Entry
+  pub left : List Entry
+  pub split : all ≡ done ++ left
+  pub stands : StandsBefore walk log image left
+
+pub walked_none : (walk : Walk) (log : LogStore) (image : Image) (all : List Entry) → StandsBefore walk log image all → (P : List Entry → Type 0) → P [] → (w : Walked walk log image all) × P w.done
+walked_none walk log image all stands P holds = (record { done = []; left = all; split = refl; stands = stands }, holds)
+
+-- one more, and what holds of those taken
+pub walked_more : (walk new : Walk) (log : LogStore) (image : Image) (all : List Entry) (w : Walked walk log image all) (lsn : ℕ) (rec : LogRecord) → Gives (Some (lsn, rec)) w.left new log image →
+    (P : List Entry → Type 0) → P (w.done ++ record { lsn = lsn; rec = rec } ∷ []) → (next : Walked new log image all) × P next.done
+walked_more walk new log image all w lsn rec gives P holds =
+    let e : Entry = record { lsn = lsn; rec = rec } in (
+      record {
+        done = w.done ++ e ∷ [];
+        left = gives.0;
+        split = w.split ∙ ap (λ (l : List Entry). w.done ++ l) gives.1 ∙ sym (append_assoc w.done (e ∷ []) gives.0);
+        stands = gives.2;
+      },
+      holds,
+    )
+
+-- where none is left all were taken
+pub walked_all : (walk : Walk) (log : LogStore) (image : Image) (all : List Entry) (w : Walked walk log image all) → w.left ≡ [] → all ≡ w.done
+walked_all walk log image all w none = w.split ∙ ap (λ (l : List Entry). w.done ++ l) none ∙ append-nil w.done
+
+-- what is found of the image that stands there is found of the one at entry
+pub gives_at : (log : LogStore) (walk new : Walk) (now old : Image) (left : List Entry) (found : Option (ℕ × LogRecord)) → now ≡ old → StandsBefore walk log old left → (StandsBefore walk log now left → Gives found left new log now) → Gives found left new log old
+gives_at log walk new now old left found same stands next =
+    subst (Gives found left new log) same (next (subst (λ (image : Image). StandsBefore walk log image left) (sym same) stands))

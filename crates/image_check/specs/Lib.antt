@@ -1,3 +1,4 @@
+pub mod Counting
 pub mod Findings
 pub mod Laws
 pub mod Octets

@@ -2,6 +2,7 @@
 #![tactic(auto)]
 
 mod blocks;
+mod commits;
 mod kept;
 mod laws;
 mod lengths;
@@ -13,6 +14,7 @@ mod tests;
 mod walk;
 
 pub use blocks::rule_blocks;
+pub use commits::rule_commits;
 pub use kept::rule_kept;
 pub use laws::{one_reading, sound_is_standing};
 pub use lengths::rule_lengths;
