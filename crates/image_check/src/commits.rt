@@ -94,8 +94,8 @@ impl Numbers {
     }
 }
 
-/// The eleventh rule: whether the commits are numbered on by one, up to the master's count before the redo block and from
-/// there on, and are no more than the blocks that were sealed. It reads each kept block once.
+/// The eleventh rule: whether the commits are numbered on by one, up to the master's count before the redo block and
+/// from there on, and are no more than the blocks that were sealed. It reads each kept block once.
 pub fn rule_commits<S: Site>(site: &mut S, log: &LogStore, master: &Master) -> Result<bool, Stop>
     requires going { MayGoOn log.now (S.state site.old) }
     requires live { log.now.ring.hi ≤ master.now.kept + (log.now.geometry.blocks - 1) }
