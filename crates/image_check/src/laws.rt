@@ -1,5 +1,5 @@
 // Laws on the rules, for the proofs of code above. They do nothing when called.
-ghost use Rattle.image_check.specs.Laws.{SoundStands, StandingIsSound, OneReading, AReading};
+ghost use Rattle.image_check.specs.Laws.{SoundStands, StandingIsSound, OneReading, AReading, SoundFailsNone};
 
 use checkpoint::one_master;
 
@@ -10,10 +10,11 @@ pub fn sound_is_standing()
     ensures sound { StandingIsSound }
 {}
 
-/// Devices have at most one reading, and one where the first two rules hold.
+/// Devices have at most one reading, and one where the first two rules hold; sound ones fail no rule.
 pub fn one_reading()
     ensures one { OneReading }
     ensures some { AReading }
+    ensures none { SoundFailsNone }
 {
     one_master();
 }
