@@ -1,18 +1,11 @@
 -- Walking over the records of a block.
 use Rattle.std.proofs.Common.{◌≡◌, ℕ, ◌+◌, ◌≤◌, ◌<◌, List, [], ◌∷◌, ◌++◌, length, drop, refl, sym, ap, ◌∙◌, subst, append_assoc, arith}
 use Rattle.std.specs.Prelude.{flat_map}
-use Rattle.std.specs.List.{AllByRecursion}
 use Rattle.std.proofs.lemmas.List.{length-append, drop-drop, drop_at}
 use Rattle.log_records.specs.declared.log_record.LogRecord.{LogRecord}
-use Rattle.log_records.specs.Spelling.{spelling, used_by, HasForm, FitsFields, IsBlock, IsSpelledAt}
+use Rattle.log_records.specs.Spelling.{spelling, used_by, IsBlock, IsSpelledAt}
+use Rattle.image_check.specs.Walking.{IsLeft}
 use Rattle.log_records.proofs.Blocks.{behind, some_octet, one_spelled, spelled_next}
-
--- from a place on these records are left of a block
-pub record IsLeft (content : List ℕ) (used at : ℕ) (left : List LogRecord) : Type 0 where
-  pub have_form : AllByRecursion HasForm left
-  pub fit_fields : AllByRecursion FitsFields left
-  pub text : drop at content ≡ flat_map spelling left ++ drop used content
-  pub end : used ≡ at + length (flat_map spelling left)
 
 -- at first all are left
 pub all_left : (content : List ℕ) (used : ℕ) (records : List LogRecord) → IsBlock content records → used ≡ used_by records → IsLeft content used 2 records

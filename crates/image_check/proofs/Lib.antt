@@ -1,4 +1,5 @@
 pub mod BlocksJudged
+pub mod Numbering
 pub mod Lasting
 pub mod LiveUnits
 pub mod BlockLists
@@ -7,3 +8,4 @@ pub mod PagesRead
 pub mod Readings
 pub mod Standing
 pub mod UnitsJudged
+pub mod Walks

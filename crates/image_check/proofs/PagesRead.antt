@@ -4,8 +4,9 @@ use Rattle.std.specs.List.{AllByRecursion}
 use Rattle.std.proofs.lemmas.List.{append-nil}
 use Rattle.log_records.specs.declared.log_record.LogRecord.{LogRecord}
 use Rattle.log_records.specs.Spelling.{used_by, IsBlock, IsSpelledAt}
+use Rattle.image_check.specs.Walking.{IsLeft}
 use Rattle.image_check.specs.Octets.{IsOnPage, IsBlockOn}
-use Rattle.image_check.proofs.BlockReading.{IsLeft, all_left, none_left, reads_first}
+use Rattle.image_check.proofs.BlockReading.{all_left, none_left, reads_first}
 use Rattle.image_check.proofs.BlockLists.{one_block}
 
 -- of a block's records the first ones are on pages of the disk, and the others are left

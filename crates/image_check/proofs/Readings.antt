@@ -1,6 +1,7 @@
 -- Devices are read in one way.
-use Rattle.std.proofs.Common.{◌≡◌, ℕ, zero, suc, ◌+◌, ◌-◌, min, List, [], ◌∷◌, length, drop, refl, sym, ap, ◌∙◌, subst, arith}
+use Rattle.std.proofs.Common.{◌≡◌, inl, inr, ℕ, zero, suc, ◌+◌, ◌-◌, ◌≤◌, min, List, [], ◌∷◌, length, drop, refl, sym, ap, ◌∙◌, subst, arith}
 use Rattle.std.specs.Prelude.{map}
+use Rattle.std.proofs.lemmas.Bool.{cases_lt}
 use Rattle.std.specs.List.{AllByRecursion}
 use Rattle.std.proofs.lemmas.List.{length-map, length-drop}
 use Rattle.site.specs.declared.geometry.Geometry.{Geometry}
@@ -16,7 +17,8 @@ use Rattle.checkpoint.specs.declared.master.Master.{Master}
 use Rattle.checkpoint.specs.Laws.{OneNewest}
 use Rattle.log_store.specs.Held.{HasBlocks}
 use Rattle.image_check.specs.Octets.{HasSizes}
-use Rattle.image_check.specs.Laws.{OneReading, AReading}
+use Rattle.image_check.specs.Verdict.{Reading, Rule, Rule2}
+use Rattle.image_check.specs.Laws.{OneReading, AReading, SoundFailsNone}
 use Rattle.image_check.proofs.BlockLists.{one_block}
 use Rattle.image_check.proofs.LiveUnits.{all_from}
 
@@ -117,3 +119,33 @@ a_reading g m image formed live =
         };
       },
     )
+
+-- Sound devices fail no rule.
+
+rule_past : (i : ℕ) (r : Reading) (image : Image) → 12 ≤ i → Rule i r image
+rule_past i r image past = record {
+  third = λ is. absurd (omega (arith, past, is));
+  fourth = λ is. absurd (omega (arith, past, is));
+  fifth = λ is. absurd (omega (arith, past, is));
+  sixth = λ is. absurd (omega (arith, past, is));
+  seventh = λ is. absurd (omega (arith, past, is));
+  eighth = λ is. absurd (omega (arith, past, is));
+  ninth = λ is. absurd (omega (arith, past, is));
+  tenth = λ is. absurd (omega (arith, past, is));
+  eleventh = λ is. absurd (omega (arith, past, is));
+}
+
+pub sound_fails_none : OneNewest → SoundFailsNone
+sound_fails_none newest image records commits zero sound fails = fails
+sound_fails_none newest image records commits (suc zero) sound fails = fails sound.reading.g sound.reading.master sound.reads.formed
+sound_fails_none newest image records commits (suc (suc zero)) sound fails =
+    let sizes : sound.reading.g ≡ fails.0 = one_size sound.reading.g fails.0 image sound.reads.formed.sizes fails.2.sizes in
+    let masters : sound.reading.master ≡ fails.1 = newest image sound.reading.master fails.1 sound.reads.formed.master fails.2.master in
+    fails.3 (subst (λ (m : Master). Rule2 fails.0 m image) masters (subst (λ (g : Geometry). Rule2 g sound.reading.master image) sizes sound.reads.live))
+sound_fails_none newest image records commits (suc (suc (suc i))) sound fails =
+    let k : ℕ = suc (suc (suc i)) in
+    let same : sound.reading ≡ fails.0 = reads_once newest image sound.reading fails.0 sound.reads fails.1 in
+    fails.3 (elim (cases_lt k 12) [
+      | inl below ↦ subst (λ (r : Reading). Rule k r image) same (sound.rules k below)
+      | inr past ↦ rule_past k fails.0 image past
+    ])

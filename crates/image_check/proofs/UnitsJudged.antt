@@ -1,5 +1,5 @@
 -- What was read of one live unit of a ring, and of all.
-use Rattle.std.proofs.Common.{◌≡◌, inl, inr, ℕ, ◌+◌, ◌-◌, ◌≤◌, ◌<◌, List, take, drop, refl, sym, ap, ◌∙◌, subst, arith}
+use Rattle.std.proofs.Common.{◌≡◌, inl, inr, ℕ, ◌+◌, ◌≤◌, ◌<◌, List, take, drop, refl, sym, ap, ◌∙◌, subst, arith}
 use Rattle.std.proofs.lemmas.Bool.{cases_eq}
 use Rattle.std.proofs.lemmas.List.{take-take}
 use Rattle.site.specs.State.{State, Image}
@@ -8,8 +8,7 @@ use Rattle.sealed_ring.specs.declared.ring.Ring.{Ring}
 use Rattle.sealed_ring.specs.Ring.{IsLive, hi_of, unit_at}
 use Rattle.sealed_ring.specs.Ready.{region, units_in, Fits}
 use Rattle.sealed_ring.proofs.Heads.{unit_is}
-use Rattle.image_changes.specs.Rings.{octets_of, units_on}
-use Rattle.image_check.specs.Octets.{OfLive}
+use Rattle.image_changes.specs.Rings.{units_on}
 
 -- a unit that was read whole, from a ring of this shape
 pub unit_read : (s : Shape) (ring : Ring) (site : State) (n : ℕ) (read : List ℕ) → 3 ≤ s.slots → ring.shape ≡ s → Fits ring site → IsLive ring.shape ring.hi n →

@@ -8,7 +8,7 @@ use Rattle.log_records.specs.declared.log_record.LogRecord.{LogRecord}
 use Rattle.log_records.specs.Sound.{Means}
 use Rattle.checkpoint.specs.declared.master.Master.{Master}
 use Rattle.image_meaning.specs.Meaning.{IsUnused, StandsFor}
-use Rattle.image_check.specs.Verdict.{Reading, Reads, Rule1, Rule2, HoldBefore, Rule8, picture_of}
+use Rattle.image_check.specs.Verdict.{Reading, Reads, Rule1, Rule2, HoldBefore, Rule8, picture_of, IsSoundWith, FailsFirst}
 
 -- Devices on which no segment stands and for which all rules hold stand for the table and the commits that they are read as.
 abbrev pub SoundStands : Type 0
@@ -34,3 +34,7 @@ OneReading = (image : Image) (a b : Reading) → Reads a image → Reads b image
 -- and where the first two rules hold there is one, with their sizes and master.
 abbrev pub AReading : Type 0
 AReading = (g : Geometry) (m : Master) (image : Image) → Rule1 g m image → Rule2 g m image → (blocks : List (List LogRecord)) × Reads (record { g = g; master = m; blocks = blocks }) image
+
+-- Sound devices fail no rule.
+abbrev pub SoundFailsNone : Type 0
+SoundFailsNone = (image : Image) (records commits i : ℕ) → IsSoundWith image records commits → FailsFirst i image → ⊥

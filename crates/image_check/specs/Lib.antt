@@ -1,4 +1,6 @@
+pub mod Counting
 pub mod Findings
 pub mod Laws
 pub mod Octets
 pub mod Verdict
+pub mod Walking

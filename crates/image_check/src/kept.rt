@@ -1,5 +1,5 @@
 // The kept blocks and the redo block.
-ghost use Rattle.std.specs.Prelude.{◌≤◌, ◌^◌, ◌↔◌, IsTrue};
+ghost use Rattle.std.specs.Prelude.{◌+◌, ◌-◌, ◌≤◌, ◌^◌, ◌↔◌, IsTrue};
 ghost use Rattle.site.specs.State.{State};
 ghost use Rattle.log_store.specs.Held.{Finds};
 ghost use Rattle.image_check.specs.Verdict.{Rule2};
@@ -14,6 +14,8 @@ pub fn rule_kept(log: &LogStore, master: &Master) -> bool
     requires some { 1 ≤ log.now.geometry.blocks }
     ensures kept { (site : State) → Finds log.now site
         → IsTrue result ↔ Rule2 log.now.geometry master.now site.image }
+    ensures redo { IsTrue result → master.now.redo ≤ log.now.ring.hi }
+    ensures live { IsTrue result → log.now.ring.hi ≤ master.now.kept + (log.now.geometry.blocks - 1) }
 {
     let hi = log.sealed_end() / 512;
     let live = log.geometry().blocks as u64 - 1;

@@ -2,6 +2,7 @@
 #![tactic(auto)]
 
 mod blocks;
+mod commits;
 mod kept;
 mod laws;
 mod lengths;
@@ -10,11 +11,14 @@ mod rings;
 mod segments;
 #[cfg(test)]
 mod tests;
+mod walk;
 
 pub use blocks::rule_blocks;
+pub use commits::rule_commits;
 pub use kept::rule_kept;
 pub use laws::{one_reading, sound_is_standing};
 pub use lengths::rule_lengths;
 pub use master::rule_master;
 pub use rings::{Rings, rule_rings};
 pub use segments::rule_segments;
+pub use walk::Walk;

@@ -100,8 +100,8 @@ fn unused_are_bare<S: Site>(site: &mut S, shape: Shape, hi: u64) -> Result<bool,
     Ok(true)
 }
 
-/// The ring that stands there, or `None` exactly where what stands there isn't of the form. It reads the head of each slot
-/// at most three times.
+/// The ring that stands there, or `None` exactly where what stands there isn't of the form. It reads the head of each
+/// slot at most three times.
 pub fn judge<S: Site>(site: &mut S, shape: Shape) -> Result<Option<Ring>, Stop>
     requires { FitsIn shape (length (region shape (S.state site.old))) }
 

@@ -1,5 +1,6 @@
 use Rattle.std.proofs.Common.{rules, ◌≡◌, ◌-◌, ◌≤◌, ◌<◌, ℕ, true, false, sym, ap, ◌∙◌, subst, true≢false, arith}
 use Rattle.std.specs.Prelude.{Err}
+use Rattle.site.specs.declared.geometry.Geometry.{Geometry}
 use Rattle.site.specs.State.{State, Image}
 use Rattle.log_store.specs.Held.{Finds, block_on}
 use Rattle.image_check.specs.Octets.{IsBlockOn}
@@ -14,7 +15,7 @@ returns-in-Err-Foreign-clause-blocks g c finds =
     let reads = c.loop-block.invariant.reads in
     let same : now.image ≡ old.image = (reads.same finds.honest).image in
     let finds_now : Finds log now = finds_later log old now reads.goes same finds in
-    let low : log.ring.hi - (log.geometry.blocks - 1) ≤ c.loop-block.block = omega (arith, c.loop-block.auto.block, c.max-first.ensures, c.saturating_sub.ensures, c.sealed_end-hi.ensures, ap (λ x. x.blocks) c.geometry-geometry.ensures) in
+    let low : log.ring.hi - (log.geometry.blocks - 1) ≤ c.loop-block.block = omega (arith, c.loop-block.auto.block, c.max-first.ensures, c.saturating_sub.ensures, c.sealed_end-hi.ensures, ap (λ (x : Geometry). x.blocks) c.geometry-geometry.ensures) in
     let from : c.args.kept ≤ c.loop-block.block = omega (arith, c.loop-block.auto.block, c.max-first.ensures) in
     let below : c.loop-block.block < log.ring.hi = omega (arith, c.loop-block-test.true, c.sealed_end-hi.ensures) in
     let none = c.in-Err-Foreign.ensures.foreign (ap Err c.in-Err-Foreign.field-0-is) finds_now in
@@ -31,11 +32,11 @@ returns-then-not-are_on_pages-clause-blocks g c finds =
     let reads = c.loop-block.invariant.reads in
     let same : now.image ≡ old.image = (reads.same finds.honest).image in
     let finds_now : Finds log now = finds_later log old now reads.goes same finds in
-    let low : log.ring.hi - (log.geometry.blocks - 1) ≤ c.loop-block.block = omega (arith, c.loop-block.auto.block, c.max-first.ensures, c.saturating_sub.ensures, c.sealed_end-hi.ensures, ap (λ x. x.blocks) c.geometry-geometry.ensures) in
+    let low : log.ring.hi - (log.geometry.blocks - 1) ≤ c.loop-block.block = omega (arith, c.loop-block.auto.block, c.max-first.ensures, c.saturating_sub.ensures, c.sealed_end-hi.ensures, ap (λ (x : Geometry). x.blocks) c.geometry-geometry.ensures) in
     let from : c.args.kept ≤ c.loop-block.block = omega (arith, c.loop-block.auto.block, c.max-first.ensures) in
     let below : c.loop-block.block < log.ring.hi = omega (arith, c.loop-block-test.true, c.sealed_end-hi.ensures) in
     let is = c.in-Ok.ensures.block finds_now ∙ ap (λ (image : Image). block_on log.geometry image c.loop-block.block) same in
-    let pages : c.geometry-geometry.result.pages ≡ log.geometry.pages = ap (λ x. x.pages) c.geometry-geometry.ensures in (
+    let pages : c.geometry-geometry.result.pages ≡ log.geometry.pages = ap (λ (x : Geometry). x.pages) c.geometry-geometry.ensures in (
       λ no. let wrong : false ≡ true = no in absurd (true≢false (sym wrong)),
       λ all. absurd (one_is_not log old c.args.kept c.loop-block.block c.requires finds from low below c.read_block.new.into is
           (λ records on. let yes : c.are_on_pages.result ≡ true = c.are_on_pages.ensures.1 (records, subst (λ (n : ℕ). IsBlockOn n c.read_block.new.into records) (sym pages) on) in true≢false (sym yes ∙ c.if-not-are_on_pages.true)) all),
@@ -47,7 +48,7 @@ loop-block-preserved g c =
     let old : State = g.S.Site.state c.args.site.now in
     let now : State = g.S.Site.state c.loop-block.site in
     let reads = c.loop-block.invariant.reads in
-    let pages : c.geometry-geometry.result.pages ≡ log.geometry.pages = ap (λ x. x.pages) c.geometry-geometry.ensures in
+    let pages : c.geometry-geometry.result.pages ≡ log.geometry.pages = ap (λ (x : Geometry). x.pages) c.geometry-geometry.ensures in
     record {
       going = going_later log now (g.S.Site.state c.read_block.new.site) c.in-Ok.ensures.goes c.loop-block.invariant.going;
       stand = λ finds.

@@ -1,0 +1,26 @@
+use Rattle.std.proofs.Common.{◌+◌, ◌^◌, ◌≤◌, List}
+use Rattle.std.specs.Prelude.{Ok}
+use Rattle.log_records.specs.declared.log_record.LogRecord.{LogRecord}
+use Rattle.log_records.specs.Log.{log_from}
+use Rattle.log_store.specs.Held.{MayGoOn, Finds, HasBlocks}
+use Rattle.ring_check.specs.Looking.{OnlyReads}
+use Rattle.image_check.specs.Counting.{Heard}
+use Rattle.image_check.specs.Walking.{MayWalk, to_go}
+use Rattle.image_check.proofs.Walks.{Walked}
+use Rattle.image_check.proofs.commits.rule_commits.Given as goal
+
+abbrev pub invariant-loop-lsn : goal.invariant-loop-lsn
+invariant-loop-lsn g l =
+    let old = g.S.Site.state l.fn.site in
+    let now = g.S.Site.state l.site in
+    record {
+      going : MayGoOn l.log now;
+      walks : MayWalk l.log l.walk;
+      few : l.numbers.early + l.numbers.late + to_go l.log l.walk ≤ 2 ^ 60;
+      heard : (blocks : List (List LogRecord)) → Finds l.log old → HasBlocks l.log.geometry l.master.kept blocks old.image →
+          (w : Walked l.walk l.log old.image (log_from l.master.kept blocks)) × Heard l.master.redo l.numbers w.done;
+      reads : OnlyReads {T = Unit {0}} (Ok tt) old now;
+    }
+
+abbrev pub decreases-loop-lsn : goal.decreases-loop-lsn
+decreases-loop-lsn g l = to_go l.log l.walk
