@@ -74,7 +74,7 @@ module _ (ring_of_zeros : BlankIsRing) (g : Geometry) (limits : HasLimits g) whe
   no_segments = record {
     segments = [];
     follow = subst (λ (live : List (List ℕ)). HasSaved g (map frames_in live) [] (blank_image g)) (sym no_live) (record {
-      has = record { form = (ring_blank Segments).0; are_segments = tt; live = ap (λ (u : Units). u.live) (ring_blank Segments).1 };
+      has = record { form = (ring_blank Segments).0; are_segments = tt; exist = tt; live = ap (λ (u : Units). u.live) (ring_blank Segments).1 };
       follow = subst (λ (h : ℕ). Follow (hi_of (segment_shape g) (blank_image g).flash) [] h []) (sym (unused Groups).none) (subst (λ (k : ℕ). Follow k [] 0 []) (sym (unused Segments).none) none_follow);
     });
   }

@@ -55,7 +55,7 @@ groups_stay g old new keeps groups = record {
 pub saved_stays : (g : Geometry) (groups : List (List Frame)) (heads : List (List FrameHead)) (old new : Image) → KeepsUnits (segment_shape g) old new → KeepsUnits (group_shape g) old new →
     HasSaved g groups heads old → HasSaved g groups heads new
 saved_stays g groups heads old new there here saved = record {
-  has = record { form = there.form saved.has.form; are_segments = saved.has.are_segments; live = ap (λ (u : Units). u.live) there.units ∙ saved.has.live };
+  has = record { form = there.form saved.has.form; are_segments = saved.has.are_segments; exist = saved.has.exist; live = ap (λ (u : Units). u.live) there.units ∙ saved.has.live };
   follow = subst (λ (h : ℕ). Follow (hi_of (segment_shape g) new.flash) heads h (map heads_of groups)) (sym (ap (λ (u : Units). u.hi) here.units))
       (subst (λ (k : ℕ). Follow k heads (hi_of (group_shape g) old.flash) (map heads_of groups)) (sym (ap (λ (u : Units). u.hi) there.units)) saved.follow);
 }

@@ -1,6 +1,6 @@
 -- Groups and segments when one more comes.
 use Rattle.std.proofs.Common.{◌≡◌, ◌⊎◌, inl, inr, ℕ, zero, suc, ◌+◌, ◌-◌, ◌*◌, ◌/◌, ◌<◌, ◌≤◌, List, [], ◌∷◌, ◌++◌, length, get_or, map, drop, refl, sym, ap, subst, ◌∙◌, arith}
-use Rattle.std.specs.List.{AllByRecursion}
+use Rattle.std.specs.List.{AllByRecursion, flat_map}
 use Rattle.std.proofs.lemmas.Bool.{cases_lt}
 use Rattle.std.proofs.lemmas.List.{length-map, length-append, length-drop, map-append, drop-map, get_or-drop, get_or-map}
 use Rattle.site.specs.declared.geometry.Geometry.{Geometry}
@@ -15,11 +15,11 @@ use Rattle.frame_group.proofs.Front.{heads_are_group, begins_with_heads}
 use Rattle.meta_segments.specs.Segments.{heads_of_group, IsSegment}
 use Rattle.meta_segments.specs.Following.{IsLive, heads_with, Follow}
 use Rattle.meta_segments.proofs.Numbers.{group_follows, segment_follows}
-use Rattle.tail_rebuild.specs.Standing.{HasFrames, HasGroups, HasSegments, HasSaved}
+use Rattle.tail_rebuild.specs.Standing.{HasFrames, HasGroups, HasSegments, HasSaved, PagesExist}
 use Rattle.tail_rebuild.specs.Saving.{segment_of, with_segment}
 use Rattle.tail_rebuild.specs.Laws.{StandsAgain, SegmentSaved, GroupPushed, with_group}
 use Rattle.tail_rebuild.proofs.Fours.{group_of_flat, length_flat, all_flat}
-use Rattle.tail_rebuild.proofs.Standing.{count}
+use Rattle.tail_rebuild.proofs.Standing.{count, group_exists}
 use Rattle.tail_rebuild.proofs.Saved.{segment_count}
 
 -- A ring that has the same units.
@@ -36,6 +36,7 @@ segments_again : (g : Geometry) (segments : List (List FrameHead)) (old new : Im
 segments_again g segments old new keeps has = record {
   form = keeps.form has.form;
   are_segments = has.are_segments;
+  exist = has.exist;
   live = ap (λ (u : Units). u.live) keeps.units ∙ has.live;
 }
 
@@ -95,6 +96,18 @@ are_segment g groups all four =
       fit_fields = all_flat heads_of (λ frames. HasFrames g frames (group frames)) FitsFields (drop n groups) (λ frames has. (begins_with_heads (group frames) frames has.is_group).at_front.fit_fields) last;
     }
 
+exist_both : (pages : ℕ) (xs ys : List FrameHead) → PagesExist pages xs → PagesExist pages ys → PagesExist pages (xs ++ ys)
+exist_both pages [] ys first second k d lt = second k d lt
+exist_both pages (x ∷ xs) ys first second zero d lt = first zero d (omega arith)
+exist_both pages (x ∷ xs) ys first second (suc k) d lt = exist_both pages xs ys (λ i e less. first (suc i) e (omega (arith, less))) second k d (omega (arith, lt))
+
+exist_flat : (g : Geometry) (groups : List (List Frame)) → AllByRecursion (λ frames. HasFrames g frames (group frames)) groups → PagesExist g.pages (flat_map heads_of groups)
+exist_flat g [] all k d lt = absurd (omega (arith, lt))
+exist_flat g (frames ∷ groups) all k d lt = exist_both g.pages (heads_of frames) (flat_map heads_of groups) (group_exists g frames (group frames) all.0) (exist_flat g groups all.1) k d lt
+
+pages_exist : (g : Geometry) (groups : List (List Frame)) → AllByRecursion (λ frames. HasFrames g frames (group frames)) groups → PagesExist g.pages (segment_of groups)
+pages_exist g groups all = exist_flat g (drop (length groups - 4) groups) (all_dropped (λ frames. HasFrames g frames (group frames)) (length groups - 4) groups all)
+
 -- A segment that is due is saved.
 
 pub segment_saved : SegmentSaved
@@ -129,6 +142,8 @@ segment_saved g first groups segments old new limits due appends has holds =
           form = appends.form;
           are_segments = all_dropped (λ hs. IsSegment (spelling_of_all hs) hs) gone (segments ++ heads ∷ [])
               (all_more (λ hs. IsSegment (spelling_of_all hs) hs) segments heads holds.has.are_segments (are_segment g groups has.are_groups four));
+          exist = all_dropped (PagesExist g.pages) gone (segments ++ heads ∷ [])
+              (all_more (PagesExist g.pages) segments heads holds.has.exist (pages_exist g groups has.are_groups));
           live = ap (λ (u : Units). u.live) appends.units ∙ ap (λ (l : List (List ℕ)). last_of (g.groups / 4 + 3 - 1) (l ++ spelling_of_all heads ∷ [])) holds.has.live
               ∙ live_more spelling_of_all segments heads (g.groups / 4 + 3 - 1) (g.groups / 4 + 2) (omega arith);
         };

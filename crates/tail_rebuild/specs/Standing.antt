@@ -31,10 +31,15 @@ pub record HasGroups (g : Geometry) (first : ℕ) (groups : List (List Frame)) (
   pub are_groups : AllByRecursion (λ frames. HasFrames g frames (group frames)) groups
   pub live : (units_on (group_shape g) image).live ≡ map group groups
 
--- the live segments of an image have these heads
+-- the pages of the present heads exist
+abbrev pub PagesExist : ℕ → List FrameHead → Type 0
+PagesExist pages heads = All (λ head. IsTrue head.present → head.page < pages) heads
+
+-- the live segments of an image have these heads, all of pages that exist
 pub record HasSegments (g : Geometry) (segments : List (List FrameHead)) (image : Image) : Type 0 where
   pub form : IsRing (segment_shape g) image.flash
   pub are_segments : AllByRecursion (λ heads. IsSegment (spelling_of_all heads) heads) segments
+  pub exist : AllByRecursion (PagesExist g.pages) segments
   pub live : (units_on (segment_shape g) image).live ≡ map spelling_of_all segments
 
 -- The segments follow the groups: as many segments are saved as groups were pushed, by fours, at most one less; a live segment has the heads of those of
@@ -42,7 +47,3 @@ pub record HasSegments (g : Geometry) (segments : List (List FrameHead)) (image 
 pub record HasSaved (g : Geometry) (groups : List (List Frame)) (segments : List (List FrameHead)) (image : Image) : Type 0 where
   pub has : HasSegments g segments image
   pub follow : Follow (hi_of (segment_shape g) image.flash) segments (hi_of (group_shape g) image.flash) (map heads_of groups)
-
--- the pages of the present heads exist
-abbrev pub PagesExist : ℕ → List FrameHead → Type 0
-PagesExist pages heads = All (λ head. IsTrue head.present → head.page < pages) heads
