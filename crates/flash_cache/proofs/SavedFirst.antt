@@ -1,7 +1,7 @@
 -- A segment is saved first, where one is due, and a group is pushed behind it.
 use Rattle.std.proofs.Common.{◌≡◌, inl, inr, ℕ, Bool, true, false, List, [], ◌++◌, map, sym, ap, subst, ◌∙◌, append_assoc}
 use Rattle.site.specs.declared.geometry.Geometry.{Geometry}
-use Rattle.std.specs.Prelude.{Ok}
+use Rattle.std.specs.Prelude.{Ok, IsTrue}
 use Rattle.site.specs.declared.outside.Dev.TheVariants.{Flash}
 use Rattle.site.specs.State.{State, Image, Snapshot, IsQuiet}
 use Rattle.site.specs.Calls.{Goes}
@@ -9,10 +9,11 @@ use Rattle.site.specs.Moments.{Leaves, LeavesOnly, ChangesOnly}
 use Rattle.site.specs.Laws.{in_sequence, leaves_weaker}
 use Rattle.sealed_ring.specs.declared.slots.Shape.{Shape}
 use Rattle.sealed_ring.specs.declared.ring.Ring.{Ring}
-use Rattle.sealed_ring.specs.Ring.{Units, hi_of}
-use Rattle.sealed_ring.specs.Ready.{region}
+use Rattle.sealed_ring.specs.Ring.{Units, IsRing, hi_of}
+use Rattle.sealed_ring.specs.Ready.{region, Finds}
 use Rattle.byte_fields.specs.declared.frame_head.FrameHead.{FrameHead}
 use Rattle.disk_pages.specs.Pages.{page_on}
+use Rattle.image_changes.specs.Rings.{segment_shape}
 use Rattle.image_changes.specs.Changes.{Change, Reaches}
 use Rattle.image_changes.specs.Reached.{IsReached, IsFrontOf, LeavesFront}
 use Rattle.image_changes.proofs.Sequence.{changes_add_up}
@@ -64,6 +65,23 @@ module _ (cache : FlashCache) (groups : List (List Frame)) (saved : List (List F
 
   pub holds_saved : (old : Image) → Holds cache old groups → Holds (record cache { segments = segments }) mid.image groups
   holds_saved old holds = record { has = stands.has; saved = record { segments = saved; follow = stands.holds }; shown = holds.shown }
+
+-- the cache fits behind it, whatever groups stand there
+
+pub segments_found : (cache : FlashCache) (site : State) → cache.segments.shape ≡ segment_shape cache.geometry → Fits cache site → Finds cache.segments site
+segments_found cache site shape fits = record {
+  form = subst (λ (s : Shape). IsRing s (region s site)) (sym shape) fits.segments_form;
+  hi = fits.segments_hi ∙ ap (λ (s : Shape). hi_of s (region s site)) (sym shape);
+}
+
+pub fits_behind : (cache : FlashCache) (segments : Ring) (mid : State) → AreRings cache.geometry cache.ring segments mid → IsTrue mid.honest → Finds cache.ring mid → Finds segments mid → Fits (record cache { segments = segments }) mid
+fits_behind cache segments mid rings honest groups_found found = record {
+  honest = honest;
+  form = subst (λ (s : Shape). IsRing s (region s mid)) rings.groups_shape groups_found.form;
+  hi = groups_found.hi ∙ ap (λ (s : Shape). hi_of s (region s mid)) rings.groups_shape;
+  segments_form = subst (λ (s : Shape). IsRing s (region s mid)) rings.segments_shape found.form;
+  segments_hi = found.hi ∙ ap (λ (s : Shape). hi_of s (region s mid)) rings.segments_shape;
+}
 
 -- the disk and the groups are what they were, and so are the versions
 

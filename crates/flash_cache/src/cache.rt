@@ -270,9 +270,7 @@ impl FlashCache {
             → OnOk result (Holds self.new (S.state site.new).image
             (pushed_groups self.old groups
             (frames_pushed self.old (S.state site.old).image pages.now changed.now contents.now))) }
-        ensures fits { (groups : List (List Frame))
-            → Fits self.old (S.state site.old) → Holds self.old (S.state site.old).image groups
-            → OnOk result (Fits self.new (S.state site.new)) }
+        ensures fits { Fits self.old (S.state site.old) → OnOk result (Fits self.new (S.state site.new)) }
         ensures quiet { IsTrue (S.state site.old).honest → IsQuiet (S.state site.old)
             → OnOk result (IsQuiet (S.state site.new)) }
         ensures quiet_err { IsTrue (S.state site.old).honest → IsQuiet (S.state site.old)
@@ -292,9 +290,8 @@ impl FlashCache {
 
         // When each answer comes.
         ensures worn { IsErrOf result (Stop.Worn Dev.Flash) → self.old.ring.hi ≡ 2 ^ 40 }
-        ensures worn_end { (groups : List (List Frame))
-            → Fits self.old (S.state site.old) → Holds self.old (S.state site.old).image groups
-            → IsErrOf result (Stop.Worn Dev.Flash) → IsWorn self.old.geometry (S.state site.new).image }
+        ensures worn_end { Fits self.old (S.state site.old) → IsErrOf result (Stop.Worn Dev.Flash)
+            → IsWorn self.old.geometry (S.state site.new).image }
         ensures never_past { self.old.ring.hi ≡ 2 ^ 40 → OnOk result ⊥ }
         ensures device { (d : Dev) → IsErrOf result (Stop.Device d)
             → FaultRose d (S.state site.old) (S.state site.new) }

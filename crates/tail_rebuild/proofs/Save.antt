@@ -6,17 +6,17 @@ use Rattle.site.specs.declared.outside.Dev.{Dev}
 use Rattle.site.specs.declared.outside.Dev.TheVariants.{Flash}
 use Rattle.site.specs.declared.outside.Stop.{Stop}
 use Rattle.site.specs.Geometry.{HasLimits, HasLengths}
-use Rattle.site.specs.State.{State, Snapshot, IsQuiet}
+use Rattle.site.specs.State.{State, Image, Snapshot, IsQuiet}
 use Rattle.site.specs.Calls.{Goes, IsUnchanged}
 use Rattle.site.specs.Moments.{LeavesOnly, OnlyDevice, SameBut, ChangesOnly}
 use Rattle.site.specs.Laws.{leaves_weaker, unchanged, unchanged_calm, no_call, quiet_settled}
 use Rattle.sealed_ring.specs.declared.slots.Shape.{Shape}
 use Rattle.sealed_ring.specs.declared.ring.Ring.{Ring}
-use Rattle.sealed_ring.specs.Ring.{IsRing, SameOutside, appended, hi_of}
+use Rattle.sealed_ring.specs.Ring.{Units, IsRing, SameOutside, appended, hi_of}
 use Rattle.sealed_ring.specs.Ready.{region, units_in, IsReady, Finds, LeavesOldOrNew}
 use Rattle.byte_fields.specs.declared.frame_head.FrameHead.{FrameHead}
 use Rattle.byte_fields.specs.FrameHeads.{spelling_of_all}
-use Rattle.image_changes.specs.Rings.{Segments, group_shape, segment_shape, octets_of}
+use Rattle.image_changes.specs.Rings.{Groups, Segments, group_shape, segment_shape, octets_of}
 use Rattle.image_changes.specs.Changes.{Change, AppendsSegment, ReadsAs, Appends, Reaches}
 use Rattle.image_changes.specs.Reached.{IsReached, IsFrontOf, LeavesFront}
 use Rattle.image_changes.specs.Laws.{KeepsOrAppends}
@@ -127,3 +127,29 @@ unchanged_changes dev old new same = record {
   only = unchanged_calm old old new (SameBut dev old) (no_call old (SameBut dev old) (record { told = refl; telling = refl; content = λ d ne. refl; loose = λ d ne. refl })) same;
   left = same.left;
 }
+
+-- rings that were found are there still, where only counts changed
+pub finds_later : (ring : Ring) (old mid : State) → mid.image ≡ old.image → Finds ring old → Finds ring mid
+finds_later ring old mid same finds = record {
+  form = subst (λ (i : Image). IsRing ring.shape (region ring.shape (record old { image = i }))) (sym same) finds.form;
+  hi = fits_again ring old mid same finds.hi;
+}
+
+-- both rings are found behind an append to that of the segments
+pub both_found : (g : Geometry) (groups segments ring : Ring) (mid new : State) (content : List ℕ) → HasLimits g → HasLengths g mid.image → groups.shape ≡ group_shape g → segments.shape ≡ segment_shape g → length content ≡ 512 → Goes mid new
+    → ring.shape ≡ segments.shape → IsReady ring new → SameOutside segments.shape (region segments.shape mid) (region segments.shape new) → OnlyDevice segments.shape.dev mid new
+    → units_in segments.shape new ≡ appended segments.shape (units_in segments.shape mid) content → Finds groups mid → Finds groups new × Finds ring new
+both_found g groups segments ring mid new content limits lengths groups_shape segments_shape size goes shape ready outside only units finds =
+    let appends : Appends g Segments content mid.image new.image =
+    append_done g Segments content mid new limits lengths size (goes.sizes Flash)
+    (subst (λ (s : Shape). IsRing s (region s new)) (shape ∙ segments_shape) ready.form)
+    (subst (λ (s : Shape). SameOutside s (region s mid) (region s new)) segments_shape outside)
+    (subst (λ (s : Shape). OnlyDevice s.dev mid new) segments_shape only)
+    (subst (λ (s : Shape). units_in s new ≡ appended s (units_in s mid) content) segments_shape units) in
+    let here = appends.others Groups (λ same. cc) in (
+      record {
+        form = subst (λ (s : Shape). IsRing s (region s new)) (sym groups_shape) (here.form (subst (λ (s : Shape). IsRing s (region s mid)) groups_shape finds.form));
+        hi = finds.hi ∙ ap (λ (s : Shape). hi_of s (region s mid)) groups_shape ∙ ap (λ (u : Units). u.hi) (sym here.units) ∙ ap (λ (s : Shape). hi_of s (region s new)) (sym groups_shape);
+      },
+      record { form = ready.form; hi = ready.hi },
+    )

@@ -7,7 +7,7 @@ ghost use Rattle.site.specs.State.{reads_of, IsQuiet};
 ghost use Rattle.site.specs.Calls.{Goes, FaultRose};
 ghost use Rattle.site.specs.Faults.{WorkFaults};
 ghost use Rattle.site.specs.Moments.{ChangesOnly};
-ghost use Rattle.sealed_ring.specs.Ready.{IsUsable, Fits as RingFits};
+ghost use Rattle.sealed_ring.specs.Ready.{IsUsable, Fits as RingFits, Finds as RingFinds};
 ghost use Rattle.byte_fields.specs.declared.frame_head.FrameHead.{FrameHead};
 ghost use Rattle.image_changes.specs.Rings.{group_shape as group_ring};
 ghost use Rattle.frame_group.specs.Groups.{Frame};
@@ -81,6 +81,9 @@ pub fn save_due<S: Site>(
         → Stands geometry.now groups.now segments.old first stand saved (S.state site.old)
         → Saves geometry.now groups.now segments.old segments.new first stand saved
         (S.state site.old) (S.state site.new) result }
+    ensures fits { IsTrue (S.state site.old).honest
+        → RingFinds groups.now (S.state site.old) → RingFinds segments.old (S.state site.old)
+        → OnOk result (RingFinds groups.now (S.state site.new) × RingFinds segments.new (S.state site.new)) }
     ensures changes { IsTrue (S.state site.old).honest
         → ChangesOnly Dev.Flash (S.state site.old) (S.state site.new) }
     ensures quiet { IsTrue (S.state site.old).honest → IsQuiet (S.state site.old)

@@ -1,6 +1,7 @@
 use Rattle.std.proofs.Common.{◌≡◌, inl, inr, ⊎_elim, ℕ, ◌+◌, ◌*◌, true, sym, ◌∙◌, ap, subst, arith, Err, length}
 use Rattle.std.proofs.lemmas.Bool.{eq-eqb, ne_eqb}
 use Rattle.site.specs.declared.outside.Dev.TheVariants.{Flash}
+use Rattle.site.specs.Geometry.{HasLengths}
 use Rattle.site.specs.Moments.{ChangesOnly}
 use Rattle.sealed_ring.specs.declared.slots.Shape.{Shape}
 use Rattle.byte_fields.specs.FrameHeads.{spelling_of_all}
@@ -8,7 +9,7 @@ use Rattle.site.specs.Laws.{stays_honest, changes_in_sequence}
 use Rattle.site.proofs.Working.{err_again}
 use Rattle.meta_segments.proofs.Whole.{segment_form}
 use Rattle.tail_rebuild.specs.Saving.{is_due}
-use Rattle.tail_rebuild.proofs.Save.{none_saved, read_failed, finds_mid, ready_mid, moments, reached, stands_behind, unchanged_changes}
+use Rattle.tail_rebuild.proofs.Save.{none_saved, read_failed, finds_mid, ready_mid, moments, reached, stands_behind, unchanged_changes, finds_later, both_found}
 use Rattle.tail_rebuild.proofs.saving.save_due.Goals as goal
 
 pub returns-then-hi-clause-saves : goal.returns-then-hi-clause-saves
@@ -90,6 +91,19 @@ returns-clause-saves g c first stand saved stands =
       stands = stands_behind geometry groups segments first stand saved old mid c.requires.limits c.requires.lengths c.requires.rings due same stands new c.append.new.self c.write_segment.new.content is size goes
           c.append.ensures.shape ready outside changes.only units honest_new is_next;
     }
+
+pub returns-clause-fits : goal.returns-clause-fits
+returns-clause-fits g c honest groups segments =
+    let old = g.S.Site.state c.args.site.now in
+    let mid = g.S.Site.state c.read_last_four.new.site in
+    let geometry = c.args.geometry.now in
+    let reads = c.in-Ok.ensures.reads in
+    let same = (reads.same honest).image in
+    let honest_mid = stays_honest old mid reads.goes honest in
+    let finds = finds_later c.args.segments.now old mid same segments in
+    both_found geometry c.args.groups.now c.args.segments.now c.append.new.self mid (g.S.Site.state c.append.new.site) c.write_segment.new.content c.requires.limits (subst (HasLengths geometry) (sym same) c.requires.lengths)
+    c.requires.rings.groups_shape c.requires.rings.segments_shape (omega (arith)) c.append.ensures.goes c.append.ensures.shape (c.in_default.ensures.ready honest_mid finds) (c.in_default.ensures.outside honest_mid)
+    (c.append.ensures.changes honest_mid).only (c.in_default.ensures.stands honest_mid finds) (finds_later c.args.groups.now old mid same groups)
 
 pub returns-clause-changes : goal.returns-clause-changes
 returns-clause-changes g c honest =

@@ -6,8 +6,9 @@ use Rattle.frame_group.specs.Groups.{group}
 use Rattle.flash_cache.specs.Pushed.{frames_pushed}
 use Rattle.flash_cache.proofs.StagedContents.{pushed_has, given_few}
 use Rattle.flash_cache.proofs.Staging.{pages_changed, pages_in_sequence}
+use Rattle.flash_cache.proofs.Pushing.{ring_found}
 use Rattle.flash_cache.proofs.PushLaws.{push_front}
-use Rattle.flash_cache.proofs.SavedFirst.{stands_there, goes_on_saved, is_behind, moment_behind, reaches_behind, staged_behind, failed_moment}
+use Rattle.flash_cache.proofs.SavedFirst.{stands_there, goes_on_saved, segments_found, fits_behind, is_behind, moment_behind, reaches_behind, staged_behind, failed_moment}
 use Rattle.flash_cache.proofs.PushedOutcome.{leaves_versions, leaves_clean, gives_behind, clean_behind, holds_behind}
 use Rattle.flash_cache.proofs.cache.FlashCache.push_group.Goals as goal
 
@@ -111,14 +112,14 @@ returns-in-Err-push-clause-clean_moment g c groups fits holds quiet clean given 
     (g.S.Site.state c.push.new.site) clean given (returns-in-Err-push-clause-any_moment g c groups fits holds quiet)
 
 pub returns-in-Err-push-clause-worn_end : goal.returns-in-Err-push-clause-worn_end
-returns-in-Err-push-clause-worn_end g c groups fits holds says =
+returns-in-Err-push-clause-worn_end g c fits says =
     let cache = c.args.self.now in
     let old = g.S.Site.state c.args.site.now in
     let mid = g.S.Site.state c.save_due.new.site in
-    let new = g.S.Site.state c.push.new.site in
-    let stands = stands_there cache groups old c.requires.going fits holds in
-    let b = is_behind cache groups c.save_due.new.segments old mid holds c.save_due.ensures.rings (c.save_due.ensures.changes fits.honest) (c.in_default.ensures.saves cache.directory.first groups holds.saved.segments stands) in
-    c.in-Err-push.ensures.worn_end b.fits (err_again _ _ says)
+    let rings = c.requires.going.rings in
+    let found = c.in_default.ensures.fits fits.honest (ring_found cache old rings.groups_shape fits) (segments_found cache old rings.segments_shape fits) in
+    let behind = fits_behind cache c.save_due.new.segments mid c.save_due.ensures.rings (stays_honest old mid c.save_due.ensures.goes fits.honest) found.0 found.1 in
+    c.in-Err-push.ensures.worn_end behind (err_again _ _ says)
 
 pub returns-clause-frames : goal.returns-clause-frames
 returns-clause-frames g c groups fits holds =
@@ -186,14 +187,14 @@ returns-clause-staged g c groups fits holds =
     staged_behind cache groups c.save_due.new.segments old mid holds b c.args.pages.now c.args.changed.now c.args.contents.now new.image (c.in_default-push.ensures.staged groups b.fits b.holds)
 
 pub returns-clause-fits : goal.returns-clause-fits
-returns-clause-fits g c groups fits holds =
+returns-clause-fits g c fits =
     let cache = c.args.self.now in
     let old = g.S.Site.state c.args.site.now in
     let mid = g.S.Site.state c.save_due.new.site in
-    let new = g.S.Site.state c.push.new.site in
-    let stands = stands_there cache groups old c.requires.going fits holds in
-    let b = is_behind cache groups c.save_due.new.segments old mid holds c.save_due.ensures.rings (c.save_due.ensures.changes fits.honest) (c.in_default.ensures.saves cache.directory.first groups holds.saved.segments stands) in
-    c.in_default-push.ensures.fits b.fits
+    let rings = c.requires.going.rings in
+    let found = c.in_default.ensures.fits fits.honest (ring_found cache old rings.groups_shape fits) (segments_found cache old rings.segments_shape fits) in
+    let behind = fits_behind cache c.save_due.new.segments mid c.save_due.ensures.rings (stays_honest old mid c.save_due.ensures.goes fits.honest) found.0 found.1 in
+    c.in_default-push.ensures.fits behind
 
 pub returns-clause-gives : goal.returns-clause-gives
 returns-clause-gives g c groups fits holds clean =

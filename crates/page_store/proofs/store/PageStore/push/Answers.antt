@@ -143,7 +143,7 @@ returns-in-Ok-clause-keeps g c list ready =
           (subst (λ (k : Geometry). Reaches k first old.image mid.image) sizes (c.in-Ok.ensures.reaches list ready.blocks ready.records)) b.told (pushing quiet));
       quiet = λ quiet. c.push_group.ensures.quiet_err b.honest (still quiet);
       worn_log = search rules;
-      worn = c.push_group.ensures.worn_end groups b.fits b.holds;
+      worn = c.push_group.ensures.worn_end b.fits;
       readable = c.push_group.ensures.foreign groups b.fits b.holds;
     }
 
@@ -202,7 +202,7 @@ returns-in-Ok-clause-stands g c list ready =
       };
     })
     c.push_group.ensures.directory (c.push_group.ensures.gives groups b.fits b.holds b.clean) (c.push_group.ensures.reaches groups b.fits b.holds)
-    (ok_under c.push_group.result _ _ (c.push_group.ensures.clean groups b.fits b.holds b.clean)) (c.push_group.ensures.fits groups b.fits b.holds) (c.push_group.ensures.holds groups b.fits b.holds)
+    (ok_under c.push_group.result _ _ (c.push_group.ensures.clean groups b.fits b.holds b.clean)) (c.push_group.ensures.fits b.fits) (c.push_group.ensures.holds groups b.fits b.holds)
 
 pub returns-in-Ok-clause-worn_at : goal.returns-in-Ok-clause-worn_at
 returns-in-Ok-clause-worn_at g c says =
