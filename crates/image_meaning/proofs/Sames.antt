@@ -5,21 +5,20 @@ use Rattle.site.specs.declared.geometry.Geometry.{Geometry}
 use Rattle.site.specs.declared.outside.Dev.TheVariants.{Log, Flash, Disk}
 use Rattle.site.specs.Geometry.{HasLengths}
 use Rattle.site.specs.State.{Image}
-use Rattle.sealed_ring.specs.Ring.{Units, hi_of}
-use Rattle.byte_fields.specs.declared.frame_head.FrameHead.{FrameHead}
+use Rattle.sealed_ring.specs.Ring.{Units}
 use Rattle.log_records.specs.declared.log_record.LogRecord.{LogRecord}
 use Rattle.log_records.specs.Sound.{Picture, Means}
 use Rattle.log_records.specs.Sound as lists
 use Rattle.slotted_page.specs.Layout as page
-use Rattle.frame_group.specs.Groups.{Frame, IsGroup, frames_in, heads_of}
+use Rattle.frame_group.specs.Groups.{Frame, IsGroup, frames_in}
 use Rattle.frame_group.specs.Versions.{CleanAsDisk}
 use Rattle.checkpoint.specs.declared.master.Master.{Master}
 use Rattle.checkpoint.specs.Newest.{newest_of, IsOf}
 use Rattle.image_changes.specs.Rings.{RingName, Masters, Blocks, Groups, Segments, shape_of, group_shape, segment_shape, KeepsUnits}
 use Rattle.image_changes.specs.Changes.{SameSizes}
 use Rattle.log_store.proofs.BlockLaws.{blocks_stay}
-use Rattle.meta_segments.specs.Following.{Follow}
 use Rattle.tail_rebuild.specs.Standing.{HasSaved}
+use Rattle.tail_rebuild.proofs.Following.{saved_again}
 use Rattle.flash_cache.specs.Held.{frames_on, groups_on, disk_on}
 use Rattle.image_meaning.specs.Meaning.{kept_by, next_block_under, picture_under, IsUnused, HasNewest, IsFrameOf, AreGroups, AreSegments, AreOctetsSoundUnder, versions_on}
 use Rattle.image_meaning.specs.Pictures.{with_versions}
@@ -51,22 +50,14 @@ groups_stay g old new keeps groups = record {
   frames = subst (AllByRecursion (IsFrameOf g)) (sym (frames_stay g old new keeps)) groups.frames;
 }
 
--- Segments that follow these groups follow them still.
-pub saved_stays : (g : Geometry) (groups : List (List Frame)) (heads : List (List FrameHead)) (old new : Image) → KeepsUnits (segment_shape g) old new → KeepsUnits (group_shape g) old new →
-    HasSaved g groups heads old → HasSaved g groups heads new
-saved_stays g groups heads old new there here saved = record {
-  has = record { form = there.form saved.has.form; are_segments = saved.has.are_segments; exist = saved.has.exist; live = ap (λ (u : Units). u.live) there.units ∙ saved.has.live };
-  follow = subst (λ (h : ℕ). Follow (hi_of (segment_shape g) new.flash) heads h (map heads_of groups)) (sym (ap (λ (u : Units). u.hi) here.units))
-      (subst (λ (k : ℕ). Follow k heads (hi_of (group_shape g) old.flash) (map heads_of groups)) (sym (ap (λ (u : Units). u.hi) there.units)) saved.follow);
-}
-
+-- Segments that follow the groups follow them still.
 pub same_groups : (g : Geometry) (old new : Image) → KeepsUnits (group_shape g) old new → groups_on g new ≡ groups_on g old
 same_groups g old new keeps = ap (λ (u : Units). map frames_in u.live) keeps.units
 
 pub segments_stay : (g : Geometry) (old new : Image) → KeepsUnits (segment_shape g) old new → KeepsUnits (group_shape g) old new → AreSegments g old → AreSegments g new
 segments_stay g old new there here segments = record {
   segments = segments.segments;
-  follow = subst (λ (groups : List (List Frame)). HasSaved g groups segments.segments new) (sym (same_groups g old new here)) (saved_stays g (groups_on g old) segments.segments old new there here segments.follow);
+  follow = subst (λ (groups : List (List Frame)). HasSaved g groups segments.segments new) (sym (same_groups g old new here)) (saved_again g (groups_on g old) segments.segments old new here there segments.follow);
 }
 
 -- The octets of an image whose groups and disk stay, and whose segments follow, are sound still, under whatever master is the newest then.

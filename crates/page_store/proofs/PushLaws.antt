@@ -26,7 +26,7 @@ use Rattle.slotted_page.specs.Layout.{IsSound}
 use Rattle.flash_cache.specs.declared.cache.FlashCache.{FlashCache}
 use Rattle.flash_cache.specs.Held as held
 use Rattle.flash_cache.specs.Held.{groups_on, version_on, disk_on, IsCleanOn, HasGroups, AreSaved}
-use Rattle.image_meaning.proofs.Sames.{saved_stays}
+use Rattle.tail_rebuild.proofs.Following.{saved_again}
 use Rattle.flash_cache.specs.Kept as kept
 use Rattle.flash_cache.specs.Kept.{KeepsVersions, GivesVersions, AreCleanGiven, LeavesClean}
 use Rattle.buffer_pool.specs.declared.frame.Frame.{Frame}
@@ -71,7 +71,7 @@ keeps_same s old new on_flash flash = record {
 pub saved_same : (g : Geometry) (groups : List (List Stored)) (old new : Image) → new.flash ≡ old.flash → AreSaved g groups old → AreSaved g groups new
 saved_same g groups old new flash saved = record {
   segments = saved.segments;
-  follow = saved_stays g groups saved.segments old new (keeps_same (segment_shape g) old new refl flash) (keeps_same (group_shape g) old new refl flash) saved.follow;
+  follow = saved_again g groups saved.segments old new (keeps_same (group_shape g) old new refl flash) (keeps_same (segment_shape g) old new refl flash) saved.follow;
 }
 
 pub flash_fits_same : (cache : FlashCache) (old new : State) → new.image.flash ≡ old.image.flash → IsTrue new.honest → held.Fits cache old → held.Fits cache new

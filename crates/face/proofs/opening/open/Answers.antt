@@ -48,6 +48,9 @@ returns-in-Ok-tell_all-clause-going g c run begins =
     opened run entry mid leaves new c.as_slice.result.now is (c.tell_all.ensures.any_moment honest) c.in-Ok.engine c.tell_all.ensures.goes (c.tell_all.ensures.same honest) ((c.tell_all.ensures.same honest).loose ∙ c.in-Ok.ensures.calls.stays_quiet begins.honest begins.quiet) (c.in-Ok-tell_all.ensures.told honest)
     opens.0 opens.1 c.in-Ok.ensures.going.store.both.sizes
 
+pub returns-in-Ok-tell_all-clause-goes : goal.returns-in-Ok-tell_all-clause-goes
+returns-in-Ok-tell_all-clause-goes g c = goes_in_sequence (g.S.Site.state c.args.site.now) (g.S.Site.state c.start.new.site) (g.S.Site.state c.tell_all.new.site) c.start.ensures.calls.goes c.tell_all.ensures.goes
+
 pub returns-in-Ok-tell_all-clause-goes_on : goal.returns-in-Ok-tell_all-clause-goes_on
 returns-in-Ok-tell_all-clause-goes_on g c = goes_on c.in-Ok.engine (g.S.Site.state c.start.new.site) (g.S.Site.state c.tell_all.new.site) c.in-Ok.ensures.going c.tell_all.ensures.goes
 
