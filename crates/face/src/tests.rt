@@ -574,7 +574,8 @@ fn a_short_tell_goes_on(rt: HostRuntime) -> Result<(), Fail> {
     assert_eq!(rt; run(rt.alloc(), &mut site, b"set 5 0a0b\nget 5\n")?, 0);
     assert!(rt; site.told() == b"open 0\ncommitted 1\nvalue 0a0b\n".as_slice());
     assert_eq!(rt; site.reads(Dev::Log), 69);
-    assert_eq!(rt; site.reads(Dev::Flash), 8);
+    // Six find the ring of segments, one the first gate of the groups.
+    assert_eq!(rt; site.reads(Dev::Flash), 7);
     assert_eq!(rt; site.reads(Dev::Disk), 1);
     Ok(())
 }
