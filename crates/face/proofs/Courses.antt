@@ -17,6 +17,8 @@ use Rattle.page_store.specs.declared.store.PageStore.{PageStore}
 use Rattle.page_store.specs.Caching.{cache_of, rules}
 use Rattle.flash_cache.specs.Held.{IsWorn}
 use Rattle.redo_undo.specs.Holding.{IsLogWorn}
+use Rattle.engine.specs.Paging.{WritesFrom}
+use Rattle.face.proofs.Writings.{engine_queue, writes_then, writes_nothing}
 use Rattle.redo_undo.specs.Works.{next_group, ReadsAddUp, ReadsFor, WorksAddUp}
 use Rattle.engine.specs.declared.engine.Engine.{Engine}
 use Rattle.engine.specs.Fits.{Fits}
@@ -85,7 +87,7 @@ carries_none {T} x engine site rest going = record {
   });
   last = λ s fits quiet snapshot left. (0, omega arith, subst (λ (i : Image). StandsFor (sizes_of engine.store) i s) (sym (image_is (now_of site) snapshot quiet left)) (fits_stands engine site s going.store.both.sizes fits));
   fits = λ s fits. fits;
-  serves = λ s fits. record { machine = refl; worn = λ is. absurd (no_error is); reads = record { flash = omega arith; disk = omega arith }; rules_are = refl };
+  serves = λ s fits. record { machine = refl; worn = λ is. absurd (no_error is); reads = record { flash = omega arith; disk = omega arith }; rules_are = refl; writes = λ has calm. writes_nothing engine.store.pages site has calm; geometry = refl };
   numbers = λ s fits quiet. counts_none (Ok x) engine site s rest fits going;
   left = λ honest. refl;
   stays_quiet = λ honest quiet. quiet;
@@ -105,7 +107,7 @@ carries_with {T} {U} x y lines a b old new one = record {
   any_moment = one.any_moment;
   last = one.last;
   fits = one.fits;
-  serves = λ s fits. let serves = one.serves s fits in record { machine = serves.machine; worn = λ is. absurd (no_error is); reads = serves.reads; rules_are = serves.rules_are };
+  serves = λ s fits. let serves = one.serves s fits in record { machine = serves.machine; worn = λ is. absurd (no_error is); reads = serves.reads; rules_are = serves.rules_are; writes = serves.writes; geometry = serves.geometry };
   numbers = λ s fits quiet. counts_then x (Ok y) a b old new new s _ _ refl (one.numbers s fits quiet);
   left = one.left;
   stays_quiet = one.stays_quiet;
@@ -159,6 +161,16 @@ module _ {T U : Type 0} (add : WorksAddUp) (reads_add : ReadsAddUp) (x : T) (res
             (subst (λ (z : Cache). ReadsFor (rules a.store.pages) (works_of (after_lines s first []) later) z mid new) front.machine
             (subst (λ (r : Rules). ReadsFor r (works_of (after_lines s first []) later) (cache_of b.store.pages) mid new) front.rules_are back.reads)));
         rules_are = back.rules_are ∙ front.rules_are;
+        writes = λ has quiet.
+            let mine = one.fits s fits in
+            let second : WritesFrom a.store.pages.flash.geometry (rules a.store.pages) (works_of (after_lines s first []) later) (after_works (rules a.store.pages) (works_of s first) (cache_of a.store.pages)) mid new =
+            subst (λ (z : Cache). WritesFrom a.store.pages.flash.geometry (rules a.store.pages) (works_of (after_lines s first []) later) z mid new) front.machine
+            (subst (λ (r : Rules). WritesFrom a.store.pages.flash.geometry r (works_of (after_lines s first []) later) (cache_of b.store.pages) mid new) front.rules_are
+            (subst (λ (g : Geometry). WritesFrom g (rules b.store.pages) (works_of (after_lines s first []) later) (cache_of b.store.pages) mid new) front.geometry
+            (back.writes (engine_queue b mid (after_lines s first []) one.going mine) (one.stays_quiet fits.honest quiet)))) in
+            subst (λ (w : List CacheWork). WritesFrom a.store.pages.flash.geometry (rules a.store.pages) w (cache_of a.store.pages) old new) (sym (works_join s first later))
+            (writes_then a.store.pages.flash.geometry (rules a.store.pages) (works_of s first) (works_of (after_lines s first []) later) (cache_of a.store.pages) old mid new has.room (front.writes has quiet) second);
+        geometry = back.geometry ∙ front.geometry;
       }
 
   numbers_join : (s : State) → Fits a old s → IsQuiet old → CountsOn result a c old new s (after_lines s (first ++ later) []) (checkpoints_of s (first ++ later))
@@ -190,7 +202,7 @@ carries_err {T} {U} h lines a b old new one = record {
   any_moment = one.any_moment;
   last = one.last;
   fits = λ s fits. tt;
-  serves = λ s fits. let serves = one.serves s fits in record { machine = tt; worn = λ is. serves.worn (ap Err (same_halt is)); reads = serves.reads; rules_are = serves.rules_are };
+  serves = λ s fits. let serves = one.serves s fits in record { machine = tt; worn = λ is. serves.worn (ap Err (same_halt is)); reads = serves.reads; rules_are = serves.rules_are; writes = serves.writes; geometry = serves.geometry };
   numbers = λ s fits quiet. counts_err h h a b old new s _ _ (one.numbers s fits quiet);
   left = one.left;
   stays_quiet = λ honest quiet. tt;

@@ -25,7 +25,7 @@ use Rattle.face.specs.Lines.{HasEnded, to_hear, total, IsSource, HearsLine, Hear
 use Rattle.site.specs.declared.outside.Dev.TheVariants.{Log, Flash, Disk}
 use Rattle.face.specs.Run.{Run, HasHeard, HasToldUpTo, IsAccounted, IsFront, IsPart, StopsTaking, Stops, SkipsNoneUpTo, text_at, told_after}
 use Rattle.face.specs.Working.{ListsUpTo, Works, HasGroupsFor, HasQueueAt}
-use Rattle.face.specs.Range.{ReadsNoMore, WearsOut}
+use Rattle.face.specs.Range.{AsksNoMore, WearsOut}
 use Rattle.face.specs.Going.{Going}
 use Rattle.face.proofs.Cuts.{Cut, has_heard_all, input_failed, over_limit, taken_by, heard_line, quit_is_last}
 use Rattle.face.proofs.Works.{begun_before, stopped, ended}
@@ -57,7 +57,7 @@ opening_part run (suc zero) rest few (inr f) = (
 opening_part run (suc (suc n)) rest few p = absurd (omega (arith, few))
 
 -- before the first line
-pub never_opened : {T : Type 0} (pool : ℕ) (run : Run) (old new : Site) (h : Halt) → Stops run 0 old new h → (h ≢ halt.Input) × (h ≢ halt.Limit) → new.left ≡ old.left → (h ≡ halt.Stop (Worn Flash) → WearsOut pool run 0 old.image) → SkipsNoneUpTo run 0 old.image new.image → ReadsNoMore pool run 0 old new →
+pub never_opened : {T : Type 0} (pool : ℕ) (run : Run) (old new : Site) (h : Halt) → Stops run 0 old new h → (h ≢ halt.Input) × (h ≢ halt.Limit) → new.left ≡ old.left → (h ≡ halt.Stop (Worn Flash) → WearsOut pool run 0 old.image) → SkipsNoneUpTo run 0 old.image new.image → AsksNoMore pool run 0 old new →
     Works {T = T} pool run old new (Err h)
 never_opened {T} pool run old new h stops ne left worn numbers reads = record {
   heard = 0;
@@ -77,7 +77,7 @@ never_opened {T} pool run old new h stops ne left worn numbers reads = record {
   reads = reads;
 }
 
-module _ (pool : ℕ) (run : Run) (old mid new : Site) (engine : Engine) (source : Source) (i : ℕ) (cut : Cut old.left source mid i) (is_source : IsSource source) (going : Going run old new engine i) (listed : ListsUpTo pool run i old.image) (reads : ReadsNoMore pool run i old new) where
+module _ (pool : ℕ) (run : Run) (old mid new : Site) (engine : Engine) (source : Source) (i : ℕ) (cut : Cut old.left source mid i) (is_source : IsSource source) (going : Going run old new engine i) (listed : ListsUpTo pool run i old.image) (reads : AsksNoMore pool run i old new) where
   -- taking failed within a line
   pub taking_failed : {T : Type 0} (h : Halt) → (h ≡ halt.Input) ⊎ (h ≡ halt.Limit) → IsCutOff h source.ended (total source mid) (to_hear source mid) new.left → SkipsNoneUpTo run i old.image new.image → Works {T = T} pool run old new (Err h)
   taking_failed (halt.Stop stop) which off numbers = ⊎_elim (λ e. absurd cc) (λ e. absurd cc) which
@@ -138,7 +138,7 @@ module _ (pool : ℕ) (run : Run) (old mid new : Site) (engine : Engine) (source
       }
 
 module _ (pool : ℕ) (run : Run) (old mid next new : Site) (source source' : Source) (i : ℕ) (cut : Cut old.left source mid i) (is_source : IsSource source) (line : Line) (h : HearsLine line source.ended source'.ended (to_hear source mid) (to_hear source' next))
-    (last : HasEnded source' next) (is' : IsSource source') (left : new.left ≡ next.left) (listed : ListsUpTo pool run (suc i) old.image) (reads : ReadsNoMore pool run (suc i) old new) where
+    (last : HasEnded source' next) (is' : IsSource source') (left : new.left ≡ next.left) (listed : ListsUpTo pool run (suc i) old.image) (reads : AsksNoMore pool run (suc i) old new) where
   has_heard_it : HasHeard (suc i) (taken_by old.left source mid i cut is_source source' next line h last is') source'.ended old new
   has_heard_it = heard_line old.left source mid i cut is_source source' next line h last is' old new refl left
 

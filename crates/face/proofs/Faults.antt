@@ -31,7 +31,7 @@ use Rattle.face.specs.Tells.{EndsBehind, Tells}
 use Rattle.face.proofs.Endings.{ends_whole, ends_with}
 use Rattle.face.proofs.Begun.{has_begun, lists_the_machine}
 use Rattle.face.proofs.Counted.{skips_no_number, skips_still}
-use Rattle.face.proofs.Pagings.{leaves_its_queue, reads_no_more, reads_still, wears_out, never_wears, wears_out_all}
+use Rattle.face.proofs.Pagings.{leaves_its_queue, reads_no_more, few_told, wears_out, never_wears, wears_out_all}
 use Rattle.face.specs.TopCall.{RunContract}
 use Rattle.face.specs.Headline.{Durability, IsGood, IsToldWhole, Headline, TellsFault}
 use Rattle.face.proofs.Fronts.{accounted, told_same, state_same, take_within, up_append, no_quits, first_commands}
@@ -228,7 +228,7 @@ module _ (pool : ℕ) (g : Geometry) (opening : State) (listings : List (List Ca
             frames = λ zero. absurd (not_zero h (sym is ∙ zero));
             numbers = skips_still own works.heard old.image mid.image new.image same_devices.image
                 (skips_no_number g opening listings (commands_of true old.left) lines works.heard heard.same old.image mid.image works.numbers);
-            reads = λ newest blocks sound. reads_still _ _ _ _ mid new same_reads (reads_no_more pool g opening listings old.image works.ended works.octets run refl refl works.heard heard.same old mid refl works.reads newest blocks sound);
+            reads = λ newest blocks sound. few_told _ _ _ _ old mid new same_reads tells (reads_no_more pool g opening listings old.image works.ended works.octets run refl refl works.heard heard.same old mid refl works.reads newest blocks sound);
           };
           listed = lists_the_machine pool g opening listings (commands_of true old.left) lines works.heard heard.same old.image works.listed;
         };

@@ -35,3 +35,4 @@ mod WordLaws
 mod WordLists
 mod Works
 mod Zeros
+mod Writings

@@ -33,7 +33,7 @@ use Rattle.face.specs.Workload.{load_run, load_texts, opening_text, summary_text
 use Rattle.face.proofs.Endings.{ends_whole, ends_with}
 use Rattle.face.proofs.Counted.{skips_still}
 use Rattle.face.proofs.Faults.{not_zero, worn_by}
-use Rattle.face.proofs.Pagings.{reads_still}
+use Rattle.face.proofs.Pagings.{few_told}
 use Rattle.face.proofs.Meanings.{stands_by}
 
 no_text : (rest text : List ℕ) → IsFront rest [] → IsFront rest text
@@ -130,7 +130,7 @@ module _ (pool : ℕ) (run : Run) (summary : List ℕ) (old : Site) where
       room = works.room;
       frames = λ newest blocks sound. ap (λ (x : Image). cache_on run.geometry x) same.image ∙ works.frames newest blocks sound;
       numbers = skips_still run works.begun old.image mid.image new.image same.image works.numbers;
-      reads = λ newest blocks sound. reads_still _ _ _ _ mid new read (works.reads newest blocks sound);
+      reads = λ newest blocks sound. few_told _ _ _ _ old mid new read tells (works.reads newest blocks sound);
       left = same.left ∙ works.left;
     }
 
@@ -145,7 +145,7 @@ module _ (pool : ℕ) (run : Run) (summary : List ℕ) (old : Site) where
       room = tt;
       frames = tt;
       numbers = skips_still run works.begun old.image mid.image new.image same.image works.numbers;
-      reads = λ newest blocks sound. reads_still _ _ _ _ mid new read (works.reads newest blocks sound);
+      reads = λ newest blocks sound. few_told _ _ _ _ old mid new read tells (works.reads newest blocks sound);
       left = same.left ∙ works.left;
     }
       where
@@ -242,7 +242,7 @@ module _ (load : Load) (g : Geometry) (opening : State) (old : Site) (good : IsG
             room = λ zero. absurd (not_zero h (sym is ∙ zero));
             frames = λ zero. absurd (not_zero h (sym is ∙ zero));
             numbers = skips_still run' works.begun old.image mid.image new.image same.image works.numbers;
-            reads = λ newest blocks sound. reads_still _ _ _ _ mid new read (works.reads newest blocks sound);
+            reads = λ newest blocks sound. few_told _ _ _ _ old mid new read tells (works.reads newest blocks sound);
           };
         };
       }

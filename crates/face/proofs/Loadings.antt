@@ -18,9 +18,11 @@ use Rattle.log_records.specs.declared.log_record.LogRecord.{LogRecord}
 use Rattle.image_meaning.specs.Meaning.{picture_under}
 use Rattle.second_chance.specs.Machine.{Cache, Rules, after_works, opened, rules_of}
 use Rattle.page_store.specs.Caching.{cache_of, rules}
+use Rattle.engine.specs.Paging.{WritesFrom}
+use Rattle.face.proofs.Writings.{engine_queue, writes_then}
 use Rattle.redo_undo.specs.Works.{next_group, Overflows, ReadsAddUp, ReadsFor, WorksAddUp}
 use Rattle.engine.specs.declared.engine.Engine.{Engine}
-use Rattle.engine.specs.Going.{sizes_of}
+use Rattle.engine.specs.Going.{MayGoOn, sizes_of}
 use Rattle.engine.specs.Image.{IsSound, log_under}
 use Rattle.engine.specs.Listings.{QueueIsOnFlash}
 use Rattle.engine.specs.Numbers.{CountsOn}
@@ -31,8 +33,8 @@ use Rattle.face.specs.declared.request.Load.{Load}
 use Rattle.face.specs.Going.{Going, IsCounted, IsPaged}
 use Rattle.face.specs.Lines.{commands_of}
 use Rattle.face.specs.Loads.{CarriesFirst, CarriesOut, HasBegunLoad, IsLeftOf, IsOpened, IsUntold, LeavesSome, LoadStops, LoadWorks}
-use Rattle.face.specs.Range.{ReadsNoMore, SkipsNoNumber, StandsAfter, WearsOut, all_commits, cache_by, run_of, turns_of, works_by}
-use Rattle.face.specs.Run.{IsAccounted, IsFront, IsPart, ReadsFew, Run, SkipsNoneUpTo, StandsFor, StandsNear, Stops, after_lines, answered, checkpoints_of, text_at, told_after, works_of}
+use Rattle.face.specs.Range.{AsksNoMore, SkipsNoNumber, StandsAfter, WearsOut, all_commits, cache_by, run_of, turns_of, works_by}
+use Rattle.face.specs.Run.{IsAccounted, IsFront, IsPart, AsksFew, Run, SkipsNoneUpTo, StandsFor, StandsNear, Stops, after_lines, answered, checkpoints_of, text_at, told_after, works_of}
 use Rattle.face.specs.Working.{asked_after}
 use Rattle.face.specs.Texts.{status_of}
 use Rattle.face.specs.Workload.{get_line, load_run, numbers_of, opening_text, set_line, set_lines, get_lines}
@@ -151,7 +153,7 @@ module _ (g : Geometry) (opening : State) (load : Load) where
       stands = λ s left. let a = stops.any_moment.now s left in let begun = a.begun in (0, omega arith, stands_first s.image (opens_at a.whole s.image (omega (arith, begun)) a.stands));
     }
 
-    pub load_never_opened : {T : Type 0} (new : Site) (h : Halt) → Stops opening_run 0 old new h → (h ≡ halt.Stop (Worn Flash) → WearsOut load.pool opening_run 0 old.image) → SkipsNoneUpTo opening_run 0 old.image new.image → ReadsNoMore load.pool opening_run 0 old new → new.left ≡ old.left →
+    pub load_never_opened : {T : Type 0} (new : Site) (h : Halt) → Stops opening_run 0 old new h → (h ≡ halt.Stop (Worn Flash) → WearsOut load.pool opening_run 0 old.image) → SkipsNoneUpTo opening_run 0 old.image new.image → AsksNoMore load.pool opening_run 0 old new → new.left ≡ old.left →
         LoadWorks {T = T} load.pool run [] old new (Err h)
     load_never_opened {T} new h stops worn numbers reads left = record {
       stops = never_opened new h stops;
@@ -165,7 +167,7 @@ module _ (g : Geometry) (opening : State) (load : Load) where
       room = tt;
       numbers = skips_no_number g opening [] (commands_of true old.left) run.lines 0 refl old.image new.image numbers;
       reads = λ newest blocks sound.
-          subst (λ (w : List CacheWork). ReadsFew load.pool g w old new) (sym (first_asked 0 newest old.image blocks ∙ append-nil (asked_after opening_run newest old.image blocks 0))) (reads newest blocks sound);
+          subst (λ (w : List CacheWork). AsksFew load.pool g w old new) (sym (first_asked 0 newest old.image blocks ∙ append-nil (asked_after opening_run newest old.image blocks 0))) (reads newest blocks sound);
       left = left;
     }
 
@@ -173,7 +175,7 @@ module _ (g : Geometry) (opening : State) (load : Load) where
     module _ (add : WorksAddUp) (reads_add : ReadsAddUp) (mid new : Site) (before after : Engine) (going : Going opening_run old mid before 0)
         (paged : (newest : Option Master) (blocks : List (List LogRecord)) → IsSound newest g old.image blocks → IsPaged load.pool opening_run newest old.image blocks before 0)
         (counted : (newest : Option Master) (blocks : List (List LogRecord)) → IsSound newest g old.image blocks → IsCounted opening_run (log_under newest blocks) old.image mid.image before 0)
-        (read : ReadsNoMore load.pool opening_run 0 old mid)
+        (read : AsksNoMore load.pool opening_run 0 old mid) (goes_on : MayGoOn before mid)
         (left : mid.left ≡ old.left) where
       told_mid : mid.told ≡ old.told ++ opening_text run
       told_mid = going.told ∙ ap (λ (l : List ℕ). old.told ++ l) (append-nil (opening_text run))
@@ -247,15 +249,22 @@ module _ (g : Geometry) (opening : State) (load : Load) where
             skips_course result run some.begun (log_under newest blocks) before after old.image mid new going.geometry so_far.log (let masters = so_far.numbers.masters in omega (arith, masters))
             (subst (λ (l : List Line). CountsOn result before after mid new opening (after_lines opening (take some.begun l) []) (checkpoints_of opening (take some.begun l))) (sym all_lines) (some.course.numbers opening going.fits going.quiet))
 
-        reads_are : ReadsNoMore load.pool run some.begun old new
+        reads_are : AsksNoMore load.pool run some.begun old new
         reads_are newest blocks sound =
             let p = paged newest blocks sound in
             let r = rules_of load.pool g.groups in
             let opening_works = asked_after opening_run newest old.image blocks 0 in
-            subst (λ (w : List CacheWork). ReadsFew load.pool g w old new) (sym (first_asked some.begun newest old.image blocks))
-            (reads_add r opening_works (works_of opening first) (cache_on g old.image) (record old { flash_reads = old.flash_reads + start_reads g }) mid new (read newest blocks sound)
-            (subst (λ (c : Cache). ReadsFor r (works_of opening first) c mid new) p.machine
-            (subst (λ (x : Rules). ReadsFor x (works_of opening first) (cache_of before.store.pages) mid new) p.rules_are (some.course.serves opening going.fits).reads)))
+            subst (λ (w : List CacheWork). AsksFew load.pool g w old new) (sym (first_asked some.begun newest old.image blocks))
+            (record {
+              reads = reads_add r opening_works (works_of opening first) (cache_on g old.image) (record old { flash_reads = old.flash_reads + start_reads g }) mid new (read newest blocks sound).reads
+                  (subst (λ (c : Cache). ReadsFor r (works_of opening first) c mid new) p.machine
+                  (subst (λ (x : Rules). ReadsFor x (works_of opening first) (cache_of before.store.pages) mid new) p.rules_are (some.course.serves opening going.fits).reads));
+              writes = writes_then g r opening_works (works_of opening first) (cache_on g old.image) old mid new (let least = sound.octets.limits.groups in omega (arith, least)) (read newest blocks sound).writes
+                  (subst (λ (c : Cache). WritesFrom g r (works_of opening first) c mid new) p.machine
+                  (subst (λ (x : Rules). WritesFrom g x (works_of opening first) (cache_of before.store.pages) mid new) p.rules_are
+                  (subst (λ (x : Geometry). WritesFrom x (rules before.store.pages) (works_of opening first) (cache_of before.store.pages) mid new) going.geometry
+                  ((some.course.serves opening going.fits).writes (engine_queue before mid opening goes_on going.fits) going.quiet))));
+            })
 
         left_new : new.left ≡ old.left
         left_new = some.course.left going.fits.honest ∙ left

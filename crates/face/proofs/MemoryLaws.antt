@@ -3,7 +3,7 @@ use Rattle.std.proofs.Common.{◌≡◌, inl, inr, ℕ, [], refl, sym, subst, ar
 use Rattle.std.specs.Prelude.{Err, Result}
 use Rattle.site.specs.declared.outside.Stop.TheVariants.{Memory}
 use Rattle.site.specs.declared.geometry.Geometry.{Geometry}
-use Rattle.site.specs.State.{State as Site}
+use Rattle.site.specs.State.{IsQuiet, State as Site}
 use Rattle.site.specs.Moments.{Leaves, LeavesOnly}
 use Rattle.site.specs.declared.outside.Failed.{Failed}
 use Rattle.record_model.specs.State.{State}
@@ -19,7 +19,7 @@ use Rattle.face.proofs.Pagings.{none_read}
 use Rattle.redo_undo.specs.Works.{NumbersRise, OverflowsWithMore}
 use Rattle.face.specs.New.{New, NewCauses}
 use Rattle.face.specs.Words.{LacksMemory, memory_fault}
-use Rattle.face.specs.Range.{ReadsNoMore, run_of}
+use Rattle.face.specs.Range.{AsksNoMore, run_of}
 use Rattle.face.specs.declared.request.Load.{Load}
 use Rattle.face.specs.Loads.{LoadHeadline, LoadWorks}
 use Rattle.face.specs.Workload.{load_run, summary_text}
@@ -49,14 +49,14 @@ still g opening old good =
     })
 
 -- nothing was read
-reads_nothing : NumbersRise → (pool : ℕ) (run : Run) (site : Site) → ReadsNoMore pool run 0 site site
-reads_nothing rise pool run site newest blocks sound = none_read _ _ _ _ site rise (let least = sound.octets.limits.groups in omega (arith, least))
+reads_nothing : NumbersRise → (pool : ℕ) (run : Run) (site : Site) → IsQuiet site → AsksNoMore pool run 0 site site
+reads_nothing rise pool run site quiet newest blocks sound = none_read pool run.geometry _ site rise (let least = sound.octets.limits.groups in omega (arith, least)) quiet
 
 pub lacked_headline : Serial → NumbersRise → (pool : ℕ) (g : Geometry) (opening : State) (old new : Site) → {T : Type 0} (result : Result T Failed) → IsGood g opening old → Tells memory_fault old new result → Headline pool g opening old new 4
 lacked_headline law rise pool g opening old new result good tells =
     let run = run_of g opening true old.left [] in
     let stops = not_opened run old old (still g opening old good) lacks (λ ne. good.quiet) in
-    let works : Works {T = ℕ} pool run old old (Err lacks) = never_opened pool run old old lacks stops (λ e. cc, λ e. cc) refl (λ e. cc) (counts_nothing run old.image) (reads_nothing rise pool run old) in
+    let works : Works {T = ℕ} pool run old old (Err lacks) = never_opened pool run old old lacks stops (λ e. cc, λ e. cc) refl (λ e. cc) (counts_nothing run old.image) (reads_nothing rise pool run old good.quiet) in
     halted pool g opening [] old law old new lacks good works (goes_nowhere old) result tells tt 4 refl
 
 -- the same of a load
@@ -65,7 +65,7 @@ lacked_load rise load g opening old new result good tells =
     let run = load_run g opening load in
     let stops = not_opened (run_of g opening true old.left []) old old (still g opening old good) lacks (λ ne. good.quiet) in
     let works : LoadWorks {T = ℕ} load.pool run (summary_text run load) old old (Err lacks) =
-    stopped_before load.pool run (summary_text run load) old {T = ℕ} old lacks (load_never_opened g opening load old old lacks stops (λ e. cc) (counts_nothing (run_of g opening true old.left []) old.image) (reads_nothing rise load.pool (run_of g opening true old.left []) old) refl) in
+    stopped_before load.pool run (summary_text run load) old {T = ℕ} old lacks (load_never_opened g opening load old old lacks stops (λ e. cc) (counts_nothing (run_of g opening true old.left []) old.image) (reads_nothing rise load.pool (run_of g opening true old.left []) old good.quiet) refl) in
     load_halted load g opening old good old new lacks works (goes_nowhere old) result tells tt 4 refl
 
 -- the contracts of a run and of a load

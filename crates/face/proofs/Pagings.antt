@@ -1,6 +1,6 @@
 -- What a run asks of the page cache, line by line.
 use Rattle.flash_cache.specs.Held.{start_reads}
-use Rattle.std.proofs.Common.{◌≡◌, ℕ, zero, suc, ◌+◌, ◌*◌, ◌^◌, ◌<◌, ◌≤◌, Bool, true, false, List, [], ◌∷◌, ◌++◌, length, take, drop, arith, refl, sym, ap, subst, ◌∙◌, append_assoc, take-append-drop}
+use Rattle.std.proofs.Common.{◌≡◌, ℕ, zero, suc, ◌+◌, ◌*◌, ◌^◌, ◌<◌, ◌≤◌, Bool, true, false, List, [], ◌∷◌, ◌++◌, length, take, drop, arith, refl, sym, ap, subst, ◌∙◌, append_assoc, take-append-drop, ◌-◌, IsTrue}
 use Rattle.std.specs.Prelude.{Result, Ok, Err, Option, Some, None, IfErr, IsErrOf, if◌then◌else◌}
 use Rattle.std.proofs.lemmas.List.{append-nil, take_all}
 use Rattle.site.specs.Calls.{SameReads}
@@ -21,21 +21,29 @@ use Rattle.image_meaning.specs.Meaning.{picture_under}
 use Rattle.second_chance.specs.Machine.{Rules, Cache, rules_of, after_works, opened}
 use Rattle.page_store.specs.declared.store.PageStore.{PageStore}
 use Rattle.page_store.specs.Caching.{cache_of, rules}
+use Rattle.site.specs.Moments.{EachMoment}
+use Rattle.site.specs.Telling.{TellsPart}
+use Rattle.site.specs.Laws.{unchanged}
+use Rattle.site.specs.State.{IsQuiet}
+use Rattle.page_store.proofs.StagingLaws.{stages_none}
+use Rattle.engine.proofs.Asking.{still_writes}
+use Rattle.face.specs.Lines.{HearsOnly}
+use Rattle.face.proofs.Writings.{writes_told, writes_heard, writes_then}
 use Rattle.redo_undo.specs.Works.{next_group, Overflows, Asks, NumbersRise, ReadsAddUp, ReadsFor, WorksAddUp, OverflowsWithMore}
 use Rattle.engine.specs.declared.engine.Engine.{Engine}
 use Rattle.engine.specs.Fits.{Fits}
 use Rattle.engine.specs.Going.{MayGoOn, sizes_of}
 use Rattle.engine.specs.Listings.{QueueIsOnFlash}
 use Rattle.engine.specs.Image.{IsSound}
-use Rattle.engine.specs.Paging.{AsksFrom, restart_works, cache_on}
+use Rattle.engine.specs.Paging.{WritesFrom, AsksFrom, restart_works, cache_on}
 use Rattle.face.specs.declared.halt.Halt.TheVariants as halt
 use Rattle.face.specs.Lines.{commands_of, up_to_quit}
 use Rattle.face.proofs.Fronts.{first_commands}
 use Rattle.face.proofs.Turns.{first_answered, first_turns, turns_count}
 use Rattle.site.specs.declared.geometry.Geometry.{Geometry}
 use Rattle.face.specs.Going.{IsPaged, Serves}
-use Rattle.face.specs.Range.{run_of, turns_of, works_by, cache_by, LeavesItsQueue, ReadsNoMore, WearsOut, NeverWears}
-use Rattle.face.specs.Run.{Run, answered, step, after_lines, state_at, works_of, ReadsFew}
+use Rattle.face.specs.Range.{run_of, turns_of, works_by, cache_by, LeavesItsQueue, AsksNoMore, WearsOut, NeverWears}
+use Rattle.face.specs.Run.{Run, answered, step, after_lines, state_at, works_of, AsksFew}
 use Rattle.face.specs.Working.{asked_after, HasGroupsFor, HasQueueAt}
 
 -- Lines. What they ask doesn't depend on what the cache lists.
@@ -130,10 +138,30 @@ reads_still r works cache before mid now same few =
       disk = let some = few.disk in omega (arith, some, disk);
     }
 
-pub none_read : (r : Rules) (works : List CacheWork) (cache : Cache) (extra : ℕ) (site : Site) → NumbersRise → 1 ≤ r.groups → ReadsFor r works cache (record site { flash_reads = site.flash_reads + extra }) site
-none_read r works cache extra site rise some = record {
+-- where something is told
+pub few_told : (pool : ℕ) (g : Geometry) (works : List CacheWork) (piece : List ℕ) (old mid now : Site) → SameReads mid now → EachMoment mid now (TellsPart piece mid) → AsksFew pool g works old mid → AsksFew pool g works old now
+few_told pool g works piece old mid now same tells few = record {
+  reads = reads_still (rules_of pool g.groups) works (cache_on g old.image) (record old { flash_reads = old.flash_reads + start_reads g }) mid now same few.reads;
+  writes = writes_told g (rules_of pool g.groups) works (cache_on g old.image) piece old mid now few.writes tells;
+}
+
+-- or heard
+pub few_heard : (pool : ℕ) (g : Geometry) (works : List CacheWork) (old mid now : Site) → HearsOnly mid now → AsksFew pool g works old mid → AsksFew pool g works old now
+few_heard pool g works old mid now same few = record {
+  reads = reads_still (rules_of pool g.groups) works (cache_on g old.image) (record old { flash_reads = old.flash_reads + start_reads g }) mid now same.reads few.reads;
+  writes = writes_heard g (rules_of pool g.groups) works (cache_on g old.image) old mid now few.writes same;
+}
+
+none_read_there : (r : Rules) (works : List CacheWork) (cache : Cache) (extra : ℕ) (site : Site) → NumbersRise → 1 ≤ r.groups → ReadsFor r works cache (record site { flash_reads = site.flash_reads + extra }) site
+none_read_there r works cache extra site rise some = record {
   flash = let more = rise r works cache some in omega (arith, more);
   disk = omega arith;
+}
+
+pub none_read : (pool : ℕ) (g : Geometry) (works : List CacheWork) (site : Site) → NumbersRise → 1 ≤ g.groups - 1 → IsQuiet site → AsksFew pool g works site site
+none_read pool g works site rise some quiet = record {
+  reads = none_read_there (rules_of pool g.groups) works (cache_on g site.image) (start_reads g) site rise some;
+  writes = still_writes rise g (rules_of pool g.groups) works site site some quiet (unchanged site);
 }
 
 -- Calls.
@@ -150,12 +178,12 @@ module _ (pool : ℕ) (run : Run) (newest : Option Master) (image : Image) (bloc
     rules_are = asks.machine.1;
   }
 
-  pub first_reads : {T : Type 0} (result : Result T Stop) (pages : T → PageStore) (old mid new : Site) → SameReads mid new → AsksFrom result pages r (restart_works (picture_under newest run.geometry image blocks)) (cache_on run.geometry old.image) (start_reads run.geometry) old mid →
-      ReadsFew pool run.geometry (asked_after run newest image blocks 0) old new
-  first_reads result pages old mid new same asks =
+  pub first_reads : {T : Type 0} (result : Result T Stop) (pages : T → PageStore) (old mid new : Site) → SameReads mid new → WritesFrom run.geometry r (restart_works (picture_under newest run.geometry image blocks)) (cache_on run.geometry old.image) old new → AsksFrom result pages r (restart_works (picture_under newest run.geometry image blocks)) (cache_on run.geometry old.image) (start_reads run.geometry) old mid →
+      AsksFew pool run.geometry (asked_after run newest image blocks 0) old new
+  first_reads result pages old mid new same writes asks =
       let restart = restart_works (picture_under newest run.geometry image blocks) in
-      subst (λ (w : List CacheWork). ReadsFew pool run.geometry w old new) (sym (append-nil restart))
-      (reads_still r restart (cache_on run.geometry old.image) (record old { flash_reads = old.flash_reads + start_reads run.geometry }) mid new same (record { flash = asks.flash; disk = asks.disk }))
+      subst (λ (w : List CacheWork). AsksFew pool run.geometry w old new) (sym (append-nil restart))
+      (record { reads = reads_still r restart (cache_on run.geometry old.image) (record old { flash_reads = old.flash_reads + start_reads run.geometry }) mid new same (record { flash = asks.flash; disk = asks.disk }); writes = writes })
 
   pub never_paged : Overflows r (restart_works (picture_under newest run.geometry image blocks)) (cache_on run.geometry image) → Overflows r (asked_after run newest image blocks 0) (cache_on run.geometry image)
   never_paged over = subst (λ (w : List CacheWork). Overflows r w (cache_on run.geometry image)) (sym (append-nil (restart_works (picture_under newest run.geometry image blocks)))) over
@@ -173,17 +201,25 @@ module _ (pool : ℕ) (run : Run) (newest : Option Master) (image : Image) (bloc
     next_paged x engine' before now serves = record { machine = serves.machine ∙ next_is; rules_are = serves.rules_are ∙ paged.rules_are }
 
     -- however that ends, no more is read than it asks for
-    pub next_reads : ReadsAddUp → (entry mid next new : Site) → entry.image ≡ image → SameReads mid next → ReadsFew pool run.geometry (asked_after run newest image blocks i) entry mid → ReadsFor (rules engine.store.pages) (line_touches true (state_at run i) line) (cache_of engine.store.pages) next new →
-        ReadsFew pool run.geometry (asked_after run newest image blocks (suc i)) entry new
-    next_reads reads_add entry mid next new at same so_far later =
+    pub next_reads : ReadsAddUp → (entry mid next new : Site) → entry.image ≡ image → HearsOnly mid next → AsksFew pool run.geometry (asked_after run newest image blocks i) entry mid → engine.store.pages.flash.geometry ≡ run.geometry → 1 ≤ run.geometry.groups - 1 →
+        ReadsFor (rules engine.store.pages) (line_touches true (state_at run i) line) (cache_of engine.store.pages) next new → WritesFrom engine.store.pages.flash.geometry (rules engine.store.pages) (line_touches true (state_at run i) line) (cache_of engine.store.pages) next new →
+        AsksFew pool run.geometry (asked_after run newest image blocks (suc i)) entry new
+    next_reads reads_add entry mid next new at same so_far sizes some later written =
         let before : Site = record entry { flash_reads = entry.flash_reads + start_reads run.geometry } in
-        let first = reads_still r (asked_after run newest image blocks i) (cache_on run.geometry entry.image) before mid next same so_far in
+        let first = reads_still r (asked_after run newest image blocks i) (cache_on run.geometry entry.image) before mid next same.reads so_far.reads in
         let there : cache_of engine.store.pages ≡ after_works r (asked_after run newest image blocks i) (cache_on run.geometry entry.image) =
         paged.machine ∙ ap (λ (x : Image). after_works r (asked_after run newest image blocks i) (cache_on run.geometry x)) (sym at) in
         let own : ReadsFor r (line_touches true (state_at run i) line) (after_works r (asked_after run newest image blocks i) (cache_on run.geometry entry.image)) next new =
         subst (λ (c : Cache). ReadsFor r (line_touches true (state_at run i) line) c next new) there (subst (λ (x : Rules). ReadsFor x (line_touches true (state_at run i) line) (cache_of engine.store.pages) next new) paged.rules_are later) in
-        subst (λ (w : List CacheWork). ReadsFew pool run.geometry w entry new) (sym (asked_next run newest image blocks i line rest is))
-        (reads_add r (asked_after run newest image blocks i) (line_touches true (state_at run i) line) (cache_on run.geometry entry.image) before next new first own)
+        subst (λ (w : List CacheWork). AsksFew pool run.geometry w entry new) (sym (asked_next run newest image blocks i line rest is))
+        (record {
+          reads = reads_add r (asked_after run newest image blocks i) (line_touches true (state_at run i) line) (cache_on run.geometry entry.image) before next new first own;
+          writes = writes_then run.geometry r (asked_after run newest image blocks i) (line_touches true (state_at run i) line) (cache_on run.geometry entry.image) entry next new some
+              (writes_heard run.geometry r (asked_after run newest image blocks i) (cache_on run.geometry entry.image) entry mid next so_far.writes same)
+              (subst (λ (c : Cache). WritesFrom run.geometry r (line_touches true (state_at run i) line) c next new) there
+              (subst (λ (x : Rules). WritesFrom run.geometry x (line_touches true (state_at run i) line) (cache_of engine.store.pages) next new) paged.rules_are
+              (subst (λ (g : Geometry). WritesFrom g (rules engine.store.pages) (line_touches true (state_at run i) line) (cache_of engine.store.pages) next new) sizes written)));
+        })
 
     -- it isn't, since flash is worn
     pub next_worn : Overflows (rules engine.store.pages) (line_touches true (state_at run i) line) (cache_of engine.store.pages) → Overflows r (asked_after run newest image blocks (suc i)) (cache_on run.geometry image)
@@ -204,7 +240,7 @@ module _ (pool : ℕ) (run : Run) (newest : Option Master) (image : Image) (bloc
 
 -- a line that asks for nothing
 pub idle_asks : {T : Type 0} (x : T) (pages : PageStore) (now : Site) → Asks {T = T} (Ok x) [] pages pages now now
-idle_asks {T} x pages now = record { machine = refl; worn = λ is. absurd (no_error is); reads = record { flash = omega arith; disk = omega arith }; rules_are = refl }
+idle_asks {T} x pages now = record { machine = refl; worn = λ is. absurd (no_error is); reads = record { flash = omega arith; disk = omega arith }; rules_are = refl; stages = stages_none (omega arith) refl }
   where
     no_error : IsErrOf {T = T} {E = Stop} (Ok x) (Worn Flash) → ⊥
     no_error is = cc
@@ -213,7 +249,7 @@ pub idle_line : {T : Type 0} (x : T) (works : List CacheWork) (pages : PageStore
 idle_line {T} x works pages now none = subst (λ (w : List CacheWork). Asks {T = T} (Ok x) w pages pages now now) (sym none) (idle_asks x pages now)
 
 pub idle_stops : {T : Type 0} (stop : Stop) (pages : PageStore) (now : Site) → stop ≡ Memory → Asks {T = T} (Err stop) [] pages pages now now
-idle_stops {T} stop pages now memory = record { machine = tt; worn = λ is. absurd (other (same is)); reads = record { flash = omega arith; disk = omega arith }; rules_are = refl }
+idle_stops {T} stop pages now memory = record { machine = tt; worn = λ is. absurd (other (same is)); reads = record { flash = omega arith; disk = omega arith }; rules_are = refl; stages = stages_none (omega arith) refl }
   where
     same : IsErrOf {T = T} (Err stop) (Worn Flash) → stop ≡ Worn Flash
     same is = cc
@@ -226,20 +262,20 @@ listing_asks (Ok x) pages now stops = idle_asks x pages now
 listing_asks (Err stop) pages now stops = idle_stops stop pages now stops
 
 -- a call of the engine, as a line is served
-pub serves_ok : {A B : Type 0} (a : A) (b : B) (works : List CacheWork) (old new : PageStore) (before mid now : Site) → SameReads mid now → Asks {T = A} (Ok a) works old new before mid → Serves {T = B} (Ok b) works old new before now
-serves_ok {A} {B} a b works old new before mid now same asks = record { machine = asks.machine; worn = λ is. absurd (no_error is); reads = reads_still (rules old) works (cache_of old) before mid now same asks.reads; rules_are = asks.rules_are }
+pub serves_ok : {A B : Type 0} (a : A) (b : B) (works : List CacheWork) (old new : PageStore) (before mid now : Site) → SameReads mid now → {piece : List ℕ} → (IsTrue before.honest → EachMoment mid now (TellsPart piece mid)) → Asks {T = A} (Ok a) works old new before mid → Serves {T = B} (Ok b) works old new before now
+serves_ok {A} {B} a b works old new before mid now same {piece} tells asks = record { machine = asks.machine; worn = λ is. absurd (no_error is); reads = reads_still (rules old) works (cache_of old) before mid now same asks.reads; rules_are = asks.rules_are; writes = λ has quiet. writes_told old.flash.geometry (rules old) works (cache_of old) piece before mid now (asks.stages.writes has quiet) (tells has.fits.honest); geometry = asks.stages.sizes }
   where
     no_error : IsErrOf {T = B} (Ok b) (halt.Stop (Worn Flash)) → ⊥
     no_error is = cc
 
 pub serves_err : {A B : Type 0} (stop : Stop) (works : List CacheWork) (old new : PageStore) (before now : Site) → Asks {T = A} (Err stop) works old new before now → Serves {T = B} (Err (halt.Stop stop)) works old new before now
-serves_err {A} {B} stop works old new before now asks = record { machine = tt; worn = λ is. asks.worn (ap Err (same is)); reads = asks.reads; rules_are = asks.rules_are }
+serves_err {A} {B} stop works old new before now asks = record { machine = tt; worn = λ is. asks.worn (ap Err (same is)); reads = asks.reads; rules_are = asks.rules_are; writes = asks.stages.writes; geometry = asks.stages.sizes }
   where
     same : IsErrOf {T = B} (Err (halt.Stop stop)) (halt.Stop (Worn Flash)) → stop ≡ Worn Flash
     same is = cc
 
-pub serves_lost : {A B : Type 0} (a : A) (works : List CacheWork) (old new : PageStore) (before mid now : Site) → SameReads mid now → Asks {T = A} (Ok a) works old new before mid → Serves {T = B} (Err halt.Output) works old new before now
-serves_lost {A} {B} a works old new before mid now same asks = record { machine = tt; worn = λ is. absurd (no_error is); reads = reads_still (rules old) works (cache_of old) before mid now same asks.reads; rules_are = asks.rules_are }
+pub serves_lost : {A B : Type 0} (a : A) (works : List CacheWork) (old new : PageStore) (before mid now : Site) → SameReads mid now → {piece : List ℕ} → (IsTrue before.honest → EachMoment mid now (TellsPart piece mid)) → Asks {T = A} (Ok a) works old new before mid → Serves {T = B} (Err halt.Output) works old new before now
+serves_lost {A} {B} a works old new before mid now same {piece} tells asks = record { machine = tt; worn = λ is. absurd (no_error is); reads = reads_still (rules old) works (cache_of old) before mid now same asks.reads; rules_are = asks.rules_are; writes = λ has quiet. writes_told old.flash.geometry (rules old) works (cache_of old) piece before mid now (asks.stages.writes has quiet) (tells has.fits.honest); geometry = asks.stages.sizes }
   where
     no_error : IsErrOf {T = B} (Err halt.Output) (halt.Stop (Worn Flash)) → ⊥
     no_error is = cc
@@ -299,13 +335,13 @@ module _ (pool : ℕ) (g : Geometry) (opening : State) (listings : List (List Ca
         (subst (λ (x : Geometry). cache_on x now ≡ opened (after_works (rules_of pool x.groups) (asked_after all newest image blocks heard) (cache_on x image)).queue) same_sizes (queue newest blocks (same_sound newest blocks sound)))
 
     -- no more is read than they ask for
-    pub reads_no_more : (old new : Site) → old.image ≡ image → ReadsNoMore pool all heard old new → ReadsNoMore pool taken heard old new
+    pub reads_no_more : (old new : Site) → old.image ≡ image → AsksNoMore pool all heard old new → AsksNoMore pool taken heard old new
     reads_no_more old new at few newest blocks sound =
         let own = subst (λ (x : Image). IsSound newest g x blocks) at sound in
-        subst (λ (x : Image). ReadsFew pool g (works_by taken (take heard (turns_of taken)) newest x blocks) old new) (sym at)
-        (subst (λ (w : List CacheWork). ReadsFew pool g w old new) (same_asked newest blocks)
-        (subst (λ (x : Geometry). ReadsFew pool x (asked_after all newest image blocks heard) old new) same_sizes
-        (subst (λ (x : Image). ReadsFew pool all.geometry (asked_after all newest x blocks heard) old new) at
+        subst (λ (x : Image). AsksFew pool g (works_by taken (take heard (turns_of taken)) newest x blocks) old new) (sym at)
+        (subst (λ (w : List CacheWork). AsksFew pool g w old new) (same_asked newest blocks)
+        (subst (λ (x : Geometry). AsksFew pool x (asked_after all newest image blocks heard) old new) same_sizes
+        (subst (λ (x : Image). AsksFew pool all.geometry (asked_after all newest x blocks heard) old new) at
         (few newest blocks (subst (λ (x : Image). IsSound newest all.geometry x blocks) (sym at) (same_sound newest blocks own))))))
 
     pub wears_out : WearsOut pool all heard image → WearsOut pool taken heard image

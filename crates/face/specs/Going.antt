@@ -1,6 +1,6 @@
 -- A run under way.
 use Rattle.std.specs.Prelude.{◌≡◌, ℕ, ◌+◌, ◌≤◌, [], ◌++◌, List, length, Option, Result, OnOk, IsErrOf}
-use Rattle.site.specs.State.{State as Site, Image, no_loose}
+use Rattle.site.specs.State.{State as Site, Image, IsQuiet, no_loose}
 use Rattle.site.specs.Moments.{LeavesOnly}
 use Rattle.record_model.specs.declared.words.CacheLine.{CacheLine}
 use Rattle.engine.specs.declared.engine.Engine.{Engine}
@@ -15,7 +15,8 @@ use Rattle.second_chance.specs.Machine.{rules_of, after_works}
 use Rattle.page_store.specs.declared.store.PageStore.{PageStore}
 use Rattle.page_store.specs.Caching.{cache_of, rules}
 use Rattle.redo_undo.specs.Works.{Overflows, ReadsFor}
-use Rattle.engine.specs.Paging.{cache_on}
+use Rattle.engine.specs.Paging.{WritesFrom, cache_on}
+use Rattle.page_store.specs.Staging.{HasQueueOn}
 use Rattle.face.specs.declared.halt.Halt.{Halt}
 use Rattle.face.specs.declared.halt.Halt.TheVariants.{Stop}
 use Rattle.sealed_ring.specs.Ring.{hi_of}
@@ -63,10 +64,13 @@ pub record IsCounted (run : Run) (records : List Entry) (old now : Image) (engin
       hi_of (log_shape run.geometry) old.log + owed records + (state_at run lines).made
   pub numbers : CountsUpTo run records lines old now
 
--- A line asks for this work, and no more is read than it needs.
+-- A line asks for this work, and no more is read and written than it needs.
 pub record Serves {T : Type 0} (result : Result T Halt) (works : List CacheWork) (old new : PageStore)
     (before now : Site) : Type 0 where
   pub machine : OnOk result (cache_of new ≡ after_works (rules old) works (cache_of old))
   pub worn : IsErrOf result (Stop (Worn Flash)) → Overflows (rules old) works (cache_of old)
   pub reads : ReadsFor (rules old) works (cache_of old) before now
+  pub writes : HasQueueOn old before → IsQuiet before →
+      WritesFrom old.flash.geometry (rules old) works (cache_of old) before now
+  pub geometry : new.flash.geometry ≡ old.flash.geometry
   pub rules_are : rules new ≡ rules old

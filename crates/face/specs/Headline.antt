@@ -18,7 +18,7 @@ use Rattle.shell_text.specs.Serial.{IsToldSerial}
 use Rattle.face.specs.Lines.{HeardAll, limit, commands_of}
 use Rattle.face.specs.Run.{Run, IsFront}
 use Rattle.face.specs.Range.{run_of, turns_of, texts, run_text, all_commits, StandsAfter, IsLeft, WearsOut, NeverWears}
-use Rattle.face.specs.Range.{LeavesItsQueue, SkipsNoNumber, ReadsNoMore, ListsTheMachine, HasBegun}
+use Rattle.face.specs.Range.{LeavesItsQueue, SkipsNoNumber, AsksNoMore, ListsTheMachine, HasBegun}
 
 -- an honest and quiet site, whose image is sound, and over which a run opens with this state
 pub record IsGood (g : Geometry) (opening : State) (site : Site) : Type 0 where
@@ -104,8 +104,8 @@ pub record Resources (pool : ℕ) (run : Run) (begun : ℕ) (old new : Site) (st
   pub frames : status ≡ 0 → LeavesItsQueue pool run old.image new.image
   -- whatever the status, with these lines no ring number is skipped on the log's device
   pub numbers : SkipsNoNumber run begun old.image new.image
-  -- no more pages are read than they ask for
-  pub reads : ReadsNoMore pool run begun old new
+  -- no more is read and written than they ask for
+  pub reads : AsksNoMore pool run begun old new
 
 -- the same with the number of these lines, and with what they are told of the cache
 pub record RunResources (pool : ℕ) (run : Run) (fault : List ℕ) (old new : Site) (status : ℕ) : Type 0 where

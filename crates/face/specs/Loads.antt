@@ -21,7 +21,7 @@ use Rattle.face.specs.Going.{Serves}
 use Rattle.face.specs.Headline.{IsFaultOf, Resources}
 use Rattle.face.specs.Tells.{EndsBehind}
 use Rattle.face.specs.Range.{turns_of, all_commits, StandsAfter, WearsOut, NeverWears, LeavesItsQueue, SkipsNoNumber}
-use Rattle.face.specs.Range.{ReadsNoMore}
+use Rattle.face.specs.Range.{AsksNoMore}
 use Rattle.face.specs.Run.{Run, IsFront, StandsFor, after_lines, works_of, checkpoints_of}
 use Rattle.engine.specs.Numbers.{CountsOn}
 use Rattle.face.specs.Texts.{status_of}
@@ -119,7 +119,7 @@ pub record LoadWorks {T : Type 0} (pool : ℕ) (run : Run) (summary : List ℕ) 
   pub room : OnOk result (NeverWears pool run old.image)
   pub frames : OnOk result (LeavesItsQueue pool run old.image new.image)
   pub numbers : SkipsNoNumber run begun old.image new.image
-  pub reads : ReadsNoMore pool run begun old new
+  pub reads : AsksNoMore pool run begun old new
   pub left : new.left ≡ old.left
 
 -- what was counted is what the turns of the record model say

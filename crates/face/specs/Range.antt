@@ -22,7 +22,7 @@ use Rattle.log_records.specs.Unfinished.{owed}
 use Rattle.face.specs.Workload.{checkpoints_in}
 use Rattle.shell_text.specs.Runs.{texts as run_texts}
 use Rattle.face.specs.Lines.{commands_of}
-use Rattle.face.specs.Run.{Run, IsFront, ReadsFew}
+use Rattle.face.specs.Run.{Run, IsFront, AsksFew}
 
 -- the run that opens with this state, over the lines of these octets, with these listings of the cache
 abbrev pub run_of : Geometry → State → Bool → List ℕ → List (List CacheLine) → Run
@@ -131,13 +131,14 @@ ListsTheMachine pool run lines image =
     → (before later : List Turn) (t : Turn) → take lines (turns_of run) ≡ before ++ t ∷ later → is_cache t.line ≡ true
     → t.reply ≡ Listing (listing (cache_by pool run before newest image blocks))
 
--- with so many lines no more pages are read than the run asks for: of flash at most one for each touch that finds its
+-- with so many lines no more is read and written than the run asks for. A crash at any moment leaves no more groups
+-- than it appends, and each disk page that it doesn't stage as it was at entry. Pages are read, of flash at most one for each touch that finds its
 -- page there, twelve for each group that is appended, and as many as a start may read; of the disk at most one for
 -- each touch that misses its page on flash
-abbrev pub ReadsNoMore : ℕ → Run → ℕ → Site → Site → Type 0
-ReadsNoMore pool run lines old now =
+abbrev pub AsksNoMore : ℕ → Run → ℕ → Site → Site → Type 0
+AsksNoMore pool run lines old now =
     (newest : Option Master) (blocks : List (List LogRecord)) → IsSound newest run.geometry old.image blocks
-    → ReadsFew pool run.geometry (works_by run (take lines (turns_of run)) newest old.image blocks) old now
+    → AsksFew pool run.geometry (works_by run (take lines (turns_of run)) newest old.image blocks) old now
 
 -- So many lines were begun: what the run tells before the last of them is told, the opening's text and the replies of
 -- the others, then a front of the last one's reply, or all of it, and of a fault line a front.

@@ -18,7 +18,7 @@ use Rattle.checkpoint.specs.declared.master.Master.{Master}
 use Rattle.second_chance.specs.Machine.{rules_of}
 use Rattle.flash_cache.specs.Held.{start_reads}
 use Rattle.redo_undo.specs.Works.{ReadsFor}
-use Rattle.engine.specs.Paging.{cache_on}
+use Rattle.engine.specs.Paging.{WritesFrom, cache_on}
 use Rattle.shell_text.specs.Texts.{open_text, reply_text}
 use Rattle.face.specs.Texts.{status_of}
 use Rattle.engine.specs.Image.{IsSound, Stands, Opens, log_under}
@@ -91,6 +91,12 @@ works_of s (line ∷ lines) = line_touches true s line ++ works_of (step s line 
 abbrev pub ReadsFew : ℕ → Geometry → List CacheWork → Site → Site → Type 0
 ReadsFew pool g works old now = ReadsFor (rules_of pool g.groups) works (cache_on g old.image)
     (record old { flash_reads = old.flash_reads + start_reads g }) now
+
+-- and no more is written: a crash at any moment leaves no more groups than this work appends, and each disk page that
+-- it doesn't stage as it was when the run opened
+pub record AsksFew (pool : ℕ) (g : Geometry) (works : List CacheWork) (old now : Site) : Type 0 where
+  pub reads : ReadsFew pool g works old now
+  pub writes : WritesFrom g (rules_of pool g.groups) works (cache_on g old.image) old now
 
 -- how many checkpoints a line makes, and how many lines make, whatever the cache lists
 abbrev pub line_checkpoints : State → Line → ℕ

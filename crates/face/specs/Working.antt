@@ -16,7 +16,7 @@ use Rattle.engine.specs.Image.{IsSound}
 use Rattle.face.specs.declared.halt.Halt.{Halt}
 use Rattle.face.specs.declared.halt.Halt.TheVariants.{Stop}
 use Rattle.face.specs.Lines.{HeardAll, answered_of}
-use Rattle.face.specs.Range.{ReadsNoMore, WearsOut, turns_of, works_by}
+use Rattle.face.specs.Range.{AsksNoMore, WearsOut, turns_of, works_by}
 use Rattle.face.specs.Run.{HasHeard, HasToldUpTo, IsAccounted, IsDone, Run, SkipsNoneUpTo, Stops, StopsTaking}
 use Rattle.face.specs.Run.{answered, listing_at}
 
@@ -63,4 +63,4 @@ pub record Works {T : Type 0} (pool : ℕ) (run : Run) (old new : Site) (result 
   -- no ring number is skipped on the log's device
   pub numbers : SkipsNoneUpTo run heard old.image new.image
   pub listed : ListsUpTo pool run heard old.image
-  pub reads : ReadsNoMore pool run heard old new
+  pub reads : AsksNoMore pool run heard old new

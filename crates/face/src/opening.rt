@@ -14,7 +14,7 @@ ghost use Rattle.engine.specs.Fits.{Fits};
 ghost use Rattle.engine.specs.Going.{MayGoOn, sizes_of};
 ghost use Rattle.engine.specs.Leaves.{HasNoSizes};
 ghost use Rattle.face.specs.Causes.{HasCause, Halts};
-ghost use Rattle.face.specs.Range.{ReadsNoMore, WearsOut};
+ghost use Rattle.face.specs.Range.{AsksNoMore, WearsOut};
 ghost use Rattle.face.specs.Run.{Run, Begins, Stops, SkipsNoneUpTo};
 ghost use Rattle.face.specs.Going.{Going, IsPaged, IsCounted};
 
@@ -43,7 +43,7 @@ pub fn open<S: Site>(alloc: Global, pool: u32, site: &mut S) -> Result<Engine, H
     ensures worn { (run : Run) → Begins run (S.state site.old) → IsErrOf result (Halt.Stop (Stop.Worn Dev.Flash))
         → WearsOut pool run 0 (S.state site.old).image }
     ensures reads { (run : Run) → Begins run (S.state site.old)
-        → ReadsNoMore pool run 0 (S.state site.old) (S.state site.new) }
+        → AsksNoMore pool run 0 (S.state site.old) (S.state site.new) }
     // No ring number is skipped.
     ensures counted { (run : Run) → Begins run (S.state site.old)
         → (newest : Option Master) (blocks : List (List LogRecord))

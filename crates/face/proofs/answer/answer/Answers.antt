@@ -75,10 +75,10 @@ pub returns-in-Err-clause-asks : goal.returns-in-Err-clause-asks
 returns-in-Err-clause-asks g c s fits = serves_err c.in-Err.stop _ _ _ _ _ (c.in-Err.ensures.asks s fits)
 
 pub returns-in-Ok-tell_reply-clause-asks : goal.returns-in-Ok-tell_reply-clause-asks
-returns-in-Ok-tell_reply-clause-asks g c s fits = serves_ok c.in-Ok.reply _ _ _ _ _ _ _ c.tell_reply.ensures.reads (c.in-Ok.ensures.asks s fits)
+returns-in-Ok-tell_reply-clause-asks g c s fits = serves_ok c.in-Ok.reply _ _ _ _ _ _ _ c.tell_reply.ensures.reads (λ honest. c.tell_reply.ensures.any_moment (stays_honest (g.S.Site.state c.args.site.now) (g.S.Site.state c.carry_out.new.site) c.carry_out.ensures.goes honest)) (c.in-Ok.ensures.asks s fits)
 
 pub returns-clause-asks : goal.returns-clause-asks
-returns-clause-asks g c s fits = serves_lost c.in-Ok.reply _ _ _ _ _ _ c.tell_reply.ensures.reads (c.in-Ok.ensures.asks s fits)
+returns-clause-asks g c s fits = serves_lost c.in-Ok.reply _ _ _ _ _ _ c.tell_reply.ensures.reads (λ honest. c.tell_reply.ensures.any_moment (stays_honest (g.S.Site.state c.args.site.now) (g.S.Site.state c.carry_out.new.site) c.carry_out.ensures.goes honest)) (c.in-Ok.ensures.asks s fits)
 
 pub returns-in-Err-clause-numbers : goal.returns-in-Err-clause-numbers
 returns-in-Err-clause-numbers g c s fits quiet = counts_err c.in-Err.stop (halt.Stop c.in-Err.stop) _ _ _ _ s _ _ (c.in-Err.ensures.numbers s fits quiet)

@@ -1,6 +1,7 @@
 use Rattle.std.proofs.Common.{◌∙◌, ap, refl, sym, true≢false, []}
 use Rattle.engine.specs.Going.{sizes_of}
 use Rattle.face.specs.declared.halt.Halt.TheVariants as halt
+use Rattle.face.proofs.Writings.{tells_none}
 use Rattle.face.proofs.Counted.{counts_err, counts_line, counts_then}
 use Rattle.face.proofs.Courses.{last_line, leaves_line, serves_line}
 use Rattle.face.proofs.Pagings.{serves_ok, serves_err}
@@ -12,7 +13,7 @@ returns-in-Ok-clause-course g c =
       any_moment = λ s fits quiet. leaves_line (sizes_of c.args.engine.now.store) s c.args.line (g.S.Site.state c.args.site.now) (g.S.Site.state c.carry_out.new.site) (c.carry_out.ensures.any_moment s [] (λ asks. absurd (true≢false (sym asks ∙ c.requires.plain))) fits quiet);
       last = λ s fits quiet. last_line (sizes_of c.args.engine.now.store) s c.args.line (g.S.Site.state c.args.site.now) (g.S.Site.state c.carry_out.new.site) (c.carry_out.ensures.any_moment s [] (λ asks. absurd (true≢false (sym asks ∙ c.requires.plain))) fits quiet);
       fits = λ s fits. c.in-Ok.ensures.after s [] (λ asks. absurd (true≢false (sym asks ∙ c.requires.plain))) fits;
-      serves = λ s fits. serves_line _ s c.args.line c.args.engine.now.store.pages c.carry_out.new.engine.store.pages _ _ (serves_ok c.in-Ok.reply c.in-Ok.reply _ _ _ (g.S.Site.state c.args.site.now) (g.S.Site.state c.carry_out.new.site) (g.S.Site.state c.carry_out.new.site) (λ dev. refl) (c.in-Ok.ensures.asks s fits));
+      serves = λ s fits. serves_line _ s c.args.line c.args.engine.now.store.pages c.carry_out.new.engine.store.pages _ _ (serves_ok c.in-Ok.reply c.in-Ok.reply _ _ _ (g.S.Site.state c.args.site.now) (g.S.Site.state c.carry_out.new.site) (g.S.Site.state c.carry_out.new.site) (λ dev. refl) (λ honest. tells_none _) (c.in-Ok.ensures.asks s fits));
       numbers = λ s fits quiet. counts_line _ c.args.line _ _ _ _ s (counts_then c.in-Ok.reply _ _ _ _ _ _ s _ _ refl (c.in-Ok.ensures.numbers s fits quiet));
       left = c.carry_out.ensures.left;
       stays_quiet = c.in-Ok.ensures.stays_quiet;

@@ -2,6 +2,10 @@ use Rattle.site.specs.declared.outside.Dev.TheVariants.{Flash}
 use Rattle.site.specs.declared.outside.Stop.TheVariants.{Worn}
 use Rattle.engine.specs.Image.{log_under}
 use Rattle.face.proofs.Counted.{first_counted, restart_fails}
+use Rattle.engine.specs.Paging.{restart_works, cache_on}
+use Rattle.second_chance.specs.Machine.{rules_of}
+use Rattle.image_meaning.specs.Meaning.{picture_under}
+use Rattle.face.proofs.Writings.{writes_told}
 use Rattle.face.proofs.Pagings.{first_paged, first_reads, never_paged}
 use Rattle.std.specs.Prelude.{Err}
 use Rattle.std.proofs.Common.{◌∙◌, ap, ◌≡◌, refl}
@@ -101,17 +105,21 @@ returns-in-Err-clause-numbers g c run begins newest blocks sound =
 pub returns-in-Err-clause-reads : goal.returns-in-Err-clause-reads
 returns-in-Err-clause-reads g c run begins newest blocks sound =
     let old = g.S.Site.state c.args.site.now in
-    first_reads c.args.pool run newest old.image blocks c.start.result (λ e. e.store.pages) old (g.S.Site.state c.start.new.site) (g.S.Site.state c.start.new.site) (λ dev. refl) (c.start.ensures.asks begins.honest run.geometry newest blocks sound)
+    first_reads c.args.pool run newest old.image blocks c.start.result (λ e. e.store.pages) old (g.S.Site.state c.start.new.site) (g.S.Site.state c.start.new.site) (λ dev. refl) (c.start.ensures.writes begins.honest begins.quiet run.geometry newest blocks sound) (c.start.ensures.asks begins.honest run.geometry newest blocks sound)
 
 pub returns-in-Ok-tell_all-clause-reads : goal.returns-in-Ok-tell_all-clause-reads
 returns-in-Ok-tell_all-clause-reads g c run begins newest blocks sound =
     let old = g.S.Site.state c.args.site.now in
-    first_reads c.args.pool run newest old.image blocks c.start.result (λ e. e.store.pages) old (g.S.Site.state c.start.new.site) (g.S.Site.state c.tell_all.new.site) c.tell_all.ensures.reads (c.start.ensures.asks begins.honest run.geometry newest blocks sound)
+    first_reads c.args.pool run newest old.image blocks c.start.result (λ e. e.store.pages) old (g.S.Site.state c.start.new.site) (g.S.Site.state c.tell_all.new.site) c.tell_all.ensures.reads
+    (writes_told run.geometry (rules_of c.args.pool run.geometry.groups) (restart_works (picture_under newest run.geometry old.image blocks)) (cache_on run.geometry old.image) _ old (g.S.Site.state c.start.new.site) (g.S.Site.state c.tell_all.new.site) (c.start.ensures.writes begins.honest begins.quiet run.geometry newest blocks sound)
+    (c.tell_all.ensures.any_moment (stays_honest old (g.S.Site.state c.start.new.site) c.start.ensures.calls.goes begins.honest))) (c.start.ensures.asks begins.honest run.geometry newest blocks sound)
 
 pub returns-in-Err-tell_all-clause-reads : goal.returns-in-Err-tell_all-clause-reads
 returns-in-Err-tell_all-clause-reads g c run begins newest blocks sound =
     let old = g.S.Site.state c.args.site.now in
-    first_reads c.args.pool run newest old.image blocks c.start.result (λ e. e.store.pages) old (g.S.Site.state c.start.new.site) (g.S.Site.state c.tell_all.new.site) c.tell_all.ensures.reads (c.start.ensures.asks begins.honest run.geometry newest blocks sound)
+    first_reads c.args.pool run newest old.image blocks c.start.result (λ e. e.store.pages) old (g.S.Site.state c.start.new.site) (g.S.Site.state c.tell_all.new.site) c.tell_all.ensures.reads
+    (writes_told run.geometry (rules_of c.args.pool run.geometry.groups) (restart_works (picture_under newest run.geometry old.image blocks)) (cache_on run.geometry old.image) _ old (g.S.Site.state c.start.new.site) (g.S.Site.state c.tell_all.new.site) (c.start.ensures.writes begins.honest begins.quiet run.geometry newest blocks sound)
+    (c.tell_all.ensures.any_moment (stays_honest old (g.S.Site.state c.start.new.site) c.start.ensures.calls.goes begins.honest))) (c.start.ensures.asks begins.honest run.geometry newest blocks sound)
 
 pub returns-in-Err-tell_all-clause-goes : goal.returns-in-Err-tell_all-clause-goes
 returns-in-Err-tell_all-clause-goes g c = goes_in_sequence _ _ _ c.start.ensures.calls.goes c.tell_all.ensures.goes

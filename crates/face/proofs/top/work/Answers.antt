@@ -9,10 +9,11 @@ use Rattle.record_model.specs.Touches.{CacheWork}
 use Rattle.second_chance.specs.Machine.{after_works, rules_of}
 use Rattle.engine.specs.Paging.{cache_on}
 use Rattle.face.proofs.Counted.{counted_on, counts_next, counts_still, next_counted}
-use Rattle.face.proofs.Pagings.{asked_with, next_paged, next_reads, next_worn, paged_queue, paged_room, reads_still}
+use Rattle.face.proofs.Writings.{engine_queue}
+use Rattle.face.proofs.Pagings.{asked_with, next_paged, next_reads, next_worn, paged_queue, paged_room, few_heard}
 use Rattle.engine.specs.Listings.{listing_of}
 use Rattle.face.specs.Lines.{up_to_quit}
-use Rattle.face.specs.Run.{Run, Begins, ReadsFew, state_at, listings_left, listing_at}
+use Rattle.face.specs.Run.{Run, Begins, AsksFew, state_at, listings_left, listing_at}
 use Rattle.face.specs.Working.{ListsUpTo, asked_after}
 use Rattle.face.specs.Texts.{status_of}
 use Rattle.face.proofs.Cuts.{Cut, no_cut, cut_more, cut_stays, line_is, cut_few_octets}
@@ -54,7 +55,7 @@ returns-in-Err-next-clause-works g c =
           let so_far = under_way.going run [] begins (same ∙ sym (append-nil under_way.listings)) in
           let going = moved run entry mid next c.loop-line.engine c.loop-line._line so_far c.next.ensures.goes (c.next.ensures.same so_far.fits.honest) in
           taking_failed c.args.pool run entry mid next c.loop-line.engine c.loop-line.source c.loop-line._line cut c.loop-line.invariant.source going (under_way.listed run [] begins (same ∙ sym (append-nil under_way.listings)))
-          (λ newest blocks sound. reads_still _ _ _ _ mid next (c.next.ensures.same so_far.fits.honest).reads (c.loop-line.invariant.reads run begins newest blocks sound)) c.in-Err-next.halt c.in-Err-next.ensures.halts (c.in-Err-next.ensures.cut_off so_far.fits.honest cut.ended)
+          (λ newest blocks sound. few_heard _ _ _ entry mid next (c.next.ensures.same so_far.fits.honest) (c.loop-line.invariant.reads run begins newest blocks sound)) c.in-Err-next.halt c.in-Err-next.ensures.halts (c.in-Err-next.ensures.cut_off so_far.fits.honest cut.ended)
           (λ newest blocks sound. counts_still run (log_under newest blocks) entry mid next c.loop-line._line (c.next.ensures.same so_far.fits.honest).image (c.loop-line.invariant.counted run begins newest blocks sound).numbers),
     )
 
@@ -80,7 +81,7 @@ returns-in-End-clause-works g c =
           let going = moved run entry mid next c.loop-line.engine c.loop-line._line so_far c.next.ensures.goes (c.next.ensures.same honest) in
           let end = heard_end c.in-Ok-next.heard _ _ _ _ (c.in-Ok-next.ensures.heard honest cut.ended) c.in-End.is in
           finished c.args.pool run entry mid next c.loop-line.engine c.loop-line.source c.loop-line._line cut c.loop-line.invariant.source going (under_way.listed run [] begins (same ∙ sym (append-nil under_way.listings)))
-          (λ newest blocks sound. reads_still _ _ _ _ mid next (c.next.ensures.same so_far.fits.honest).reads (c.loop-line.invariant.reads run begins newest blocks sound)) _ end.0 (c.in-Ok-next.ensures.ended honest cut.ended end.1)
+          (λ newest blocks sound. few_heard _ _ _ entry mid next (c.next.ensures.same so_far.fits.honest) (c.loop-line.invariant.reads run begins newest blocks sound)) _ end.0 (c.in-Ok-next.ensures.ended honest cut.ended end.1)
           (λ newest blocks sound. paged_room c.args.pool run newest entry.image blocks c.loop-line.engine mid c.loop-line._line (c.loop-line.invariant.paged run begins newest blocks sound) c.loop-line.invariant.engine)
           (λ newest blocks sound. paged_queue c.args.pool run newest entry.image blocks c.queue_is_on_flash.ensures c.loop-line.engine next (state_at run c.loop-line._line) c.loop-line._line going.fits going.geometry (c.loop-line.invariant.paged run begins newest blocks sound))
           (λ newest blocks sound. counts_still run (log_under newest blocks) entry mid next c.loop-line._line (c.next.ensures.same honest).image (c.loop-line.invariant.counted run begins newest blocks sound).numbers),
@@ -110,7 +111,8 @@ returns-in-Err-answer-clause-works g c =
           (λ ne. c.in-Err-answer.ensures.quiet _ going.fits going.quiet (λ d e. ne (ap status_of e))) (c.in-Err-answer.ensures.untold _ going.fits going.quiet) in
           answer_failed c.args.pool run entry mid next new c.loop-line.source c.next.new.self i cut c.loop-line.invariant.source c.in-Line.line hears ended c.next.ensures.source (c.answer.ensures.left going.fits.honest)
           (listed_next c.args.pool entry mid c.loop-line.engine i under_way c.in-Line.line run [] begins listed _ is (c.loop-line.invariant.paged run begins))
-          (λ newest blocks sound. next_reads c.args.pool run newest entry.image blocks c.works_add_up.ensures.works i c.in-Line.line _ is c.loop-line.engine (c.loop-line.invariant.paged run begins newest blocks sound) c.works_add_up.ensures.reads entry mid next new refl (c.next.ensures.same honest).reads (c.loop-line.invariant.reads run begins newest blocks sound) (c.answer.ensures.asks (state_at run i) going.fits).reads) c.in-Err-answer.halt stops
+          (λ newest blocks sound. next_reads c.args.pool run newest entry.image blocks c.works_add_up.ensures.works i c.in-Line.line _ is c.loop-line.engine (c.loop-line.invariant.paged run begins newest blocks sound) c.works_add_up.ensures.reads entry mid next new refl (c.next.ensures.same honest) (c.loop-line.invariant.reads run begins newest blocks sound) going.geometry (let least = sound.octets.limits.groups in omega (arith, least)) (c.answer.ensures.asks (state_at run i) going.fits).reads
+          ((c.answer.ensures.asks (state_at run i) going.fits).writes (engine_queue c.loop-line.engine next (state_at run i) (engine_goes_on c.loop-line.engine mid next c.loop-line.invariant.engine c.next.ensures.goes) going.fits) going.quiet)) c.in-Err-answer.halt stops
           (begun_after run entry next c.loop-line.engine i going new c.in-Line.line _ is (c.answer.ensures.any_moment (state_at run i) (listing_at run i) asked going.fits going.quiet)) (answer_takes_nothing c.in-Err-answer.halt c.loop-line.engine next new c.in-Err-answer.ensures.cause)
           (λ worn newest blocks sound. next_worn c.args.pool run newest entry.image blocks c.works_add_up.ensures.works i c.in-Line.line _ is c.loop-line.engine (c.loop-line.invariant.paged run begins newest blocks sound) ((c.in-Err-answer.ensures.asks (state_at run i) going.fits).worn (ap Err worn)))
           (λ newest blocks sound. counts_next run (log_under newest blocks) entry mid next new c.loop-line.engine c.answer.new.engine i c.in-Line.line _ is (c.next.ensures.same honest).image going.geometry (c.loop-line.invariant.counted run begins newest blocks sound) _ (c.in-Err-answer.ensures.numbers (state_at run i) going.fits going.quiet)),
@@ -200,9 +202,10 @@ loop-line-preserved g c =
           let hears = line_heard c.in-Ok-next.heard c.in-Line.line _ _ _ _ (c.in-Ok-next.ensures.heard honest cut.ended) c.in-Line.is in
           let ended = c.in-Ok-next.ensures.ended honest cut.ended in
           let is = ap (λ (l : List Line). drop i (up_to_quit l)) begins.lines ∙ line_is entry.left c.loop-line.source mid i cut c.loop-line.invariant.source c.next.new.self next c.in-Line.line hears ended c.next.ensures.source in
-          subst (λ (n : ℕ). ReadsFew c.args.pool run.geometry (asked_after run newest entry.image blocks n) entry new) (sym (add-one i))
-          (subst (λ (w : List CacheWork). ReadsFew c.args.pool run.geometry w entry new) (asked_with run with newest entry.image blocks (suc i))
-          (next_reads c.args.pool own newest entry.image blocks c.works_add_up.ensures.works i c.in-Line.line _ is c.loop-line.engine (c.loop-line.invariant.paged own starts newest blocks sound) c.works_add_up.ensures.reads entry mid next new refl (c.next.ensures.same honest).reads (c.loop-line.invariant.reads own starts newest blocks sound) (c.answer.ensures.asks (state_at own i) going.fits).reads));
+          subst (λ (n : ℕ). AsksFew c.args.pool run.geometry (asked_after run newest entry.image blocks n) entry new) (sym (add-one i))
+          (subst (λ (w : List CacheWork). AsksFew c.args.pool run.geometry w entry new) (asked_with run with newest entry.image blocks (suc i))
+          (next_reads c.args.pool own newest entry.image blocks c.works_add_up.ensures.works i c.in-Line.line _ is c.loop-line.engine (c.loop-line.invariant.paged own starts newest blocks sound) c.works_add_up.ensures.reads entry mid next new refl (c.next.ensures.same honest) (c.loop-line.invariant.reads own starts newest blocks sound) going.geometry (let least = sound.octets.limits.groups in omega (arith, least)) (c.answer.ensures.asks (state_at own i) going.fits).reads
+          ((c.answer.ensures.asks (state_at own i) going.fits).writes (engine_queue c.loop-line.engine next (state_at own i) (engine_goes_on c.loop-line.engine mid next c.loop-line.invariant.engine c.next.ensures.goes) going.fits) going.quiet)));
       counted = λ run begins newest blocks sound.
           let under_way = c.loop-line.invariant.under_way in
           let with = with_line c.args.pool entry mid c.loop-line.engine i under_way c.in-Line.line in
@@ -243,7 +246,8 @@ returns-then-last-clause-works g c =
           c.answer.new.engine c.answer.ensures.sizes c.in_default.ensures.going.store.both.sizes (c.in_default.ensures.fits (state_at run i) (listing_at run i) asked going.fits) (c.in_default.ensures.stays_quiet going.fits.honest going.quiet) (c.in_default.ensures.told (state_at run i) (listing_at run i) asked going.fits going.quiet) in
           quitted c.args.pool run entry mid next new c.loop-line.source c.next.new.self i cut c.loop-line.invariant.source c.in-Line.line hears ended c.next.ensures.source (c.answer.ensures.left going.fits.honest)
           (listed_next c.args.pool entry mid c.loop-line.engine i under_way c.in-Line.line run [] begins listed _ is (c.loop-line.invariant.paged run begins))
-          (λ newest blocks sound. next_reads c.args.pool run newest entry.image blocks c.works_add_up.ensures.works i c.in-Line.line _ is c.loop-line.engine (c.loop-line.invariant.paged run begins newest blocks sound) c.works_add_up.ensures.reads entry mid next new refl (c.next.ensures.same honest).reads (c.loop-line.invariant.reads run begins newest blocks sound) (c.answer.ensures.asks (state_at run i) going.fits).reads) _ c.answer.new.engine (sym c.quits-last.ensures ∙ c.if-last.true) gone
+          (λ newest blocks sound. next_reads c.args.pool run newest entry.image blocks c.works_add_up.ensures.works i c.in-Line.line _ is c.loop-line.engine (c.loop-line.invariant.paged run begins newest blocks sound) c.works_add_up.ensures.reads entry mid next new refl (c.next.ensures.same honest) (c.loop-line.invariant.reads run begins newest blocks sound) going.geometry (let least = sound.octets.limits.groups in omega (arith, least)) (c.answer.ensures.asks (state_at run i) going.fits).reads
+          ((c.answer.ensures.asks (state_at run i) going.fits).writes (engine_queue c.loop-line.engine next (state_at run i) (engine_goes_on c.loop-line.engine mid next c.loop-line.invariant.engine c.next.ensures.goes) going.fits) going.quiet)) _ c.answer.new.engine (sym c.quits-last.ensures ∙ c.if-last.true) gone
           (λ newest blocks sound. paged_room c.args.pool run newest entry.image blocks c.answer.new.engine new (suc i)
           (next_paged c.args.pool run newest entry.image blocks c.works_add_up.ensures.works i c.in-Line.line _ is c.loop-line.engine (c.loop-line.invariant.paged run begins newest blocks sound) c.in_default.field-0 c.answer.new.engine next new (c.in_default.ensures.asks (state_at run i) going.fits)) c.in_default.ensures.going)
           (λ newest blocks sound. paged_queue c.args.pool run newest entry.image blocks c.queue_is_on_flash.ensures c.answer.new.engine new (state_at run (suc i)) (suc i) gone.fits gone.geometry

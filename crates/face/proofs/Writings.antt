@@ -1,0 +1,64 @@
+-- What a run writes, one line after the other.
+use Rattle.std.proofs.Common.{◌≤◌, ℕ, List, [], ◌++◌, refl, arith, sym, ap, subst}
+use Rattle.site.specs.declared.geometry.Geometry.{Geometry}
+use Rattle.site.specs.State.{State as Site, Snapshot, Image, IsQuiet}
+use Rattle.site.specs.Moments.{EachMoment, Leaves, LeavesOnly}
+use Rattle.site.specs.Telling.{TellsPart}
+use Rattle.site.specs.Laws.{in_sequence, leaves_weaker, holds_now, tell_leaves, calm, now_same, unchanged, no_call}
+use Rattle.record_model.specs.Touches.{CacheWork}
+use Rattle.record_model.specs.State.{State}
+use Rattle.second_chance.specs.Machine.{Rules, Cache, Staged, after_works, staged_by_works}
+use Rattle.page_store.specs.Caching.{cache_of, rules, next_group}
+use Rattle.page_store.specs.Staging.{WritesOnly, HasQueueOn}
+use Rattle.page_store.proofs.StagingLaws.{among_first, written_weaker, written_then, fits_queue, still_leaves}
+use Rattle.page_store.specs.declared.store.PageStore.{PageStore}
+use Rattle.redo_undo.proofs.Costs.{works_add_up, staged_add_up, more_next}
+use Rattle.engine.specs.declared.engine.Engine.{Engine}
+use Rattle.engine.specs.Fits.{Fits}
+use Rattle.engine.specs.Going.{MayGoOn}
+use Rattle.engine.specs.Paging.{WritesFrom}
+use Rattle.face.specs.Lines.{HearsOnly}
+
+-- the queue of a database that fits is the one on flash
+pub engine_queue : (engine : Engine) (site : Site) (s : State) → MayGoOn engine site → Fits engine site s → HasQueueOn engine.store.pages site
+engine_queue engine site s may fits = fits_queue engine.store.pages site may.store.both.pages_going fits.holds.both.log_holds.ready.pages
+
+-- behind it something is told
+pub writes_told : (g : Geometry) (r : Rules) (works : List CacheWork) (start : Cache) (piece : List ℕ) (old mid new : Site) → WritesFrom g r works start old mid → EachMoment mid new (TellsPart piece mid) → WritesFrom g r works start old new
+writes_told g r works start piece old mid new first tells =
+    let Q = λ (i : Image). WritesOnly g (staged_by_works r works start) (next_group (after_works r works start)) old.image i in
+    let P = λ (s : Snapshot). Q s.image in
+    in_sequence old mid new (Leaves P) first (leaves_weaker mid new _ P (λ s both. both.1) (tell_leaves Q piece mid new (λ s left. first.now s left) tells))
+
+-- or heard
+pub writes_heard : (g : Geometry) (r : Rules) (works : List CacheWork) (start : Cache) (old mid new : Site) → WritesFrom g r works start old mid → HearsOnly mid new → WritesFrom g r works start old new
+writes_heard g r works start old mid new first same =
+    calm old mid new (Leaves (λ (s : Snapshot). WritesOnly g (staged_by_works r works start) (next_group (after_works r works start)) old.image s.image)) first same.past (now_same mid new same.told same.image same.loose)
+
+-- work behind work
+pub writes_then : (g : Geometry) (r : Rules) (first later : List CacheWork) (start : Cache) (old mid new : Site) → 1 ≤ r.groups → WritesFrom g r first start old mid → WritesFrom g r later (after_works r first start) mid new →
+    WritesFrom g r (first ++ later) start old new
+writes_then g r first later start old mid new some one two =
+    let staged = staged_by_works r first start in
+    let more = staged_by_works r later (after_works r first start) in
+    let next = next_group (after_works r first start) in
+    let next' = next_group (after_works r later (after_works r first start)) in
+    let all = ap next_group (works_add_up r first later start) in
+    let only = λ (s : Snapshot). WritesOnly g staged next old.image s.image in
+    let P = λ (s : Snapshot). WritesOnly g (staged ++ more) next' old.image s.image in
+    let up : next ≤ next' = omega (arith, all, more_next r first later start some) in
+    let stands : WritesOnly g staged next old.image mid.image = holds_now old mid only one in
+    let joined : LeavesOnly old new P =
+    in_sequence old mid new (Leaves P)
+    (leaves_weaker old mid only P (λ s is. written_weaker g staged (staged ++ more) next next' old.image s.image (among_first staged more) up is) one)
+    (leaves_weaker mid new (λ s. WritesOnly g more next' mid.image s.image) P (λ s is. written_then g staged more next next' old.image mid.image s.image stands is) two) in
+    subst (λ (n : ℕ). LeavesOnly old new (λ (s : Snapshot). WritesOnly g (staged_by_works r (first ++ later) start) n old.image s.image)) (sym all)
+    (subst (λ (l : List Staged). LeavesOnly old new (λ (s : Snapshot). WritesOnly g l next' old.image s.image)) (sym (staged_add_up r first later start)) joined)
+
+-- no work
+pub writes_nothing : (pages : PageStore) (site : Site) → HasQueueOn pages site → IsQuiet site → WritesFrom pages.flash.geometry (rules pages) [] (cache_of pages) site site
+writes_nothing pages site has quiet = (let is = has.next in still_leaves pages.flash.geometry [] (next_group (cache_of pages)) site site (omega (arith, is)) quiet (unchanged site))
+
+-- nothing is told
+pub tells_none : (site : Site) → EachMoment site site (TellsPart [] site)
+tells_none site = no_call site (TellsPart [] site) (record { image = refl; loose = refl; told = λ j. (j, refl) })
