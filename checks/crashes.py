@@ -40,6 +40,13 @@ def some_life(random, records, is_last):
     return Life(lines, f'stop {change} {seed}')
 
 
+def turning_script(random, records):
+    """Sets on pages in turn, so many that the queue of eight groups and its segments turn over, cut somewhere, and what is left."""
+    lines = [f'set {32 * place % records} {storage_model.random_value(random)}' for place in range(100)]
+    stop = f'stop {random.randint(0, 1600)} {random.choice(SEEDS)}'
+    return [Life(lines, stop), some_life(random, records, True)]
+
+
 def octets_of(lives):
     lines = [line for life in lives for line in life.lines + ([life.stop] if life.stop else [])]
     return ''.join(line + '\n' for line in lines).encode()
@@ -118,8 +125,12 @@ def try_script(job):
     face, seed, number = job
     random = randoms.Random(f'{seed} {number}')
     sizes = Sizes(random.choice([1, 4, 16]), random.choice([8, 8, 12]), random.choice([16, 20, 40, 64]))
-    words = ['trial'] + [str(size) for size in sizes] + [str(random.choice([1, 2, 4, 64]))]
+    pool = random.choice([1, 2, 4, 64])
     lives = some_script(random, sizes)
+    if random.random() < 0.25:
+        sizes, pool = Sizes(16, 8, 64), 1
+        lives = turning_script(random, storage_model.SLOTS * sizes.pages)
+    words = ['trial'] + [str(size) for size in sizes] + [str(pool)]
     try:
         outcome = subprocess.run([face] + words, input=octets_of(lives), stdout=subprocess.PIPE, stderr=subprocess.DEVNULL, timeout=120)
         return len(lives) - 1, judge(sizes, lives, outcome), None
