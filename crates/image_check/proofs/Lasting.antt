@@ -12,7 +12,7 @@ use Rattle.sealed_ring.specs.Ready.{region, IsUsable, Fits}
 use Rattle.ring_check.specs.Judged.{IsJudged}
 use Rattle.image_check.specs.declared.rings.Rings.{Rings}
 use Rattle.image_check.specs.Octets.{HasSizes}
-use Rattle.image_check.specs.Findings.{MayRead}
+use Rattle.image_check.specs.Findings.{MayRead, AreFound}
 
 pub usable_later : (ring : Ring) (a b : State) → Goes a b → IsUsable ring a → IsUsable ring b
 usable_later ring a b goes usable = record {
@@ -57,4 +57,12 @@ may_read_later g rings a b goes may = record {
   blocks_shape = may.blocks_shape;
   groups_shape = may.groups_shape;
   segments_shape = may.segments_shape;
+}
+
+pub found_later : (rings : Rings) (a b : State) → b.image ≡ a.image → AreFound rings a → AreFound rings b
+found_later rings a b same found = record {
+  masters = fits_later rings.masters a b same found.masters;
+  blocks = fits_later rings.blocks a b same found.blocks;
+  groups = fits_later rings.groups a b same found.groups;
+  segments = fits_later rings.segments a b same found.segments;
 }

@@ -6,6 +6,7 @@ pub mod BlockLists
 pub mod BlockReading
 pub mod PagesRead
 pub mod Readings
+pub mod SavedHeads
 pub mod Standing
 pub mod UnitsJudged
 pub mod Walks

@@ -1,18 +1,21 @@
 -- Sound by the rules, and standing for a table, are one.
 use Rattle.std.proofs.Common.{◌≡◌, inl, inr, ℕ, zero, suc, ◌+◌, ◌-◌, ◌*◌, ◌≤◌, ◌<◌, List, [], ◌∷◌, ◌++◌, length, get_or, refl, sym, ap, subst, arith}
-use Rattle.std.specs.Prelude.{Option, Some, None}
+use Rattle.std.specs.Prelude.{Option, Some, None, map}
 use Rattle.std.specs.List.{AllByRecursion}
 use Rattle.std.proofs.lemmas.Bool.{cases_eq}
 use Rattle.std.proofs.lemmas.List.FromFn.{length-map-range_with_len}
 use Rattle.site.specs.declared.geometry.Geometry.{Geometry}
 use Rattle.site.specs.State.{Image}
 use Rattle.sealed_ring.specs.Ring.{IsRing, hi_of, live, IsLive}
-use Rattle.image_changes.specs.Rings.{Segments, master_shape, log_shape, group_shape, units_on}
+use Rattle.image_changes.specs.Rings.{master_shape, log_shape, group_shape, segment_shape, units_on}
 use Rattle.record_model.specs.State.{Content}
 use Rattle.log_records.specs.declared.log_record.LogRecord.{LogRecord}
 use Rattle.log_records.specs.Log.{log_from}
 use Rattle.log_records.specs.Sound.{Picture, Means}
 use Rattle.log_records.specs.Sound as lists
+use Rattle.byte_fields.specs.declared.frame_head.FrameHead.{FrameHead}
+use Rattle.byte_fields.specs.FrameHeads.{spelling_of_all}
+use Rattle.meta_segments.specs.Segments.{IsSegment}
 use Rattle.frame_group.specs.Groups.{Frame, IsGroup, frames_in}
 use Rattle.frame_group.specs.Versions.{frames_of}
 use Rattle.frame_group.proofs.Contents.{frames_are_in}
@@ -21,10 +24,10 @@ use Rattle.checkpoint.specs.Newest.{HasMaster, IsOf, newest_of, blank, seen}
 use Rattle.log_store.specs.LogList.{LogList}
 use Rattle.log_store.specs.Held.{HasBlocks, block_on}
 use Rattle.log_store.proofs.Standing.{stands_there}
-use Rattle.flash_cache.specs.Held.{version_on}
-use Rattle.image_meaning.specs.Meaning.{IsUnused, IsNewest, HasNewest, IsFrameOf, AreOctetsSoundUnder, IsSoundUnder, StandsUnder, StandsFor, picture_under, versions_on, kept_by}
+use Rattle.flash_cache.specs.Held.{version_on, PagesExist}
+use Rattle.image_meaning.specs.Meaning.{IsNewest, HasNewest, IsFrameOf, AreOctetsSoundUnder, IsSoundUnder, StandsUnder, StandsFor, picture_under, versions_on, kept_by}
 use Rattle.image_meaning.specs.Meaning as meaning
-use Rattle.image_check.specs.Octets.{IsGroupOn, AreBlocks, AreSegments, IsFormed, IsOnPage}
+use Rattle.image_check.specs.Octets.{IsGroupOn, AreBlocks, SegmentsAreFormed, IsFormed, IsOnPage, IsSegmentOn}
 use Rattle.image_check.specs.Verdict.{Reading, Reads, HoldBefore, picture_of}
 use Rattle.image_check.specs.Laws.{SoundStands, StandingIsSound}
 use Rattle.image_check.proofs.LiveUnits.{all_live, each_live}
@@ -160,12 +163,12 @@ module _ (r : Reading) (image : Image) (reads : Reads r image) (rules : HoldBefo
         frames = frames_of_pages r.g (units_on (group_shape r.g) image).live all;
       }
 
-  octets_sound : (newest : Option Master) → HasNewest newest r.g image → IsUnused r.g Segments image → AreOctetsSoundUnder newest r.g image
-  octets_sound newest has unused = record {
+  octets_sound : (newest : Option Master) → HasNewest newest r.g image → AreOctetsSoundUnder newest r.g image
+  octets_sound newest has = record {
     limits = formed.sizes.limits;
     lengths = formed.sizes.lengths;
     masters = has;
-    segments = unused;
+    segments = (rules 8 (omega arith)).eighth refl;
     groups = groups_sound;
     versions = formed.versions;
     clean = (rules 7 (omega arith)).seventh refl;
@@ -188,7 +191,7 @@ stands_under newest m g image blocks hi table commits is end octets has sound me
     }
 
 pub sound_stands : SoundStands
-sound_stands r image table commits reads rules unused means =
+sound_stands r image table commits reads rules means =
     let hi : ℕ = hi_of (log_shape r.g) image.log in
     let next = reads.blocks.next in
     elim (cases_eq (hi_of master_shape image.log) 0) [
@@ -198,13 +201,13 @@ sound_stands r image table commits reads rules unused means =
           let has : HasNewest None r.g image = record { form = reads.formed.rings.masters; none = none } in
           record {
             newest = None;
-            stands = stands_under None r.master r.g image r.blocks hi table commits is (omega (arith, next, nothing)) (octets_sound r image reads rules None has unused) reads.blocks (lists_sound r image reads rules) means;
+            stands = stands_under None r.master r.g image r.blocks hi table commits is (omega (arith, next, nothing)) (octets_sound r image reads rules None has) reads.blocks (lists_sound r image reads rules) means;
           }
       | inr other ↦
           let has : HasNewest (Some r.master) r.g image = record { form = reads.formed.rings.masters; some = omega (arith, other); master = reads.formed.master } in
           record {
             newest = Some r.master;
-            stands = stands_under (Some r.master) r.master r.g image r.blocks hi table commits refl (omega (arith, next)) (octets_sound r image reads rules (Some r.master) has unused) reads.blocks (lists_sound r image reads rules) means;
+            stands = stands_under (Some r.master) r.master r.g image r.blocks hi table commits refl (omega (arith, next)) (octets_sound r image reads rules (Some r.master) has) reads.blocks (lists_sound r image reads rules) means;
           }
     ]
 
@@ -218,11 +221,23 @@ masters_under : (newest : Option Master) (g : Geometry) (image : Image) → HasN
 masters_under None g image has = (has.form, none_newest image has.none)
 masters_under (Some m) g image has = (has.form, has.master)
 
-no_segments : (g : Geometry) (image : Image) → IsUnused g Segments image → AreSegments g image
-no_segments g image unused n lives = let none = unused.none in let below = lives.below in absurd (omega (arith, none, below))
+abbrev HasSegment : Geometry → List ℕ → Type 0
+HasSegment g content = (heads : List FrameHead) × IsSegmentOn g.pages content heads
+
+have_segments : (g : Geometry) (segments : List (List FrameHead)) → AllByRecursion (λ heads. IsSegment (spelling_of_all heads) heads) segments → AllByRecursion (PagesExist g.pages) segments →
+    AllByRecursion (HasSegment g) (map spelling_of_all segments)
+have_segments g [] are exist = tt
+have_segments g (heads ∷ segments) are exist = ((heads, record { segment = are.0; exist = exist.0 }), have_segments g segments are.1 exist.1)
+
+-- segments that follow the groups are of the form
+following_formed : (g : Geometry) (image : Image) → 3 ≤ (segment_shape g).slots → meaning.AreSegments g image → SegmentsAreFormed g image
+following_formed g image slots saved =
+    let has = saved.follow.has in
+    each_live (HasSegment g) (segment_shape g) image slots
+    (subst (AllByRecursion (HasSegment g)) (sym has.live) (have_segments g saved.segments has.are_segments has.exist))
 
 pub standing_is_sound : StandingIsSound
-standing_is_sound g image table commits stands segments =
+standing_is_sound g image table commits stands =
     let newest : Option Master = stands.newest in
     let m : Master = meaning.saved_by newest in
     let blocks = stands.stands.blocks in
@@ -243,11 +258,11 @@ standing_is_sound g image table commits stands segments =
       reads = record {
         formed = record {
           sizes = record { limits = octets.limits; lengths = octets.lengths };
-          rings = record { masters = masters.0; blocks = held.form; groups = octets.groups.form; segments = octets.segments.form };
+          rings = record { masters = masters.0; blocks = held.form; groups = octets.groups.form; segments = octets.segments.follow.has.form };
           master = masters.1;
           blocks = blocks_of_pages g m.kept blocks image held some on;
           groups = each_live (HasGroup g) (group_shape g) image (omega (arith, few)) (have_groups g (units_on (group_shape g) image).live octets.groups.each octets.groups.frames);
-          segments = no_segments g image octets.segments;
+          segments = following_formed g image (omega arith) octets.segments;
           versions = octets.versions;
         };
         live = record { kept_before_redo = records.kept_before_redo; redo_before_end = records.redo_before_end; kept_is_live = records.kept_is_live };
@@ -259,7 +274,7 @@ standing_is_sound g image table commits stands segments =
         fifth = λ is. records.losers_hold_others_off;
         sixth = λ is. records.versions_fit;
         seventh = λ is. octets.clean;
-        eighth = λ is. segments;
+        eighth = λ is. octets.segments;
         ninth = λ is. records.room_for_undo;
         tenth = λ is. records.master_names_the_active;
         eleventh = λ is. records.commits;

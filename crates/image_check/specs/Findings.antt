@@ -1,11 +1,12 @@
 -- What the judges of the first rule say.
-use Rattle.std.specs.Prelude.{◌≡◌, Option, Some, None}
+use Rattle.std.specs.Prelude.{◌≡◌, ℕ, ◌*◌, ◌/◌, ◌%◌, take, drop, Option, Some, None}
 use Rattle.site.specs.declared.geometry.Geometry.{Geometry}
 use Rattle.site.specs.State.{State, Image}
 use Rattle.sealed_ring.specs.Ready.{IsUsable, Fits}
 use Rattle.image_changes.specs.Rings.{master_shape, log_shape, group_shape, segment_shape}
 use Rattle.checkpoint.specs.declared.master.Master.{Master}
 use Rattle.checkpoint.specs.Newest.{HasMaster}
+use Rattle.tail_rebuild.specs.Standing.{group_on, segment_on}
 use Rattle.image_check.specs.declared.rings.Rings.{Rings}
 use Rattle.image_check.specs.Octets.{HasSizes, AreRings}
 
@@ -42,3 +43,7 @@ RingsAre g None site = AreRings g site.image → ⊥
 abbrev pub MasterIs : Option Master → Image → Type 0
 MasterIs (Some m) image = HasMaster image m
 MasterIs None image = (m : Master) → HasMaster image m → ⊥
+
+-- the octets of a group's heads are those that its segment has at the group's place
+abbrev pub AreHeadsSaved : Geometry → Image → ℕ → Type 0
+AreHeadsSaved g image n = take 128 (group_on g image n) ≡ take 128 (drop (128 * (n % 4)) (segment_on g image (n / 4)))

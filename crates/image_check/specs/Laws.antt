@@ -2,17 +2,16 @@
 use Rattle.std.specs.Prelude.{◌≡◌, ℕ, List}
 use Rattle.site.specs.declared.geometry.Geometry.{Geometry}
 use Rattle.site.specs.State.{Image}
-use Rattle.image_changes.specs.Rings.{Segments}
 use Rattle.record_model.specs.State.{Content}
 use Rattle.log_records.specs.declared.log_record.LogRecord.{LogRecord}
 use Rattle.log_records.specs.Sound.{Means}
 use Rattle.checkpoint.specs.declared.master.Master.{Master}
-use Rattle.image_meaning.specs.Meaning.{IsUnused, StandsFor}
-use Rattle.image_check.specs.Verdict.{Reading, Reads, Rule1, Rule2, HoldBefore, Rule8, picture_of, IsSoundWith, FailsFirst}
+use Rattle.image_meaning.specs.Meaning.{StandsFor}
+use Rattle.image_check.specs.Verdict.{Reading, Reads, Rule1, Rule2, HoldBefore, picture_of, IsSoundWith, FailsFirst}
 
--- Devices on which no segment stands and for which all rules hold stand for the table and the commits that they are read as.
+-- Devices for which all rules hold stand for the table and the commits that they are read as.
 abbrev pub SoundStands : Type 0
-SoundStands = (r : Reading) (image : Image) (table : List Content) (commits : ℕ) → Reads r image → HoldBefore 12 r image → IsUnused r.g Segments image →
+SoundStands = (r : Reading) (image : Image) (table : List Content) (commits : ℕ) → Reads r image → HoldBefore 12 r image →
     Means (picture_of r image) table commits → StandsFor r.g image table commits
 
 -- a reading by which all rules hold, with this table and so many commits
@@ -23,9 +22,9 @@ pub record IsReadAs (g : Geometry) (image : Image) (table : List Content) (commi
   pub rules : HoldBefore 12 reading image
   pub means : Means (picture_of reading image) table commits
 
--- And devices that stand for a table, whose segments have the heads of the groups, are sound by all rules, and read as that.
+-- And devices that stand for a table are sound by all rules, and read as that.
 abbrev pub StandingIsSound : Type 0
-StandingIsSound = (g : Geometry) (image : Image) (table : List Content) (commits : ℕ) → StandsFor g image table commits → Rule8 g image → IsReadAs g image table commits
+StandingIsSound = (g : Geometry) (image : Image) (table : List Content) (commits : ℕ) → StandsFor g image table commits → IsReadAs g image table commits
 
 -- Devices are read in one way: no two readings are of one image,
 abbrev pub OneReading : Type 0

@@ -67,8 +67,8 @@ pub record IsSegmentOn (pages : ℕ) (content : List ℕ) (heads : List FrameHea
   pub exist : PagesExist pages heads
 
 -- each live segment is of the form
-abbrev pub AreSegments : Geometry → Image → Type 0
-AreSegments g image = OfLive (segment_shape g) image (λ n. (heads : List FrameHead) × IsSegmentOn g.pages (segment_on g image n) heads)
+abbrev pub SegmentsAreFormed : Geometry → Image → Type 0
+SegmentsAreFormed g image = OfLive (segment_shape g) image (λ n. (heads : List FrameHead) × IsSegmentOn g.pages (segment_on g image n) heads)
 
 -- The first rule, with the sizes and the newest master: what is live is of the form, each frame and each version is a sound page,
 -- and no page is named that the disk hasn't.
@@ -78,5 +78,5 @@ pub record IsFormed (g : Geometry) (m : Master) (image : Image) : Type 0 where
   pub master : HasMaster image m
   pub blocks : AreBlocks g m.kept image
   pub groups : AreGroups g image
-  pub segments : AreSegments g image
+  pub segments : SegmentsAreFormed g image
   pub versions : (number : ℕ) → number < g.pages → page.IsSound (version_on g image number)

@@ -1,21 +1,18 @@
 -- The rules of sound devices, one definition each, and the verdict on three contents.
-use Rattle.std.specs.Prelude.{◌≡◌, ℕ, zero, suc, ◌+◌, ◌-◌, ◌<◌, ◌≤◌, IsTrue, is_some, List, [], length, count_by, map}
+use Rattle.std.specs.Prelude.{◌≡◌, ℕ, zero, suc, ◌+◌, ◌-◌, ◌<◌, ◌≤◌, IsTrue, is_some, List, [], length, count_by}
 use Rattle.site.specs.declared.geometry.Geometry.{Geometry}
 use Rattle.site.specs.State.{Image}
 use Rattle.sealed_ring.specs.Ring.{hi_of}
-use Rattle.image_changes.specs.Rings.{log_shape, group_shape, units_on}
-use Rattle.byte_fields.specs.declared.frame_head.FrameHead.{FrameHead}
+use Rattle.image_changes.specs.Rings.{log_shape}
 use Rattle.log_records.specs.declared.log_record.LogRecord.{LogRecord}
 use Rattle.log_records.specs.Log.{log_from, table_of, entries_of, is_loser}
 use Rattle.log_records.specs.Sound.{Picture, InTurn, Pairwise, IsOfOpenTransaction, HaveBegunBefore, IsLoserChain, HoldsOff, FitsLog, HasRoom, active_in, before_block, AreNumbered, commit_count}
 use Rattle.log_records.specs.Log.{version_at}
-use Rattle.frame_group.specs.Groups.{frames_in}
 use Rattle.checkpoint.specs.declared.master.Master.{Master}
 use Rattle.checkpoint.specs.Newest.{seen}
 use Rattle.log_store.specs.Held.{HasBlocks}
 use Rattle.flash_cache.specs.Held.{IsCleanOn}
-use Rattle.tail_rebuild.specs.Standing.{HasSaved}
-use Rattle.image_meaning.specs.Meaning.{versions_on}
+use Rattle.image_meaning.specs.Meaning.{versions_on, AreSegments}
 use Rattle.image_check.specs.Octets.{IsFormed}
 
 -- What three contents are read as where the first two rules hold: their sizes, their newest master, and the records of the blocks from
@@ -66,9 +63,9 @@ Rule6 p = (page : ℕ) → page < length p.pages → FitsLog p page (version_at 
 abbrev pub Rule7 : Geometry → Image → Type 0
 Rule7 = IsCleanOn
 
--- 8. The live segments have the heads of the groups.
+-- 8. The live segments follow the live groups.
 abbrev pub Rule8 : Geometry → Image → Type 0
-Rule8 g image = (saved : List (List FrameHead)) × HasSaved g (map frames_in (units_on (group_shape g) image).live) saved image
+Rule8 = AreSegments
 
 -- 9. There is room for all that undo will write.
 abbrev pub Rule9 : Picture → Type 0

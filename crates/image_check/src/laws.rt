@@ -3,8 +3,8 @@ ghost use Rattle.image_check.specs.Laws.{SoundStands, StandingIsSound, OneReadin
 
 use checkpoint::one_master;
 
-/// Devices without segments are sound by all rules exactly where they stand for a table and a number of commits, and
-/// then they are read as that.
+/// Devices are sound by all rules exactly where they stand for a table and a number of commits, and then they are read
+/// as that.
 pub fn sound_is_standing()
     ensures stands { SoundStands }
     ensures sound { StandingIsSound }

@@ -3,6 +3,7 @@
 
 mod blocks;
 mod commits;
+mod following;
 mod kept;
 mod laws;
 mod lengths;
@@ -15,6 +16,7 @@ mod walk;
 
 pub use blocks::rule_blocks;
 pub use commits::rule_commits;
+pub use following::rule_following;
 pub use kept::rule_kept;
 pub use laws::{one_reading, sound_is_standing};
 pub use lengths::rule_lengths;

@@ -3,7 +3,7 @@ ghost use Rattle.std.specs.Prelude.{◌≡◌, ◌↔◌, List, length, IsTrue, 
 ghost use Rattle.byte_fields.specs.declared.frame_head.FrameHead.{FrameHead};
 ghost use Rattle.flash_cache.specs.Held.{PagesExist};
 ghost use Rattle.ring_check.specs.Looking.{OnlyReads};
-ghost use Rattle.image_check.specs.Octets.{IsSegmentOn, AreSegments};
+ghost use Rattle.image_check.specs.Octets.{IsSegmentOn, SegmentsAreFormed};
 ghost use Rattle.image_check.specs.Findings.{MayRead, AreFound};
 
 use crate::rings::Rings;
@@ -44,7 +44,7 @@ pub fn rule_segments<S: Site>(
     requires { MayRead geometry.now rings.now (S.state site.old) }
 
     ensures segments { IsTrue (S.state site.old).honest → AreFound rings.now (S.state site.old)
-        → IfOk result (λ stand. IsTrue stand ↔ AreSegments geometry.now (S.state site.old).image) }
+        → IfOk result (λ stand. IsTrue stand ↔ SegmentsAreFormed geometry.now (S.state site.old).image) }
     ensures reads { OnlyReads result (S.state site.old) (S.state site.new) }
 {
     let ring = &rings.segments;
