@@ -1,10 +1,15 @@
 // The rules on a site in memory.
+ghost use Rattle.std.specs.Prelude.{◌<◌, ◌≤◌, length, IfOk};
+ghost use Rattle.site.specs.MemState.{state_of};
+
 use crate::{
-    rule_blocks, rule_commits, rule_kept, rule_lengths, rule_master, rule_rings, rule_segments,
+    rule_blocks, rule_commits, rule_following, rule_kept, rule_lengths, rule_master, rule_rings,
+    rule_segments,
 };
 use checkpoint::Master;
 use log_store::LogStore;
-use site::{Dev, Geometry, MemSite, Site};
+use site::{Dev, Failed, Geometry, MemSite, Site, Stop};
+use std::alloc::Global;
 use std::test::Fail;
 
 const SMALL: Geometry = Geometry {
@@ -90,5 +95,76 @@ fn a_first_commit_with_another_number(rt: HostRuntime) -> Result<(), Fail> {
     let log = LogStore::start(&mut site, &SMALL)?;
     assert!(rt; rule_kept(&log, &Master::blank()));
     assert!(rt; !rule_commits(&mut site, &log, &Master::blank())?);
+    Ok(())
+}
+
+// The front of group 0 in its slot: a clean frame of page 0.
+const GROUP: [u8; 10] = [
+    0xa5, // gate
+    0x00, 0x00, 0x00, 0x00, 0x00, 0x00, 0x00, 0x00, // number
+    0x01, // present
+];
+
+// Writes the front of a group of one clean frame of page 0.
+fn put_group(site: &mut MemSite, number: u8) -> Result<(), Failed>
+    requires few { number < 8 }
+    requires long { 271360 ≤ length (state_of site.old).image.flash }
+    ensures { 271360 ≤ length (state_of site.new).image.flash }
+{
+    let mut octets = GROUP;
+    octets[8] = number;
+    site.write_at(Dev::Flash, 33_280 * number as u64, &octets)
+}
+
+// Writes segment 0, whose four groups have a frame of page 0 each: a clean one, or a dirty one in the fourth.
+fn put_segment(site: &mut MemSite, dirty: u8) -> Result<(), Failed>
+    requires { 271360 ≤ length (state_of site.old).image.flash }
+{
+    let mut octets = [0u8; 521];
+    octets[0] = 0xa5;
+    octets[9] = 1;
+    octets[137] = 1;
+    octets[265] = 1;
+    octets[393] = 1;
+    octets[394] = dirty;
+    site.write_at(Dev::Flash, 266_240, &octets)
+}
+
+// Devices with four groups.
+fn with_groups(alloc: Global) -> Result<MemSite, Fail>
+    ensures { IfOk result (λ site. 271360 ≤ length (state_of site).image.flash) }
+{
+    let mut site = MemSite::new(alloc, &SMALL)?;
+    put_group(&mut site, 0)?;
+    put_group(&mut site, 1)?;
+    put_group(&mut site, 2)?;
+    put_group(&mut site, 3)?;
+    Ok(site)
+}
+
+// Whether the segments follow the groups, where the rings are of the form.
+fn do_follow(site: &mut MemSite) -> Result<Option<bool>, Stop> {
+    let Some(geometry) = rule_lengths(site) else {
+        return Ok(None);
+    };
+    let Some(rings) = rule_rings(site, &geometry)? else {
+        return Ok(None);
+    };
+    Ok(Some(rule_following(site, &geometry, &rings)?))
+}
+
+#[test]
+fn a_segment_of_four_groups(rt: HostRuntime) -> Result<(), Fail> {
+    let mut site = with_groups(rt.alloc())?;
+    put_segment(&mut site, 0)?;
+    assert_eq!(rt; do_follow(&mut site)?, Some(true));
+    Ok(())
+}
+
+#[test]
+fn a_segment_with_another_head(rt: HostRuntime) -> Result<(), Fail> {
+    let mut site = with_groups(rt.alloc())?;
+    put_segment(&mut site, 1)?;
+    assert_eq!(rt; do_follow(&mut site)?, Some(false));
     Ok(())
 }
