@@ -2,7 +2,7 @@
 use Rattle.std.specs.Prelude.{◌≡◌, ℕ, ◌+◌, ◌-◌, ◌/◌, ◌^◌, ◌≤◌, min, false, [], replicate}
 use Rattle.site.specs.declared.outside.Dev.{Dev}
 use Rattle.site.specs.declared.outside.Dev.TheVariants.{Log, Flash, Disk}
-use Rattle.site.specs.State.{State, no_loose, faults_of, reads_of}
+use Rattle.site.specs.State.{State, no_loose, no_input, faults_of, reads_of}
 use Rattle.file_site.specs.declared.book.Tally.{Tally}
 use Rattle.file_site.specs.declared.book.Book.{Book}
 
@@ -43,7 +43,7 @@ state_of book = record {
   image = record { log = replicate book.log.len 0; flash = replicate book.flash.len 0; disk = replicate book.disk.len 0 };
   loose = no_loose;
   told = [];
-  left = [];
+  input = no_input;
   past = [];
   log_faults = book.log.faults;
   flash_faults = book.flash.faults;

@@ -101,4 +101,4 @@ changes_of_group cache image pages changed contents =
 pub record ChangesPages (old new : State) : Type 0 where
   pub log : Untouched Log old new
   pub told : new.told ≡ old.told
-  pub left : new.left ≡ old.left
+  pub left : new.input ≡ old.input

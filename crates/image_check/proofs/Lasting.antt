@@ -9,7 +9,7 @@ use Rattle.sealed_ring.specs.declared.slots.Shape.{Shape}
 use Rattle.sealed_ring.specs.declared.ring.Ring.{Ring}
 use Rattle.sealed_ring.specs.Ring.{FitsIn, IsRing, hi_of}
 use Rattle.sealed_ring.specs.Ready.{region, IsUsable, Fits}
-use Rattle.ring_check.specs.Judged.{IsJudged}
+use Rattle.sealed_ring.specs.Judged.{IsJudged}
 use Rattle.image_check.specs.declared.rings.Rings.{Rings}
 use Rattle.image_check.specs.Octets.{HasSizes}
 use Rattle.image_check.specs.Findings.{MayRead, AreFound}

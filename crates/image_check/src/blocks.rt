@@ -3,7 +3,7 @@ ghost use Rattle.std.specs.Prelude.{◌≡◌, ◌↔◌, ◌-◌, ◌≤◌, Li
 ghost use Rattle.log_records.specs.declared.log_record.LogRecord.{LogRecord};
 ghost use Rattle.log_records.specs.Spelling.{IsBlock};
 ghost use Rattle.log_store.specs.Held.{MayGoOn, Finds};
-ghost use Rattle.ring_check.specs.Looking.{OnlyReads};
+ghost use Rattle.site.specs.Work.{OnlyReads};
 ghost use Rattle.image_check.specs.Octets.{IsOnPage, IsBlockOn, AreBlocks};
 
 use byte_fields::get_u16;

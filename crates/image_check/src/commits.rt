@@ -5,7 +5,7 @@ ghost use Rattle.log_records.specs.Sound.{commit_numbers};
 ghost use Rattle.log_records.specs.declared.log_record.LogRecord.{LogRecord};
 ghost use Rattle.std.specs.List.{range_with_len};
 ghost use Rattle.log_store.specs.Held.{MayGoOn, Finds, HasBlocks};
-ghost use Rattle.ring_check.specs.Looking.{OnlyReads};
+ghost use Rattle.site.specs.Work.{OnlyReads};
 ghost use Rattle.image_check.specs.Counting.{Heard, Counts, Fit};
 ghost use Rattle.image_check.specs.Verdict.{Rule11, picture_of};
 

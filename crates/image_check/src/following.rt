@@ -1,7 +1,7 @@
 // The live segments and the live groups.
 ghost use Rattle.std.specs.Prelude.{◌≡◌, ◌↔◌, ◌/◌, IsTrue, IfOk};
 ghost use Rattle.sealed_ring.specs.Ring.{IsLive};
-ghost use Rattle.ring_check.specs.Looking.{OnlyReads};
+ghost use Rattle.site.specs.Work.{OnlyReads};
 ghost use Rattle.checkpoint.specs.declared.master.Master.{Master};
 ghost use Rattle.site.specs.declared.geometry.Geometry.{Geometry};
 ghost use Rattle.image_check.specs.Findings.{MayRead, AreFound, AreHeadsSaved};

@@ -3,7 +3,7 @@ ghost use Rattle.std.specs.Prelude.{◌≡◌, IsTrue, IfOk, IfSome, ◌≤◌, 
 ghost use Rattle.checkpoint.specs.Actives.{Ascend};
 ghost use Rattle.sealed_ring.specs.Ring.{IsRing};
 ghost use Rattle.image_changes.specs.Rings.{master_shape};
-ghost use Rattle.ring_check.specs.Looking.{OnlyReads};
+ghost use Rattle.site.specs.Work.{OnlyReads};
 ghost use Rattle.image_check.specs.Findings.{MasterIs};
 
 use checkpoint::{Master, newest};

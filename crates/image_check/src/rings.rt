@@ -1,12 +1,11 @@
 // The four rings of the devices.
 ghost use Rattle.std.specs.Prelude.{◌≡◌, IsTrue, IfOk, IfSome};
 ghost use Rattle.image_changes.specs.Rings.{log_shape, group_shape, segment_shape, master_shape};
-ghost use Rattle.ring_check.specs.Looking.{OnlyReads};
+ghost use Rattle.site.specs.Work.{OnlyReads};
 ghost use Rattle.image_check.specs.Octets.{HasSizes};
 ghost use Rattle.image_check.specs.Findings.{RingsAre, MayRead};
 
-use ring_check::judge;
-use sealed_ring::{Ring, Shape};
+use sealed_ring::{Ring, Shape, judge};
 use site::{Dev, Geometry, Site, Stop};
 
 /// The rings of masters, log blocks, groups of frames and segments.

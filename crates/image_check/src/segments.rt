@@ -2,7 +2,7 @@
 ghost use Rattle.std.specs.Prelude.{◌≡◌, ◌↔◌, List, length, IsTrue, IfOk};
 ghost use Rattle.byte_fields.specs.declared.frame_head.FrameHead.{FrameHead};
 ghost use Rattle.flash_cache.specs.Held.{PagesExist};
-ghost use Rattle.ring_check.specs.Looking.{OnlyReads};
+ghost use Rattle.site.specs.Work.{OnlyReads};
 ghost use Rattle.image_check.specs.Octets.{IsSegmentOn, SegmentsAreFormed};
 ghost use Rattle.image_check.specs.Findings.{MayRead, AreFound};
 

@@ -4,7 +4,7 @@ ghost use Rattle.site.specs.State.{Image};
 ghost use Rattle.log_records.specs.Log.{Entry, log_from};
 ghost use Rattle.log_records.specs.declared.log_record.LogRecord.{LogRecord};
 ghost use Rattle.log_store.specs.Held.{MayGoOn, Finds, HasBlocks};
-ghost use Rattle.ring_check.specs.Looking.{OnlyReads};
+ghost use Rattle.site.specs.Work.{OnlyReads};
 ghost use Rattle.image_check.specs.Walking.{MayWalk, StandsBefore, Gives, to_go};
 
 use log_records::{BLOCK_LEN, LogRecord, read_record};

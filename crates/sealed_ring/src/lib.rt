@@ -1,6 +1,7 @@
 //! Rings of sealed units: a unit is appended behind the newest, and a crash leaves the old units or the new ones.
 #![tactic(auto)]
 
+mod judging;
 mod laws;
 mod ring;
 mod sealing;
@@ -8,6 +9,7 @@ mod slots;
 #[cfg(test)]
 mod tests;
 
+pub use judging::judge;
 pub use laws::{appends, blank_is_ring, hi_is_highest, leaves_others, ready_stays, usable_stays};
 pub use ring::Ring;
 pub use slots::Shape;

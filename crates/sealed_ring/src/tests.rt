@@ -1,5 +1,5 @@
 // Rings on a site in memory.
-use crate::{Ring, Shape};
+use crate::{Ring, Shape, judge};
 use site::{Call, Dev, Geometry, MemSite, Site, Stop};
 use std::test::Fail;
 
@@ -135,5 +135,33 @@ fn a_ring_from_a_number_near_its_end(rt: HostRuntime) -> Result<(), Fail> {
     assert_eq!(rt; site.reads(Dev::Log), 10);
     assert_eq!(rt; Ring::scan_near(&mut site, SIX, 2)?, ring);
     assert_eq!(rt; site.reads(Dev::Log), 11);
+    Ok(())
+}
+
+#[test]
+fn a_ring_that_was_appended_to_is_of_the_form(rt: HostRuntime) -> Result<(), Fail> {
+    let mut site = MemSite::new(rt.alloc(), &SMALL)?;
+    let mut ring = Ring::scan(&mut site, SHORT)?;
+    ring.append(&mut site, &[10; 503])?;
+    assert_eq!(rt; judge(&mut site, SHORT)?, Some(ring));
+    Ok(())
+}
+
+// Slot 2 of a ring that has no unit holds the number 2 behind a closed gate.
+#[test]
+fn a_number_in_a_slot_that_was_never_used_is_not(rt: HostRuntime) -> Result<(), Fail> {
+    let mut site = MemSite::new(rt.alloc(), &SMALL)?;
+    site.write_at(Dev::Log, 1_025, &[0, 0, 0, 0, 0, 0, 0, 2])?;
+    assert_eq!(rt; judge(&mut site, SHORT)?, None);
+    Ok(())
+}
+
+// Unit 0 stands behind an open gate, and so does slot 1, where unit 1 is to come.
+#[test]
+fn an_open_gate_behind_the_last_unit_is_not(rt: HostRuntime) -> Result<(), Fail> {
+    let mut site = MemSite::new(rt.alloc(), &SMALL)?;
+    site.write_at(Dev::Log, 0, &[0xA5])?;
+    site.write_at(Dev::Log, 512, &[0xA5])?;
+    assert_eq!(rt; judge(&mut site, SHORT)?, None);
     Ok(())
 }

@@ -19,7 +19,7 @@ pub record Moved (dev : Dev) (old new : State) (before now : Area) (history hist
   pub image : new.image ≡ with_content dev now.content.items old.image
   pub loose : new.loose ≡ with_loose dev (ranges_of now.loose.items) old.loose
   pub told : new.told ≡ old.told
-  pub left : new.left ≡ old.left
+  pub left : new.input ≡ old.input
   pub past : old.past ≡ moments_of (now_of old) history
   pub past' : new.past ≡ moments_of (now_of new) history'
 

@@ -1,6 +1,6 @@
 -- What a site in memory stands for.
 use Rattle.std.specs.Prelude.{ℕ, List, [], ◌++◌, ◌+◌, ◌-◌, ◌^◌, min, drop, true, false, None, ◌≡◌, ◌≢◌, ◌⊎◌, Result, OnOk, OnErr}
-use Rattle.site.specs.State.{State, Image, Loose}
+use Rattle.site.specs.State.{State, Image, Input, Loose}
 use Rattle.site.specs.declared.limits.Limits.{Limits}
 use Rattle.site.specs.declared.outside.Failed.{Failed}
 use Rattle.site.specs.Named.{number_of, changes_after, Names, no_calls}
@@ -8,6 +8,7 @@ use Rattle.site.specs.declared.named.Call.{Call}
 use Rattle.site.specs.declared.named.NamedCall.{NamedCall}
 use Rattle.site.specs.declared.named.ShortTell.{ShortTell}
 use Rattle.site.specs.declared.named.CallCounts.{CallCounts}
+use Rattle.site.specs.declared.input.Hearing.{Hearing}
 use Rattle.site.specs.declared.mem.MemSite.{MemSite}
 use Rattle.site.specs.Lives.{lives_in}
 use Rattle.site.specs.Limits.{fixed_in, is_barred, is_past}
@@ -19,6 +20,14 @@ image_of m = record { log = m.log.content.items; flash = m.flash.content.items; 
 
 abbrev pub loose_in : MemSite → Loose
 loose_in m = record { log = ranges_of m.log.loose.items; flash = ranges_of m.flash.loose.items; disk = ranges_of m.disk.loose.items }
+
+-- what it has to hear, and what it remembers of when it was asked
+abbrev pub input_of : Hearing → Input
+input_of h = record { left = drop h.heard h.octets.items; heard = h.heard; asked = h.asked; takes = h.takes.items }
+
+-- the same with these octets behind
+abbrev pub fed : List ℕ → Input → Input
+fed octets input = record input { left = input.left ++ octets }
 
 -- what the fuse and the named calls allow for, and the numbers of changes of earlier lives
 abbrev pub kept_of : MemSite → List ℕ
@@ -32,7 +41,7 @@ state_of m = record {
   image = image_of m;
   loose = loose_in m;
   told = m.told.items;
-  left = drop m.heard m.input.items;
+  input = input_of m.input;
   past = moments_of (record { told = m.told.items; telling = []; image = image_of m; loose = loose_in m }) m.history.items;
   log_faults = m.log.faults;
   flash_faults = m.flash.faults;

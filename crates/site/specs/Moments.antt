@@ -37,7 +37,7 @@ OnlyDevice dev old new = EachMoment old new (SameBut dev old)
 -- nothing was told, no other device changed, and nothing was heard
 pub record ChangesOnly (dev : Dev) (old new : State) : Type 0 where
   pub only : OnlyDevice dev old new
-  pub left : new.left ≡ old.left
+  pub left : new.input ≡ old.input
 
 -- the device's content and loose ranges are as before
 pub record SameAt (dev : Dev) (old : State) (moment : Moment) : Type 0 where

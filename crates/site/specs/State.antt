@@ -2,6 +2,7 @@
 use Rattle.std.specs.Prelude.{◌≡◌, ℕ, ◌+◌, Bool, false, List, [], ◌∷◌, ◌++◌, length, take, slice_index, nat_le, nat_lt, ◌&&◌, ◌||◌}
 use Rattle.site.specs.declared.outside.Dev.{Dev}
 use Rattle.site.specs.declared.outside.Dev.TheVariants.{Log, Flash, Disk}
+use Rattle.site.specs.declared.outside.Take.{Take}
 
 -- the three contents
 pub record Image : Type 0 where
@@ -72,6 +73,20 @@ pub record MayLeave (moment : Moment) (snapshot : Snapshot) : Type 0 where
   pub told : (k : ℕ) × (snapshot.told ≡ moment.told ++ take k moment.telling)
   pub content : (dev : Dev) → MayStand (loose_of dev moment.loose) (content_of dev moment.image) (content_of dev snapshot.image)
 
+pub record Input : Type 0 where
+  -- the octets left to hear
+  pub left : List ℕ
+  -- how many were heard
+  pub heard : ℕ
+  -- whether input was asked for at this place already, and none was left
+  pub asked : Bool
+  -- the first take at each place, oldest first
+  pub takes : List Take
+
+-- nothing was heard, and nothing is left to hear
+abbrev pub no_input : Input
+no_input = record { left = []; heard = 0; asked = false; takes = [] }
+
 pub record State : Type 0 where
   pub honest : Bool
   -- numbers that no call changes: what a kind of site wants to be known of it after code that knows only the trait
@@ -79,8 +94,7 @@ pub record State : Type 0 where
   pub image : Image
   pub loose : Loose
   pub told : List ℕ
-  -- the octets left to hear
-  pub left : List ℕ
+  pub input : Input
   -- the moments within calls so far, oldest first
   pub past : List Moment
   pub log_faults : ℕ

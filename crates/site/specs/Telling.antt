@@ -6,7 +6,7 @@ use Rattle.site.specs.State.{State, Moment}
 pub record SameDevices (old new : State) : Type 0 where
   pub image : new.image ≡ old.image
   pub loose : new.loose ≡ old.loose
-  pub left : new.left ≡ old.left
+  pub left : new.input ≡ old.input
 
 -- the devices as they were, and whatever is told is what was told and some front of the piece
 pub record TellsPart (piece : List ℕ) (old : State) (moment : Moment) : Type 0 where

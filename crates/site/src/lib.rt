@@ -17,7 +17,7 @@ mod telling;
 pub use geometry::Geometry;
 pub use mem::MemSite;
 pub use named::Call;
-pub use outside::{Dev, Failed, Site, Stop};
+pub use outside::{Dev, Failed, Site, Stop, Take};
 pub use telling::tell_all;
 
 #[cfg(test)]

@@ -7,12 +7,12 @@ ghost use Rattle.site.specs.Named.{Names};
 use crate::area::Area;
 use crate::change::Change;
 use crate::geometry::Geometry;
-use crate::input::hear;
+use crate::input::Hearing;
 use crate::limits::Limits;
 use crate::lives::Lives;
 use crate::named::{Call, CallCounts, NamedCall, ShortTell, is_named, taken};
 use crate::output::say;
-use crate::outside::{Dev, Failed, Site, Stop};
+use crate::outside::{Dev, Failed, Site, Stop, Take};
 use std::alloc::Global;
 
 /// Three devices, an input and an output in memory. It is honest.
@@ -23,8 +23,7 @@ pub struct MemSite {
     flash: Area,
     disk: Area,
     told: Vec<u8>,
-    input: Vec<u8>,
-    heard: usize,
+    input: Hearing,
     input_faults: u64,
     output_faults: u64,
     history: Vec<Change>,
@@ -41,7 +40,7 @@ pub struct MemSite {
 impl MemSite {
     ghost use Rattle.site.specs.State.{content_of, with_content, loose_of, is_loose, reads_of, MayLeave, now_of};
     ghost use Rattle.site.specs.Geometry.{HasLengths, blank_image};
-    ghost use Rattle.site.specs.MemState.{state_of, kept_of, limits_of, lives_of, all_faults, named_of, shorts_of, calls_of, IsFresh, SamePlan};
+    ghost use Rattle.site.specs.MemState.{state_of, kept_of, fed, limits_of, lives_of, all_faults, named_of, shorts_of, calls_of, IsFresh, SamePlan};
     ghost use Rattle.site.specs.Crash.{started, image_left};
     ghost use Rattle.site.specs.Named.{number_of};
 
@@ -64,8 +63,7 @@ impl MemSite {
             flash,
             disk,
             told: Vec::new(alloc),
-            input: Vec::new(alloc),
-            heard: 0,
+            input: Hearing::new(alloc)?,
             input_faults: 0,
             output_faults: 0,
             history: Vec::new(alloc),
@@ -79,14 +77,13 @@ impl MemSite {
 
     /// Appends octets to the input.
     pub fn feed(&mut self, octets: &[u8]) -> Result<(), Stop>
-        ensures ok { OnOk result (state_of self.new ≡ record (state_of self.old) { left = (state_of self.old).left ++ octets.now }) }
+        ensures ok { OnOk result (state_of self.new ≡ record (state_of self.old) { input = fed octets.now (state_of self.old).input }) }
         ensures err { OnErr result (state_of self.new ≡ state_of self.old) }
         ensures memory { IfErr result (λ stop. stop ≡ Stop.Memory) }
         ensures limits { limits_of self.new ≡ limits_of self.old }
         ensures plan { SamePlan self.old self.new }
     {
-        self.heard = self.heard.min(self.input.len());
-        self.input.extend_from_slice(octets)?;
+        self.input.feed(octets)?;
         Ok(())
     }
 
@@ -145,6 +142,13 @@ impl MemSite {
         ensures { result ≡ (limits_of self.now).lacked }
     {
         self.limits.lacked
+    }
+
+    /// Where input was asked for: the first take at each place, oldest first.
+    pub fn takes(&self) -> &[Take]
+        ensures { result.now ≡ (state_of self.now).input.takes }
+    {
+        self.input.takes()
     }
 
     /// The numbers of changes of the sites that crashes ended on the way to this one, the last 31, oldest first.
@@ -229,8 +233,7 @@ impl MemSite {
             flash,
             disk,
             told: Vec::new(alloc),
-            input: Vec::new(alloc),
-            heard: 0,
+            input: self.input.renewed(),
             input_faults: 0,
             output_faults: 0,
             history: Vec::new(alloc),
@@ -373,9 +376,7 @@ impl Site for MemSite {
             self.input_faults = self.input_faults.saturating_add(1);
             return Err(Failed);
         }
-        let count = hear(&self.input, self.heard, into);
-        self.heard += count;
-        Ok(count)
+        Ok(self.input.take(self.told.len(), into))
     }
 
     fn tell(&mut self, piece: &[u8]) -> Result<usize, Failed>

@@ -62,6 +62,15 @@ impl<T: Drop> From<AllocFailed<T>> for Stop {
     }
 }
 
+/// Where input was asked for: how many octets had been heard, and how many told, before it.
+#[derive(Clone, Copy, Debug, PartialEq, Eq, Drop)]
+pub struct Take {
+    /// The octets heard before it.
+    pub heard: usize,
+    /// The octets told before it.
+    pub told: usize,
+}
+
 /// Three devices, an input and an output. What is said of content holds where the site is honest; what is said of
 /// counts, of lengths and of the numbers that `take` and `tell` answer holds of every site.
 pub trait Site {

@@ -1,4 +1,4 @@
-use crate::{Call, Dev, Failed, Geometry, MemSite, Site, tell_all};
+use crate::{Call, Dev, Failed, Geometry, MemSite, Site, Take, tell_all};
 use std::test::Fail;
 
 const SMALL: Geometry = Geometry {
@@ -86,5 +86,27 @@ fn a_short_tell_is_told_on(rt: HostRuntime) -> Result<(), Fail> {
     assert!(rt; tell_all(&mut site, b"hello").is_ok());
     assert_eq!(rt; site.told(), b"hello".as_slice());
     assert_eq!(rt; site.changes(), 2);
+    Ok(())
+}
+
+// Five octets are heard by takes of three and of two; the end is asked for twice and remembered once.
+#[test]
+fn the_first_take_at_each_place_is_remembered(rt: HostRuntime) -> Result<(), Fail> {
+    let mut site = MemSite::new(rt.alloc(), &SMALL)?;
+    site.feed(&[1, 2, 3, 4, 5])?;
+    let mut into = [0; 3];
+    assert_eq!(rt; site.take(&mut into), Ok(3));
+    assert_eq!(rt; site.tell(&[7, 7]), Ok(2));
+    assert_eq!(rt; site.take(&mut into), Ok(2));
+    assert_eq!(rt; into, [4, 5, 3]);
+    assert_eq!(rt; site.take(&mut into), Ok(0));
+    assert_eq!(rt; site.tell(&[7]), Ok(1));
+    assert_eq!(rt; site.take(&mut into), Ok(0));
+    assert_eq!(rt;
+        site.takes(),
+        [(0, 0), (3, 2), (5, 2)]
+            .map(|(heard, told)| Take { heard, told })
+            .as_slice()
+    );
     Ok(())
 }

@@ -4,7 +4,7 @@ use Rattle.sealed_ring.specs.Ring.{IsLive}
 use Rattle.image_changes.specs.Rings.{log_shape}
 use Rattle.log_records.specs.declared.log_record.LogRecord.{LogRecord}
 use Rattle.log_store.specs.Held.{MayGoOn, Finds, block_on}
-use Rattle.ring_check.specs.Looking.{OnlyReads}
+use Rattle.site.specs.Work.{OnlyReads}
 use Rattle.image_check.specs.Octets.{IsBlockOn}
 use Rattle.image_check.proofs.blocks.rule_blocks.Given as goal
 

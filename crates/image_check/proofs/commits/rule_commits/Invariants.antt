@@ -3,7 +3,7 @@ use Rattle.std.specs.Prelude.{Ok}
 use Rattle.log_records.specs.declared.log_record.LogRecord.{LogRecord}
 use Rattle.log_records.specs.Log.{log_from}
 use Rattle.log_store.specs.Held.{MayGoOn, Finds, HasBlocks}
-use Rattle.ring_check.specs.Looking.{OnlyReads}
+use Rattle.site.specs.Work.{OnlyReads}
 use Rattle.image_check.specs.Counting.{Heard}
 use Rattle.image_check.specs.Walking.{MayWalk, to_go}
 use Rattle.image_check.proofs.Walks.{Walked}

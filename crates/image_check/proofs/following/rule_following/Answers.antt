@@ -7,7 +7,7 @@ use Rattle.sealed_ring.specs.declared.slots.Shape.{Shape}
 use Rattle.sealed_ring.specs.Ring.{IsLive, hi_of}
 use Rattle.sealed_ring.specs.Ready.{region}
 use Rattle.image_changes.specs.Rings.{group_shape, segment_shape}
-use Rattle.ring_check.proofs.Looking.{looks_then, looks_answered}
+use Rattle.site.proofs.Working.{looks_then, looks_answered}
 use Rattle.image_check.specs.Findings.{AreHeadsSaved}
 use Rattle.image_check.proofs.Lasting.{found_later, may_read_later}
 use Rattle.image_check.proofs.SavedHeads.{follows, saved}

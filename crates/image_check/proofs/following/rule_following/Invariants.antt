@@ -2,7 +2,7 @@ use Rattle.std.proofs.Common.{ℕ, ◌<◌, IsTrue}
 use Rattle.std.specs.Prelude.{Ok}
 use Rattle.sealed_ring.specs.Ring.{IsLive}
 use Rattle.image_changes.specs.Rings.{group_shape}
-use Rattle.ring_check.specs.Looking.{OnlyReads}
+use Rattle.site.specs.Work.{OnlyReads}
 use Rattle.image_check.specs.Findings.{MayRead, AreFound, AreHeadsSaved}
 use Rattle.image_check.proofs.following.rule_following.Given as goal
 

@@ -7,7 +7,7 @@ use Rattle.sealed_ring.specs.declared.slots.Shape.{Shape}
 use Rattle.sealed_ring.specs.Ring.{IsRing}
 use Rattle.sealed_ring.specs.Ready.{region}
 use Rattle.image_changes.specs.Rings.{master_shape, log_shape, group_shape}
-use Rattle.ring_check.proofs.Looking.{looks_then, looks_failed, looks_answered}
+use Rattle.site.proofs.Working.{looks_then, looks_failed, looks_answered}
 use Rattle.image_check.specs.declared.rings.Rings.{Rings}
 use Rattle.image_check.proofs.Lasting.{judged_some, usable_some, shape_some, usable_later, fits_later, sizes_later}
 use Rattle.image_check.proofs.rings.rule_rings.Goals as goal

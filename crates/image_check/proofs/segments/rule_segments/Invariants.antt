@@ -4,7 +4,7 @@ use Rattle.sealed_ring.specs.Ring.{IsLive}
 use Rattle.image_changes.specs.Rings.{segment_shape}
 use Rattle.byte_fields.specs.declared.frame_head.FrameHead.{FrameHead}
 use Rattle.tail_rebuild.specs.Standing.{segment_on}
-use Rattle.ring_check.specs.Looking.{OnlyReads}
+use Rattle.site.specs.Work.{OnlyReads}
 use Rattle.image_check.specs.Octets.{IsSegmentOn}
 use Rattle.image_check.specs.Findings.{MayRead, AreFound}
 use Rattle.image_check.proofs.segments.rule_segments.Given as goal

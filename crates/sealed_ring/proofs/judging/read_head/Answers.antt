@@ -2,7 +2,7 @@ use Rattle.std.proofs.Common.{◌≡◌, ◌∙◌, ℕ, length, take, drop, ap,
 use Rattle.sealed_ring.specs.Ring.{place}
 use Rattle.sealed_ring.specs.Ready.{region}
 use Rattle.sealed_ring.proofs.Heads.{number_read}
-use Rattle.ring_check.proofs.judging.read_head.Goals as goal
+use Rattle.sealed_ring.proofs.judging.read_head.Goals as goal
 
 pub returns-clause-number : goal.returns-clause-number
 returns-clause-number g c honest =

@@ -2,9 +2,9 @@ use Rattle.std.proofs.Common.{ℕ, ◌<◌, length, IsTrue}
 use Rattle.std.specs.Prelude.{Ok}
 use Rattle.sealed_ring.specs.Ring.{FitsIn, IsLive}
 use Rattle.sealed_ring.specs.Ready.{region}
-use Rattle.ring_check.specs.Looking.{OnlyReads}
-use Rattle.ring_check.specs.Judged.{StandsIn}
-use Rattle.ring_check.proofs.judging.live_stand.Given as goal
+use Rattle.site.specs.Work.{OnlyReads}
+use Rattle.sealed_ring.specs.Judged.{StandsIn}
+use Rattle.sealed_ring.proofs.judging.live_stand.Given as goal
 
 abbrev pub invariant-loop-n : goal.invariant-loop-n
 invariant-loop-n g l =

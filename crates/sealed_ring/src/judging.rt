@@ -2,11 +2,12 @@
 ghost use Rattle.std.specs.Prelude.{◌≡◌, ◌≢◌, ◌↔◌, ◌+◌, ◌%◌, ◌^◌, ◌<◌, ◌≤◌, length, false, IsTrue, IfOk, IfSome, IfErr};
 ghost use Rattle.sealed_ring.specs.Ring.{FitsIn, gate, number};
 ghost use Rattle.sealed_ring.specs.Ready.{region, IsUsable};
-ghost use Rattle.ring_check.specs.Looking.{OnlyReads};
-ghost use Rattle.ring_check.specs.Judged.{Stands, LiveStand, UnusedAreBare, IsJudged};
+ghost use Rattle.site.specs.Work.{OnlyReads};
+ghost use Rattle.sealed_ring.specs.Judged.{Stands, LiveStand, UnusedAreBare, IsJudged};
 
+use crate::ring::Ring;
+use crate::slots::Shape;
 use byte_fields::get_u64;
-use sealed_ring::{Ring, Shape};
 use site::{Site, Stop};
 
 // The gate of a unit that counts.

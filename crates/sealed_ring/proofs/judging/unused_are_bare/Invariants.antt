@@ -2,8 +2,8 @@ use Rattle.std.proofs.Common.{◌≢◌, ◌%◌, ℕ, ◌<◌, length, IsTrue}
 use Rattle.std.specs.Prelude.{Ok}
 use Rattle.sealed_ring.specs.Ring.{FitsIn, number}
 use Rattle.sealed_ring.specs.Ready.{region}
-use Rattle.ring_check.specs.Looking.{OnlyReads}
-use Rattle.ring_check.proofs.judging.unused_are_bare.Given as goal
+use Rattle.site.specs.Work.{OnlyReads}
+use Rattle.sealed_ring.proofs.judging.unused_are_bare.Given as goal
 
 abbrev pub invariant-loop-slot : goal.invariant-loop-slot
 invariant-loop-slot g l =
