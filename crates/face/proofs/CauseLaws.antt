@@ -3,7 +3,7 @@ use Rattle.std.proofs.Common.{◌≡◌, inl, inr, ◌⊎◌, IsTrue, ℕ, lengt
 use Rattle.site.specs.declared.outside.Dev.{Dev}
 use Rattle.site.specs.declared.outside.Dev.TheVariants.{Log, Flash, Disk}
 use Rattle.site.specs.declared.outside.Stop.TheVariants.{Device, Memory, Worn, Foreign}
-use Rattle.site.specs.State.{State, faults_of}
+use Rattle.site.specs.State.{Input, State, faults_of}
 use Rattle.site.specs.Calls.{Goes}
 use Rattle.site.specs.Laws.{rose_then}
 use Rattle.site.specs.Telling.{SameDevices}
@@ -24,7 +24,7 @@ cause_then (halt.Stop (Worn Disk)) a b c cause goes same = absurd cause
 cause_then (halt.Stop Foreign) a b c cause goes same = cause
 cause_then halt.Input a b c cause goes same = rose_then a.input_faults b.input_faults c.input_faults cause goes.input_faults
 cause_then halt.Output a b c cause goes same = rose_then a.output_faults b.output_faults c.output_faults cause goes.output_faults
-cause_then halt.Limit a b c cause goes same = λ honest. let over = cause honest in let left = ap length (same honest).left in omega (arith, over, left)
+cause_then halt.Limit a b c cause goes same = λ honest. let over = cause honest in let left = ap (λ (input : Input). length input.left) (same honest).left in omega (arith, over, left)
 
 -- flash is worn, or the log
 worn_causes : (dev : Dev) (a b : State) → IsWornOut dev a b → IsWornOut Flash a b ⊎ IsWornOut Log a b

@@ -187,7 +187,7 @@ one_makes : (s : State) (line : Line) → (if makes_one s line then 1 else 0) �
 one_makes s None = refl
 one_makes s (Some command) = refl
 
-turns_make : (s : State) (lines : List Line) (listings : List (List CacheLine)) → checkpoints_in (turns true s lines listings) ≡ checkpoints_of s (up_to_quit lines)
+pub turns_make : (s : State) (lines : List Line) (listings : List (List CacheLine)) → checkpoints_in (turns true s lines listings) ≡ checkpoints_of s (up_to_quit lines)
 turns_make s [] listings = refl
 turns_make s (line ∷ lines) listings =
     let more : List Turn = if is_quit line then [] else turns true (step s line (next_listing listings)).after lines (later_listings line listings) in

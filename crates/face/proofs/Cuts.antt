@@ -3,7 +3,7 @@ use Rattle.std.proofs.Common.{◌≡◌, ◌≢◌, ℕ, suc, ◌+◌, ◌-◌, 
 use Rattle.std.specs.Prelude.{Bool, true, false, map, if◌then◌else◌}
 use Rattle.std.specs.List.{AllByRecursion, list_any}
 use Rattle.std.proofs.lemmas.List.{append-nil, take_at, drop_at, take_all}
-use Rattle.site.specs.State.{State as Site}
+use Rattle.site.specs.State.{Input, State as Site}
 use Rattle.record_model.specs.Run.{Line, is_quit}
 use Rattle.face.specs.declared.source.Source.{Source}
 use Rattle.shell_text.specs.Reading.{line_of}
@@ -24,17 +24,17 @@ pub record Cut (entry : List ℕ) (source : Source) (now : Site) (i : ℕ) : Typ
   pub ended : HasEnded source now
   pub taken : total source now ≡ length entry
 
-none_pending : (source : Source) → source.from ≡ source.to → pending source ≡ []
+pub none_pending : (source : Source) → source.from ≡ source.to → pending source ≡ []
 none_pending source empty = let none : source.to - source.from ≡ 0 = omega (arith, empty) in ap (λ (n : ℕ). take n (drop source.from source.buffer)) none
 
 -- nothing is cut yet
-pub no_cut : (entry : List ℕ) (source : Source) (now : Site) → source.from ≡ source.to → source.taken ≡ 0 → source.ended ≡ false → now.left ≡ entry → Cut entry source now 0
+pub no_cut : (entry : List ℕ) (source : Source) (now : Site) → source.from ≡ source.to → source.taken ≡ 0 → source.ended ≡ false → now.input.left ≡ entry → Cut entry source now 0
 no_cut entry source now empty taken going left = record {
   octets = [];
   lines = [];
   count = refl;
   many = omega arith;
-  all = sym left ∙ ap (λ (l : List ℕ). l ++ now.left) (sym (none_pending source empty));
+  all = sym left ∙ ap (λ (l : List ℕ). l ++ now.input.left) (sym (none_pending source empty));
   are = λ more e premise. refl;
   no_quit = tt;
   ended = λ e. absurd (not_both source.ended going e);
@@ -82,13 +82,13 @@ module _ (entry : List ℕ) (source : Source) (now : Site) (i : ℕ) (cut : Cut 
       let count = cut.count in (omega (arith, long, count), ap (take i) same ∙ take_at cut.lines (up_to_quit behind) i cut.count ∙ sym first_lines)
 
   -- between two lines, or within the answer to one
-  pub has_heard : (old new : Site) → old.left ≡ entry → new.left ≡ now.left → HasHeard i (cut.octets ++ pending source) source.ended old new
+  pub has_heard : (old new : Site) → old.input.left ≡ entry → new.input ≡ now.input → HasHeard i (cut.octets ++ pending source) source.ended old new
   has_heard old new at same =
       let is = cut.are (pending source) source.ended (λ e. (none_pending source (is_source.emptied e), e)) in
       let both = heard_by (cut.octets ++ pending source) source.ended (commands_of source.ended (pending source)) is in
       record {
-        taken = at ∙ cut.all ∙ sym (append_assoc cut.octets (pending source) now.left) ∙ ap (λ (l : List ℕ). (cut.octets ++ pending source) ++ l) (sym same);
-        end = λ e. same ∙ cut.ended e;
+        taken = at ∙ cut.all ∙ sym (append_assoc cut.octets (pending source) now.input.left) ∙ ap (λ (input : Input). (cut.octets ++ pending source) ++ input.left) (sym same);
+        end = λ e. ap (λ (input : Input). input.left) same ∙ cut.ended e;
         enough = both.0;
         same = both.1 ∙ ap (λ (l : List ℕ). take i (answered_of true l)) (sym at);
       }
@@ -97,7 +97,7 @@ module _ (entry : List ℕ) (source : Source) (now : Site) (i : ℕ) (cut : Cut 
   pub cut_few_octets : i ≤ limit
   cut_few_octets =
       let many = cut.many in
-      let all = ap length cut.all ∙ length-append cut.octets (to_hear source now) ∙ ap (λ (n : ℕ). length cut.octets + n) (length-append (pending source) now.left) in
+      let all = ap length cut.all ∙ length-append cut.octets (to_hear source now) ∙ ap (λ (n : ℕ). length cut.octets + n) (length-append (pending source) now.input.left) in
       let taken = cut.taken in
       let few = is_source.few in
       omega (arith, many, all, taken, few)
@@ -143,10 +143,10 @@ module _ (entry : List ℕ) (source : Source) (now : Site) (i : ℕ) (cut : Cut 
     with_line rest = ap (take (suc i)) (sym (append_assoc cut.lines (line ∷ []) rest)) ∙ take_at (cut.lines ++ line ∷ []) rest (suc i) (let long = length-append cut.lines (line ∷ []) in let count = cut.count in omega (arith, long, count))
 
     -- where the line was heard
-    pub heard_line : (old after : Site) → old.left ≡ entry → after.left ≡ new.left → HasHeard (suc i) taken_by source'.ended old after
+    pub heard_line : (old after : Site) → old.input.left ≡ entry → after.input ≡ new.input → HasHeard (suc i) taken_by source'.ended old after
     heard_line old after at same = record {
-      taken = at ∙ cut.all ∙ ap (λ (l : List ℕ). cut.octets ++ l) h.all ∙ sym (append_assoc cut.octets h.octets (to_hear source' new)) ∙ sym (append_assoc (cut.octets ++ h.octets) (pending source') new.left) ∙ ap (λ (l : List ℕ). taken_by ++ l) (sym same);
-      end = λ e. same ∙ ended e;
+      taken = at ∙ cut.all ∙ ap (λ (l : List ℕ). cut.octets ++ l) h.all ∙ sym (append_assoc cut.octets h.octets (to_hear source' new)) ∙ sym (append_assoc (cut.octets ++ h.octets) (pending source') new.input.left) ∙ ap (λ (input : Input). taken_by ++ input.left) (sym same);
+      end = λ e. ap (λ (input : Input). input.left) same ∙ ended e;
       enough =
           let rest : List Line = if is_quit line then [] else up_to_quit (commands_of source'.ended (pending source')) in
           let long = ap length own_answered ∙ length-append cut.lines (line ∷ rest) in
@@ -162,7 +162,7 @@ module _ (entry : List ℕ) (source : Source) (now : Site) (i : ℕ) (cut : Cut 
     )
 
   -- the end of the input
-  pub has_heard_all : (old new : Site) → old.left ≡ entry → to_hear source now ≡ [] → new.left ≡ [] → HasHeard i cut.octets true old new × (length (answered_of true cut.octets) ≡ i)
+  pub has_heard_all : (old new : Site) → old.input.left ≡ entry → to_hear source now ≡ [] → new.input.left ≡ [] → HasHeard i cut.octets true old new × (length (answered_of true cut.octets) ≡ i)
   has_heard_all old new at none left =
       let is = ap (commands_of true) (sym (append-nil cut.octets)) ∙ cut.are [] true (λ e. (refl, refl)) in
       let both = heard_by cut.octets true [] is in (
@@ -206,7 +206,7 @@ module _ (entry : List ℕ) (source : Source) (now : Site) (i : ℕ) (cut : Cut 
     length_is = ap length entry_is ∙ length-append (cut.octets ++ octets) rest
 
     -- at once
-    pub input_failed : (old new : Site) → old.left ≡ entry → new.left ≡ left → rest ≡ left → total source now ≤ limit + length left → HasHeard i (cut.octets ++ octets) false old new × TakesAll (cut.octets ++ octets)
+    pub input_failed : (old new : Site) → old.input.left ≡ entry → new.input.left ≡ left → rest ≡ left → total source now ≤ limit + length left → HasHeard i (cut.octets ++ octets) false old new × TakesAll (cut.octets ++ octets)
     input_failed old new at new_left is few =
         let both = heard_by (cut.octets ++ octets) false [] (before ∙ sym (append-nil cut.lines)) in
         let taken = cut.taken in
@@ -228,7 +228,7 @@ module _ (entry : List ℕ) (source : Source) (now : Site) (i : ℕ) (cut : Cut 
       exactly : length (cut.octets ++ octets) ≡ limit
       exactly = let taken = cut.taken in omega (arith, length_is, taken, many, ap length is)
 
-      pub over_limit : (old new : Site) → old.left ≡ entry → new.left ≡ left → HasHeard i too_many false old new × TakesAll too_many × (length too_many ≡ limit + 1)
+      pub over_limit : (old new : Site) → old.input.left ≡ entry → new.input.left ≡ left → HasHeard i too_many false old new × TakesAll too_many × (length too_many ≡ limit + 1)
       over_limit old new at new_left =
           let some = whole (octets ++ extra ∷ []) false (λ no. cc) in
           let both = heard_by too_many false (commands_of false (octets ++ extra ∷ [])) (ap (commands_of false) (append_assoc cut.octets octets (extra ∷ [])) ∙ some) in (
@@ -242,16 +242,24 @@ module _ (entry : List ℕ) (source : Source) (now : Site) (i : ℕ) (cut : Cut 
             length-append (cut.octets ++ octets) (extra ∷ []) ∙ ap (λ (n : ℕ). n + 1) exactly,
           )
 
+-- the lines that stand whole in what was cut and in the octets of a line behind it
+pub whole_before : (entry : List ℕ) (source : Source) (now : Site) (i : ℕ) (cut : Cut entry source now i) → IsSource source → (octets rest : List ℕ) → AllByRecursion (λ x. x ≢ 10) octets → to_hear source now ≡ octets ++ rest → source.ended ≡ false
+    → (take (length (cut.octets ++ octets)) entry ≡ cut.octets ++ octets) × (length (answered_of false (cut.octets ++ octets)) ≡ i)
+whole_before entry source now i cut is_source octets rest none all going = (
+  ap (take (length (cut.octets ++ octets))) (entry_is entry source now i cut is_source rest octets rest none all going) ∙ take_at (cut.octets ++ octets) rest (length (cut.octets ++ octets)) refl,
+  before_count entry source now i cut is_source rest octets rest none all going,
+)
+
 -- where nothing more was taken
-pub cut_stays : (entry : List ℕ) (source : Source) (now new : Site) (i : ℕ) → Cut entry source now i → new.left ≡ now.left → Cut entry source new i
+pub cut_stays : (entry : List ℕ) (source : Source) (now new : Site) (i : ℕ) → Cut entry source now i → new.input ≡ now.input → Cut entry source new i
 cut_stays entry source now new i cut left = record {
   octets = cut.octets;
   lines = cut.lines;
   count = cut.count;
   many = cut.many;
-  all = cut.all ∙ ap (λ (l : List ℕ). cut.octets ++ (pending source ++ l)) (sym left);
+  all = cut.all ∙ ap (λ (input : Input). cut.octets ++ (pending source ++ input.left)) (sym left);
   are = cut.are;
   no_quit = cut.no_quit;
-  ended = λ e. left ∙ cut.ended e;
-  taken = ap (λ (l : List ℕ). source.taken + length l) left ∙ cut.taken;
+  ended = λ e. ap (λ (input : Input). input.left) left ∙ cut.ended e;
+  taken = ap (λ (input : Input). source.taken + length input.left) left ∙ cut.taken;
 }

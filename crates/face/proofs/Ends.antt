@@ -2,7 +2,7 @@
 use Rattle.std.proofs.Common.{◌≡◌, ◌≢◌, ◌⊎◌, inl, inr, ⊎_elim, IsTrue, ℕ, ◌≤◌, List, [], ◌∷◌, ◌++◌, length, take, zero, suc, refl, sym, ◌∙◌, ap, subst, arith}
 use Rattle.std.specs.Prelude.{Ok, Err, IsErrOf, true, false, Bool}
 use Rattle.std.proofs.lemmas.List.{append-nil, take_all}
-use Rattle.site.specs.State.{State as Site, Image, faults_of}
+use Rattle.site.specs.State.{Input, State as Site, Image, faults_of}
 use Rattle.site.specs.declared.geometry.Geometry.{Geometry}
 use Rattle.site.specs.Calls.{Goes, Rose}
 use Rattle.site.specs.Laws.{holds_now, rose_since}
@@ -24,11 +24,12 @@ use Rattle.face.specs.Causes.{HasCause, AnswerFailsBy}
 use Rattle.face.specs.Lines.{HasEnded, to_hear, total, IsSource, HearsLine, Hears, IsCutOff}
 use Rattle.site.specs.declared.outside.Dev.TheVariants.{Log, Flash, Disk}
 use Rattle.face.specs.Run.{Run, HasHeard, HasToldUpTo, IsAccounted, IsFront, IsPart, StopsTaking, Stops, SkipsNoneUpTo, text_at, told_after}
-use Rattle.face.specs.Working.{ListsUpTo, Works, HasGroupsFor, HasQueueAt}
+use Rattle.face.specs.Working.{AnswersFirst, ListsUpTo, Works, HasGroupsFor, HasQueueAt}
 use Rattle.face.specs.Range.{AsksNoMore, WearsOut}
 use Rattle.face.specs.Going.{Going}
 use Rattle.face.proofs.Cuts.{Cut, has_heard_all, input_failed, over_limit, taken_by, heard_line, quit_is_last}
 use Rattle.face.proofs.Works.{begun_before, stopped, ended}
+use Rattle.face.proofs.Waits.{answers_none}
 
 -- taking wasn't what failed
 pub not_taking : (h : Halt) (run : Run) (i : ℕ) (octets : List ℕ) (old new : Site) → (h ≢ halt.Input) × (h ≢ halt.Limit) → StopsTaking h run i octets old new
@@ -57,13 +58,13 @@ opening_part run (suc zero) rest few (inr f) = (
 opening_part run (suc (suc n)) rest few p = absurd (omega (arith, few))
 
 -- before the first line
-pub never_opened : {T : Type 0} (pool : ℕ) (run : Run) (old new : Site) (h : Halt) → Stops run 0 old new h → (h ≢ halt.Input) × (h ≢ halt.Limit) → new.left ≡ old.left → (h ≡ halt.Stop (Worn Flash) → WearsOut pool run 0 old.image) → SkipsNoneUpTo run 0 old.image new.image → AsksNoMore pool run 0 old new →
+pub never_opened : {T : Type 0} (pool : ℕ) (run : Run) (old new : Site) (h : Halt) → Stops run 0 old new h → (h ≢ halt.Input) × (h ≢ halt.Limit) → new.input ≡ old.input → (h ≡ halt.Stop (Worn Flash) → WearsOut pool run 0 old.image) → SkipsNoneUpTo run 0 old.image new.image → AsksNoMore pool run 0 old new →
     Works {T = T} pool run old new (Err h)
 never_opened {T} pool run old new h stops ne left worn numbers reads = record {
   heard = 0;
   octets = [];
   ended = false;
-  has_heard = record { taken = sym left; end = λ no. cc; enough = omega arith; same = refl };
+  has_heard = record { taken = sym (ap (λ (input : Input). input.left) left); end = λ no. cc; enough = omega arith; same = refl };
   stops = (stops, not_taking h run 0 [] old new ne);
   begun = let a = holds_now old new (IsAccounted run 0 old.told []) stops.any_moment in
       let begun = a.begun in
@@ -75,15 +76,16 @@ never_opened {T} pool run old new h stops ne left worn numbers reads = record {
   numbers = numbers;
   listed = lists_nothing pool run old.image;
   reads = reads;
+  answers = answers_none run old new left;
 }
 
-module _ (pool : ℕ) (run : Run) (old mid new : Site) (engine : Engine) (source : Source) (i : ℕ) (cut : Cut old.left source mid i) (is_source : IsSource source) (going : Going run old new engine i) (listed : ListsUpTo pool run i old.image) (reads : AsksNoMore pool run i old new) where
+module _ (pool : ℕ) (run : Run) (old mid new : Site) (engine : Engine) (source : Source) (i : ℕ) (cut : Cut old.input.left source mid i) (is_source : IsSource source) (going : Going run old new engine i) (listed : ListsUpTo pool run i old.image) (reads : AsksNoMore pool run i old new) (answers : AnswersFirst run i old new) where
   -- taking failed within a line
-  pub taking_failed : {T : Type 0} (h : Halt) → (h ≡ halt.Input) ⊎ (h ≡ halt.Limit) → IsCutOff h source.ended (total source mid) (to_hear source mid) new.left → SkipsNoneUpTo run i old.image new.image → Works {T = T} pool run old new (Err h)
+  pub taking_failed : {T : Type 0} (h : Halt) → (h ≡ halt.Input) ⊎ (h ≡ halt.Limit) → IsCutOff h source.ended (total source mid) (to_hear source mid) new.input.left → SkipsNoneUpTo run i old.image new.image → Works {T = T} pool run old new (Err h)
   taking_failed (halt.Stop stop) which off numbers = ⊎_elim (λ e. absurd cc) (λ e. absurd cc) which
   taking_failed halt.Output which off numbers = ⊎_elim (λ e. absurd cc) (λ e. absurd cc) which
   taking_failed halt.Input which off numbers =
-      let f = input_failed old.left source mid i cut is_source new.left off.octets off.rest off.none off.all_of_it off.going old new refl refl off.ends.0 off.ends.1 in
+      let f = input_failed old.input.left source mid i cut is_source new.input.left off.octets off.rest off.none off.all_of_it off.going old new refl refl off.ends.0 off.ends.1 in
       record {
         heard = i;
         octets = cut.octets ++ off.octets;
@@ -98,9 +100,10 @@ module _ (pool : ℕ) (run : Run) (old mid new : Site) (engine : Engine) (source
         numbers = numbers;
         listed = listed;
         reads = reads;
+        answers = answers;
       }
   taking_failed halt.Limit which off numbers =
-      let f = over_limit old.left source mid i cut is_source new.left off.octets off.rest off.none off.all_of_it off.going off.ends.0 off.ends.1 off.ends.2 old new refl refl in
+      let f = over_limit old.input.left source mid i cut is_source new.input.left off.octets off.rest off.none off.all_of_it off.going off.ends.0 off.ends.1 off.ends.2 old new refl refl in
       record {
         heard = i;
         octets = (cut.octets ++ off.octets) ++ off.ends.0 ∷ [];
@@ -115,12 +118,13 @@ module _ (pool : ℕ) (run : Run) (old mid new : Site) (engine : Engine) (source
         numbers = numbers;
         listed = listed;
         reads = reads;
+        answers = answers;
       }
 
   -- there are no more lines
-  pub finished : {T : Type 0} (x : T) → to_hear source mid ≡ [] → new.left ≡ [] → HasGroupsFor pool run old.image i → HasQueueAt pool run i old.image new.image → SkipsNoneUpTo run i old.image new.image → Works pool run old new (Ok x)
+  pub finished : {T : Type 0} (x : T) → to_hear source mid ≡ [] → new.input.left ≡ [] → HasGroupsFor pool run old.image i → HasQueueAt pool run i old.image new.image → SkipsNoneUpTo run i old.image new.image → Works pool run old new (Ok x)
   finished x none left room queue numbers =
-      let f = has_heard_all old.left source mid i cut is_source old new refl none left in
+      let f = has_heard_all old.input.left source mid i cut is_source old new refl none left in
       record {
         heard = i;
         octets = cut.octets;
@@ -135,18 +139,19 @@ module _ (pool : ℕ) (run : Run) (old mid new : Site) (engine : Engine) (source
         numbers = numbers;
         listed = listed;
         reads = reads;
+        answers = answers;
       }
 
-module _ (pool : ℕ) (run : Run) (old mid next new : Site) (source source' : Source) (i : ℕ) (cut : Cut old.left source mid i) (is_source : IsSource source) (line : Line) (h : HearsLine line source.ended source'.ended (to_hear source mid) (to_hear source' next))
-    (last : HasEnded source' next) (is' : IsSource source') (left : new.left ≡ next.left) (listed : ListsUpTo pool run (suc i) old.image) (reads : AsksNoMore pool run (suc i) old new) where
-  has_heard_it : HasHeard (suc i) (taken_by old.left source mid i cut is_source source' next line h last is') source'.ended old new
-  has_heard_it = heard_line old.left source mid i cut is_source source' next line h last is' old new refl left
+module _ (pool : ℕ) (run : Run) (old mid next new : Site) (source source' : Source) (i : ℕ) (cut : Cut old.input.left source mid i) (is_source : IsSource source) (line : Line) (h : HearsLine line source.ended source'.ended (to_hear source mid) (to_hear source' next))
+    (last : HasEnded source' next) (is' : IsSource source') (left : new.input ≡ next.input) (listed : ListsUpTo pool run (suc i) old.image) (reads : AsksNoMore pool run (suc i) old new) (answers : AnswersFirst run (suc i) old new) where
+  has_heard_it : HasHeard (suc i) (taken_by old.input.left source mid i cut is_source source' next line h last is') source'.ended old new
+  has_heard_it = heard_line old.input.left source mid i cut is_source source' next line h last is' old new refl left
 
   -- a line's answer failed
   pub answer_failed : {T : Type 0} (fault : Halt) → Stops run (suc i) old new fault → HasToldUpTo run (suc i) old new → (fault ≢ halt.Input) × (fault ≢ halt.Limit) → (fault ≡ halt.Stop (Worn Flash) → WearsOut pool run (suc i) old.image) → SkipsNoneUpTo run (suc i) old.image new.image → Works {T = T} pool run old new (Err fault)
   answer_failed {T} fault stops begun ne worn numbers = record {
     heard = suc i;
-    octets = taken_by old.left source mid i cut is_source source' next line h last is';
+    octets = taken_by old.input.left source mid i cut is_source source' next line h last is';
     ended = source'.ended;
     has_heard = has_heard_it;
     stops = (stops, not_taking fault run (suc i) _ old new ne);
@@ -158,15 +163,16 @@ module _ (pool : ℕ) (run : Run) (old mid next new : Site) (source source' : So
     numbers = numbers;
     listed = listed;
     reads = reads;
+    answers = answers;
   }
 
   -- a quit was answered
   pub quitted : {T : Type 0} (x : T) (engine : Engine) → is_quit line ≡ true → Going run old new engine (suc i) → HasGroupsFor pool run old.image (suc i) → HasQueueAt pool run (suc i) old.image new.image → SkipsNoneUpTo run (suc i) old.image new.image → Works pool run old new (Ok x)
   quitted x engine quits going room queue numbers =
-      let all = quit_is_last old.left source mid i cut is_source source' next line h last is' quits in
+      let all = quit_is_last old.input.left source mid i cut is_source source' next line h last is' quits in
       record {
         heard = suc i;
-        octets = taken_by old.left source mid i cut is_source source' next line h last is';
+        octets = taken_by old.input.left source mid i cut is_source source' next line h last is';
         ended = source'.ended;
         has_heard = has_heard_it;
         stops = tt;
@@ -178,6 +184,7 @@ module _ (pool : ℕ) (run : Run) (old mid next new : Site) (source source' : So
         numbers = numbers;
         listed = listed;
         reads = reads;
+        answers = answers;
       }
 
 -- what was heard
@@ -189,7 +196,7 @@ line_heard h line was ended before after hears is = subst (λ (x : Heard). Hears
 
 -- why taking failed
 pub taking_cause : (h : Halt) (source : Source) (old mid new : Site) → (h ≡ halt.Input) ⊎ (h ≡ halt.Limit) → (h ≡ halt.Input → Rose mid.input_faults new.input_faults) → old.input_faults ≤ mid.input_faults
-    → (IsTrue old.honest → (total source mid ≡ length old.left) × IsCutOff h source.ended (total source mid) (to_hear source mid) new.left) → HasCause h old new
+    → (IsTrue old.honest → (total source mid ≡ length old.input.left) × IsCutOff h source.ended (total source mid) (to_hear source mid) new.input.left) → HasCause h old new
 taking_cause (halt.Stop stop) source old mid new which input low off = ⊎_elim (λ e. absurd cc) (λ e. absurd cc) which
 taking_cause halt.Output source old mid new which input low off = ⊎_elim (λ e. absurd cc) (λ e. absurd cc) which
 taking_cause halt.Input source old mid new which input low off = let rose = input refl in omega (arith, low, rose)

@@ -2,7 +2,7 @@
 use Rattle.std.proofs.Common.{◌≡◌, ◌≢◌, ◌⊎◌, inl, inr, ⊎_elim, ℕ, ◌+◌, ◌≤◌, Bool, true, false, List, [], ◌++◌, length, take, drop, refl, sym, ◌∙◌, ap, subst, arith, append_assoc, length-append, take-append-drop}
 use Rattle.std.specs.Prelude.{Err, Ok, Result, IsErrOf, IsTrue, flat_map}
 use Rattle.std.proofs.lemmas.List.{append-nil, take_all, take_at}
-use Rattle.site.specs.State.{State as Site, Snapshot}
+use Rattle.site.specs.State.{Input, State as Site, Snapshot}
 use Rattle.site.specs.Calls.{Goes}
 use Rattle.site.specs.Moments.{Leaves, LeavesOnly, EachMoment}
 use Rattle.site.specs.Laws.{in_sequence, leaves_weaker, stays_honest, told_is, tell_leaves}
@@ -22,11 +22,16 @@ use Rattle.engine.specs.Image.{Stands}
 use Rattle.site.specs.declared.outside.Dev.TheVariants.{Log, Flash, Disk}
 use Rattle.redo_undo.specs.Holding.{IsLogWorn}
 use Rattle.redo_undo.specs.Works.{OverflowsWithMore}
-use Rattle.face.specs.Causes.{HasCause, HasCauses, NoFaultRose, HasLogRoom, EndsInTime}
+use Rattle.face.specs.Causes.{HasCause, HasCauses, NoFaultRose, EndsInTime}
+use Rattle.face.proofs.LogRoom.{never_at_end}
 use Rattle.face.specs.Lines.{commands_of, up_to_quit, answered_of, limit}
 use Rattle.face.specs.Run.{Run, told_after, StandsFor, StandsAt, StandsNear, IsAccounted, IsBetween, Begins, HasHeard, HasTakenAll, Stops, StopsTaking}
-use Rattle.face.specs.Working.{Works}
-use Rattle.face.specs.Range.{run_of, run_text, texts, StandsAfter, IsLeft, WearsOut, NeverWears}
+use Rattle.face.specs.Working.{AnswersFirst, IsToldBefore, Works}
+use Rattle.face.specs.Waiting.{IsAnswered, NobodyWaits}
+use Rattle.site.specs.declared.outside.Take.{Take}
+use Rattle.log_laws.proofs.Lists.{all_weaker}
+use Rattle.face.proofs.Waits.{answers_still}
+use Rattle.face.specs.Range.{HasLogRoom, run_of, run_text, texts, first_texts, StandsAfter, IsLeft, WearsOut, NeverWears}
 use Rattle.face.specs.Tells.{EndsBehind, Tells}
 use Rattle.face.proofs.Endings.{ends_whole, ends_with}
 use Rattle.face.proofs.Begun.{has_begun, lists_the_machine}
@@ -94,7 +99,7 @@ all_of ls none = ap up_to_quit (sym (append-nil ls)) ∙ up_append ls [] none �
 
 module _ (g : Geometry) (opening : State) (listings : List (List CacheLine)) (old mid : Site) (heard : ℕ) (octets : List ℕ) (ended : Bool) (h : HasHeard heard octets ended old mid) where
   abbrev all : Run
-  all = run_of g opening true old.left listings
+  all = run_of g opening true old.input.left listings
 
   abbrev taken : Run
   taken = run_of g opening ended octets listings
@@ -105,7 +110,7 @@ module _ (g : Geometry) (opening : State) (listings : List (List CacheLine)) (ol
       (accounted all (commands_of ended octets) heard h.same old.told fault s a)) moments
 
   -- all lines that stand whole in the first octets were heard
-  whole_lines : length (answered_of false (take limit octets)) ≡ heard → list_any is_quit (commands_of false (take limit octets)) ≡ false → answered_of false (take limit octets) ≡ take heard (answered_of true old.left)
+  whole_lines : length (answered_of false (take limit octets)) ≡ heard → list_any is_quit (commands_of false (take limit octets)) ≡ false → answered_of false (take limit octets) ≡ take heard (answered_of true old.input.left)
   whole_lines count none =
       let first = first_commands ended (take limit octets) (drop limit octets) in
       let is : commands_of ended octets ≡ commands_of false (take limit octets) ++ first.0 = ap (commands_of ended) (sym (take-append-drop limit octets)) ∙ first.1 in
@@ -118,7 +123,7 @@ module _ (g : Geometry) (opening : State) (listings : List (List CacheLine)) (ol
   told_whole_lines new fault t more =
       let lines = commands_of false (take limit octets) in
       let own = run_of g opening false (take limit octets) listings in
-      let same : take heard (up_to_quit lines) ≡ take heard (answered_of true old.left) = take_all heard (up_to_quit lines) (let count = t.count in omega (arith, count)) ∙ whole_lines t.count t.no_quit in
+      let same : take heard (up_to_quit lines) ≡ take heard (answered_of true old.input.left) = take_all heard (up_to_quit lines) (let count = t.count in omega (arith, count)) ∙ whole_lines t.count t.no_quit in
       let text : told_after all (heard + 1) ≡ run_text own =
       sym (told_same all lines heard same (heard + 1) (omega arith))
       ∙ ap (λ (n : ℕ). told_after own (n + 1)) (sym t.count)
@@ -129,8 +134,35 @@ module _ (g : Geometry) (opening : State) (listings : List (List CacheLine)) (ol
         front = (more.0, refl);
       }
 
+-- what was told before input was asked for, by the lines of the octets that were taken
+answered_first : (g : Geometry) (opening : State) (listings : List (List CacheLine)) (old new : Site) (heard : ℕ) (octets : List ℕ) (ended : Bool) → take heard (answered_of ended octets) ≡ take heard (answered_of true old.input.left)
+    → AnswersFirst (run_of g opening true old.input.left listings) heard old new → NobodyWaits (run_of g opening ended octets listings) old new
+answered_first g opening listings old new heard octets ended same answers = record {
+  takes = answers.takes;
+  are = answers.are;
+  answered = all_weaker (IsToldBefore all heard old) (IsAnswered own old) before answers.takes answers.told;
+}
+  where
+    all : Run
+    all = run_of g opening true old.input.left listings
+
+    own : Run
+    own = run_of g opening ended octets listings
+
+    before : (t : Take) → IsToldBefore all heard old t → IsAnswered own old t
+    before t told =
+        let n = length (answered_of false (take told.heard old.input.left)) in
+        let few = told.few in
+        let first : told_after all (1 + n) ≡ first_texts own (1 + n) =
+        sym (told_same all (commands_of ended octets) heard same (1 + n) (omega (arith, few))) ∙ ap (λ (l : List (List ℕ)). flat_map (λ (x : List ℕ). x) (take (1 + n) l)) (sym (texts_same own)) in
+        record {
+          heard = told.heard;
+          here = told.here;
+          told = subst (λ (l : List ℕ). length (old.told ++ l) ≤ t.told) first told.told;
+        }
+
 -- what a run begins with
-pub begins : (g : Geometry) (opening : State) (listings : List (List CacheLine)) (old : Site) → IsGood g opening old → Begins (run_of g opening true old.left listings) old
+pub begins : (g : Geometry) (opening : State) (listings : List (List CacheLine)) (old : Site) → IsGood g opening old → Begins (run_of g opening true old.input.left listings) old
 begins g opening listings old good = record { honest = good.honest; quiet = good.quiet; opens = good.opens; lines = refl }
 
 pub not_zero : (h : Halt) → status_of h ≢ 0
@@ -156,7 +188,7 @@ worn_by g opening halt.Limit old new good cause e = absurd (omega (arith, e))
 
 module _ (pool : ℕ) (g : Geometry) (opening : State) (listings : List (List CacheLine)) (old : Site) where
   abbrev run : Run
-  run = run_of g opening true old.left listings
+  run = run_of g opening true old.input.left listings
 
   -- where taking failed all whole lines are answered
   taken_by : (h : Halt) (heard : ℕ) (octets : List ℕ) (mid : Site) → StopsTaking h run heard octets old mid → (status_of h ≡ 5) ⊎ (status_of h ≡ 7) → HasTakenAll run heard octets old mid
@@ -204,8 +236,8 @@ module _ (pool : ℕ) (g : Geometry) (opening : State) (listings : List (List Ca
           octets = works.octets;
           ended = works.ended;
           listings = listings;
-          taken = heard.taken ∙ ap (λ (l : List ℕ). works.octets ++ l) (sym same_devices.left);
-          end = λ e. same_devices.left ∙ heard.end e;
+          taken = heard.taken ∙ ap (λ (input : Input). works.octets ++ input.left) (sym same_devices.left);
+          end = λ e. ap (λ (input : Input). input.left) same_devices.left ∙ heard.end e;
           fault = fault_line h;
           of_status = inr (h, is, refl, cause);
           ends = λ ne. ends_behind mid new h result works goes honest told (λ output. ne (is ∙ ap status_of output));
@@ -213,6 +245,7 @@ module _ (pool : ℕ) (g : Geometry) (opening : State) (listings : List (List Ca
           quiet = λ ne. same_devices.loose ∙ works.stops.0.quiet (λ e. ne (is ∙ e));
           heard = λ zero. absurd (not_zero h (sym is ∙ zero));
           done = λ zero. absurd (not_zero h (sym is ∙ zero));
+          answered = answered_first g opening listings old new works.heard works.octets works.ended heard.same (answers_still run works.heard old mid new same_devices.left works.answers);
           taking = λ which. told_whole_lines g opening listings old mid works.heard works.octets works.ended heard new (fault_line h)
               (taken_by h works.heard works.octets mid works.stops.1 (⊎_elim (λ e. inl (sym is ∙ e)) (λ e. inr (sym is ∙ e)) which))
               (now.0, sym (append-nil new.told) ∙ now.1);
@@ -220,17 +253,17 @@ module _ (pool : ℕ) (g : Geometry) (opening : State) (listings : List (List Ca
         };
         resources = record {
           begun = works.heard;
-          has_begun = has_begun pool g opening listings (commands_of true old.left) lines works.heard heard.same old mid new (fault_line h) now.0 (sym (append-nil new.told) ∙ now.1) heard.enough works.begun;
+          has_begun = has_begun pool g opening listings (commands_of true old.input.left) lines works.heard heard.same old mid new (fault_line h) now.0 (sym (append-nil new.told) ∙ now.1) heard.enough works.begun;
           asked = record {
             worn = λ eight. ⊎_elim (λ flash. inl (wears_out pool g opening listings old.image works.ended works.octets run refl refl works.heard heard.same (works.worn flash))) (λ log. inr log)
                 (worn_by g opening h old new good cause (sym is ∙ eight));
             room = λ zero. absurd (not_zero h (sym is ∙ zero));
             frames = λ zero. absurd (not_zero h (sym is ∙ zero));
             numbers = skips_still own works.heard old.image mid.image new.image same_devices.image
-                (skips_no_number g opening listings (commands_of true old.left) lines works.heard heard.same old.image mid.image works.numbers);
+                (skips_no_number g opening listings (commands_of true old.input.left) lines works.heard heard.same old.image mid.image works.numbers);
             reads = λ newest blocks sound. few_told _ _ _ _ old mid new same_reads tells (reads_no_more pool g opening listings old.image works.ended works.octets run refl refl works.heard heard.same old mid refl works.reads newest blocks sound);
           };
-          listed = lists_the_machine pool g opening listings (commands_of true old.left) lines works.heard heard.same old.image works.listed;
+          listed = lists_the_machine pool g opening listings (commands_of true old.input.left) lines works.heard heard.same old.image works.listed;
         };
         order = record {
           serial = run_is_serial law g opening old good works.ended works.octets listings;
@@ -265,20 +298,21 @@ module _ (pool : ℕ) (g : Geometry) (opening : State) (listings : List (List Ca
             stands = subst (λ (n : ℕ). StandsAfter own n new.image) (all_among own) (stands_after own (length (up_to_quit lines)) new.image
                 (subst (λ (n : ℕ). StandsAt own n new.image) (sym count) (subst (λ (s : State). StandsFor g new.image s) (sym (state_same run lines works.heard same works.heard (omega arith))) works.done.3.stands)));
           };
+          answered = answered_first g opening listings old new works.heard works.octets works.ended same works.answers;
           taking = λ which. ⊎_elim (λ e. absurd (omega (arith, e))) (λ e. absurd (omega (arith, e))) which;
           over = λ e. absurd (omega (arith, e));
         };
         resources = record {
           begun = works.heard;
-          has_begun = has_begun pool g opening listings (commands_of true old.left) lines works.heard same old new new [] 0 (sym (append-nil new.told)) heard.enough works.begun;
+          has_begun = has_begun pool g opening listings (commands_of true old.input.left) lines works.heard same old new new [] 0 (sym (append-nil new.told)) heard.enough works.begun;
           asked = record {
             worn = λ e. absurd (omega (arith, e));
             room = λ zero. never_wears pool g opening listings old.image works.ended works.octets run refl refl works.heard same count works.room;
             frames = λ zero. leaves_its_queue pool g opening listings old.image works.ended works.octets run refl refl works.heard same count new.image works.queue;
-            numbers = skips_no_number g opening listings (commands_of true old.left) lines works.heard same old.image new.image works.numbers;
+            numbers = skips_no_number g opening listings (commands_of true old.input.left) lines works.heard same old.image new.image works.numbers;
             reads = reads_no_more pool g opening listings old.image works.ended works.octets run refl refl works.heard same old new refl works.reads;
           };
-          listed = lists_the_machine pool g opening listings (commands_of true old.left) lines works.heard same old.image works.listed;
+          listed = lists_the_machine pool g opening listings (commands_of true old.input.left) lines works.heard same old.image works.listed;
         };
         order = record {
           serial = run_is_serial law g opening old good works.ended works.octets listings;
@@ -301,12 +335,12 @@ not_over n left octets rest is (inr quit) many none = true_not_false (sym quit �
     same = ap (take n) is ∙ front
 
 -- where nothing fails, no ring stands at its end that is appended to, and the input ends in time
-pub complete : OverflowsWithMore → (pool : ℕ) (g : Geometry) (opening : State) (old new : Site) (status : ℕ) → IsGood g opening old → NoFaultRose old new → NeverWears pool (run_of g opening true old.left []) old.image → HasLogRoom g new → EndsInTime old → HasCauses status old new →
+pub complete : OverflowsWithMore → (pool : ℕ) (g : Geometry) (opening : State) (old new : Site) (status : ℕ) → IsGood g opening old → NoFaultRose old new → NeverWears pool (run_of g opening true old.input.left []) old.image → HasLogRoom (run_of g opening true old.input.left []) old.image → EndsInTime old → HasCauses status old new →
     Headline pool g opening old new status → (status ≡ 0) ⊎ (status ≡ 4)
 complete more pool g opening old new status good none room log_room ends causes h =
     ⊎_elim (λ e. inl e) (⊎_elim (λ e. let c = causes.device e in absurd (none.devices c.0 c.1)) (⊎_elim (λ e. inr e) (⊎_elim (λ e. absurd (none.input (causes.input e)))
     (⊎_elim (λ e. absurd (none.output (causes.output e))) (⊎_elim (λ e. absurd (in_time (d.over e)))
-    (⊎_elim (λ e. absurd (⊎_elim never log_room (h.resources.asked.worn e))) (λ e. absurd (causes.foreign e good.honest g opening.table opening.commits stands)))))))) causes.others
+    (⊎_elim (λ e. absurd (⊎_elim never at_end (h.resources.asked.worn e))) (λ e. absurd (causes.foreign e good.honest g opening.table opening.commits stands)))))))) causes.others
   where
     d : Durability g opening old new status
     d = h.durability
@@ -315,14 +349,17 @@ complete more pool g opening old new status good none room log_room ends causes 
     stands = stands_by g old.image opening good.opens
 
     in_time : (length d.octets ≡ limit + 1) × (list_any is_quit (commands_of false (take limit d.octets)) ≡ false) → ⊥
-    in_time over = not_over limit old.left d.octets new.left d.taken ends over.0 over.1
+    in_time over = not_over limit old.input.left d.octets new.input.left d.taken ends over.0 over.1
+
+    at_end : IsLogWorn g new.image → ⊥
+    at_end = never_at_end g opening d.listings d.ended old.input.left d.octets new.input.left d.taken d.end h.resources.begun old.image new.image good.opens.newest good.opens.blocks good.opens.sound h.resources.asked.numbers log_room
 
     never : WearsOut pool (run_of g opening d.ended d.octets d.listings) h.resources.begun old.image → ⊥
     never over =
         let newest = good.opens.newest in
         let blocks = good.opens.blocks in
         let sound = good.opens.sound in
-        let all = wears_out_all pool g opening d.listings old.image d.ended d.octets more old.left new.left d.taken d.end h.resources.begun over newest blocks sound in
+        let all = wears_out_all pool g opening d.listings old.image d.ended d.octets more old.input.left new.input.left d.taken d.end h.resources.begun over newest blocks sound in
         let few = room newest blocks sound in
         omega (arith, all, few)
 

@@ -140,8 +140,8 @@ octet_first buffer from to less fits = first_of buffer from to less fits ∙ ap 
 -- no more octets are heard than were taken
 pub over : (source source' : Source) (old new : State) (line : List ℕ) (len heard : ℕ) → IsSource source → IsSource source' → HeardSoFar (to_hear source old) (to_hear source' new) line len heard → total source' new ≡ total source old → heard ≤ limit
 over source source' old new line len heard is is' h same =
-    let before = length-append (pending source) old.left in
-    let after = length-append (pending source') new.left in
+    let before = length-append (pending source) old.input.left in
+    let after = length-append (pending source') new.input.left in
     let all = ap length h.all ∙ length-append h.octets (to_hear source' new) in
     let taken = length-take (source.to - source.from) (drop source.from source.buffer) in
     let number = h.number in

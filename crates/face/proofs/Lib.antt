@@ -9,7 +9,6 @@ mod Cuts
 mod Endings
 mod Ends
 mod Faults
-mod SerialRuns
 mod Fronts
 mod Heard
 mod Listed
@@ -17,6 +16,7 @@ mod Lives
 mod Livings
 mod LoadFaults
 mod Loadings
+mod LogRoom
 mod Logs
 mod Longer
 mod Meanings
@@ -27,12 +27,14 @@ mod Quiet
 mod Ranges
 mod Replies
 mod Runs
+mod SerialRuns
 mod Stated
 mod Tallies
 mod Trials
 mod Turns
+mod Waits
 mod WordLaws
 mod WordLists
 mod Works
-mod Zeros
 mod Writings
+mod Zeros

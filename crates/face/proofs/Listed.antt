@@ -21,7 +21,7 @@ use Rattle.log_records.specs.declared.log_record.LogRecord.{LogRecord}
 use Rattle.second_chance.specs.Machine.{after_works, listing, rules_of}
 use Rattle.face.specs.Causes.{FailsBy}
 use Rattle.face.specs.Run.{Run, Begins, IsAsked, step, answered, listings_left, listing_at}
-use Rattle.face.specs.Working.{ListsUpTo, asked_after}
+use Rattle.face.specs.Working.{AnswersFirst, ListsUpTo, asked_after}
 use Rattle.face.specs.Going.{Going, IsPaged, IsUnderWay}
 use Rattle.face.proofs.Runs.{left_next}
 
@@ -88,6 +88,9 @@ module _ (pool : ℕ) (entry mid : Site) (engine : Engine) (i : ℕ) (so_far : I
 
     pub going_before : Going run entry mid engine i
     going_before = so_far.going run (asked line (listing_of engine) ++ later) begins before
+
+    pub answers_before : AnswersFirst run i entry mid
+    answers_before = so_far.answers run (asked line (listing_of engine) ++ later) begins before
 
     pub is_asked : IsAsked line (listing_of engine) (listing_at run i)
     is_asked = λ asks. ap next_listing (so_far.left run (asked line (listing_of engine) ++ later) begins before) ∙ first_asked line (listing_of engine) later asks

@@ -24,7 +24,7 @@ line_is : (status : ℕ) (fault : List ℕ) (old new : Site) → IsFaultOf statu
 line_is status fault old new is = ⊎_elim (λ none. inl none.1) (λ halt. inr (halt.0, halt.1, halt.2)) is
 
 -- A run from nothing told is a life, over all lines of the input.
-module _ (law : LawOfLives) (g : Geometry) (before : Between) (octets : List ℕ) (old new : Site) (status : ℕ) (left : old.left ≡ octets) (nothing : old.told ≡ [])
+module _ (law : LawOfLives) (g : Geometry) (before : Between) (octets : List ℕ) (old new : Site) (status : ℕ) (left : old.input.left ≡ octets) (nothing : old.told ≡ [])
     (d : Durability g (opened before.table before.commits 0 (g.blocks - 1)) old new status) where
   abbrev opening : State
   opening = opened before.table before.commits 0 (g.blocks - 1)
@@ -32,11 +32,11 @@ module _ (law : LawOfLives) (g : Geometry) (before : Between) (octets : List ℕ
   abbrev run : Run
   run = life_run g before octets d.listings
 
-  taken : octets ≡ d.octets ++ new.left
+  taken : octets ≡ d.octets ++ new.input.left
   taken = sym left ∙ d.taken
 
   longer : (more : List Line) × (commands_of true octets ≡ commands_of d.ended d.octets ++ more)
-  longer = lines_longer d.ended octets d.octets new.left taken d.end
+  longer = lines_longer d.ended octets d.octets new.input.left taken d.end
 
   all_is : run_with g opening d.listings (commands_of d.ended d.octets ++ longer.0) ≡ run
   all_is = ap (run_with g opening d.listings) (sym longer.1)
@@ -55,7 +55,7 @@ module _ (law : LawOfLives) (g : Geometry) (before : Between) (octets : List ℕ
     fault = d.fault;
     of_status = line_is status d.fault old new d.of_status;
     told = subst (λ (r : Run). IsToldOf r d.fault new.told) all_is (told_all g opening d.listings (commands_of d.ended d.octets) longer.0 d.fault new.told is_told);
-    whole = λ zero. sym (told_same (run_text (ran d)) (d.done zero).told) ∙ sym (all_heard g opening d.listings d.ended octets d.octets new.left taken d.end (d.heard zero));
+    whole = λ zero. sym (told_same (run_text (ran d)) (d.done zero).told) ∙ sym (all_heard g opening d.listings d.ended octets d.octets new.input.left taken d.end (d.heard zero));
   }
 
   found : (image : Image) → MayLeave (now_of new) (record { told = new.told; image = image }) → IsFoundAfter g run new.told image
@@ -83,7 +83,7 @@ module _ (law : LawOfLives) (g : Geometry) (before : Between) (octets : List ℕ
   lived_one = record { listings = d.listings; is_text = is_text; left = found }
 
 -- A site that a life may begin on, once its lines are fed.
-pub fed_site : (g : Geometry) (before : Between) (entry lit fed : Site) (kept octets : List ℕ) → lit ≡ record entry { kept = kept } → fed ≡ record lit { left = lit.left ++ octets } → Finds g before.table before.commits entry → entry.told ≡ [] → entry.left ≡ [] →
+pub fed_site : (g : Geometry) (before : Between) (entry lit fed : Site) (kept octets : List ℕ) → lit ≡ record entry { kept = kept } → fed ≡ record lit { input = record lit.input { left = lit.input.left ++ octets } } → Finds g before.table before.commits entry → entry.told ≡ [] → entry.input.left ≡ [] →
     Finds g before.table before.commits fed × (fed.left ≡ octets) × (fed.told ≡ [])
 fed_site g before entry lit fed kept octets is_lit is_fed finds told left = (
   record {
@@ -91,7 +91,7 @@ fed_site g before entry lit fed kept octets is_lit is_fed finds told left = (
     quiet = ap (λ (s : Site). s.loose) is_fed ∙ ap (λ (s : Site). s.loose) is_lit ∙ finds.quiet;
     opens = subst (λ (i : Image). Opens g i (opened before.table before.commits 0 (g.blocks - 1))) (sym (ap (λ (s : Site). s.image) is_fed ∙ ap (λ (s : Site). s.image) is_lit)) finds.opens;
   },
-  ap (λ (s : Site). s.left) is_fed ∙ ap (λ (l : List ℕ). l ++ octets) (ap (λ (s : Site). s.left) is_lit ∙ left),
+  ap (λ (s : Site). s.input.left) is_fed ∙ ap (λ (l : List ℕ). l ++ octets) (ap (λ (s : Site). s.input.left) is_lit ∙ left),
   ap (λ (s : Site). s.told) is_fed ∙ ap (λ (s : Site). s.told) is_lit ∙ told,
 )
 

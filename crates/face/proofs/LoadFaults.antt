@@ -21,11 +21,13 @@ use Rattle.engine.specs.Paging.{cache_on, restart_works}
 use Rattle.face.specs.declared.halt.Halt.{Halt}
 use Rattle.face.specs.declared.halt.Halt.TheVariants as halt
 use Rattle.face.specs.declared.request.Load.{Load}
-use Rattle.face.specs.Causes.{HasCause, HasCauses, HasLogRoom, NoFaultRose}
+use Rattle.face.specs.Causes.{HasCause, HasCauses, NoFaultRose}
+use Rattle.face.proofs.LogRoom.{never_at_end_within}
 use Rattle.face.specs.TopCall.{LoadContract}
 use Rattle.face.specs.Headline.{IsGood, TellsFault}
 use Rattle.face.specs.Loads.{Allows, HasBegunLoad, IsLeftOf, IsOpened, IsUntold, LoadHeadline, LoadStops, LoadWorks}
-use Rattle.face.specs.Range.{NeverWears, StandsAfter, WearsOut, all_commits, turns_of, works_by}
+use Rattle.redo_undo.specs.Holding.{IsLogWorn}
+use Rattle.face.specs.Range.{HasLogRoom, NeverWears, StandsAfter, WearsOut, all_commits, turns_of, works_by}
 use Rattle.face.specs.Run.{IsFront, Run}
 use Rattle.face.specs.Texts.{fault_line, status_of}
 use Rattle.face.specs.Tells.{EndsBehind, Tells}
@@ -273,12 +275,15 @@ module _ (load : Load) (g : Geometry) (opening : State) (old : Site) (good : IsG
   }
 
   -- where nothing fails, and no ring is too short, it is done, or memory was wanted
-  pub load_complete : OverflowsWithMore → (new : Site) (status : ℕ) → NoFaultRose old new → NeverWears load.pool run' old.image → HasLogRoom g new → (status ≢ 5) × (status ≢ 7) → HasCauses status old new → LoadHeadline load g opening old new status → (status ≡ 0) ⊎ (status ≡ 4)
+  pub load_complete : OverflowsWithMore → (new : Site) (status : ℕ) → NoFaultRose old new → NeverWears load.pool run' old.image → HasLogRoom run' old.image → (status ≢ 5) × (status ≢ 7) → HasCauses status old new → LoadHeadline load g opening old new status → (status ≡ 0) ⊎ (status ≡ 4)
   load_complete more new status none room log_room untaken causes h =
       ⊎_elim (λ e. inl e) (⊎_elim (λ e. let c = causes.device e in absurd (none.devices c.0 c.1)) (⊎_elim (λ e. inr e) (⊎_elim (λ e. absurd (untaken.0 e))
       (⊎_elim (λ e. absurd (none.output (causes.output e))) (⊎_elim (λ e. absurd (untaken.1 e))
-      (⊎_elim (λ e. absurd (⊎_elim never log_room (h.resources.asked.worn e))) (λ e. absurd (causes.foreign e good.honest g opening.table opening.commits (stands_by g old.image opening good.opens))))))))) causes.others
+      (⊎_elim (λ e. absurd (⊎_elim never at_end (h.resources.asked.worn e))) (λ e. absurd (causes.foreign e good.honest g opening.table opening.commits (stands_by g old.image opening good.opens))))))))) causes.others
     where
+      at_end : IsLogWorn g new.image → ⊥
+      at_end = never_at_end_within run' h.resources.begun old.image new.image good.opens.newest good.opens.blocks good.opens.sound h.resources.asked.numbers log_room
+
       never : WearsOut load.pool run' h.resources.begun old.image → ⊥
       never over =
           let newest = good.opens.newest in

@@ -91,7 +91,7 @@ module _ (g : Geometry) (opening : State) (load : Load) where
   module _ (old : Site) where
     -- a run that opens with the same state
     abbrev opening_run : Run
-    opening_run = run_of g opening true old.left []
+    opening_run = run_of g opening true old.input.left []
 
     opens_at : (whole : ℕ) (image : Image) → whole ≤ 1 → StandsNear opening_run 0 whole image → StandsFor g image opening
     opens_at zero image few near = ⊎_elim (λ stands. stands) (λ stands. stands.1) near
@@ -153,7 +153,7 @@ module _ (g : Geometry) (opening : State) (load : Load) where
       stands = λ s left. let a = stops.any_moment.now s left in let begun = a.begun in (0, omega arith, stands_first s.image (opens_at a.whole s.image (omega (arith, begun)) a.stands));
     }
 
-    pub load_never_opened : {T : Type 0} (new : Site) (h : Halt) → Stops opening_run 0 old new h → (h ≡ halt.Stop (Worn Flash) → WearsOut load.pool opening_run 0 old.image) → SkipsNoneUpTo opening_run 0 old.image new.image → AsksNoMore load.pool opening_run 0 old new → new.left ≡ old.left →
+    pub load_never_opened : {T : Type 0} (new : Site) (h : Halt) → Stops opening_run 0 old new h → (h ≡ halt.Stop (Worn Flash) → WearsOut load.pool opening_run 0 old.image) → SkipsNoneUpTo opening_run 0 old.image new.image → AsksNoMore load.pool opening_run 0 old new → new.input ≡ old.input →
         LoadWorks {T = T} load.pool run [] old new (Err h)
     load_never_opened {T} new h stops worn numbers reads left = record {
       stops = never_opened new h stops;
@@ -165,7 +165,7 @@ module _ (g : Geometry) (opening : State) (load : Load) where
           subst (λ (w : List CacheWork). Overflows (rules_of load.pool g.groups) w (cache_on g old.image)) (sym (first_asked 0 newest old.image blocks ∙ append-nil (asked_after opening_run newest old.image blocks 0)))
           (worn (same_halt {T = T} h (halt.Stop (Worn Flash)) is) newest blocks sound);
       room = tt;
-      numbers = skips_no_number g opening [] (commands_of true old.left) run.lines 0 refl old.image new.image numbers;
+      numbers = skips_no_number g opening [] (commands_of true old.input.left) run.lines 0 refl old.image new.image numbers;
       reads = λ newest blocks sound.
           subst (λ (w : List CacheWork). AsksFew load.pool g w old new) (sym (first_asked 0 newest old.image blocks ∙ append-nil (asked_after opening_run newest old.image blocks 0))) (reads newest blocks sound);
       left = left;
@@ -176,7 +176,7 @@ module _ (g : Geometry) (opening : State) (load : Load) where
         (paged : (newest : Option Master) (blocks : List (List LogRecord)) → IsSound newest g old.image blocks → IsPaged load.pool opening_run newest old.image blocks before 0)
         (counted : (newest : Option Master) (blocks : List (List LogRecord)) → IsSound newest g old.image blocks → IsCounted opening_run (log_under newest blocks) old.image mid.image before 0)
         (read : AsksNoMore load.pool opening_run 0 old mid) (goes_on : MayGoOn before mid)
-        (left : mid.left ≡ old.left) where
+        (left : mid.input ≡ old.input) where
       told_mid : mid.told ≡ old.told ++ opening_text run
       told_mid = going.told ∙ ap (λ (l : List ℕ). old.told ++ l) (append-nil (opening_text run))
 
@@ -266,7 +266,7 @@ module _ (g : Geometry) (opening : State) (load : Load) where
                   ((some.course.serves opening going.fits).writes (engine_queue before mid opening goes_on going.fits) going.quiet))));
             })
 
-        left_new : new.left ≡ old.left
+        left_new : new.input ≡ old.input
         left_new = some.course.left going.fits.honest ∙ left
 
       pub load_stopped : {T U : Type 0} (h : Halt) → CarriesFirst {T = U} (Err h) run.lines before after mid new → LoadWorks {T = T} load.pool run [] old new (Err h)

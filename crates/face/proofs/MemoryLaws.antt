@@ -54,7 +54,7 @@ reads_nothing rise pool run site quiet newest blocks sound = none_read pool run.
 
 pub lacked_headline : Serial → NumbersRise → (pool : ℕ) (g : Geometry) (opening : State) (old new : Site) → {T : Type 0} (result : Result T Failed) → IsGood g opening old → Tells memory_fault old new result → Headline pool g opening old new 4
 lacked_headline law rise pool g opening old new result good tells =
-    let run = run_of g opening true old.left [] in
+    let run = run_of g opening true old.input.left [] in
     let stops = not_opened run old old (still g opening old good) lacks (λ ne. good.quiet) in
     let works : Works {T = ℕ} pool run old old (Err lacks) = never_opened pool run old old lacks stops (λ e. cc, λ e. cc) refl (λ e. cc) (counts_nothing run old.image) (reads_nothing rise pool run old good.quiet) in
     halted pool g opening [] old law old new lacks good works (goes_nowhere old) result tells tt 4 refl
@@ -63,9 +63,9 @@ lacked_headline law rise pool g opening old new result good tells =
 pub lacked_load : NumbersRise → (load : Load) (g : Geometry) (opening : State) (old new : Site) → {T : Type 0} (result : Result T Failed) → IsGood g opening old → Tells memory_fault old new result → LoadHeadline load g opening old new 4
 lacked_load rise load g opening old new result good tells =
     let run = load_run g opening load in
-    let stops = not_opened (run_of g opening true old.left []) old old (still g opening old good) lacks (λ ne. good.quiet) in
+    let stops = not_opened (run_of g opening true old.input.left []) old old (still g opening old good) lacks (λ ne. good.quiet) in
     let works : LoadWorks {T = ℕ} load.pool run (summary_text run load) old old (Err lacks) =
-    stopped_before load.pool run (summary_text run load) old {T = ℕ} old lacks (load_never_opened g opening load old old lacks stops (λ e. cc) (counts_nothing (run_of g opening true old.left []) old.image) (reads_nothing rise load.pool (run_of g opening true old.left []) old good.quiet) refl) in
+    stopped_before load.pool run (summary_text run load) old {T = ℕ} old lacks (load_never_opened g opening load old old lacks stops (λ e. cc) (counts_nothing (run_of g opening true old.input.left []) old.image) (reads_nothing rise load.pool (run_of g opening true old.input.left []) old good.quiet) refl) in
     load_halted load g opening old good old new lacks works (goes_nowhere old) result tells tt 4 refl
 
 -- the contracts of a run and of a load

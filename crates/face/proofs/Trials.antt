@@ -2,7 +2,7 @@
 use Rattle.std.proofs.Common.{◌≡◌, ◌≢◌, ◌⊎◌, inl, inr, ⊎_elim, ℕ, zero, suc, ◌+◌, ◌-◌, ◌≤◌, ◌<◌, List, [], ◌∷◌, ◌++◌, length, take, drop, refl, sym, ◌∙◌, ap, subst, arith, add-one, append_assoc, length-append, take-append-drop, IsTrue}
 use Rattle.std.specs.Prelude.{Option, Some, None, min, Result, Ok, Err, OnErr, slice_get, slice_range}
 use Rattle.std.proofs.lemmas.List.{append-nil, take_all, take_at}
-use Rattle.site.specs.State.{State as Site, Image, MayLeave, no_loose, now_of}
+use Rattle.site.specs.State.{Input, State as Site, Image, MayLeave, no_loose, now_of}
 use Rattle.site.specs.Calls.{Goes, Rose}
 use Rattle.site.specs.Crash.{image_left, started}
 use Rattle.site.specs.Laws.{calm, each_weaker, goes_nowhere, in_sequence, no_call, now_leaves, now_same, rose_then}
@@ -169,7 +169,7 @@ none_yet blank g script old inner new =
       ready = record {
         finds = subst (Finds g (blank_table g) 0) (sym state) (record { honest = refl; quiet = refl; opens = (blank g new.limits).1 });
         told = ap (λ (s : Site). s.told) state;
-        left = ap (λ (s : Site). s.left) state;
+        left = ap (λ (s : Site). s.input.left) state;
       };
       numbers = new.lives;
       count = refl;
@@ -244,7 +244,7 @@ module _ (g : Geometry) (script : List ℕ) (place : ℕ) (old mid : Site) (inne
         ready = record {
           finds = next.finds (state_of cut) refl (ap (λ (s : Site). s.loose) state) refl;
           told = ap (λ (s : Site). s.told) state;
-          left = ap (λ (s : Site). s.left) state;
+          left = ap (λ (s : Site). s.input.left) state;
         };
         numbers = kept ∙ sym next.counted;
         count = ap length next.counted ∙ length-append r.before.changes (changes ∷ []) ∙ ap (λ (n : ℕ). n + 1) r.count ∙ add-one place;
@@ -324,10 +324,10 @@ pub record TrialHalts (h : Halt) (old mid : Site) : Type 0 where
   pub is : IsHaltOfTrial h
   pub input : h ≡ halt.Input → Rose old.input_faults mid.input_faults
   pub output : h ≡ halt.Output → Rose old.output_faults mid.output_faults
-  pub few : h ≡ halt.Output → IsTrue old.honest → length old.left ≤ script_limit
-  pub limit : h ≡ halt.Limit → IsTrue old.honest → length old.left ≡ script_limit + 1 + length mid.left
+  pub few : h ≡ halt.Output → IsTrue old.honest → length old.input.left ≤ script_limit
+  pub limit : h ≡ halt.Limit → IsTrue old.honest → length old.input.left ≡ script_limit + 1 + length mid.input.left
 
-pub caused_by : (h : Halt) (status : ℕ) (old mid new : Site) → status ≡ status_of h → TrialHalts h old mid → Goes mid new → (IsTrue old.honest → new.left ≡ mid.left) → TrialCauses old new status
+pub caused_by : (h : Halt) (status : ℕ) (old mid new : Site) → status ≡ status_of h → TrialHalts h old mid → Goes mid new → (IsTrue old.honest → new.input ≡ mid.input) → TrialCauses old new status
 caused_by h status old mid new is t goes left = ⊎_elim memory (⊎_elim input (⊎_elim output limit)) t.is
   where
     memory : h ≡ halt.Stop Memory → TrialCauses old new status
@@ -371,7 +371,7 @@ caused_by h status old mid new is t goes left = ⊎_elim memory (⊎_elim input 
     limit : h ≡ halt.Limit → TrialCauses old new status
     limit e =
         let seven : status ≡ 7 = is ∙ ap status_of e in
-        let over : IsTrue old.honest → length old.left ≡ script_limit + 1 + length new.left = λ honest. let all = t.limit e honest in let same = ap length (left honest) in omega (arith, all, same) in
+        let over : IsTrue old.honest → length old.input.left ≡ script_limit + 1 + length new.input.left = λ honest. let all = t.limit e honest in let same = ap (λ (input : Input). length input.left) (left honest) in omega (arith, all, same) in
         record {
           others = inr (inr (inr (inr seven)));
           input = λ x. absurd (omega (arith, seven, x));
@@ -384,7 +384,7 @@ caused_by h status old mid new is t goes left = ⊎_elim memory (⊎_elim input 
 -- where memory was wanted before the script was read
 pub lacked_trial : {T : Type 0} (g : Geometry) (old new : Site) (result : Result T Failed) → Tells (fault_line (halt.Stop Memory)) old new result → TrialContract g old new 4 (0 ∷ [])
 lacked_trial {T} g old new result tells = record {
-  lives = λ honest. told_and_fault {T = T} g old.left old old new (0 ∷ []) 4 result (goes_nowhere old) honest (halt.Stop Memory) refl
+  lives = λ honest. told_and_fault {T = T} g old.input.left old old new (0 ∷ []) 4 result (goes_nowhere old) honest (halt.Stop Memory) refl
       (record { lives = 0; before = at_first g; lived = refl; told = sym (append-nil old.told); changes = 0; numbers_are = refl }) (λ which. refl) tells;
   causes = caused_by (halt.Stop Memory) 4 old old new refl (record {
     is = inl refl;

@@ -29,7 +29,7 @@ IsForeign site = IsTrue site.honest → (g : Geometry) (table : List Content) (c
 
 -- of an honest site: more octets were taken than a run may take
 abbrev pub IsOverLimit : State → State → Type 0
-IsOverLimit old new = IsTrue old.honest → limit + length new.left < length old.left
+IsOverLimit old new = IsTrue old.honest → limit + length new.input.left < length old.input.left
 
 -- the ring of groups on flash, or a ring on the log's device, stands at its end; the disk has no ring
 abbrev pub IsWornAt : Dev → Geometry → Image → Type 0
@@ -91,13 +91,9 @@ pub record NoFaultRose (old new : State) : Type 0 where
   pub input : ¬ (Rose old.input_faults new.input_faults)
   pub output : ¬ (Rose old.output_faults new.output_faults)
 
--- no ring on the log's device stands at its end
-abbrev pub HasLogRoom : Geometry → State → Type 0
-HasLogRoom g site = ¬ (IsLogWorn g site.image)
-
 -- the input ends within the limit of octets, or has a quit within it
 abbrev pub EndsInTime : State → Type 0
-EndsInTime site = (length site.left ≤ limit) ⊎ (list_any is_quit (commands_of false (take limit site.left)) ≡ true)
+EndsInTime site = (length site.input.left ≤ limit) ⊎ (list_any is_quit (commands_of false (take limit site.input.left)) ≡ true)
 
 -- devices without sizes are refused, and nothing was done
 abbrev pub Halts : {T : Type 0} → Result T Halt → State → State → Type 0

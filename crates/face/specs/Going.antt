@@ -25,7 +25,7 @@ use Rattle.log_records.specs.Log.{Entry}
 use Rattle.log_records.specs.Unfinished.{owed}
 use Rattle.redo_undo.specs.Holding.{blocks_to}
 use Rattle.face.specs.Run.{CountsUpTo, Run, Begins, answered, told_after, state_at, listings_left, IsAccounted}
-use Rattle.face.specs.Working.{ListsUpTo, asked_after}
+use Rattle.face.specs.Working.{AnswersFirst, ListsUpTo, asked_after}
 
 -- so many lines of the run were answered
 pub record Going (run : Run) (entry now : Site) (engine : Engine) (lines : ℕ) : Type 0 where
@@ -48,6 +48,8 @@ pub record IsUnderWay (pool : ℕ) (entry now : Site) (engine : Engine) (lines :
       Going run entry now engine lines
   pub listed : (run : Run) (later : List (List CacheLine)) → Begins run entry → run.listings ≡ listings ++ later →
       ListsUpTo pool run lines entry.image
+  pub answers : (run : Run) (later : List (List CacheLine)) → Begins run entry → run.listings ≡ listings ++ later →
+      AnswersFirst run lines entry now
 
 -- The page cache has done what the run has asked.
 pub record IsPaged (pool : ℕ) (run : Run) (newest : Option Master) (image : Image) (blocks : List (List LogRecord))

@@ -18,6 +18,7 @@ use Rattle.shell_text.specs.Serial.{IsToldSerial}
 use Rattle.face.specs.Lines.{HeardAll, limit, commands_of}
 use Rattle.face.specs.Run.{Run, IsFront}
 use Rattle.face.specs.Range.{run_of, turns_of, texts, run_text, all_commits, StandsAfter, IsLeft, WearsOut, NeverWears}
+use Rattle.face.specs.Waiting.{NobodyWaits}
 use Rattle.face.specs.Range.{LeavesItsQueue, SkipsNoNumber, AsksNoMore, ListsTheMachine, HasBegun}
 
 -- an honest and quiet site, whose image is sound, and over which a run opens with this state
@@ -66,8 +67,8 @@ pub record Durability (g : Geometry) (opening : State) (old new : Site) (status 
   -- the octets that were taken, and whether a take has answered that the input ended
   pub octets : List ℕ
   pub ended : Bool
-  pub taken : old.left ≡ octets ++ new.left
-  pub end : ended ≡ true → new.left ≡ []
+  pub taken : old.input.left ≡ octets ++ new.input.left
+  pub end : ended ≡ true → new.input.left ≡ []
   -- what the cache lists at each cache command that is answered
   pub listings : List (List CacheLine)
   -- the fault line of the status
@@ -82,6 +83,8 @@ pub record Durability (g : Geometry) (opening : State) (old new : Site) (status 
   -- with status 0 the input was heard to its end or to a quit, and all is told and done
   pub heard : status ≡ 0 → HeardAll ended octets
   pub done : status ≡ 0 → IsWhole (run_of g opening ended octets listings) old new
+  -- wherever input was asked for, all lines that stood whole in what was heard had been answered
+  pub answered : NobodyWaits (run_of g opening ended octets listings) old new
   -- with 5 and 7 all lines were answered whose newline is among the first 2 ^ 40 octets
   pub taking : (status ≡ 5) ⊎ (status ≡ 7) →
       IsToldWhole (run_of g opening false (take limit octets) listings) fault old new

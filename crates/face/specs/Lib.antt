@@ -14,6 +14,7 @@ pub mod Tells
 pub mod Texts
 pub mod TopCall
 pub mod Trial
+pub mod Waiting
 pub mod Words
 pub mod Working
 pub mod Workload

@@ -3,6 +3,7 @@ use Rattle.std.specs.Prelude.{◌≡◌, ◌≢◌, ◌⊎◌, ℕ, ◌+◌, ◌
 use Rattle.std.specs.Prelude.{take, drop, map, Option, Some, None, if◌then◌else◌, ⊤}
 use Rattle.std.specs.List.{AllByRecursion, list_any}
 use Rattle.site.specs.State.{State}
+use Rattle.site.specs.declared.outside.Take.{Take}
 use Rattle.site.specs.Calls.{SameReads}
 use Rattle.record_model.specs.Run.{Line, is_quit}
 use Rattle.shell_text.specs.Reading.{line_of}
@@ -39,7 +40,7 @@ abbrev pub pending : Source → List ℕ
 pending source = take (source.to - source.from) (drop source.from source.buffer)
 
 abbrev pub to_hear : Source → State → List ℕ
-to_hear source site = pending source ++ site.left
+to_hear source site = pending source ++ site.input.left
 
 -- of every site
 pub record IsSource (source : Source) : Type 0 where
@@ -52,11 +53,11 @@ pub record IsSource (source : Source) : Type 0 where
 
 -- of an honest site: where a take has answered that the input ended, nothing is left
 abbrev pub HasEnded : Source → State → Type 0
-HasEnded source site = source.ended ≡ true → site.left ≡ []
+HasEnded source site = source.ended ≡ true → site.input.left ≡ []
 
 -- the octets that were taken and those that are left
 abbrev pub total : Source → State → ℕ
-total source site = source.taken + length site.left
+total source site = source.taken + length site.input.left
 
 -- nothing but the octets left to hear changed
 pub record HearsOnly (old new : State) : Type 0 where
@@ -65,6 +66,24 @@ pub record HearsOnly (old new : State) : Type 0 where
   pub told : new.told ≡ old.told
   pub past : new.past ≡ old.past
   pub reads : SameReads old new
+
+-- Input was asked for within a line: of what was to hear these octets were heard by then, none of them a newline, and no
+-- more was told than before.
+pub record TookWithin (source : Source) (before : State) (t : Take) : Type 0 where
+  pub octets : List ℕ
+  pub none : AllByRecursion (λ x. x ≢ 10) octets
+  pub rest : List ℕ
+  pub all : to_hear source before ≡ octets ++ rest
+  pub here : t.heard + length (pending source) ≡ before.input.heard + length octets
+  pub told : t.told ≡ length before.told
+  pub going : source.ended ≡ false
+
+-- input was asked for within a line only, and each octet that isn't left any more was heard
+pub record TakesWithin (source : Source) (before now : State) : Type 0 where
+  pub takes : List Take
+  pub are : now.input.takes ≡ before.input.takes ++ takes
+  pub within : AllByRecursion (TookWithin source before) takes
+  pub count : now.input.heard + length now.input.left ≡ before.input.heard + length before.input.left
 
 -- these octets are so many lines, whatever comes behind them; where the input has ended nothing comes
 abbrev pub AreLines : List ℕ → List Line → Bool → Type 0

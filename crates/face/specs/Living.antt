@@ -21,7 +21,7 @@ Finds g table commits site = IsGood g (opened table commits 0 (g.blocks - 1)) si
 pub record IsReady (g : Geometry) (before : Between) (m : MemSite) : Type 0 where
   pub finds : Finds g before.table before.commits (state_of m)
   pub told : (state_of m).told ≡ []
-  pub left : (state_of m).left ≡ []
+  pub left : (state_of m).input.left ≡ []
 
 -- each honest and quiet site with these contents is found so by a run, after some of the commits of this one
 pub record IsFoundAfter (g : Geometry) (run : Run) (text : List ℕ) (image : Image) : Type 0 where

@@ -72,7 +72,7 @@ pub record LoadDurability (load : Load) (g : Geometry) (opening : State) (old ne
   pub done : status ≡ 0 →
       IsLoaded (load_run g opening load) (summary_text (load_run g opening load) load) old new
   -- no input is taken
-  pub left : new.left ≡ old.left
+  pub left : new.input ≡ old.input
 
 -- what it asks of the devices
 pub record LoadResources (pool : ℕ) (run : Run) (old new : Site) (status : ℕ) : Type 0 where
@@ -120,7 +120,7 @@ pub record LoadWorks {T : Type 0} (pool : ℕ) (run : Run) (summary : List ℕ) 
   pub frames : OnOk result (LeavesItsQueue pool run old.image new.image)
   pub numbers : SkipsNoNumber run begun old.image new.image
   pub reads : AsksNoMore pool run begun old new
-  pub left : new.left ≡ old.left
+  pub left : new.input ≡ old.input
 
 -- what was counted is what the turns of the record model say
 pub record HasCounted (run : Run) (committed checkpoints found : ℕ) : Type 0 where
@@ -157,7 +157,7 @@ pub record CarriesOut {T : Type 0} (result : Result T Halt) (lines : List Line) 
       Serves result (works_of s lines) before.store.pages after.store.pages old new
   pub numbers : (s : State) → Fits before old s → IsQuiet old →
       CountsOn result before after old new s (after_lines s lines []) (checkpoints_of s lines)
-  pub left : IsTrue old.honest → new.left ≡ old.left
+  pub left : IsTrue old.honest → new.input ≡ old.input
   pub stays_quiet : IsTrue old.honest → IsQuiet old → OnOk result (IsQuiet new)
   pub quiet : (s : State) → Fits before old s → IsQuiet old →
       IfErr result (λ halt. ((d : Dev) → halt ≢ Stop (Device d)) → IsQuiet new)

@@ -1,5 +1,5 @@
 -- What a run may tell and leave: its commits, the numbers that it gives, and its work on the page cache.
-use Rattle.std.specs.Prelude.{◌≡◌, ◌⊎◌, ℕ, ◌+◌, ◌≤◌, Bool, true, List, [], ◌∷◌, ◌++◌, ◌^◌, length, take, slice_index_or}
+use Rattle.std.specs.Prelude.{◌≡◌, ◌⊎◌, ℕ, ◌+◌, ◌<◌, ◌≤◌, Bool, true, List, [], ◌∷◌, ◌++◌, ◌^◌, length, take, slice_index_or}
 use Rattle.std.specs.Prelude.{flat_map, count_by, Option}
 use Rattle.site.specs.State.{State as Site, Snapshot, Image}
 use Rattle.site.specs.declared.geometry.Geometry.{Geometry}
@@ -91,6 +91,18 @@ pub record GivesNumbers (run : Run) (lines : ℕ) (records : List Entry) (old no
 abbrev pub SkipsNoNumber : Run → ℕ → Image → Image → Type 0
 SkipsNoNumber run lines old now = (newest : Option Master) (blocks : List (List LogRecord)) →
     IsSound newest run.geometry old blocks → GivesNumbers run lines (log_under newest blocks) old now
+
+-- The rings on the log's device have numbers for all that the restart and the run append, over an image whose log has
+-- these records.
+pub record HasNumbersFor (run : Run) (records : List Entry) (image : Image) : Type 0 where
+  pub blocks :
+      hi_of (log_shape run.geometry) image.log + owed records + made_by run (length (turns_of run)) < 2 ^ 40
+  pub masters : hi_of master_shape image.log + 1 + checkpoints_in (turns_of run) < 2 ^ 40
+
+-- so neither comes to its end
+abbrev pub HasLogRoom : Run → Image → Type 0
+HasLogRoom run image = (newest : Option Master) (blocks : List (List LogRecord)) →
+    IsSound newest run.geometry image blocks → HasNumbersFor run (log_under newest blocks) image
 
 -- what the run asks of the page cache over this image: the restart's work, then that of these turns
 abbrev pub works_by : Run → List Turn → Option Master → Image → List (List LogRecord) → List CacheWork

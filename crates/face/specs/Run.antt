@@ -157,7 +157,7 @@ pub record Begins (run : Run) (site : Site) : Type 0 where
   pub honest : IsTrue site.honest
   pub quiet : site.loose ≡ no_loose
   pub opens : Opens run.geometry site.image run.opening
-  pub lines : run.lines ≡ commands_of true site.left
+  pub lines : run.lines ≡ commands_of true site.input.left
 
 -- What a crash may leave of the answer to one line: some front of the text is told, and none of it while the line isn't
 -- done
@@ -176,10 +176,10 @@ pub record IsBetween (run : Run) (heard : ℕ) (old now : Site) : Type 0 where
 -- These octets were taken. `ended` is whether a take has answered that the input ended. So many of their lines were
 -- heard, which are the first ones of all lines.
 pub record HasHeard (heard : ℕ) (octets : List ℕ) (ended : Bool) (old now : Site) : Type 0 where
-  pub taken : old.left ≡ octets ++ now.left
-  pub end : ended ≡ true → now.left ≡ []
+  pub taken : old.input.left ≡ octets ++ now.input.left
+  pub end : ended ≡ true → now.input.left ≡ []
   pub enough : heard ≤ length (answered_of ended octets)
-  pub same : take heard (answered_of ended octets) ≡ take heard (answered_of true old.left)
+  pub same : take heard (answered_of ended octets) ≡ take heard (answered_of true old.input.left)
 
 -- all was told, and the devices have it
 pub record IsDone (run : Run) (heard : ℕ) (old now : Site) : Type 0 where

@@ -4,22 +4,22 @@ use Rattle.site.specs.State.{State as Site}
 use Rattle.site.specs.declared.geometry.Geometry.{Geometry}
 use Rattle.record_model.specs.State.{State}
 use Rattle.face.specs.declared.request.Load.{Load}
-use Rattle.face.specs.Causes.{EndsInTime, HasCauses, HasLogRoom, NoFaultRose}
+use Rattle.face.specs.Causes.{EndsInTime, HasCauses, NoFaultRose}
 use Rattle.face.specs.Headline.{Headline, IsGood, TellsFault}
 use Rattle.face.specs.Loads.{LoadHeadline}
 use Rattle.face.specs.New.{New, NewCauses}
-use Rattle.face.specs.Range.{NeverWears, run_of}
+use Rattle.face.specs.Range.{HasLogRoom, NeverWears, run_of}
 use Rattle.face.specs.Workload.{load_run}
 
 -- What `run` does with a pool of so many pages.
 pub record RunContract (pool : ℕ) (old new : Site) (status : ℕ) : Type 0 where
   -- what is told, and what a crash at any moment leaves
   pub headline : (g : Geometry) (opening : State) → IsGood g opening old → Headline pool g opening old new status
-  -- Where nothing fails, no group is to be appended to a ring that stands at its end, no ring on the log's device
-  -- stands there, and the input ends in time, the status is 0, or memory was wanted.
+  -- Where nothing fails, no group is to be appended to a ring that stands at its end, the rings on the log's device have
+  -- numbers for all that is to be appended to them, and the input ends in time, the status is 0, or memory was wanted.
   pub complete : (g : Geometry) (opening : State) → IsGood g opening old → NoFaultRose old new →
-      NeverWears pool (run_of g opening true old.left []) old.image → HasLogRoom g new → EndsInTime old →
-      (status ≡ 0) ⊎ (status ≡ 4)
+      NeverWears pool (run_of g opening true old.input.left []) old.image →
+      HasLogRoom (run_of g opening true old.input.left []) old.image → EndsInTime old → (status ≡ 0) ⊎ (status ≡ 4)
   -- of every site: when each status comes, and the line that is told with it
   pub causes : HasCauses status old new
   pub line : IsTrue old.honest → TellsFault status old new
@@ -27,10 +27,11 @@ pub record RunContract (pool : ℕ) (old new : Site) (status : ℕ) : Type 0 whe
 -- What `load` does.
 pub record LoadContract (load : Load) (old new : Site) (status : ℕ) : Type 0 where
   pub headline : (g : Geometry) (opening : State) → IsGood g opening old → LoadHeadline load g opening old new status
-  -- Where nothing fails, no group is to be appended to a ring that stands at its end, and no ring on the log's device
-  -- stands there, the status is 0, or memory was wanted.
+  -- Where nothing fails, no group is to be appended to a ring that stands at its end, and the rings on the log's device
+  -- have numbers for all that is to be appended to them, the status is 0, or memory was wanted.
   pub complete : (g : Geometry) (opening : State) → IsGood g opening old → NoFaultRose old new →
-      NeverWears load.pool (load_run g opening load) old.image → HasLogRoom g new → (status ≡ 0) ⊎ (status ≡ 4)
+      NeverWears load.pool (load_run g opening load) old.image → HasLogRoom (load_run g opening load) old.image →
+      (status ≡ 0) ⊎ (status ≡ 4)
   -- of every site: when each status comes, none that speaks of input, and the line that is told with it
   pub causes : HasCauses status old new
   pub untaken : (status ≢ 5) × (status ≢ 7)

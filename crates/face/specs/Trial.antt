@@ -158,11 +158,11 @@ pub record TrialCauses (old new : Site) (status : ℕ) : Type 0 where
   pub input : status ≡ 5 → Rose old.input_faults new.input_faults
   pub output : status ≡ 6 → Rose old.output_faults new.output_faults
   -- 7 only where one octet more than the limit was taken, and always where there is one and nothing failed before
-  pub limit : IsTrue old.honest → status ≡ 7 → length old.left ≡ script_limit + 1 + length new.left
-  pub over : IsTrue old.honest → script_limit < length old.left → (status ≡ 7) ⊎ ((status ≡ 4) ⊎ (status ≡ 5))
+  pub limit : IsTrue old.honest → status ≡ 7 → length old.input.left ≡ script_limit + 1 + length new.input.left
+  pub over : IsTrue old.honest → script_limit < length old.input.left → (status ≡ 7) ⊎ ((status ≡ 4) ⊎ (status ≡ 5))
   -- where nothing fails and the input ends in time all is done, or memory was wanted
   pub complete : IsTrue old.honest → ¬ (Rose old.input_faults new.input_faults) →
-      ¬ (Rose old.output_faults new.output_faults) → length old.left ≤ script_limit → (status ≡ 0) ⊎ (status ≡ 4)
+      ¬ (Rose old.output_faults new.output_faults) → length old.input.left ≤ script_limit → (status ≡ 0) ⊎ (status ≡ 4)
 
 -- at each moment the devices are as they were
 abbrev pub LeavesDevices : Site → Site → Type 0
@@ -171,7 +171,7 @@ LeavesDevices old new = EachMoment old new (λ moment. (moment.image ≡ old.ima
 -- What a trial does on blank devices in memory of these sizes: the site that it is called with gives input and output
 -- alone.
 pub record TrialContract (g : Geometry) (old new : Site) (status : ℕ) (numbers : List ℕ) : Type 0 where
-  pub lives : IsTrue old.honest → Lives g old.left old new status numbers
+  pub lives : IsTrue old.honest → Lives g old.input.left old new status numbers
   pub causes : TrialCauses old new status
   pub devices : IsTrue old.honest → LeavesDevices old new
   pub reads : SameReads old new

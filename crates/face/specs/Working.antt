@@ -1,8 +1,10 @@
 -- What comes of a run before its fault line, by the number of lines that were heard.
-use Rattle.std.specs.Prelude.{◌≡◌, ℕ, ◌<◌, ◌≤◌, ◌^◌, Bool, true, List, length, take, slice_index_or, Option, None, []}
+use Rattle.std.specs.Prelude.{◌≡◌, ℕ, ◌+◌, ◌<◌, ◌≤◌, ◌^◌, ◌++◌, Bool, true, false, List, length, take, slice_index_or, Option, None, []}
 use Rattle.std.specs.Prelude.{Result, IfErr, IsErrOf, OnOk}
 use Rattle.site.specs.State.{State as Site, Image}
 use Rattle.site.specs.Moments.{LeavesOnly}
+use Rattle.std.specs.List.{AllByRecursion}
+use Rattle.site.specs.declared.outside.Take.{Take}
 use Rattle.site.specs.declared.outside.Dev.TheVariants.{Flash}
 use Rattle.site.specs.declared.outside.Stop.TheVariants.{Worn}
 use Rattle.record_model.specs.Run.{is_cache}
@@ -18,7 +20,7 @@ use Rattle.face.specs.declared.halt.Halt.TheVariants.{Stop}
 use Rattle.face.specs.Lines.{HeardAll, answered_of}
 use Rattle.face.specs.Range.{AsksNoMore, WearsOut, turns_of, works_by}
 use Rattle.face.specs.Run.{HasHeard, HasToldUpTo, IsAccounted, IsDone, Run, SkipsNoneUpTo, Stops, StopsTaking}
-use Rattle.face.specs.Run.{answered, listing_at}
+use Rattle.face.specs.Run.{answered, listing_at, told_after}
 
 -- what a run over this image has asked once it has answered so many lines
 abbrev pub asked_after : Run → Option Master → Image → List (List LogRecord) → ℕ → List CacheWork
@@ -46,6 +48,22 @@ HasQueueAt pool run lines old now =
     → cache_on run.geometry now ≡ opened (after_works (rules_of pool run.geometry.groups)
     (asked_after run newest old blocks lines) (cache_on run.geometry old)).queue
 
+-- Input was asked for where so many octets of what was left at entry were heard. No more than these lines stand whole in
+-- them, and by then they were answered.
+pub record IsToldBefore (run : Run) (lines : ℕ) (old : Site) (t : Take) : Type 0 where
+  pub heard : ℕ
+  pub here : t.heard ≡ old.input.heard + heard
+  pub few : length (answered_of false (take heard old.input.left)) ≤ lines
+  pub told :
+      length (old.told ++ told_after run (1 + length (answered_of false (take heard old.input.left)))) ≤ t.told
+
+-- so it was wherever input was asked for, and each octet that isn't left any more was heard
+pub record AnswersFirst (run : Run) (lines : ℕ) (old now : Site) : Type 0 where
+  pub takes : List Take
+  pub are : now.input.takes ≡ old.input.takes ++ takes
+  pub told : AllByRecursion (IsToldBefore run lines old) takes
+  pub count : now.input.heard + length now.input.left ≡ old.input.heard + length old.input.left
+
 -- what comes of a run before its fault line
 pub record Works {T : Type 0} (pool : ℕ) (run : Run) (old new : Site) (result : Result T Halt) : Type 0 where
   pub heard : ℕ
@@ -64,3 +82,4 @@ pub record Works {T : Type 0} (pool : ℕ) (run : Run) (old new : Site) (result 
   pub numbers : SkipsNoneUpTo run heard old.image new.image
   pub listed : ListsUpTo pool run heard old.image
   pub reads : AsksNoMore pool run heard old new
+  pub answers : AnswersFirst run heard old new

@@ -49,7 +49,7 @@ fn carry_out_plain<S: Site>(
         → CountsOn result engine.old engine.new (S.state site.old) (S.state site.new)
         s (step s line []).after (line_checkpoints s line) }
     ensures left { IsTrue (S.state site.old).honest
-        → (S.state site.new).left ≡ (S.state site.old).left }
+        → (S.state site.new).input ≡ (S.state site.old).input }
     ensures stays_quiet { IsTrue (S.state site.old).honest → IsQuiet (S.state site.old)
         → OnOk result (IsQuiet (S.state site.new)) }
     // Where no device failed, nothing is loose after an error either.
@@ -128,7 +128,7 @@ pub fn carry_out<S: Site>(
         → CountsOn result engine.old engine.new (S.state site.old) (S.state site.new)
         s (step s line []).after (line_checkpoints s line) }
     ensures left { IsTrue (S.state site.old).honest
-        → (S.state site.new).left ≡ (S.state site.old).left }
+        → (S.state site.new).input ≡ (S.state site.old).input }
     ensures stays_quiet { IsTrue (S.state site.old).honest → IsQuiet (S.state site.old)
         → OnOk result (IsQuiet (S.state site.new)) }
     // Where no device failed, nothing is loose after an error either.

@@ -52,7 +52,7 @@ pub fn open<S: Site>(alloc: Global, pool: u32, site: &mut S) -> Result<Engine, H
         (S.state site.new).image engine 0) }
     ensures numbers { (run : Run) → Begins run (S.state site.old)
         → SkipsNoneUpTo run 0 (S.state site.old).image (S.state site.new).image }
-    ensures left { IsTrue (S.state site.old).honest → (S.state site.new).left ≡ (S.state site.old).left }
+    ensures left { IsTrue (S.state site.old).honest → (S.state site.new).input ≡ (S.state site.old).input }
     ensures goes_on { IfOk result (λ engine. MayGoOn engine (S.state site.new)) }
     ensures halts { IfErr result (λ halt. (halt ≢ Halt.Input) × (halt ≢ Halt.Limit)) }
     ensures cause { IfErr result (λ halt. HasCause halt (S.state site.old) (S.state site.new)) }

@@ -4,6 +4,7 @@ ghost use Rattle.std.specs.Prelude.{false, true, [], ◌∷◌, length, take, na
 ghost use Rattle.face.specs.Causes.{SameFaults};
 ghost use Rattle.site.specs.Calls.{Goes, Rose};
 ghost use Rattle.face.specs.Lines.{to_hear, total, IsSource, HasEnded, HearsOnly, HearsOctet, Hears, CutsOff, IsCutOff};
+ghost use Rattle.face.specs.Lines.{TakesWithin};
 ghost use Rattle.shell_text.specs.Reading.{line_of};
 
 use crate::halt::Halt;
@@ -57,16 +58,18 @@ impl Source {
         requires source { IsSource self.old }
         requires empty { self.old.from ≡ self.old.to }
         requires full { 2 ^ 40 ≤ self.old.taken }
+        requires going { self.old.ended ≡ false }
         ensures source { IsSource self.new }
         ensures none { IfOk result (λ some. (some ≡ false) × (self.new.ended ≡ true)) }
-        ensures end { IsTrue (S.state site.old).honest → OnOk result (((S.state site.old).left ≡ [])
-            × ((S.state site.new).left ≡ [])) }
+        ensures end { IsTrue (S.state site.old).honest → OnOk result (((S.state site.old).input.left ≡ [])
+            × ((S.state site.new).input.left ≡ [])) }
         ensures empty { self.new.from ≡ self.new.to }
         ensures taken { self.new.taken ≡ self.old.taken }
         ensures same { IsTrue (S.state site.old).honest → HearsOnly (S.state site.old) (S.state site.new) }
+        ensures takes { IsTrue (S.state site.old).honest → TakesWithin self.old (S.state site.old) (S.state site.new) }
         ensures cut_off { IsTrue (S.state site.old).honest
-            → IfErr result (λ halt. CutsOff halt (total self.old (S.state site.old)) (S.state site.old).left
-            (S.state site.new).left) }
+            → IfErr result (λ halt. CutsOff halt (total self.old (S.state site.old)) (S.state site.old).input.left
+            (S.state site.new).input.left) }
         ensures halts { IfErr result (λ halt. (halt ≡ Halt.Input) ⊎ (halt ≡ Halt.Limit)) }
         ensures goes { Goes (S.state site.old) (S.state site.new) }
         ensures input { result ≡ Err Halt.Input → Rose (S.state site.old).input_faults (S.state site.new).input_faults }
@@ -92,14 +95,15 @@ impl Source {
         ensures all { IsTrue (S.state site.old).honest
             → OnOk result (to_hear self.new (S.state site.new) ≡ to_hear self.old (S.state site.old)) }
         ensures end { IsTrue (S.state site.old).honest → HasEnded self.old (S.state site.old)
-            → IfOk result (λ some. some ≡ false → (S.state site.new).left ≡ []) }
+            → IfOk result (λ some. some ≡ false → (S.state site.new).input.left ≡ []) }
         ensures count { IsTrue (S.state site.old).honest
             → OnOk result (total self.new (S.state site.new) ≡ total self.old (S.state site.old)) }
         ensures cut_off { IsTrue (S.state site.old).honest
             → IfErr result (λ halt. CutsOff halt (total self.old (S.state site.old))
-            (to_hear self.old (S.state site.old)) (S.state site.new).left) }
+            (to_hear self.old (S.state site.old)) (S.state site.new).input.left) }
         ensures going { OnErr result (self.old.ended ≡ false) }
         ensures same { IsTrue (S.state site.old).honest → HearsOnly (S.state site.old) (S.state site.new) }
+        ensures takes { IsTrue (S.state site.old).honest → TakesWithin self.old (S.state site.old) (S.state site.new) }
         ensures halts { IfErr result (λ halt. (halt ≡ Halt.Input) ⊎ (halt ≡ Halt.Limit)) }
         ensures goes { Goes (S.state site.old) (S.state site.new) }
         ensures input { result ≡ Err Halt.Input → Rose (S.state site.old).input_faults (S.state site.new).input_faults }
@@ -138,9 +142,10 @@ impl Source {
             → OnOk result (total self.new (S.state site.new) ≡ total self.old (S.state site.old)) }
         ensures cut_off { IsTrue (S.state site.old).honest
             → IfErr result (λ halt. CutsOff halt (total self.old (S.state site.old))
-            (to_hear self.old (S.state site.old)) (S.state site.new).left) }
+            (to_hear self.old (S.state site.old)) (S.state site.new).input.left) }
         ensures going { OnErr result (self.old.ended ≡ false) }
         ensures same { IsTrue (S.state site.old).honest → HearsOnly (S.state site.old) (S.state site.new) }
+        ensures takes { IsTrue (S.state site.old).honest → TakesWithin self.old (S.state site.old) (S.state site.new) }
         ensures halts { IfErr result (λ halt. (halt ≡ Halt.Input) ⊎ (halt ≡ Halt.Limit)) }
         ensures goes { Goes (S.state site.old) (S.state site.new) }
         ensures input { result ≡ Err Halt.Input → Rose (S.state site.old).input_faults (S.state site.new).input_faults }
@@ -171,8 +176,10 @@ impl Source {
             → OnOk result (total self.new (S.state site.new) ≡ total self.old (S.state site.old)) }
         ensures cut_off { IsTrue (S.state site.old).honest → HasEnded self.old (S.state site.old)
             → IfErr result (λ halt. IsCutOff halt self.old.ended (total self.old (S.state site.old))
-            (to_hear self.old (S.state site.old)) (S.state site.new).left) }
+            (to_hear self.old (S.state site.old)) (S.state site.new).input.left) }
         ensures same { IsTrue (S.state site.old).honest → HearsOnly (S.state site.old) (S.state site.new) }
+        ensures takes { IsTrue (S.state site.old).honest → HasEnded self.old (S.state site.old)
+            → TakesWithin self.old (S.state site.old) (S.state site.new) }
         ensures halts { IfErr result (λ halt. (halt ≡ Halt.Input) ⊎ (halt ≡ Halt.Limit)) }
         ensures goes { Goes (S.state site.old) (S.state site.new) }
         ensures input { result ≡ Err Halt.Input → Rose (S.state site.old).input_faults (S.state site.new).input_faults }

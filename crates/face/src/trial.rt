@@ -36,13 +36,13 @@ const CHANGES_MAX: u64 = 10_000;
 // Takes the next octets of a script, and answers whether there were any.
 fn take_more<S: Site>(site: &mut S, script: &mut Vec<u8>) -> Result<bool, Halt>
     requires few { length script.old.items ≤ SCRIPT_MAX }
-    ensures taken { IsTrue (S.state site.old).honest → OnOk result (script.old.items ++ (S.state site.old).left
-        ≡ script.new.items ++ (S.state site.new).left) }
-    ensures end { IsTrue (S.state site.old).honest → IfOk result (λ some. some ≡ false → (S.state site.new).left ≡ []) }
+    ensures taken { IsTrue (S.state site.old).honest → OnOk result (script.old.items ++ (S.state site.old).input.left
+        ≡ script.new.items ++ (S.state site.new).input.left) }
+    ensures end { IsTrue (S.state site.old).honest → IfOk result (λ some. some ≡ false → (S.state site.new).input.left ≡ []) }
     ensures more { IfOk result (λ some. some ≡ true → length script.old.items < length script.new.items) }
     ensures few { OnOk result (length script.new.items ≤ SCRIPT_MAX) }
     ensures limit { IsTrue (S.state site.old).honest → result ≡ Err Halt.Limit
-        → length script.old.items + length (S.state site.old).left ≡ script_limit + 1 + length (S.state site.new).left }
+        → length script.old.items + length (S.state site.old).input.left ≡ script_limit + 1 + length (S.state site.new).input.left }
     ensures input { result ≡ Err Halt.Input → Rose (S.state site.old).input_faults (S.state site.new).input_faults }
     ensures halts { IfErr result (λ halt. (halt ≡ Halt.Stop Stop.Memory) ⊎ ((halt ≡ Halt.Input) ⊎ (halt ≡ Halt.Limit))) }
     ensures same { IsTrue (S.state site.old).honest → HearsOnly (S.state site.old) (S.state site.new) }
@@ -69,10 +69,10 @@ fn take_more<S: Site>(site: &mut S, script: &mut Vec<u8>) -> Result<bool, Halt>
 
 // Reads the script to its end.
 fn read_script<S: Site>(alloc: Global, site: &mut S) -> Result<Vec<u8>, Halt>
-    ensures script { IsTrue (S.state site.old).honest → IfOk result (λ script. script.items ≡ (S.state site.old).left) }
+    ensures script { IsTrue (S.state site.old).honest → IfOk result (λ script. script.items ≡ (S.state site.old).input.left) }
     ensures few { IfOk result (λ script. length script.items ≤ SCRIPT_MAX) }
     ensures limit { IsTrue (S.state site.old).honest → result ≡ Err Halt.Limit
-        → length (S.state site.old).left ≡ script_limit + 1 + length (S.state site.new).left }
+        → length (S.state site.old).input.left ≡ script_limit + 1 + length (S.state site.new).input.left }
     ensures input { result ≡ Err Halt.Input → Rose (S.state site.old).input_faults (S.state site.new).input_faults }
     ensures halts { IfErr result (λ halt. (halt ≡ Halt.Stop Stop.Memory) ⊎ ((halt ≡ Halt.Input) ⊎ (halt ≡ Halt.Limit))) }
     ensures same { IsTrue (S.state site.old).honest → HearsOnly (S.state site.old) (S.state site.new) }
@@ -170,7 +170,7 @@ fn tell_life<S: Site>(site: &mut S, text: &[u8], number: u64, status: u8) -> Res
         × ((S.state site.new).told ≡ (S.state site.old).told ++ rest)
         × IsFront rest (text.now ++ spec.life_line number status)) }
     ensures output { OnErr result (Rose (S.state site.old).output_faults (S.state site.new).output_faults) }
-    ensures left { IsTrue (S.state site.old).honest → (S.state site.new).left ≡ (S.state site.old).left }
+    ensures left { IsTrue (S.state site.old).honest → (S.state site.new).input ≡ (S.state site.old).input }
     ensures devices { IsTrue (S.state site.old).honest → LeavesDevices (S.state site.old) (S.state site.new) }
     ensures reads { SameReads (S.state site.old) (S.state site.new) }
     ensures goes { Goes (S.state site.old) (S.state site.new) }
@@ -195,7 +195,7 @@ fn live_script<S: Site>(
         → Ends g script.now result.0 (S.state site.old) (S.state site.new) (numbers_of result.1) }
     ensures halts { IfErr result.0 (λ halt. (halt ≡ Halt.Stop Stop.Memory) ⊎ (halt ≡ Halt.Output)) }
     ensures output { result.0 ≡ Err Halt.Output → Rose (S.state site.old).output_faults (S.state site.new).output_faults }
-    ensures left { IsTrue (S.state site.old).honest → (S.state site.new).left ≡ (S.state site.old).left }
+    ensures left { IsTrue (S.state site.old).honest → (S.state site.new).input ≡ (S.state site.old).input }
     ensures devices { IsTrue (S.state site.old).honest → LeavesDevices (S.state site.old) (S.state site.new) }
     ensures reads { SameReads (S.state site.old) (S.state site.new) }
     ensures goes { Goes (S.state site.old) (S.state site.new) }
@@ -231,15 +231,15 @@ fn work<S: Site>(
 ) -> (Result<(), Halt>, MemSite)
     requires pool { (1 ≤ pool) × (pool ≤ 4096) }
     ensures lives { (g : Geometry) → IsNewSite g inner → IsTrue (S.state site.old).honest
-        → Ends g (S.state site.old).left result.0 (S.state site.old) (S.state site.new) (numbers_of result.1) }
+        → Ends g (S.state site.old).input.left result.0 (S.state site.old) (S.state site.new) (numbers_of result.1) }
     ensures unbegun { (result.0 ≡ Err Halt.Input) ⊎ (result.0 ≡ Err Halt.Limit) → result.1 ≡ inner }
     ensures halts { IfErr result.0 IsHaltOfTrial }
-    ensures fits { IsTrue (S.state site.old).honest → OnOk result.0 (length (S.state site.old).left ≤ script_limit) }
+    ensures fits { IsTrue (S.state site.old).honest → OnOk result.0 (length (S.state site.old).input.left ≤ script_limit) }
     ensures limit { IsTrue (S.state site.old).honest → result.0 ≡ Err Halt.Limit
-        → length (S.state site.old).left ≡ script_limit + 1 + length (S.state site.new).left }
+        → length (S.state site.old).input.left ≡ script_limit + 1 + length (S.state site.new).input.left }
     ensures input { result.0 ≡ Err Halt.Input → Rose (S.state site.old).input_faults (S.state site.new).input_faults }
     ensures output { result.0 ≡ Err Halt.Output → Rose (S.state site.old).output_faults (S.state site.new).output_faults
-        × (IsTrue (S.state site.old).honest → length (S.state site.old).left ≤ script_limit) }
+        × (IsTrue (S.state site.old).honest → length (S.state site.old).input.left ≤ script_limit) }
     ensures devices { IsTrue (S.state site.old).honest → LeavesDevices (S.state site.old) (S.state site.new) }
     ensures reads { SameReads (S.state site.old) (S.state site.new) }
     ensures goes { Goes (S.state site.old) (S.state site.new) }

@@ -18,7 +18,7 @@ use Rattle.face.proofs.load.work.Goals as goal
 pub returns-in-Err-clause-works : goal.returns-in-Err-clause-works
 returns-in-Err-clause-works g c geometry opening good =
     let old = g.S.Site.state c.args.site.now in
-    let run = run_of geometry opening true old.left [] in
+    let run = run_of geometry opening true old.input.left [] in
     let start = begins geometry opening [] old good in
     load_never_opened geometry opening c.args.load.now old (g.S.Site.state c.open.new.site) c.in-Err.halt (c.in-Err.ensures.stops run start) (λ is. c.in-Err.ensures.worn run start (ap Err is)) (c.in-Err.ensures.numbers run start) (c.in-Err.ensures.reads run start) (c.open.ensures.left good.honest)
 
@@ -28,7 +28,7 @@ returns-in-Err-make_sets-clause-works g c geometry opening good =
     let mid = g.S.Site.state c.open.new.site in
     let new = g.S.Site.state c.make_sets.new.site in
     let load = c.args.load.now in
-    let run = run_of geometry opening true old.left [] in
+    let run = run_of geometry opening true old.input.left [] in
     let start = begins geometry opening [] old good in
     let going = c.in-Ok.ensures.going run start in
     let pages : c.pages_of-pages.result ≡ geometry.pages = c.pages_of-pages.ensures.pages ∙ ap (λ (x : Geometry). x.pages) going.geometry in
@@ -43,7 +43,7 @@ returns-clause-works g c geometry opening good =
     let then = g.S.Site.state c.make_sets.new.site in
     let new = g.S.Site.state c.make_gets.new.site in
     let load = c.args.load.now in
-    let run = run_of geometry opening true old.left [] in
+    let run = run_of geometry opening true old.input.left [] in
     let start = begins geometry opening [] old good in
     let going = c.in-Ok.ensures.going run start in
     let pages : c.pages_of-pages.result ≡ geometry.pages = c.pages_of-pages.ensures.pages ∙ ap (λ (x : Geometry). x.pages) going.geometry in
@@ -59,7 +59,7 @@ returns-in-Ok-make_gets-clause-works g c geometry opening good =
     let then = g.S.Site.state c.make_sets.new.site in
     let new = g.S.Site.state c.make_gets.new.site in
     let load = c.args.load.now in
-    let run = run_of geometry opening true old.left [] in
+    let run = run_of geometry opening true old.input.left [] in
     let start = begins geometry opening [] old good in
     let going = c.in-Ok.ensures.going run start in
     let pages : c.pages_of-pages.result ≡ geometry.pages = c.pages_of-pages.ensures.pages ∙ ap (λ (x : Geometry). x.pages) going.geometry in
@@ -72,7 +72,7 @@ pub returns-in-Ok-make_gets-clause-counts : goal.returns-in-Ok-make_gets-clause-
 returns-in-Ok-make_gets-clause-counts g c geometry opening good =
     let old = g.S.Site.state c.args.site.now in
     let load = c.args.load.now in
-    let run = run_of geometry opening true old.left [] in
+    let run = run_of geometry opening true old.input.left [] in
     let start = begins geometry opening [] old good in
     let going = c.in-Ok.ensures.going run start in
     let pages : c.pages_of-pages.result ≡ geometry.pages = c.pages_of-pages.ensures.pages ∙ ap (λ (x : Geometry). x.pages) going.geometry in

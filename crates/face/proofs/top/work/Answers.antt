@@ -1,6 +1,7 @@
 use Rattle.std.proofs.Common.{ℕ, suc, List, [], drop, refl, sym, ◌∙◌, ap, subst, arith, add-one}
 use Rattle.std.proofs.lemmas.List.{append-nil}
 use Rattle.std.specs.Prelude.{Err}
+use Rattle.site.specs.State.{Input}
 use Rattle.site.specs.Laws.{stays_honest, goes_in_sequence}
 use Rattle.record_model.specs.Run.{Line}
 use Rattle.face.specs.Going.{Going, IsCounted, IsPaged}
@@ -14,11 +15,12 @@ use Rattle.face.proofs.Pagings.{asked_with, next_paged, next_reads, next_worn, p
 use Rattle.engine.specs.Listings.{listing_of}
 use Rattle.face.specs.Lines.{up_to_quit}
 use Rattle.face.specs.Run.{Run, Begins, AsksFew, state_at, listings_left, listing_at}
-use Rattle.face.specs.Working.{ListsUpTo, asked_after}
+use Rattle.face.specs.Working.{AnswersFirst, ListsUpTo, asked_after}
 use Rattle.face.specs.Texts.{status_of}
 use Rattle.face.proofs.Cuts.{Cut, no_cut, cut_more, cut_stays, line_is, cut_few_octets}
 use Rattle.face.proofs.Ends.{lists_nothing, never_opened, taking_failed, finished, answer_failed, heard_end, line_heard, quitted, taking_cause, answer_takes_nothing, answer_cause}
-use Rattle.face.proofs.Listed.{with_line, going_before, is_asked, left_after, listed_next}
+use Rattle.face.proofs.Waits.{answers_none, answers_next, answers_still}
+use Rattle.face.proofs.Listed.{with_line, going_before, answers_before, is_asked, left_after, listed_next}
 use Rattle.face.proofs.Works.{begun_after, moved, cut_short, goes_on}
 use Rattle.face.proofs.Logs.{still_fits, goes_on as engine_goes_on}
 use Rattle.face.proofs.top.work.Goals as goal
@@ -35,9 +37,9 @@ loop-line-init g c = record {
   faults = c.in-Ok.ensures.faults;
   source = c.new-source.ensures.source;
   engine = c.in-Ok.ensures.goes_on;
-  cut = λ honest. no_cut _ c.new-source.result _ c.new-source.ensures.empty c.new-source.ensures.taken c.new-source.ensures.going (c.open.ensures.left honest);
+  cut = λ honest. no_cut _ c.new-source.result _ c.new-source.ensures.empty c.new-source.ensures.taken c.new-source.ensures.going (ap (λ (input : Input). input.left) (c.open.ensures.left honest));
   fits = c.in-Ok.ensures.fits;
-  under_way = record { listings = []; left = λ run later begins is. is; going = λ run later begins is. c.in-Ok.ensures.going run begins; listed = λ run later begins is. lists_nothing c.args.pool run (g.S.Site.state c.args.site.now).image };
+  under_way = record { listings = []; left = λ run later begins is. is; going = λ run later begins is. c.in-Ok.ensures.going run begins; listed = λ run later begins is. lists_nothing c.args.pool run (g.S.Site.state c.args.site.now).image; answers = λ run later begins is. answers_none run _ _ (c.open.ensures.left begins.honest) };
   paged = c.in-Ok.ensures.paged;
   reads = c.open.ensures.reads;
   counted = c.in-Ok.ensures.counted;
@@ -55,7 +57,8 @@ returns-in-Err-next-clause-works g c =
           let so_far = under_way.going run [] begins (same ∙ sym (append-nil under_way.listings)) in
           let going = moved run entry mid next c.loop-line.engine c.loop-line._line so_far c.next.ensures.goes (c.next.ensures.same so_far.fits.honest) in
           taking_failed c.args.pool run entry mid next c.loop-line.engine c.loop-line.source c.loop-line._line cut c.loop-line.invariant.source going (under_way.listed run [] begins (same ∙ sym (append-nil under_way.listings)))
-          (λ newest blocks sound. few_heard _ _ _ entry mid next (c.next.ensures.same so_far.fits.honest) (c.loop-line.invariant.reads run begins newest blocks sound)) c.in-Err-next.halt c.in-Err-next.ensures.halts (c.in-Err-next.ensures.cut_off so_far.fits.honest cut.ended)
+          (λ newest blocks sound. few_heard _ _ _ entry mid next (c.next.ensures.same so_far.fits.honest) (c.loop-line.invariant.reads run begins newest blocks sound))
+          (answers_next run entry mid next c.loop-line.source c.loop-line._line c.loop-line._line cut c.loop-line.invariant.source so_far.told (omega arith) (under_way.answers run [] begins (same ∙ sym (append-nil under_way.listings))) (c.next.ensures.takes so_far.fits.honest cut.ended)) c.in-Err-next.halt c.in-Err-next.ensures.halts (c.in-Err-next.ensures.cut_off so_far.fits.honest cut.ended)
           (λ newest blocks sound. counts_still run (log_under newest blocks) entry mid next c.loop-line._line (c.next.ensures.same so_far.fits.honest).image (c.loop-line.invariant.counted run begins newest blocks sound).numbers),
     )
 
@@ -81,7 +84,8 @@ returns-in-End-clause-works g c =
           let going = moved run entry mid next c.loop-line.engine c.loop-line._line so_far c.next.ensures.goes (c.next.ensures.same honest) in
           let end = heard_end c.in-Ok-next.heard _ _ _ _ (c.in-Ok-next.ensures.heard honest cut.ended) c.in-End.is in
           finished c.args.pool run entry mid next c.loop-line.engine c.loop-line.source c.loop-line._line cut c.loop-line.invariant.source going (under_way.listed run [] begins (same ∙ sym (append-nil under_way.listings)))
-          (λ newest blocks sound. few_heard _ _ _ entry mid next (c.next.ensures.same so_far.fits.honest) (c.loop-line.invariant.reads run begins newest blocks sound)) _ end.0 (c.in-Ok-next.ensures.ended honest cut.ended end.1)
+          (λ newest blocks sound. few_heard _ _ _ entry mid next (c.next.ensures.same so_far.fits.honest) (c.loop-line.invariant.reads run begins newest blocks sound))
+          (answers_next run entry mid next c.loop-line.source c.loop-line._line c.loop-line._line cut c.loop-line.invariant.source so_far.told (omega arith) (under_way.answers run [] begins (same ∙ sym (append-nil under_way.listings))) (c.next.ensures.takes honest cut.ended)) _ end.0 (c.in-Ok-next.ensures.ended honest cut.ended end.1)
           (λ newest blocks sound. paged_room c.args.pool run newest entry.image blocks c.loop-line.engine mid c.loop-line._line (c.loop-line.invariant.paged run begins newest blocks sound) c.loop-line.invariant.engine)
           (λ newest blocks sound. paged_queue c.args.pool run newest entry.image blocks c.queue_is_on_flash.ensures c.loop-line.engine next (state_at run c.loop-line._line) c.loop-line._line going.fits going.geometry (c.loop-line.invariant.paged run begins newest blocks sound))
           (λ newest blocks sound. counts_still run (log_under newest blocks) entry mid next c.loop-line._line (c.next.ensures.same honest).image (c.loop-line.invariant.counted run begins newest blocks sound).numbers),
@@ -106,13 +110,14 @@ returns-in-Err-answer-clause-works g c =
           let going = moved run entry mid next c.loop-line.engine i so_far c.next.ensures.goes (c.next.ensures.same honest) in
           let hears = line_heard c.in-Ok-next.heard c.in-Line.line _ _ _ _ (c.in-Ok-next.ensures.heard honest cut.ended) c.in-Line.is in
           let ended = c.in-Ok-next.ensures.ended honest cut.ended in
-          let is = ap (λ (l : List Line). drop i (up_to_quit l)) begins.lines ∙ line_is entry.left c.loop-line.source mid i cut c.loop-line.invariant.source c.next.new.self next c.in-Line.line hears ended c.next.ensures.source in
+          let is = ap (λ (l : List Line). drop i (up_to_quit l)) begins.lines ∙ line_is entry.input.left c.loop-line.source mid i cut c.loop-line.invariant.source c.next.new.self next c.in-Line.line hears ended c.next.ensures.source in
           let stops = cut_short run entry next c.loop-line.engine i going new c.in-Line.line _ is (c.answer.ensures.any_moment (state_at run i) (listing_at run i) asked going.fits going.quiet) c.in-Err-answer.halt
           (λ ne. c.in-Err-answer.ensures.quiet _ going.fits going.quiet (λ d e. ne (ap status_of e))) (c.in-Err-answer.ensures.untold _ going.fits going.quiet) in
           answer_failed c.args.pool run entry mid next new c.loop-line.source c.next.new.self i cut c.loop-line.invariant.source c.in-Line.line hears ended c.next.ensures.source (c.answer.ensures.left going.fits.honest)
           (listed_next c.args.pool entry mid c.loop-line.engine i under_way c.in-Line.line run [] begins listed _ is (c.loop-line.invariant.paged run begins))
           (λ newest blocks sound. next_reads c.args.pool run newest entry.image blocks c.works_add_up.ensures.works i c.in-Line.line _ is c.loop-line.engine (c.loop-line.invariant.paged run begins newest blocks sound) c.works_add_up.ensures.reads entry mid next new refl (c.next.ensures.same honest) (c.loop-line.invariant.reads run begins newest blocks sound) going.geometry (let least = sound.octets.limits.groups in omega (arith, least)) (c.answer.ensures.asks (state_at run i) going.fits).reads
-          ((c.answer.ensures.asks (state_at run i) going.fits).writes (engine_queue c.loop-line.engine next (state_at run i) (engine_goes_on c.loop-line.engine mid next c.loop-line.invariant.engine c.next.ensures.goes) going.fits) going.quiet)) c.in-Err-answer.halt stops
+          ((c.answer.ensures.asks (state_at run i) going.fits).writes (engine_queue c.loop-line.engine next (state_at run i) (engine_goes_on c.loop-line.engine mid next c.loop-line.invariant.engine c.next.ensures.goes) going.fits) going.quiet))
+          (answers_still run (suc i) entry next new (c.answer.ensures.left going.fits.honest) (answers_next run entry mid next c.loop-line.source i (suc i) cut c.loop-line.invariant.source so_far.told (omega arith) (answers_before c.args.pool entry mid c.loop-line.engine i under_way c.in-Line.line run [] begins listed) (c.next.ensures.takes honest cut.ended))) c.in-Err-answer.halt stops
           (begun_after run entry next c.loop-line.engine i going new c.in-Line.line _ is (c.answer.ensures.any_moment (state_at run i) (listing_at run i) asked going.fits going.quiet)) (answer_takes_nothing c.in-Err-answer.halt c.loop-line.engine next new c.in-Err-answer.ensures.cause)
           (λ worn newest blocks sound. next_worn c.args.pool run newest entry.image blocks c.works_add_up.ensures.works i c.in-Line.line _ is c.loop-line.engine (c.loop-line.invariant.paged run begins newest blocks sound) ((c.in-Err-answer.ensures.asks (state_at run i) going.fits).worn (ap Err worn)))
           (λ newest blocks sound. counts_next run (log_under newest blocks) entry mid next new c.loop-line.engine c.answer.new.engine i c.in-Line.line _ is (c.next.ensures.same honest).image going.geometry (c.loop-line.invariant.counted run begins newest blocks sound) _ (c.in-Err-answer.ensures.numbers (state_at run i) going.fits going.quiet)),
@@ -135,8 +140,8 @@ loop-line-preserved g c =
           let cut = c.loop-line.invariant.cut honest-entry in
           let hears = line_heard c.in-Ok-next.heard c.in-Line.line _ _ _ _ (c.in-Ok-next.ensures.heard honest cut.ended) c.in-Line.is in
           let ended = c.in-Ok-next.ensures.ended honest cut.ended in
-          subst (Cut entry.left c.next.new.self new) (sym (add-one i))
-          (cut_stays entry.left c.next.new.self next new (suc i) (cut_more entry.left c.loop-line.source mid i cut c.loop-line.invariant.source c.next.new.self next c.in-Line.line hears ended (c.in-Ok-next.ensures.count honest) (sym c.quits-last.ensures ∙ c.if-last.false)) (c.answer.ensures.left (stays_honest mid next c.next.ensures.goes honest)));
+          subst (Cut entry.input.left c.next.new.self new) (sym (add-one i))
+          (cut_stays entry.input.left c.next.new.self next new (suc i) (cut_more entry.input.left c.loop-line.source mid i cut c.loop-line.invariant.source c.next.new.self next c.in-Line.line hears ended (c.in-Ok-next.ensures.count honest) (sym c.quits-last.ensures ∙ c.if-last.false)) (c.answer.ensures.left (stays_honest mid next c.next.ensures.goes honest)));
       fits = λ honest-entry geometry table commits stands.
           let so_far = c.loop-line.invariant.fits honest-entry geometry table commits stands in
           let honest = so_far.0.1.honest in
@@ -151,7 +156,7 @@ loop-line-preserved g c =
                 let honest = (going_before c.args.pool entry mid c.loop-line.engine i under_way c.in-Line.line run later begins is).fits.honest in
                 let hears = line_heard c.in-Ok-next.heard c.in-Line.line _ _ _ _ (c.in-Ok-next.ensures.heard honest cut.ended) c.in-Line.is in
                 let ended = c.in-Ok-next.ensures.ended honest cut.ended in
-                let at = ap (λ (l : List Line). drop i (up_to_quit l)) begins.lines ∙ line_is entry.left c.loop-line.source mid i cut c.loop-line.invariant.source c.next.new.self next c.in-Line.line hears ended c.next.ensures.source in
+                let at = ap (λ (l : List Line). drop i (up_to_quit l)) begins.lines ∙ line_is entry.input.left c.loop-line.source mid i cut c.loop-line.invariant.source c.next.new.self next c.in-Line.line hears ended c.next.ensures.source in
                 ap (listings_left run) (add-one i) ∙ left_after c.args.pool entry mid c.loop-line.engine i under_way c.in-Line.line run later begins is _ at;
             going = λ run later begins listed.
                 let cut = c.loop-line.invariant.cut begins.honest in
@@ -161,7 +166,7 @@ loop-line-preserved g c =
                 let going = moved run entry mid next c.loop-line.engine i so_far c.next.ensures.goes (c.next.ensures.same honest) in
                 let hears = line_heard c.in-Ok-next.heard c.in-Line.line _ _ _ _ (c.in-Ok-next.ensures.heard honest cut.ended) c.in-Line.is in
                 let ended = c.in-Ok-next.ensures.ended honest cut.ended in
-                let is = ap (λ (l : List Line). drop i (up_to_quit l)) begins.lines ∙ line_is entry.left c.loop-line.source mid i cut c.loop-line.invariant.source c.next.new.self next c.in-Line.line hears ended c.next.ensures.source in
+                let is = ap (λ (l : List Line). drop i (up_to_quit l)) begins.lines ∙ line_is entry.input.left c.loop-line.source mid i cut c.loop-line.invariant.source c.next.new.self next c.in-Line.line hears ended c.next.ensures.source in
                 subst (Going run entry new c.answer.new.engine) (sym (add-one i))
                 (goes_on run entry next c.loop-line.engine i going new c.in-Line.line _ is (c.answer.ensures.any_moment (state_at run i) (listing_at run i) asked going.fits going.quiet)
                 c.answer.new.engine c.answer.ensures.sizes c.in_default.ensures.going.store.both.sizes (c.in_default.ensures.fits (state_at run i) (listing_at run i) asked going.fits) (c.in_default.ensures.stays_quiet going.fits.honest going.quiet) (c.in_default.ensures.told (state_at run i) (listing_at run i) asked going.fits going.quiet));
@@ -170,8 +175,14 @@ loop-line-preserved g c =
                 let honest = (going_before c.args.pool entry mid c.loop-line.engine i under_way c.in-Line.line run later begins is).fits.honest in
                 let hears = line_heard c.in-Ok-next.heard c.in-Line.line _ _ _ _ (c.in-Ok-next.ensures.heard honest cut.ended) c.in-Line.is in
                 let ended = c.in-Ok-next.ensures.ended honest cut.ended in
-                let at = ap (λ (l : List Line). drop i (up_to_quit l)) begins.lines ∙ line_is entry.left c.loop-line.source mid i cut c.loop-line.invariant.source c.next.new.self next c.in-Line.line hears ended c.next.ensures.source in
+                let at = ap (λ (l : List Line). drop i (up_to_quit l)) begins.lines ∙ line_is entry.input.left c.loop-line.source mid i cut c.loop-line.invariant.source c.next.new.self next c.in-Line.line hears ended c.next.ensures.source in
                 subst (λ (n : ℕ). ListsUpTo c.args.pool run n entry.image) (sym (add-one i)) (listed_next c.args.pool entry mid c.loop-line.engine i under_way c.in-Line.line run later begins is _ at (c.loop-line.invariant.paged run begins));
+            answers = λ run later begins listed.
+                let cut = c.loop-line.invariant.cut begins.honest in
+                let so_far = going_before c.args.pool entry mid c.loop-line.engine i under_way c.in-Line.line run later begins listed in
+                let honest = so_far.fits.honest in
+                subst (λ (n : ℕ). AnswersFirst run n entry new) (sym (add-one i))
+                (answers_still run (suc i) entry next new (c.answer.ensures.left (stays_honest mid next c.next.ensures.goes honest)) (answers_next run entry mid next c.loop-line.source i (suc i) cut c.loop-line.invariant.source so_far.told (omega arith) (answers_before c.args.pool entry mid c.loop-line.engine i under_way c.in-Line.line run later begins listed) (c.next.ensures.takes honest cut.ended)));
           };
       paged = λ run begins newest blocks sound.
           let under_way = c.loop-line.invariant.under_way in
@@ -184,7 +195,7 @@ loop-line-preserved g c =
           let going = moved own entry mid next c.loop-line.engine i so_far c.next.ensures.goes (c.next.ensures.same honest) in
           let hears = line_heard c.in-Ok-next.heard c.in-Line.line _ _ _ _ (c.in-Ok-next.ensures.heard honest cut.ended) c.in-Line.is in
           let ended = c.in-Ok-next.ensures.ended honest cut.ended in
-          let is = ap (λ (l : List Line). drop i (up_to_quit l)) begins.lines ∙ line_is entry.left c.loop-line.source mid i cut c.loop-line.invariant.source c.next.new.self next c.in-Line.line hears ended c.next.ensures.source in
+          let is = ap (λ (l : List Line). drop i (up_to_quit l)) begins.lines ∙ line_is entry.input.left c.loop-line.source mid i cut c.loop-line.invariant.source c.next.new.self next c.in-Line.line hears ended c.next.ensures.source in
           let paged = next_paged c.args.pool own newest entry.image blocks c.works_add_up.ensures.works i c.in-Line.line _ is c.loop-line.engine (c.loop-line.invariant.paged own starts newest blocks sound) c.in_default.field-0 c.answer.new.engine next new (c.in_default.ensures.asks (state_at own i) going.fits) in
           subst (IsPaged c.args.pool run newest entry.image blocks c.answer.new.engine) (sym (add-one i)) (record {
             machine = paged.machine ∙ ap (λ (w : List CacheWork). after_works (rules_of c.args.pool run.geometry.groups) w (cache_on run.geometry entry.image)) (asked_with run with newest entry.image blocks (suc i));
@@ -201,7 +212,7 @@ loop-line-preserved g c =
           let going = moved own entry mid next c.loop-line.engine i so_far c.next.ensures.goes (c.next.ensures.same honest) in
           let hears = line_heard c.in-Ok-next.heard c.in-Line.line _ _ _ _ (c.in-Ok-next.ensures.heard honest cut.ended) c.in-Line.is in
           let ended = c.in-Ok-next.ensures.ended honest cut.ended in
-          let is = ap (λ (l : List Line). drop i (up_to_quit l)) begins.lines ∙ line_is entry.left c.loop-line.source mid i cut c.loop-line.invariant.source c.next.new.self next c.in-Line.line hears ended c.next.ensures.source in
+          let is = ap (λ (l : List Line). drop i (up_to_quit l)) begins.lines ∙ line_is entry.input.left c.loop-line.source mid i cut c.loop-line.invariant.source c.next.new.self next c.in-Line.line hears ended c.next.ensures.source in
           subst (λ (n : ℕ). AsksFew c.args.pool run.geometry (asked_after run newest entry.image blocks n) entry new) (sym (add-one i))
           (subst (λ (w : List CacheWork). AsksFew c.args.pool run.geometry w entry new) (asked_with run with newest entry.image blocks (suc i))
           (next_reads c.args.pool own newest entry.image blocks c.works_add_up.ensures.works i c.in-Line.line _ is c.loop-line.engine (c.loop-line.invariant.paged own starts newest blocks sound) c.works_add_up.ensures.reads entry mid next new refl (c.next.ensures.same honest) (c.loop-line.invariant.reads own starts newest blocks sound) going.geometry (let least = sound.octets.limits.groups in omega (arith, least)) (c.answer.ensures.asks (state_at own i) going.fits).reads
@@ -217,7 +228,7 @@ loop-line-preserved g c =
           let going = moved own entry mid next c.loop-line.engine i so_far c.next.ensures.goes (c.next.ensures.same honest) in
           let hears = line_heard c.in-Ok-next.heard c.in-Line.line _ _ _ _ (c.in-Ok-next.ensures.heard honest cut.ended) c.in-Line.is in
           let ended = c.in-Ok-next.ensures.ended honest cut.ended in
-          let is = ap (λ (l : List Line). drop i (up_to_quit l)) begins.lines ∙ line_is entry.left c.loop-line.source mid i cut c.loop-line.invariant.source c.next.new.self next c.in-Line.line hears ended c.next.ensures.source in
+          let is = ap (λ (l : List Line). drop i (up_to_quit l)) begins.lines ∙ line_is entry.input.left c.loop-line.source mid i cut c.loop-line.invariant.source c.next.new.self next c.in-Line.line hears ended c.next.ensures.source in
           let counted = next_counted own (log_under newest blocks) entry mid next new c.loop-line.engine c.answer.new.engine i c.in-Line.line _ is (c.next.ensures.same honest).image going.geometry (c.loop-line.invariant.counted own starts newest blocks sound) c.in_default.field-0 (c.in_default.ensures.numbers (state_at own i) going.fits going.quiet) in
           subst (IsCounted run (log_under newest blocks) entry.image new.image c.answer.new.engine) (sym (add-one i)) (counted_on run with (log_under newest blocks) entry.image new.image c.answer.new.engine (suc i) counted);
     }
@@ -241,13 +252,14 @@ returns-then-last-clause-works g c =
           let going = moved run entry mid next c.loop-line.engine i so_far c.next.ensures.goes (c.next.ensures.same honest) in
           let hears = line_heard c.in-Ok-next.heard c.in-Line.line _ _ _ _ (c.in-Ok-next.ensures.heard honest cut.ended) c.in-Line.is in
           let ended = c.in-Ok-next.ensures.ended honest cut.ended in
-          let is = ap (λ (l : List Line). drop i (up_to_quit l)) begins.lines ∙ line_is entry.left c.loop-line.source mid i cut c.loop-line.invariant.source c.next.new.self next c.in-Line.line hears ended c.next.ensures.source in
+          let is = ap (λ (l : List Line). drop i (up_to_quit l)) begins.lines ∙ line_is entry.input.left c.loop-line.source mid i cut c.loop-line.invariant.source c.next.new.self next c.in-Line.line hears ended c.next.ensures.source in
           let gone = goes_on run entry next c.loop-line.engine i going new c.in-Line.line _ is (c.answer.ensures.any_moment (state_at run i) (listing_at run i) asked going.fits going.quiet)
           c.answer.new.engine c.answer.ensures.sizes c.in_default.ensures.going.store.both.sizes (c.in_default.ensures.fits (state_at run i) (listing_at run i) asked going.fits) (c.in_default.ensures.stays_quiet going.fits.honest going.quiet) (c.in_default.ensures.told (state_at run i) (listing_at run i) asked going.fits going.quiet) in
           quitted c.args.pool run entry mid next new c.loop-line.source c.next.new.self i cut c.loop-line.invariant.source c.in-Line.line hears ended c.next.ensures.source (c.answer.ensures.left going.fits.honest)
           (listed_next c.args.pool entry mid c.loop-line.engine i under_way c.in-Line.line run [] begins listed _ is (c.loop-line.invariant.paged run begins))
           (λ newest blocks sound. next_reads c.args.pool run newest entry.image blocks c.works_add_up.ensures.works i c.in-Line.line _ is c.loop-line.engine (c.loop-line.invariant.paged run begins newest blocks sound) c.works_add_up.ensures.reads entry mid next new refl (c.next.ensures.same honest) (c.loop-line.invariant.reads run begins newest blocks sound) going.geometry (let least = sound.octets.limits.groups in omega (arith, least)) (c.answer.ensures.asks (state_at run i) going.fits).reads
-          ((c.answer.ensures.asks (state_at run i) going.fits).writes (engine_queue c.loop-line.engine next (state_at run i) (engine_goes_on c.loop-line.engine mid next c.loop-line.invariant.engine c.next.ensures.goes) going.fits) going.quiet)) _ c.answer.new.engine (sym c.quits-last.ensures ∙ c.if-last.true) gone
+          ((c.answer.ensures.asks (state_at run i) going.fits).writes (engine_queue c.loop-line.engine next (state_at run i) (engine_goes_on c.loop-line.engine mid next c.loop-line.invariant.engine c.next.ensures.goes) going.fits) going.quiet))
+          (answers_still run (suc i) entry next new (c.answer.ensures.left going.fits.honest) (answers_next run entry mid next c.loop-line.source i (suc i) cut c.loop-line.invariant.source so_far.told (omega arith) (answers_before c.args.pool entry mid c.loop-line.engine i under_way c.in-Line.line run [] begins listed) (c.next.ensures.takes honest cut.ended))) _ c.answer.new.engine (sym c.quits-last.ensures ∙ c.if-last.true) gone
           (λ newest blocks sound. paged_room c.args.pool run newest entry.image blocks c.answer.new.engine new (suc i)
           (next_paged c.args.pool run newest entry.image blocks c.works_add_up.ensures.works i c.in-Line.line _ is c.loop-line.engine (c.loop-line.invariant.paged run begins newest blocks sound) c.in_default.field-0 c.answer.new.engine next new (c.in_default.ensures.asks (state_at run i) going.fits)) c.in_default.ensures.going)
           (λ newest blocks sound. paged_queue c.args.pool run newest entry.image blocks c.queue_is_on_flash.ensures c.answer.new.engine new (state_at run (suc i)) (suc i) gone.fits gone.geometry

@@ -24,7 +24,7 @@ invariant-loop-line g l =
       faults : SameFaults old now;
       source : IsSource l.source;
       engine : MayGoOn l.engine now;
-      cut : IsTrue old.honest → Cut old.left l.source now l._line;
+      cut : IsTrue old.honest → Cut old.input.left l.source now l._line;
       fits : IsTrue old.honest → (g : Geometry) (table : List Content) (commits : ℕ) → Stands g old.image table commits → ((s : State) × Fits l.engine now s) × (sizes_of l.engine.store ≡ g);
       under_way : IsUnderWay l.pool old now l.engine l._line;
       paged : (run : Run) → Begins run old → (newest : Option Master) (blocks : List (List LogRecord)) → IsSound newest run.geometry old.image blocks → IsPaged l.pool run newest old.image blocks l.engine l._line;

@@ -14,7 +14,7 @@ invariant-loop-place g l =
     record {
       goes : Goes old now;
       devices : IsTrue old.honest → LeavesDevices old now;
-      left : IsTrue old.honest → now.left ≡ old.left;
+      left : IsTrue old.honest → now.input ≡ old.input;
       reads : SameReads old now;
       faults : SameFaults old now;
       there : l.place < length (lives_of l.script);

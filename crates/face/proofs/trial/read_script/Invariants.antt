@@ -11,7 +11,7 @@ invariant-loop-script g l =
     record {
       goes : Goes old now;
       few : length l.script.items ≤ 65536;
-      all : IsTrue old.honest → l.script.items ++ now.left ≡ old.left;
+      all : IsTrue old.honest → l.script.items ++ now.input.left ≡ old.input.left;
       same : IsTrue old.honest → HearsOnly old now;
       reads : SameReads old now;
       faults : SameFaults old now;

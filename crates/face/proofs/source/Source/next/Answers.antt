@@ -2,6 +2,7 @@ use Rattle.std.proofs.Common.{◌<◌, [], ◌∷◌, sym, ◌∙◌, ap, arith}
 use Rattle.site.specs.Laws.{stays_honest, goes_in_sequence}
 use Rattle.face.specs.Lines.{to_hear}
 use Rattle.face.proofs.Heard.{line_heard, last_heard, octet_more, octet_is, none_is, then_rest, cut_off, hears_then, over}
+use Rattle.face.proofs.Waits.{takes_none, takes_then}
 use Rattle.face.proofs.source.Source.next.Goals as goal
 
 pub returns-in-None-clause-heard : goal.returns-in-None-clause-heard
@@ -45,6 +46,7 @@ loop-octet-preserved g c =
       len = omega (arith, c.keep-len.ensures.count);
       long = c.keep-len.array_long;
       same = λ honest. hears_then old now new (c.loop-octet.invariant.same honest) (c.next_octet.ensures.same (stays_honest old now c.loop-octet.invariant.goes honest));
+      takes = λ honest ended. takes_then _ _ old now new _ _ _ (c.loop-octet.invariant.so_far honest ended) (c.loop-octet.invariant.same honest).told (c.loop-octet.invariant.same_end honest ended) (c.loop-octet.invariant.takes honest ended) (c.next_octet.ensures.takes (stays_honest old now c.loop-octet.invariant.goes honest));
       count = λ honest. c.in-Ok.ensures.count (stays_honest old now c.loop-octet.invariant.goes honest) ∙ c.loop-octet.invariant.count honest;
       still = λ honest ended. c.in-Ok.ensures.ended (stays_honest old now c.loop-octet.invariant.goes honest) (c.loop-octet.invariant.still honest ended);
       going = λ honest ended some.
@@ -72,3 +74,27 @@ returns-clause-cut_off g c honest ended =
     let now = g.S.Site.state c.loop-octet.site in
     let few = over c.args.self.now c.loop-octet.self old now c.loop-octet.line c.loop-octet.len c.loop-octet._octet c.requires c.loop-octet.invariant.source (c.loop-octet.invariant.so_far honest ended) (c.loop-octet.invariant.count honest) in
     absurd (omega (arith, few, c.loop-octet-test.false))
+
+pub returns-in-None-clause-takes : goal.returns-in-None-clause-takes
+returns-in-None-clause-takes g c honest ended =
+    let old = g.S.Site.state c.args.site.now in
+    let now = g.S.Site.state c.loop-octet.site in
+    takes_then _ _ old now (g.S.Site.state c.next_octet.new.site) _ _ _ (c.loop-octet.invariant.so_far honest ended) (c.loop-octet.invariant.same honest).told (c.loop-octet.invariant.same_end honest ended) (c.loop-octet.invariant.takes honest ended) (c.next_octet.ensures.takes (stays_honest old now c.loop-octet.invariant.goes honest))
+
+pub returns-then-octet-eq10-clause-takes : goal.returns-then-octet-eq10-clause-takes
+returns-then-octet-eq10-clause-takes g c honest ended =
+    let old = g.S.Site.state c.args.site.now in
+    let now = g.S.Site.state c.loop-octet.site in
+    takes_then _ _ old now (g.S.Site.state c.next_octet.new.site) _ _ _ (c.loop-octet.invariant.so_far honest ended) (c.loop-octet.invariant.same honest).told (c.loop-octet.invariant.same_end honest ended) (c.loop-octet.invariant.takes honest ended) (c.next_octet.ensures.takes (stays_honest old now c.loop-octet.invariant.goes honest))
+
+pub returns-in-Err-clause-takes : goal.returns-in-Err-clause-takes
+returns-in-Err-clause-takes g c honest ended =
+    let old = g.S.Site.state c.args.site.now in
+    let now = g.S.Site.state c.loop-octet.site in
+    takes_then _ _ old now (g.S.Site.state c.next_octet.new.site) _ _ _ (c.loop-octet.invariant.so_far honest ended) (c.loop-octet.invariant.same honest).told (c.loop-octet.invariant.same_end honest ended) (c.loop-octet.invariant.takes honest ended) (c.next_octet.ensures.takes (stays_honest old now c.loop-octet.invariant.goes honest))
+
+pub returns-then-len-eq0-clause-takes : goal.returns-then-len-eq0-clause-takes
+returns-then-len-eq0-clause-takes g c honest ended =
+    let old = g.S.Site.state c.args.site.now in
+    let now = g.S.Site.state c.loop-octet.site in
+    takes_then _ _ old now (g.S.Site.state c.next_octet.new.site) _ _ _ (c.loop-octet.invariant.so_far honest ended) (c.loop-octet.invariant.same honest).told (c.loop-octet.invariant.same_end honest ended) (c.loop-octet.invariant.takes honest ended) (c.next_octet.ensures.takes (stays_honest old now c.loop-octet.invariant.goes honest))

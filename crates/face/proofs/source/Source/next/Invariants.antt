@@ -1,7 +1,7 @@
 use Rattle.std.proofs.Common.{◌≡◌, ◌≤◌, ◌<◌, length, IsTrue}
 use Rattle.std.specs.Prelude.{false}
 use Rattle.site.specs.Calls.{Goes}
-use Rattle.face.specs.Lines.{to_hear, total, IsSource, HasEnded, HearsOnly}
+use Rattle.face.specs.Lines.{to_hear, total, IsSource, HasEnded, HearsOnly, TakesWithin}
 use Rattle.face.proofs.Heard.{HeardSoFar}
 use Rattle.face.specs.Causes.{SameFaults}
 use Rattle.face.proofs.source.Source.next.Given as goal
@@ -17,6 +17,7 @@ invariant-loop-octet g l =
       len : l.len ≤ 501;
       long : length l.line ≡ 500;
       same : IsTrue old.honest → HearsOnly old now;
+      takes : IsTrue old.honest → HasEnded l.fn.self old → TakesWithin l.fn.self old now;
       count : IsTrue old.honest → total l.self now ≡ total l.fn.self old;
       still : IsTrue old.honest → HasEnded l.fn.self old → HasEnded l.self now;
       going : IsTrue old.honest → HasEnded l.fn.self old → 0 < l._octet → l.fn.self.ended ≡ false;

@@ -1,0 +1,115 @@
+-- Where the rings on the log's device have numbers for all that a run appends, its first lines bring none to its end.
+use Rattle.std.proofs.Common.{◌≡◌, ◌⊎◌, ⊎_elim, ℕ, ◌+◌, ◌≤◌, Bool, true, false, List, [], ◌∷◌, ◌++◌, length, take, drop, Option, Some, None, sym, ◌∙◌, ap, arith, append_assoc, take-append-drop}
+use Rattle.std.specs.Prelude.{if◌then◌else◌}
+use Rattle.std.proofs.lemmas.List.{take_all}
+use Rattle.site.specs.State.{Image}
+use Rattle.site.specs.declared.geometry.Geometry.{Geometry}
+use Rattle.record_model.specs.declared.words.CacheLine.{CacheLine}
+use Rattle.record_model.specs.declared.words.Command.{Command}
+use Rattle.record_model.specs.declared.words.Command.TheVariants as command
+use Rattle.record_model.specs.declared.words.Reply.{Reply}
+use Rattle.record_model.specs.State.{State}
+use Rattle.record_model.specs.Step.{Outcome, answer, effect, full, lacks_room, outcome, ready, refusal}
+use Rattle.record_model.specs.Run.{Line, later_listings, next_listing}
+use Rattle.redo_undo.specs.Holding.{IsLogWorn}
+use Rattle.checkpoint.specs.declared.master.Master.{Master}
+use Rattle.log_records.specs.declared.log_record.LogRecord.{LogRecord}
+use Rattle.engine.specs.Image.{IsSound}
+use Rattle.face.specs.Lines.{commands_of, up_to_quit}
+use Rattle.face.specs.Range.{HasLogRoom, SkipsNoNumber, made_by, run_of, turns_of}
+use Rattle.face.specs.Run.{Run, after_lines, answered, checkpoints_of, step}
+use Rattle.face.specs.Workload.{checkpoints_in}
+use Rattle.face.proofs.Counted.{checkpoints_are, checkpoints_join, made_are, turns_make}
+use Rattle.face.proofs.Pagings.{same_after, taken_first}
+use Rattle.face.proofs.Stated.{after_join}
+use Rattle.face.proofs.Turns.{turns_count}
+
+-- No line takes a log record back.
+
+effect_makes : (s : State) (command : Command) → s.made ≤ (effect s command).made
+effect_makes s (command.Begin n) = omega arith
+effect_makes s (command.Read n number) = omega arith
+effect_makes s (command.Write n number value) = omega arith
+effect_makes s (command.Erase n number) = omega arith
+effect_makes s (command.Scan n number count) = omega arith
+effect_makes s (command.Commit n) = omega arith
+effect_makes s (command.Abort n) = omega arith
+effect_makes s (command.Get number) = omega arith
+effect_makes s (command.Set number value) = omega arith
+effect_makes s command.Checkpoint = omega arith
+effect_makes s command.Cache = omega arith
+effect_makes s command.Stat = omega arith
+effect_makes s command.Quit = omega arith
+
+-- what is left of a command that its tests let through
+abbrev chosen : State → Command → List CacheLine → Bool → Outcome
+chosen s command listing lacks = if lacks then record { after = s; reply = full s } else record { after = effect s command; reply = answer s command listing }
+
+step_makes : (s : State) (line : Line) (listing : List CacheLine) → s.made ≤ (step s line listing).after.made
+step_makes s None listing = omega arith
+step_makes s (Some command) listing = by (refusal s command)
+  where
+    through : (b : Bool) → s.made ≤ (chosen (ready true s command) command listing b).after.made
+    through true = omega arith
+    through false = effect_makes (ready true s command) command
+
+    by : (o : Option Reply) → s.made ≤ (outcome true s command listing o).after.made
+    by (Some refused) = omega arith
+    by None = through (lacks_room (ready true s command) command)
+
+lines_make : (s : State) (lines : List Line) (listings : List (List CacheLine)) → s.made ≤ (after_lines s lines listings).made
+lines_make s [] listings = omega arith
+lines_make s (line ∷ lines) listings =
+    let one = step_makes s line (next_listing listings) in
+    let rest = lines_make (step s line (next_listing listings)).after lines (later_listings line listings) in
+    omega (arith, one, rest)
+
+-- Two runs that open alike: the first lines of one are the first ones of the other.
+module _ (g : Geometry) (opening : State) (own lines : List Line) (own_listings listings : List (List CacheLine)) (n : ℕ) (later : List Line) (split : up_to_quit lines ≡ take n (up_to_quit own) ++ later) where
+  abbrev part : Run
+  part = record { geometry = g; opening = opening; lines = own; listings = own_listings }
+
+  abbrev all : Run
+  all = record { geometry = g; opening = opening; lines = lines; listings = listings }
+
+  abbrev front : List Line
+  front = take n (up_to_quit own)
+
+  made_few : made_by part n ≤ made_by all (length (turns_of all))
+  made_few =
+      let first = made_are part n ∙ ap (λ (s : State). s.made) (same_after opening front own_listings []) in
+      let long = turns_count opening lines listings in
+      let whole : take (length (turns_of all)) (up_to_quit lines) ≡ front ++ later = take_all (length (turns_of all)) (up_to_quit lines) (omega (arith, long)) ∙ split in
+      let last = made_are all (length (turns_of all)) ∙ ap (λ (l : List Line). (after_lines opening l listings).made) whole
+      ∙ ap (λ (s : State). s.made) (same_after opening (front ++ later) listings [] ∙ after_join opening front later) in
+      let more = lines_make (after_lines opening front []) later [] in
+      omega (arith, first, last, more)
+
+  checkpoints_few : checkpoints_in (take n (turns_of part)) ≤ checkpoints_in (turns_of all)
+  checkpoints_few =
+      let first = checkpoints_are part n in
+      let last = turns_make opening lines listings ∙ ap (checkpoints_of opening) split ∙ checkpoints_join opening front later in
+      omega (arith, first, last)
+
+  pub stays_below : (old now : Image) (newest : Option Master) (blocks : List (List LogRecord)) → IsSound newest g old blocks → SkipsNoNumber part n old now → HasLogRoom all old → IsLogWorn g now → ⊥
+  stays_below old now newest blocks sound numbers room =
+      let gives = numbers newest blocks sound in
+      let has = room newest blocks sound in
+      let made = made_few in
+      let checkpoints = checkpoints_few in
+      ⊎_elim (λ end. let few = gives.blocks in let many = has.blocks in omega (arith, end, few, many, made))
+      (λ end. let few = gives.masters in let many = has.masters in omega (arith, end, few, many, checkpoints))
+
+-- the lines of the octets that were taken are the first ones of all that are left
+pub never_at_end : (g : Geometry) (opening : State) (listings : List (List CacheLine)) (ended : Bool) (left octets rest : List ℕ) → left ≡ octets ++ rest → (ended ≡ true → rest ≡ []) → (begun : ℕ) (old now : Image) (newest : Option Master) (blocks : List (List LogRecord)) → IsSound newest g old blocks
+    → SkipsNoNumber (run_of g opening ended octets listings) begun old now → HasLogRoom (run_of g opening true left []) old → IsLogWorn g now → ⊥
+never_at_end g opening listings ended left octets rest is none begun old now newest blocks sound =
+    let first = taken_first ended left octets rest is none in
+    let own = up_to_quit (commands_of ended octets) in
+    stays_below g opening (commands_of ended octets) (commands_of true left) listings [] begun (drop begun own ++ first.0)
+    (first.1 ∙ ap (λ (l : List Line). l ++ first.0) (sym (take-append-drop begun own)) ∙ append_assoc (take begun own) (drop begun own) first.0) old now newest blocks sound
+
+-- the same of the first lines of a run
+pub never_at_end_within : (run : Run) (begun : ℕ) (old now : Image) (newest : Option Master) (blocks : List (List LogRecord)) → IsSound newest run.geometry old blocks → SkipsNoNumber run begun old now → HasLogRoom run old → IsLogWorn run.geometry now → ⊥
+never_at_end_within run begun old now newest blocks sound =
+    stays_below run.geometry run.opening run.lines run.lines run.listings run.listings begun (drop begun (answered run)) (sym (take-append-drop begun (answered run))) old now newest blocks sound
