@@ -115,7 +115,7 @@ pub hears_as : (said is : Heard) (before after : List ℕ) → Hears said before
 hears_as said is before after h same = subst (λ (x : Heard). Hears x before after) same h
 
 -- a trace of which nothing was taken
-pub nothing_pending : (trace : Trace) (site : State) → trace.from ≡ trace.to → to_hear trace site ≡ site.left
+pub nothing_pending : (trace : Trace) (site : State) → trace.from ≡ trace.to → to_hear trace site ≡ site.input.left
 nothing_pending trace site empty =
     let none : trace.to - trace.from ≡ 0 = omega (arith, empty) in
-    ap (λ (n : ℕ). take n (drop trace.from trace.buffer) ++ site.left) none
+    ap (λ (n : ℕ). take n (drop trace.from trace.buffer) ++ site.input.left) none

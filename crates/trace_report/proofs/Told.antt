@@ -62,7 +62,7 @@ module _ (text : List ℕ) (old mid new : State) (goes : Goes old mid) (same : I
 
 -- the contract, by what is known of the status
 pub contract : (groups pool : ℕ) (text : List ℕ) (old mid new : State) (result : Result (Unit {0}) Failed) (status : ℕ) → Goes old mid → (IsTrue old.honest → HearsOnly old mid) → SameReads old mid → Tells text mid new result
-    → (IsTrue old.honest → IsAnswer groups pool old.left status text)
+    → (IsTrue old.honest → IsAnswer groups pool old.input.left status text)
     → (IsTrue old.honest → status ≡ 0 → new.told ≡ old.told ++ text)
     → (status ≡ 0) ⊎ ((status ≡ 4) ⊎ ((status ≡ 5) ⊎ ((status ≡ 6) ⊎ (status ≡ 16))))
     → (status ≡ 5 → Rose old.input_faults mid.input_faults) → (status ≡ 6 → Rose mid.output_faults new.output_faults)
@@ -73,8 +73,8 @@ contract groups pool text old mid new result status goes same reads tells answer
   any_moment = λ honest. moments text old mid new goes same honest (tells.any_moment (stays_honest old mid goes honest));
   whole = λ honest. whole text old mid new goes same result honest (tells.told (stays_honest old mid goes honest)) tells.cause;
   done = done;
-  wrong = λ honest. wrong_of groups pool old.left status text (answer honest);
-  trace = λ honest. trace_of groups pool old.left status text (answer honest);
+  wrong = λ honest. wrong_of groups pool old.input.left status text (answer honest);
+  trace = λ honest. trace_of groups pool old.input.left status text (answer honest);
   others = others;
   input = λ five. rose_then old.input_faults mid.input_faults new.input_faults (input five) tells.goes.input_faults;
   output = λ six. rose_since old.output_faults mid.output_faults new.output_faults goes.output_faults (output six);
@@ -87,7 +87,7 @@ abbrev IsReport : ℕ → ℕ → List ℕ → List ℕ → Type 0
 IsReport groups pool octets text = (touches : List Touch) × IsTrace octets touches × (text ≡ report groups pool touches)
 
 pub told_report : (groups pool : ℕ) (text : List ℕ) (old mid new : State) (x : Unit {0}) → Goes old mid → (IsTrue old.honest → HearsOnly old mid) → SameReads old mid → Tells text mid new (Ok x)
-    → (IsTrue old.honest → IsReport groups pool old.left text) → SimulateContract groups pool old new 0
+    → (IsTrue old.honest → IsReport groups pool old.input.left text) → SimulateContract groups pool old new 0
 told_report groups pool text old mid new x goes same reads tells is =
     contract groups pool text old mid new (Ok x) 0 goes same reads tells
     (λ honest. let r = is honest in inl (inl refl, r.0, r.1, r.2))
@@ -95,7 +95,7 @@ told_report groups pool text old mid new x goes same reads tells is =
     (inl refl) (λ bad. absurd (omega (arith, bad))) (λ bad. absurd (omega (arith, bad)))
 
 pub untold_report : (groups pool : ℕ) (text : List ℕ) (old mid new : State) (e : Failed) → Goes old mid → (IsTrue old.honest → HearsOnly old mid) → SameReads old mid → Tells text mid new (Err e)
-    → (IsTrue old.honest → IsReport groups pool old.left text) → SimulateContract groups pool old new 6
+    → (IsTrue old.honest → IsReport groups pool old.input.left text) → SimulateContract groups pool old new 6
 untold_report groups pool text old mid new e goes same reads tells is =
     contract groups pool text old mid new (Err e) 6 goes same reads tells
     (λ honest. let r = is honest in inl (inr refl, r.0, r.1, r.2))
@@ -104,7 +104,7 @@ untold_report groups pool text old mid new e goes same reads tells is =
 
 -- No report is told.
 
-halt_answer : (groups pool : ℕ) (h : Halt) (old mid : State) → HasCause h old mid → IsTrue old.honest → IsAnswer groups pool old.left (halt_status h) (halt_line h)
+halt_answer : (groups pool : ℕ) (h : Halt) (old mid : State) → HasCause h old mid → IsTrue old.honest → IsAnswer groups pool old.input.left (halt_status h) (halt_line h)
 halt_answer groups pool halt.Memory old mid cause honest = inr (inr (inr (refl, refl)))
 halt_answer groups pool halt.Input old mid cause honest = inr (inr (inl (refl, refl)))
 halt_answer groups pool (halt.Trace number) old mid cause honest = inr (inl (refl, number, cause honest, refl))

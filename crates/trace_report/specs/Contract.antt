@@ -21,15 +21,15 @@ IsAnswer groups pool octets status text =
 pub record SimulateContract (groups pool : ℕ) (old new : State) (status : ℕ) : Type 0 where
   -- of an honest site: a crash at any moment leaves the devices as they were, and a front of the text told
   pub text : List ℕ
-  pub answer : IsTrue old.honest → IsAnswer groups pool old.left status text
+  pub answer : IsTrue old.honest → IsAnswer groups pool old.input.left status text
   pub any_moment : IsTrue old.honest → EachMoment old new (TellsPart text old)
   -- and in the end all of it, where no tell has failed, and with status 0 at any rate
   pub whole : IsTrue old.honest → ¬ (Rose old.output_faults new.output_faults) → new.told ≡ old.told ++ text
   pub done : IsTrue old.honest → status ≡ 0 → new.told ≡ old.told ++ text
   -- where a line is wrong its number is told, unless memory is wanting or taking the input fails before it is heard
-  pub wrong : IsTrue old.honest → (number : ℕ) → IsFirstWrong old.left number → (status ≡ 16) ⊎ ((status ≡ 4) ⊎ (status ≡ 5))
+  pub wrong : IsTrue old.honest → (number : ℕ) → IsFirstWrong old.input.left number → (status ≡ 16) ⊎ ((status ≡ 4) ⊎ (status ≡ 5))
   -- and a trace is reported, unless memory is wanting, or taking or telling fails
-  pub trace : IsTrue old.honest → (touches : List Touch) → IsTrace old.left touches →
+  pub trace : IsTrue old.honest → (touches : List Touch) → IsTrace old.input.left touches →
       (status ≡ 0) ⊎ ((status ≡ 4) ⊎ ((status ≡ 5) ⊎ (status ≡ 6)))
   -- of every site
   pub others : (status ≡ 0) ⊎ ((status ≡ 4) ⊎ ((status ≡ 5) ⊎ ((status ≡ 6) ⊎ (status ≡ 16))))
@@ -52,4 +52,4 @@ halt_status (halt.Trace number) = 16
 abbrev pub HasCause : Halt → State → State → Type 0
 HasCause halt.Memory old new = ⊤
 HasCause halt.Input old new = Rose old.input_faults new.input_faults
-HasCause (halt.Trace number) old new = IsTrue old.honest → IsFirstWrong old.left number
+HasCause (halt.Trace number) old new = IsTrue old.honest → IsFirstWrong old.input.left number

@@ -15,14 +15,14 @@ pub record IsUsable (trace : Trace) : Type 0 where
 
 -- of an honest site: where a take has answered that the input ended, nothing is left
 abbrev pub HasEnded : Trace → State → Type 0
-HasEnded trace site = trace.ended ≡ true → site.left ≡ []
+HasEnded trace site = trace.ended ≡ true → site.input.left ≡ []
 
 -- the octets that were taken and aren't cut into lines yet, and with them those left to take
 abbrev pub pending : Trace → List ℕ
 pending trace = take (trace.to - trace.from) (drop trace.from trace.buffer)
 
 abbrev pub to_hear : Trace → State → List ℕ
-to_hear trace site = pending trace ++ site.left
+to_hear trace site = pending trace ++ site.input.left
 
 -- once a take has answered that the input ended none is made any more
 abbrev pub TakesNoMore : Trace → Trace → State → State → Type 0

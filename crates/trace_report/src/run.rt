@@ -25,7 +25,7 @@ fn work<S: Site>(alloc: Global, groups: u32, pool: u32, site: &mut S) -> Result<
     requires pool_least { 1 ≤ pool }
     requires pool_most { pool ≤ 4096 }
     ensures report { IsTrue (S.state site.old).honest → IfOk result (λ text.
-        (touches : List Touch) × IsTrace (S.state site.old).left touches × (text ≡ report groups pool touches)) }
+        (touches : List Touch) × IsTrace (S.state site.old).input.left touches × (text ≡ report groups pool touches)) }
     ensures cause { IfErr result (λ halt. HasCause halt (S.state site.old) (S.state site.new)) }
     ensures same { IsTrue (S.state site.old).honest → HearsOnly (S.state site.old) (S.state site.new) }
     ensures goes { Goes (S.state site.old) (S.state site.new) }

@@ -18,7 +18,7 @@ loop-number-init g c =
       few = omega arith;
       same = λ honest. record { image = refl; loose = refl; told = refl; past = refl };
       ended = λ honest ends. let bad = sym ends ∙ c.new-trace.ensures.going in cc;
-      served = λ honest. not_yet c.args.groups c.args.pool old.left (to_hear c.new-trace.result old) c.in-Ok.machines (nothing_pending c.new-trace.result old c.new-trace.ensures.empty) c.in-Ok.ensures.served;
+      served = λ honest. not_yet c.args.groups c.args.pool old.input.left (to_hear c.new-trace.result old) c.in-Ok.machines (nothing_pending c.new-trace.result old c.new-trace.ensures.empty) c.in-Ok.ensures.served;
     }
 
 pub returns-in-Ok-End-clause-report : goal.returns-in-Ok-End-clause-report
@@ -29,7 +29,7 @@ returns-in-Ok-End-clause-report g c honest =
     let hears = hears_as c.in-Ok-End.field-0 heard.End _ _ (c.in-Ok-End.ensures.heard (stays_honest old now c.loop-number.invariant.goes honest) (c.loop-number.invariant.ended honest)) c.in-Ok-End.field-0-is in
     let few = c.loop-number.invariant.few in (
       s.touches,
-      served_all c.args.groups c.args.pool old.left (to_hear c.loop-number.trace now) c.loop-number.number c.loop-number.machines s (to_hear c.next.new.self (g.S.Site.state c.next.new.site)) hears few,
+      served_all c.args.groups c.args.pool old.input.left (to_hear c.loop-number.trace now) c.loop-number.number c.loop-number.machines s (to_hear c.next.new.self (g.S.Site.state c.next.new.site)) hears few,
       c.in-Ok-report_of.ensures.report c.args.groups c.args.pool s.touches s.served,
     )
 
@@ -39,7 +39,7 @@ returns-in-Ok-Wrong-clause-cause g c honest =
     let now = g.S.Site.state c.loop-number.site in
     let s = c.loop-number.invariant.served honest in
     let hears = hears_as c.in-Ok-Wrong.field-0 heard.Wrong _ _ (c.in-Ok-Wrong.ensures.heard (stays_honest old now c.loop-number.invariant.goes honest) (c.loop-number.invariant.ended honest)) c.in-Ok-Wrong.field-0-is in
-    stopped c.args.groups c.args.pool old.left (to_hear c.loop-number.trace now) c.loop-number.number c.loop-number.machines s (to_hear c.next.new.self (g.S.Site.state c.next.new.site)) hears c.loop-number.invariant.few
+    stopped c.args.groups c.args.pool old.input.left (to_hear c.loop-number.trace now) c.loop-number.number c.loop-number.machines s (to_hear c.next.new.self (g.S.Site.state c.next.new.site)) hears c.loop-number.invariant.few
 
 pub returns-then-number-eq-LINES-clause-cause : goal.returns-then-number-eq-LINES-clause-cause
 returns-then-number-eq-LINES-clause-cause g c honest =
@@ -47,7 +47,7 @@ returns-then-number-eq-LINES-clause-cause g c honest =
     let now = g.S.Site.state c.loop-number.site in
     let s = c.loop-number.invariant.served honest in
     let hears = hears_as c.in-Ok-Touch.field-0 (heard.Touch c.in-Ok-Touch.page c.in-Ok-Touch.change) _ _ (c.in-Ok-Touch.ensures.heard (stays_honest old now c.loop-number.invariant.goes honest) (c.loop-number.invariant.ended honest)) c.in-Ok-Touch.field-0-is in
-    overfull c.args.groups c.args.pool old.left (to_hear c.loop-number.trace now) c.loop-number.number c.loop-number.machines s (to_hear c.next.new.self (g.S.Site.state c.next.new.site)) c.in-Ok-Touch.page c.in-Ok-Touch.change hears c.if-number-eq-LINES.true
+    overfull c.args.groups c.args.pool old.input.left (to_hear c.loop-number.trace now) c.loop-number.number c.loop-number.machines s (to_hear c.next.new.self (g.S.Site.state c.next.new.site)) c.in-Ok-Touch.page c.in-Ok-Touch.change hears c.if-number-eq-LINES.true
 
 pub loop-number-preserved : goal.loop-number-preserved
 loop-number-preserved g c =
@@ -67,7 +67,7 @@ loop-number-preserved g c =
       served = λ honest.
           let s = c.loop-number.invariant.served honest in
           let hears = hears_as c.in-Ok-Touch.field-0 (heard.Touch c.in-Ok-Touch.page c.in-Ok-Touch.change) _ _ (c.in-Ok-Touch.ensures.heard (stays_honest old now c.loop-number.invariant.goes honest) (c.loop-number.invariant.ended honest)) c.in-Ok-Touch.field-0-is in
-          served_more c.args.groups c.args.pool old.left (to_hear c.loop-number.trace now) c.loop-number.number c.loop-number.machines s (to_hear c.next.new.self (g.S.Site.state c.next.new.site)) c.in-Ok-Touch.page c.in-Ok-Touch.change c.touch.new.self hears
+          served_more c.args.groups c.args.pool old.input.left (to_hear c.loop-number.trace now) c.loop-number.number c.loop-number.machines s (to_hear c.next.new.self (g.S.Site.state c.next.new.site)) c.in-Ok-Touch.page c.in-Ok-Touch.change c.touch.new.self hears
           (c.in-Ok-touch.ensures.served c.args.groups c.args.pool s.touches s.served);
     }
 

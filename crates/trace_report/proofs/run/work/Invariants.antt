@@ -19,5 +19,5 @@ invariant-loop-number g l =
       few : l.number ≤ 1000000;
       same : IsTrue old.honest → HearsOnly old now;
       ended : IsTrue old.honest → HasEnded l.trace now;
-      served : IsTrue old.honest → IsServed l.groups l.pool old.left (to_hear l.trace now) l.number l.machines;
+      served : IsTrue old.honest → IsServed l.groups l.pool old.input.left (to_hear l.trace now) l.number l.machines;
     }

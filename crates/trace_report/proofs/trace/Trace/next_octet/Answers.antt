@@ -9,4 +9,4 @@ returns-in-Ok-true-clause-octet g c honest ended =
     let inside = c.fill.ensures.usable.inside in
     let some = c.in-Ok-true.ensures.some c.in-Ok-true.field-0-test in
     sym (c.in-Ok-true.ensures.all honest)
-    ∙ ap (λ (l : List ℕ). l ++ (g.S.Site.state c.fill.new.site).left) (octet_first source.buffer source.from source.to some (omega (arith, inside, long)))
+    ∙ ap (λ (l : List ℕ). l ++ (g.S.Site.state c.fill.new.site).input.left) (octet_first source.buffer source.from source.to some (omega (arith, inside, long)))
