@@ -7,3 +7,4 @@ pub mod Looked
 pub mod Pushed
 pub mod Touched
 pub mod Listed
+pub mod Slots

@@ -1,7 +1,7 @@
 -- A push, by the plan for it.
 use Rattle.std.proofs.Common.{◌≡◌, ℕ, zero, suc, ◌+◌, ◌-◌, ◌<◌, ◌≤◌, Bool, true, false, ◌&&◌, cond, List, [], ◌∷◌, ◌++◌, length, get_or, nat_lt, take, drop, map, filter, slice_get, Option, Some, None, arith, refl, sym, ap, ◌∙◌, length-append}
 use Rattle.std.specs.Prelude.{filter_map, option_map}
-use Rattle.std.specs.List.{enumerate_from, cons_option}
+use Rattle.std.specs.List.{enumerate_from}
 use Rattle.std.proofs.lemmas.Bool.{ltb-true, ltb-false}
 use Rattle.std.proofs.lemmas.Option.{slice_get_read}
 use Rattle.std.proofs.lemmas.List.{length-map, length-take, length-drop}
@@ -12,9 +12,9 @@ use Rattle.second_chance.specs.declared.plan.Plan.{Plan}
 use Rattle.second_chance.specs.declared.plan.PoolMark.{PoolMark}
 use Rattle.second_chance.specs.Queue.{Queue, frame_of, pushed}
 use Rattle.second_chance.specs.Plans.{Placed, chances_of, staged_of, pulled_at_eviction, eviction_plan}
-use Rattle.second_chance.specs.Machine.{Rules, PoolPage, Cache, is_changed, without, unread, is_full, leaving, pool_marks, push_evicted, staged_in_push}
+use Rattle.second_chance.specs.Machine.{Rules, PoolPage, Cache, without, is_full, leaving, pool_marks, push_evicted, staged_in_push}
 use Rattle.second_chance.specs.Laws.{AreApart, EvictionIsPlanned, names, given_again, eviction_done, plan_for_eviction}
-use Rattle.policy_sim.specs.Pools.{is_movable, pulled_frames, group_of}
+use Rattle.policy_sim.specs.Pools.{is_movable, group_of}
 
 -- The first seven candidates are enough for a plan.
 
@@ -98,25 +98,6 @@ given_none front places place is = filter_map-append (again front) places (place
     one : Option Mark → List Frame
     one o = filter_map (λ (o : Option Mark). option_map (λ (mark : Mark). frame_of mark.page mark.dirty) o) (o ∷ [])
 
-unread_given : (front : List Mark) (places : List ℕ) (behind : List Frame) → map unread (given_again front places ++ behind) ≡ given_again front places ++ map unread behind
-unread_given front [] behind = refl
-unread_given front (place ∷ places) behind = by (slice_get front place) (unread_given front places behind)
-  where
-    by : (o : Option Mark) → map unread (given_again front places ++ behind) ≡ given_again front places ++ map unread behind
-        → map unread (cons_option (option_map (λ (mark : Mark). frame_of mark.page mark.dirty) o) (given_again front places) ++ behind)
-        ≡ cons_option (option_map (λ (mark : Mark). frame_of mark.page mark.dirty) o) (given_again front places) ++ map unread behind
-    by None rest = rest
-    by (Some mark) rest = ap (λ (l : List Frame). frame_of mark.page mark.dirty ∷ l) rest
-
-unread_pulled : (pool : List PoolPage) (pages : List ℕ) → map unread (pulled_frames pool pages) ≡ pulled_frames pool pages
-unread_pulled pool [] = refl
-unread_pulled pool (page ∷ pages) = ap (λ (l : List Frame). frame_of page (is_changed pool page) ∷ l) (unread_pulled pool pages)
-
-pub unread_group : (front : List Mark) (plan : Plan) (own : PoolPage) (pool : List PoolPage) → map unread (group_of front plan own pool) ≡ group_of front plan own pool
-unread_group front plan own pool =
-    unread_given front plan.chances (frame_of own.page own.changed ∷ pulled_frames pool plan.pulled)
-    ∙ ap (λ (l : List Frame). given_again front plan.chances ++ frame_of own.page own.changed ∷ l) (unread_pulled pool plan.pulled)
-
 -- What a push did is the machine's push.
 pub record IsPlanned (rules : Rules) (own : PoolPage) (cache : Cache) (front : List Mark) (plan : Plan) (frames : List Frame) (full : Bool) : Type 0 where
   pub full_is : full ≡ is_full rules cache.queue
@@ -127,12 +108,11 @@ pub record IsPlanned (rules : Rules) (own : PoolPage) (cache : Cache) (front : L
 
 pub push_is : (rules : Rules) (own : PoolPage) (cache : Cache) (front : List Mark) (plan : Plan) (frames : List Frame) (full : Bool)
     → EvictionIsPlanned → IsPlanned rules own cache front plan frames full
-    → record { pool = without (names plan.pulled) cache.pool; queue = pushed full (map unread frames) cache.queue } ≡ push_evicted rules own cache
+    → record { pool = without (names plan.pulled) cache.pool; queue = pushed full frames cache.queue } ≡ push_evicted rules own cache
 push_is rules own cache front plan frames full law p =
-    let all_same : map unread frames ≡ group_of front plan own cache.pool = ap (map unread) p.frames_are ∙ unread_group front plan own cache.pool in
     let same_plan : plan ≡ plan_for_eviction rules cache =
     p.plan_is ∙ ap (λ marks. eviction_plan rules.pulls rules.chances marks (pool_marks cache)) p.front_is in
-    ap (λ l. record { pool = without (names plan.pulled) cache.pool; queue = pushed full l cache.queue }) all_same
+    ap (λ l. record { pool = without (names plan.pulled) cache.pool; queue = pushed full l cache.queue }) p.frames_are
     ∙ ap (λ b. record { pool = without (names plan.pulled) cache.pool; queue = pushed b (group_of front plan own cache.pool) cache.queue }) p.full_is
     ∙ ap (λ marks. record { pool = without (names plan.pulled) cache.pool; queue = pushed (is_full rules cache.queue) (group_of marks plan own cache.pool) cache.queue }) p.front_is
     ∙ ap (λ (q : Plan). eviction_done rules own q cache) same_plan

@@ -1,16 +1,13 @@
 // The frames of a new group.
-ghost use Rattle.std.specs.Prelude.{◌≡◌, ◌+◌, ◌≤◌, ◌++◌, length, map};
-ghost use Rattle.byte_fields.specs.FrameHeads.{AreGroupHeads};
+ghost use Rattle.std.specs.Prelude.{◌≡◌, ◌+◌, ◌≤◌, ◌++◌, length};
 ghost use Rattle.second_chance.specs.Queue.{frame_of};
-ghost use Rattle.second_chance.specs.Machine.{unread};
 ghost use Rattle.second_chance.specs.Laws.{given_again};
-ghost use Rattle.flash_directory.specs.Heads.{frames_in};
 ghost use Rattle.policy_sim.specs.Pools.{page_of, pages_of, pulled_frames, group_of};
 
 use crate::entry::Entry;
 use crate::pool::Pool;
 use arrayvec::ArrayVec;
-use byte_fields::{FrameHead, Mark};
+use byte_fields::Mark;
 use second_chance::{Frame, Places, Plan};
 
 /// The frames of the group that a plan says, beside the evicted page: those that are given a second chance, of a front group
@@ -59,23 +56,4 @@ fn unread(page: u32, dirty: bool) -> Frame
         dirty,
         referenced: false,
     }
-}
-
-/// The heads of a group with these frames.
-pub fn heads_of(frames: &[Frame]) -> [FrameHead; 8]
-    requires some { 1 ≤ length frames.now }
-    requires few { length frames.now ≤ 8 }
-    ensures heads { AreGroupHeads result }
-    ensures frames { frames_in result ≡ map unread frames.now }
-{
-    let mut heads = [FrameHead::BLANK; 8];
-    for (place, frame) in frames.iter().enumerate() {
-        heads[place] = FrameHead {
-            present: true,
-            dirty: frame.dirty,
-            page: frame.page,
-            lsn: 0,
-        };
-    }
-    heads
 }

@@ -2,13 +2,16 @@
 #![tactic(auto)]
 
 mod counts;
+mod directory;
 mod entry;
 mod group;
 mod machine;
 mod policy;
 mod pool;
+mod queued;
 mod rows;
 mod sim;
+mod table;
 #[cfg(test)]
 mod tests;
 

@@ -10,12 +10,12 @@ ghost use Rattle.policy_sim.specs.Listing.{IsPool, IsListedBy, unless};
 ghost use Rattle.policy_sim.specs.Steps.{cache_of, rules_in, IsOrdered, IsUsable, HasPushed, HasEvicted, HasRoom, HasTouched};
 
 use crate::counts::Counts;
+use crate::directory::Directory;
 use crate::entry::Entry;
-use crate::group::{heads_of, new_group};
+use crate::group::new_group;
 use crate::policy::Policy;
 use crate::pool::Pool;
 use byte_fields::Mark;
-use flash_directory::{Directory, HeadView};
 use second_chance::{Plan, PoolMark, Taking, plan_evict_taking, plans_are_pushes};
 use site::Stop;
 use std::alloc::Global;
@@ -70,19 +70,12 @@ impl Machine {
         ensures pool { IfOk result (λ machine. IsOrdered machine) }
         ensures memory { IfErr result (λ stop. stop ≡ Stop.Memory) }
     {
-        let queue = Directory::of_groups(
-            alloc,
-            &HeadView {
-                first: 0,
-                list: &[],
-            },
-        )?;
         Ok(Machine {
             taking: kind.taking(),
             pages,
             groups: kind.queue_size(groups),
             pool: Pool::new(alloc)?,
-            queue,
+            queue: Directory::new(alloc),
         })
     }
 
@@ -145,7 +138,7 @@ impl Machine {
         let plan = self.plan(&marks[..count]);
         let frames = new_group(&marks[..count], &plan, own, &self.pool);
         self.pool.remove_all(&plan.pulled);
-        self.queue.push_group(&heads_of(&frames), full)?;
+        self.queue.push_group(frames, full)?;
         list_unframed(
             &mut self.pool,
             &self.queue,

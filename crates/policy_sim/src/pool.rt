@@ -6,8 +6,8 @@ ghost use Rattle.second_chance.specs.Laws.{AreApart, names};
 ghost use Rattle.policy_sim.specs.Pools.{page_of, pages_of, candidates};
 ghost use Rattle.policy_sim.specs.Listing.{IsPool, IsListed, IsListedBy, but, enlisted, kept_of, listed_of, struck};
 
+use crate::directory::Directory;
 use crate::entry::{Entry, Kept};
-use flash_directory::Directory;
 use lru::LruCache;
 use second_chance::{Places, PoolMark};
 use site::Stop;

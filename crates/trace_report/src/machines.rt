@@ -11,7 +11,7 @@ use std::alloc::Global;
 
 /// So many touches are handed to a cache at once: one cache after the other then finds what it works on in the processor's own
 /// memory.
-const BATCH: usize = 16_384;
+const BATCH: usize = 262_144;
 
 /// A cache under each policy, and the touches that wait to be handed to all three.
 #[derive(Drop)]

@@ -1,15 +1,15 @@
-use Rattle.std.proofs.Common.{◌≡◌, ◌+◌, Bool, List, take, length, map, refl, arith, ap, sym, subst, ◌∙◌, if◌then◌else◌, []}
+use Rattle.std.proofs.Common.{◌≡◌, ◌+◌, Bool, List, take, length, refl, arith, ap, sym, subst, ◌∙◌, if◌then◌else◌, []}
 use Rattle.byte_fields.specs.declared.frame_head.Mark.{Mark}
 use Rattle.second_chance.specs.declared.frame.Frame.{Frame}
 use Rattle.second_chance.specs.declared.plan.Plan.{Plan}
 use Rattle.second_chance.specs.Queue.{Queue, front_marks, has_frame, pushed}
-use Rattle.second_chance.specs.Machine.{Cache, PoolPage, holds, without, leaving, unread}
+use Rattle.second_chance.specs.Machine.{Cache, PoolPage, holds, without, leaving}
 use Rattle.second_chance.specs.Laws.{names}
 use Rattle.policy_sim.specs.Pools.{group_of, page_of, pages_of}
 use Rattle.policy_sim.specs.Listing.{unless}
 use Rattle.policy_sim.specs.Steps.{cache_of, rules_in}
 use Rattle.policy_sim.proofs.Lost.{still_framed}
-use Rattle.policy_sim.proofs.Pushed.{push_is, staged_count, next_after, unread_group}
+use Rattle.policy_sim.proofs.Pushed.{push_is, staged_count, next_after}
 use Rattle.policy_sim.proofs.Struck.{listed_by}
 use Rattle.policy_sim.proofs.machine.Machine.push.Goals as goal
 
@@ -26,10 +26,9 @@ returns-clause-ok c =
     let frames : List Frame = c.new_group-frames.result.items in
     let front_is : front ≡ leaving (rules_in old) old.queue =
     c.marks_of_front-count.ensures.marks ∙ ap (λ b. if b then front_marks old.queue.groups else []) c.is_full-full.ensures.full in
-    let queue : c.push_group.new.self ≡ pushed full (map unread frames) old.queue =
-    c.in_ok-push_group.ensures.ok ∙ ap (λ l. pushed full l old.queue) (c.heads_of.ensures.frames ∙ ap (map unread) c.deref.ensures.0) in
+    let queue : c.push_group.new.self ≡ pushed full frames old.queue = c.in_ok-push_group.ensures.ok in
     let made : c.push_group.new.self ≡ pushed full (group_of front plan (page_of c.args.own.now) (pages_of old.pool)) old.queue =
-    queue ∙ ap (λ l. pushed full l old.queue) (ap (map unread) c.new_group-frames.ensures.frames ∙ unread_group front plan (page_of c.args.own.now) (pages_of old.pool)) in
+    queue ∙ ap (λ l. pushed full l old.queue) c.new_group-frames.ensures.frames in
     let left : pages_of c.list_unframed.new.pool ≡ without (names plan.pulled) (pages_of old.pool) = c.in_ok-list_unframed.ensures.pages ∙ c.remove_all.ensures.pages in
     record {
       cache = ap (λ pool. cache_with pool c.push_group.new.self) left
@@ -46,7 +45,7 @@ returns-clause-ok c =
       stays = record {
         rules = refl;
         groups = refl;
-        number = omega (arith, ap (λ (q : Queue). q.first + length q.groups) queue, next_after full (map unread frames) old.queue c.is_full-full.ensures.some);
+        number = omega (arith, ap (λ (q : Queue). q.first + length q.groups) queue, next_after full frames old.queue c.is_full-full.ensures.some);
         ordered = record {
           pool = c.in_ok-list_unframed.ensures.pool;
           listed = λ pulls. listed_by (unless front c.push_group.new.self (has_frame old.queue)) (has_frame c.push_group.new.self) c.list_unframed.new.pool.pages.entries

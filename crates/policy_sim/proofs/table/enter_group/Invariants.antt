@@ -1,0 +1,7 @@
+use Rattle.std.proofs.Common.{◌≡◌, ℕ, take}
+use Rattle.flash_directory.specs.Places.{newer}
+use Rattle.policy_sim.specs.Tables.{at_page}
+use Rattle.policy_sim.proofs.table.enter_group.Given as goal
+
+abbrev pub invariant-loop-index : goal.invariant-loop-index
+invariant-loop-index l = (n : ℕ) → at_page l.slots.items n ≡ newer l.number (take l.index l.frame-items) n (at_page l.fn.slots.items n)
