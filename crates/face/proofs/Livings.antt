@@ -84,7 +84,7 @@ module _ (law : LawOfLives) (g : Geometry) (before : Between) (octets : List ℕ
 
 -- A site that a life may begin on, once its lines are fed.
 pub fed_site : (g : Geometry) (before : Between) (entry lit fed : Site) (kept octets : List ℕ) → lit ≡ record entry { kept = kept } → fed ≡ record lit { input = record lit.input { left = lit.input.left ++ octets } } → Finds g before.table before.commits entry → entry.told ≡ [] → entry.input.left ≡ [] →
-    Finds g before.table before.commits fed × (fed.left ≡ octets) × (fed.told ≡ [])
+    Finds g before.table before.commits fed × (fed.input.left ≡ octets) × (fed.told ≡ [])
 fed_site g before entry lit fed kept octets is_lit is_fed finds told left = (
   record {
     honest = subst IsTrue (sym (ap (λ (s : Site). s.honest) is_fed ∙ ap (λ (s : Site). s.honest) is_lit)) finds.honest;
