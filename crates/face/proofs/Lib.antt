@@ -9,6 +9,7 @@ mod Cuts
 mod Endings
 mod Ends
 mod Faults
+mod Firsts
 mod Fronts
 mod Heard
 mod Listed

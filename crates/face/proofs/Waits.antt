@@ -1,13 +1,11 @@
 -- When input is asked for.
-use Rattle.std.proofs.Common.{◌≡◌, ◌≢◌, ℕ, suc, ◌+◌, ◌≤◌, Bool, true, false, List, [], ◌∷◌, ◌++◌, length, take, refl, sym, ◌∙◌, ap, arith, append_assoc, length-append, IsTrue}
-use Rattle.std.specs.Prelude.{Ok, min, if◌then◌else◌}
-use Rattle.std.specs.List.{AllByRecursion}
+use Rattle.std.proofs.Common.{◌≡◌, ◌≢◌, ℕ, ◌+◌, ◌≤◌, Bool, true, false, List, [], ◌∷◌, ◌++◌, length, take, refl, sym, ◌∙◌, ap, arith, append_assoc, length-append}
+use Rattle.std.specs.Prelude.{Ok, if◌then◌else◌}
 use Rattle.std.proofs.lemmas.List.{append-nil, length-take}
 use Rattle.log_laws.proofs.Lists.{all_append, all_weaker}
 use Rattle.site.specs.State.{Input, State as Site}
 use Rattle.site.specs.Calls.{Took}
 use Rattle.site.specs.declared.outside.Take.{Take}
-use Rattle.record_model.specs.Run.{Line}
 use Rattle.face.specs.declared.source.Source.{Source}
 use Rattle.face.specs.Lines.{answered_of, pending, to_hear, IsSource, TookWithin, TakesWithin}
 use Rattle.face.specs.Run.{Run, told_after}

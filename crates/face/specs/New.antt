@@ -1,5 +1,6 @@
 -- What `new` does: the devices have the lengths of its words and are blank, or it says what isn't so.
 use Rattle.std.specs.Prelude.{◌≡◌, ◌≢◌, ◌⊎◌, ℕ, ◌≤◌, ◌<◌, List, ◌++◌, length, slice_index_or, codes, decimal, IsTrue}
+use Rattle.std.specs.Prelude.{Result, Ok, Err}
 use Rattle.site.specs.declared.outside.Dev.{Dev}
 use Rattle.site.specs.declared.outside.Dev.TheVariants.{Log, Flash, Disk}
 use Rattle.site.specs.declared.geometry.Geometry.{Geometry}
@@ -11,7 +12,8 @@ use Rattle.site.specs.Telling.{TellsPart, SameDevices}
 use Rattle.face.specs.declared.new_database.Unfit.{Unfit}
 use Rattle.face.specs.declared.new_database.Unfit.TheVariants.{Foreign, Failed, NotBlank}
 use Rattle.face.specs.Texts.{dev_name}
-use Rattle.face.specs.Causes.{NoFaultRose}
+use Rattle.face.specs.Causes.{NoFaultRose, SameFaults}
+use Rattle.site.specs.Faults.{faults_in, with_fault}
 use Rattle.face.specs.Tells.{EndsWith}
 
 -- the octets from one place to another are zero
@@ -53,6 +55,13 @@ abbrev pub IsNotBlank : Unfit → State → State → Type 0
 IsNotBlank Foreign old new = ⊥
 IsNotBlank (Failed dev) old new = Rose (faults_of dev old) (faults_of dev new)
 IsNotBlank (NotBlank dev place) old new = IsTrue old.honest → IsFirstOfAll dev place old.image
+
+-- a device is tested until a first call fails
+abbrev pub TestFaults : {T : Type 0} → Result T Unfit → State → State → Type 0
+TestFaults (Ok x) old new = SameFaults old new
+TestFaults (Err Foreign) old new = SameFaults old new
+TestFaults (Err (Failed dev)) old new = faults_in new ≡ with_fault dev (faults_in old)
+TestFaults (Err (NotBlank dev place)) old new = SameFaults old new
 
 -- why devices aren't fit for a new database
 abbrev pub IsUnfit : Unfit → Geometry → State → State → Type 0

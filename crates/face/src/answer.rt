@@ -1,6 +1,6 @@
 // A line is carried out, and its reply is told.
 ghost use Rattle.std.specs.Prelude.{◌≡◌, ◌≢◌, true, [], ◌++◌, List, IfErr, IsTrue, OnOk};
-ghost use Rattle.face.specs.Causes.{SameFaults};
+ghost use Rattle.face.specs.Causes.{RunFaults};
 ghost use Rattle.site.specs.State.{IsQuiet};
 ghost use Rattle.site.specs.Calls.{Goes};
 ghost use Rattle.site.specs.Moments.{LeavesOnly};
@@ -66,7 +66,7 @@ pub fn answer<S: Site>(engine: &mut Engine, site: &mut S, line: Option<Command>)
     ensures cause { IfErr result (λ halt. AnswerFailsBy halt engine.old (S.state site.old) (S.state site.new)) }
     ensures goes { Goes (S.state site.old) (S.state site.new) }
     ensures sizes { sizes_of engine.new.store ≡ sizes_of engine.old.store }
-    ensures faults { OnOk result (SameFaults (S.state site.old) (S.state site.new)) }
+    ensures faults { RunFaults result (S.state site.old) (S.state site.new) }
 {
     let reply = match carry_out(engine, site, line) {
         Ok(reply) => reply,

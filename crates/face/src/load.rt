@@ -1,6 +1,6 @@
 // A stated workload: its sets, the gets on the same records, and its summary.
 ghost use Rattle.std.specs.Prelude.{◌≡◌, ◌≢◌, ◌*◌, true, false, [], ◌∷◌, IfOk, IfErr, if◌then◌else◌, OnOk};
-ghost use Rattle.face.specs.Causes.{SameFaults};
+ghost use Rattle.face.specs.Causes.{FirstDecides, RunFaults, SameFaults};
 ghost use Rattle.site.specs.Calls.{Goes};
 ghost use Rattle.site.specs.declared.geometry.Geometry.{Geometry};
 ghost use Rattle.site.specs.declared.outside.Dev.{Dev};
@@ -94,7 +94,7 @@ fn carry_on<S: Site>(
     ensures course { CarriesOut result (line ∷ []) engine.old engine.new (S.state site.old) (S.state site.new) }
     ensures reply { (s : State) → Fits engine.old (S.state site.old) s
         → IfOk result (λ reply. reply ≡ (step s line []).reply) }
-    ensures faults { OnOk result (SameFaults (S.state site.old) (S.state site.new)) }
+    ensures faults { RunFaults result (S.state site.old) (S.state site.new) }
 {
     match carry_out(engine, site, line) {
         Ok(reply) => Ok(reply),
@@ -117,7 +117,7 @@ fn make_sets<S: Site>(
     ensures made { (s : State) → Fits engine.old (S.state site.old) s → IfOk result (λ made.
         HasMade (model.turns true s (set_lines (32 * pages) load.now.seed load.now.count) [])
         made.committed made.checkpoints) }
-    ensures faults { OnOk result (SameFaults (S.state site.old) (S.state site.new)) }
+    ensures faults { RunFaults result (S.state site.old) (S.state site.new) }
 {
     works_add_up();
     rest_counts_nothing();
@@ -154,7 +154,7 @@ fn make_gets<S: Site>(
         engine.old engine.new (S.state site.old) (S.state site.new) }
     ensures count { (s : State) → Fits engine.old (S.state site.old) s → IfOk result (λ count.
         count ≡ found_in (model.turns true s (get_lines (32 * pages) load.now.seed load.now.count) [])) }
-    ensures faults { OnOk result (SameFaults (S.state site.old) (S.state site.new)) }
+    ensures faults { RunFaults result (S.state site.old) (S.state site.new) }
 {
     works_add_up();
     rest_counts_nothing();
@@ -199,7 +199,7 @@ fn work<S: Site>(alloc: Global, load: &Load, site: &mut S) -> Result<Counts, Hal
     ensures cause { IfErr result (λ halt. HasCause halt (S.state site.old) (S.state site.new)) }
     ensures refuses { HasNoSizes (S.state site.old) → Halts result (S.state site.old) (S.state site.new) }
     ensures goes { Goes (S.state site.old) (S.state site.new) }
-    ensures faults { OnOk result (SameFaults (S.state site.old) (S.state site.new)) }
+    ensures faults { RunFaults result (S.state site.old) (S.state site.new) }
 {
     works_add_up();
     queue_is_on_flash();
@@ -232,7 +232,7 @@ fn load_and_tell<S: Site>(alloc: Global, load: &Load, site: &mut S) -> Result<()
     ensures cause { IfErr result (λ halt. HasCause halt (S.state site.old) (S.state site.new)) }
     ensures refuses { HasNoSizes (S.state site.old) → Halts result (S.state site.old) (S.state site.new) }
     ensures goes { Goes (S.state site.old) (S.state site.new) }
-    ensures faults { OnOk result (SameFaults (S.state site.old) (S.state site.new)) }
+    ensures faults { RunFaults result (S.state site.old) (S.state site.new) }
 {
     let counts = match work(alloc, load, site) {
         Ok(counts) => counts,
@@ -257,6 +257,7 @@ pub fn serve_load<S: Site>(alloc: Global, load: &Load, site: &mut S) -> u8
         → RefusesDevices result (S.state site.old) (S.state site.new) }
     ensures goes { Goes (S.state site.old) (S.state site.new) }
     ensures faults { result ≡ 0 → SameFaults (S.state site.old) (S.state site.new) }
+    ensures first { FirstDecides result (S.state site.old) (S.state site.new) }
 {
     works_add_up();
     match load_and_tell(alloc, load, site) {

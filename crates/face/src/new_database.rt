@@ -1,12 +1,12 @@
 // The work of `new`: the devices have the lengths of the words and are blank.
 ghost use Rattle.std.specs.Prelude.{◌≡◌, ◌≤◌, ◌<◌, ◌+◌, ◌^◌, ◌↔◌, length, IsTrue, IfSome, IfNone, IfOk, IfErr, OnOk};
 ghost use Rattle.site.specs.Faults.{CallFaults};
-ghost use Rattle.face.specs.Causes.{SameFaults};
+ghost use Rattle.face.specs.Causes.{FirstDecides, SameFaults};
 ghost use Rattle.site.specs.Geometry.{HasLengths};
 ghost use Rattle.site.specs.State.{content_of, faults_of};
 ghost use Rattle.site.specs.Calls.{Goes, Rose, IsUnchanged, SameReads};
 ghost use Rattle.face.specs.New.{AreZero, IsFirst, IsBlankAt, IsFirstAt, IsBlank, IsUnfitAt, IsNotBlank, IsUnfit};
-ghost use Rattle.face.specs.New.{IsFit, New, NewCauses, unfit_status};
+ghost use Rattle.face.specs.New.{IsFit, New, NewCauses, TestFaults, unfit_status};
 
 use crate::fault_lines::{tell_ready, tell_unfit};
 use site::{Dev, Failed, Geometry, Site};
@@ -111,7 +111,7 @@ fn test_device<S: Site>(site: &mut S, dev: Dev) -> Result<(), Unfit>
     ensures unfit { IfErr result (λ unfit. IsUnfitAt dev unfit (S.state site.old) (S.state site.new)) }
     ensures same { IsTrue (S.state site.old).honest → IsUnchanged (S.state site.old) (S.state site.new) }
     ensures goes { Goes (S.state site.old) (S.state site.new) }
-    ensures faults { OnOk result (SameFaults (S.state site.old) (S.state site.new)) }
+    ensures faults { TestFaults result (S.state site.old) (S.state site.new) }
 {
     match find_nonzero(site, dev) {
         Ok(None) => Ok(()),
@@ -126,7 +126,7 @@ fn test_all<S: Site>(site: &mut S) -> Result<(), Unfit>
     ensures unfit { IfErr result (λ unfit. IsNotBlank unfit (S.state site.old) (S.state site.new)) }
     ensures same { IsTrue (S.state site.old).honest → IsUnchanged (S.state site.old) (S.state site.new) }
     ensures goes { Goes (S.state site.old) (S.state site.new) }
-    ensures faults { OnOk result (SameFaults (S.state site.old) (S.state site.new)) }
+    ensures faults { TestFaults result (S.state site.old) (S.state site.new) }
 {
     if let Err(unfit) = test_device(site, Dev::Log) {
         return Err(unfit);
@@ -153,7 +153,7 @@ fn test_fit<S: Site>(site: &mut S, geometry: &Geometry) -> Result<(), Unfit>
         → SameReads (S.state site.old) (S.state site.new) }
     ensures same { IsTrue (S.state site.old).honest → IsUnchanged (S.state site.old) (S.state site.new) }
     ensures goes { Goes (S.state site.old) (S.state site.new) }
-    ensures faults { OnOk result (SameFaults (S.state site.old) (S.state site.new)) }
+    ensures faults { TestFaults result (S.state site.old) (S.state site.new) }
 {
     if !has_lengths(site, geometry) {
         return Err(Unfit::Foreign);
@@ -169,6 +169,7 @@ pub fn make_new<S: Site>(geometry: &Geometry, site: &mut S) -> u8
     ensures causes { NewCauses geometry.now (S.state site.old) (S.state site.new) result }
     ensures goes { Goes (S.state site.old) (S.state site.new) }
     ensures faults { result ≡ 0 → SameFaults (S.state site.old) (S.state site.new) }
+    ensures first { FirstDecides result (S.state site.old) (S.state site.new) }
 {
     match test_fit(site, geometry) {
         Ok(()) => match tell_ready(site, geometry) {

@@ -1,6 +1,6 @@
 // How a run or a load begins.
 ghost use Rattle.std.specs.Prelude.{◌≡◌, ◌≢◌, ◌≤◌, ℕ, List, Option, IsTrue, IfOk, IfErr, IsErrOf, OnOk};
-ghost use Rattle.face.specs.Causes.{SameFaults};
+ghost use Rattle.face.specs.Causes.{RunFaults};
 ghost use Rattle.site.specs.Calls.{Goes};
 ghost use Rattle.face.specs.declared.halt.Halt.{Halt};
 ghost use Rattle.site.specs.declared.geometry.Geometry.{Geometry};
@@ -58,7 +58,7 @@ pub fn open<S: Site>(alloc: Global, pool: u32, site: &mut S) -> Result<Engine, H
     ensures cause { IfErr result (λ halt. HasCause halt (S.state site.old) (S.state site.new)) }
     ensures refuses { HasNoSizes (S.state site.old) → Halts result (S.state site.old) (S.state site.new) }
     ensures goes { Goes (S.state site.old) (S.state site.new) }
-    ensures faults { OnOk result (SameFaults (S.state site.old) (S.state site.new)) }
+    ensures faults { RunFaults result (S.state site.old) (S.state site.new) }
 {
     let engine = match Engine::start(alloc, site, pool) {
         Ok(engine) => engine,

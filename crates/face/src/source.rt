@@ -1,7 +1,7 @@
 // The lines of the input.
 ghost use Rattle.std.specs.Prelude.{◌≡◌, ◌⊎◌, ◌+◌, ◌^◌, ◌≤◌, ◌<◌, ◌≢◌, IsTrue, IfOk, IfErr, OnOk, OnErr, Err, None};
 ghost use Rattle.std.specs.Prelude.{false, true, [], ◌∷◌, length, take, nat_lt, min, slice_set, if◌then◌else◌};
-ghost use Rattle.face.specs.Causes.{SameFaults};
+ghost use Rattle.face.specs.Causes.{RunFaults};
 ghost use Rattle.site.specs.Calls.{Goes, Rose};
 ghost use Rattle.face.specs.Lines.{to_hear, total, IsSource, HasEnded, HearsOnly, HearsOctet, Hears, CutsOff, IsCutOff};
 ghost use Rattle.face.specs.Lines.{TakesWithin};
@@ -73,7 +73,7 @@ impl Source {
         ensures halts { IfErr result (λ halt. (halt ≡ Halt.Input) ⊎ (halt ≡ Halt.Limit)) }
         ensures goes { Goes (S.state site.old) (S.state site.new) }
         ensures input { result ≡ Err Halt.Input → Rose (S.state site.old).input_faults (S.state site.new).input_faults }
-        ensures faults { OnOk result (SameFaults (S.state site.old) (S.state site.new)) }
+        ensures faults { RunFaults result (S.state site.old) (S.state site.new) }
     {
         match site.take(&mut self.buffer[..1]) {
             Ok(0) => {
@@ -107,7 +107,7 @@ impl Source {
         ensures halts { IfErr result (λ halt. (halt ≡ Halt.Input) ⊎ (halt ≡ Halt.Limit)) }
         ensures goes { Goes (S.state site.old) (S.state site.new) }
         ensures input { result ≡ Err Halt.Input → Rose (S.state site.old).input_faults (S.state site.new).input_faults }
-        ensures faults { OnOk result (SameFaults (S.state site.old) (S.state site.new)) }
+        ensures faults { RunFaults result (S.state site.old) (S.state site.new) }
     {
         if self.from < self.to {
             return Ok(true);
@@ -149,7 +149,7 @@ impl Source {
         ensures halts { IfErr result (λ halt. (halt ≡ Halt.Input) ⊎ (halt ≡ Halt.Limit)) }
         ensures goes { Goes (S.state site.old) (S.state site.new) }
         ensures input { result ≡ Err Halt.Input → Rose (S.state site.old).input_faults (S.state site.new).input_faults }
-        ensures faults { OnOk result (SameFaults (S.state site.old) (S.state site.new)) }
+        ensures faults { RunFaults result (S.state site.old) (S.state site.new) }
     {
         match self.fill(site) {
             Err(halt) => Err(halt),
@@ -183,7 +183,7 @@ impl Source {
         ensures halts { IfErr result (λ halt. (halt ≡ Halt.Input) ⊎ (halt ≡ Halt.Limit)) }
         ensures goes { Goes (S.state site.old) (S.state site.new) }
         ensures input { result ≡ Err Halt.Input → Rose (S.state site.old).input_faults (S.state site.new).input_faults }
-        ensures faults { OnOk result (SameFaults (S.state site.old) (S.state site.new)) }
+        ensures faults { RunFaults result (S.state site.old) (S.state site.new) }
     {
         let mut line = [0u8; 500];
         let mut len = 0;

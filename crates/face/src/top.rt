@@ -1,6 +1,6 @@
 // The top call, and the work of `run`.
 ghost use Rattle.std.specs.Prelude.{◌≡◌, ◌⊎◌, ◌≤◌, ◌∷◌, [], ℕ, List, Option, IfErr, OnOk};
-ghost use Rattle.face.specs.Causes.{SameFaults};
+ghost use Rattle.face.specs.Causes.{FirstDecides, RunFaults, SameFaults};
 ghost use Rattle.site.specs.Calls.{Goes};
 ghost use Rattle.face.specs.declared.halt.Halt.{Halt};
 ghost use Rattle.site.specs.declared.geometry.Geometry.{Geometry};
@@ -54,7 +54,7 @@ fn work<S: Site>(alloc: Global, pool: u32, site: &mut S) -> Result<(), Halt>
     ensures cause { IfErr result (λ halt. HasCause halt (S.state site.old) (S.state site.new)) }
     ensures refuses { HasNoSizes (S.state site.old) → Halts result (S.state site.old) (S.state site.new) }
     ensures goes { Goes (S.state site.old) (S.state site.new) }
-    ensures faults { OnOk result (SameFaults (S.state site.old) (S.state site.new)) }
+    ensures faults { RunFaults result (S.state site.old) (S.state site.new) }
 {
     works_add_up();
     queue_is_on_flash();
@@ -100,6 +100,7 @@ pub fn serve<S: Site>(alloc: Global, pool: u32, site: &mut S) -> u8
         → RefusesDevices result (S.state site.old) (S.state site.new) }
     ensures goes { Goes (S.state site.old) (S.state site.new) }
     ensures faults { result ≡ 0 → SameFaults (S.state site.old) (S.state site.new) }
+    ensures first { FirstDecides result (S.state site.old) (S.state site.new) }
 {
     works_add_up();
     serial_order();
@@ -120,6 +121,7 @@ fn lack_memory<S: Site>(site: &mut S) -> u8
     ensures simulate { (s : Simulation) → SimulateContract s.groups s.pool (S.state site.old) (S.state site.new) result }
     ensures trial { (g : Geometry) → TrialContract g (S.state site.old) (S.state site.new) result (0 ∷ []) }
     ensures lacks { LacksMemory result (S.state site.old) (S.state site.new) }
+    ensures first { FirstDecides result (S.state site.old) (S.state site.new) }
     ensures goes { Goes (S.state site.old) (S.state site.new) }
 {
     works_add_up();
@@ -135,6 +137,7 @@ fn serve_trial<S: Site>(alloc: Global, sizes: &TrialSizes, site: &mut S) -> u8
         × TrialContract sizes.now.geometry (S.state site.old) (S.state site.new) result numbers }
     ensures goes { Goes (S.state site.old) (S.state site.new) }
     ensures faults { result ≡ 0 → SameFaults (S.state site.old) (S.state site.new) }
+    ensures first { FirstDecides result (S.state site.old) (S.state site.new) }
 {
     match MemSite::new(alloc, &sizes.geometry) {
         Ok(inner) => {
@@ -179,6 +182,9 @@ pub fn face<S: Site>(alloc: Global, words: &[String], site: &mut S) -> u8
     ensures refused { result ≡ 2 → RefusesWords (S.state site.old) (S.state site.new) }
     // Words of which one begins with a dash want no memory.
     ensures dashed { HasDash (words_of words.now) → result ≡ 2 }
+    // The first failed call decides the status.
+    ensures first { ((s : Simulation) × IsSimulate (words_of words.now) s)
+        ⊎ FirstDecides result (S.state site.old) (S.state site.new) }
     ensures goes { Goes (S.state site.old) (S.state site.new) }
     ensures faults { result ≡ 0 → SameFaults (S.state site.old) (S.state site.new) }
 {

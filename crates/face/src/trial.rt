@@ -6,7 +6,8 @@ ghost use Rattle.site.specs.Telling.{SameDevices};
 ghost use Rattle.site.specs.MemState.{state_of, limits_of, lives_of as numbers_in};
 ghost use Rattle.site.specs.declared.geometry.Geometry.{Geometry};
 ghost use Rattle.site.specs.declared.outside.Stop.{Stop};
-ghost use Rattle.face.specs.Causes.{SameFaults};
+ghost use Rattle.face.specs.Causes.{FirstDecides, RunFaults, SameFaults};
+ghost use Rattle.site.specs.Faults.{TellFaults};
 ghost use Rattle.face.specs.Lines.{HearsOnly};
 ghost use Rattle.face.specs.Run.{IsFront};
 ghost use Rattle.face.specs.declared.halt.Halt.{Halt};
@@ -48,7 +49,7 @@ fn take_more<S: Site>(site: &mut S, script: &mut Vec<u8>) -> Result<bool, Halt>
     ensures same { IsTrue (S.state site.old).honest → HearsOnly (S.state site.old) (S.state site.new) }
     ensures reads { SameReads (S.state site.old) (S.state site.new) }
     ensures goes { Goes (S.state site.old) (S.state site.new) }
-    ensures faults { OnOk result (SameFaults (S.state site.old) (S.state site.new)) }
+    ensures faults { RunFaults result (S.state site.old) (S.state site.new) }
 {
     let mut piece = [0u8; PIECE];
     let room = (SCRIPT_MAX - script.len()).clamp(1, PIECE);
@@ -78,7 +79,7 @@ fn read_script<S: Site>(alloc: Global, site: &mut S) -> Result<Vec<u8>, Halt>
     ensures same { IsTrue (S.state site.old).honest → HearsOnly (S.state site.old) (S.state site.new) }
     ensures reads { SameReads (S.state site.old) (S.state site.new) }
     ensures goes { Goes (S.state site.old) (S.state site.new) }
-    ensures faults { OnOk result (SameFaults (S.state site.old) (S.state site.new)) }
+    ensures faults { RunFaults result (S.state site.old) (S.state site.new) }
 {
     let mut script = Vec::new(alloc);
     loop {
@@ -174,7 +175,7 @@ fn tell_life<S: Site>(site: &mut S, text: &[u8], number: u64, status: u8) -> Res
     ensures devices { IsTrue (S.state site.old).honest → LeavesDevices (S.state site.old) (S.state site.new) }
     ensures reads { SameReads (S.state site.old) (S.state site.new) }
     ensures goes { Goes (S.state site.old) (S.state site.new) }
-    ensures faults { OnOk result (SameFaults (S.state site.old) (S.state site.new)) }
+    ensures faults { TellFaults result (S.state site.old) (S.state site.new) }
 {
     match tell_all(site, text) {
         Ok(()) => tell_all(site, life_line(number, status).as_slice()),
@@ -199,7 +200,7 @@ fn live_script<S: Site>(
     ensures devices { IsTrue (S.state site.old).honest → LeavesDevices (S.state site.old) (S.state site.new) }
     ensures reads { SameReads (S.state site.old) (S.state site.new) }
     ensures goes { Goes (S.state site.old) (S.state site.new) }
-    ensures faults { OnOk result.0 (SameFaults (S.state site.old) (S.state site.new)) }
+    ensures faults { RunFaults result.0 (S.state site.old) (S.state site.new) }
 {
     blank_stands();
     let mut inner = inner;
@@ -243,7 +244,7 @@ fn work<S: Site>(
     ensures devices { IsTrue (S.state site.old).honest → LeavesDevices (S.state site.old) (S.state site.new) }
     ensures reads { SameReads (S.state site.old) (S.state site.new) }
     ensures goes { Goes (S.state site.old) (S.state site.new) }
-    ensures faults { OnOk result.0 (SameFaults (S.state site.old) (S.state site.new)) }
+    ensures faults { RunFaults result.0 (S.state site.old) (S.state site.new) }
 {
     match read_script(alloc, site) {
         Ok(script) => live_script(alloc, pool, script.as_slice(), inner, site),
@@ -271,6 +272,7 @@ pub fn trial<S: Site>(alloc: Global, pool: u32, inner: MemSite, site: &mut S) ->
     ensures unbegun { (result.0 ≡ 5) ⊎ (result.0 ≡ 7) → result.1 ≡ inner }
     ensures goes { Goes (S.state site.old) (S.state site.new) }
     ensures faults { result.0 ≡ 0 → SameFaults (S.state site.old) (S.state site.new) }
+    ensures first { FirstDecides result.0 (S.state site.old) (S.state site.new) }
 {
     let (lived, inner) = work(alloc, pool, inner, site);
     match lived {

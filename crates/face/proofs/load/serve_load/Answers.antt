@@ -3,6 +3,7 @@ use Rattle.site.specs.Laws.{stays_honest}
 use Rattle.face.proofs.CauseLaws.{cause_then, no_causes, status_causes}
 use Rattle.face.proofs.Endings.{refuses_devices, tells_fault, tells_none}
 use Rattle.face.proofs.LoadFaults.{load_contract, load_done, load_halted, not_taken}
+use Rattle.face.proofs.Firsts.{first_halted, first_none}
 use Rattle.face.proofs.load.serve_load.Goals as goal
 
 pub returns-in-Ok-clause-load : goal.returns-in-Ok-clause-load
@@ -29,3 +30,10 @@ returns-in-Err-clause-load g c =
 pub returns-in-Err-clause-sizes : goal.returns-in-Err-clause-sizes
 returns-in-Err-clause-sizes g c none =
     refuses_devices c.in-Err.halt c.status.result (g.S.Site.state c.args.site.now) (g.S.Site.state c.load_and_tell.new.site) (g.S.Site.state c.tell_halt.new.site) c.tell_halt.result c.status.ensures (c.in-Err.ensures.refuses none) c.tell_halt.ensures
+
+pub returns-in-Ok-clause-first : goal.returns-in-Ok-clause-first
+returns-in-Ok-clause-first g c = first_none _ _ c.in-Ok.ensures.faults
+
+pub returns-in-Err-clause-first : goal.returns-in-Err-clause-first
+returns-in-Err-clause-first g c =
+    first_halted c.in-Err.halt c.status.result (g.S.Site.state c.args.site.now) (g.S.Site.state c.load_and_tell.new.site) (g.S.Site.state c.tell_halt.new.site) c.tell_halt.result c.status.ensures c.in-Err.ensures.faults c.tell_halt.ensures.faults

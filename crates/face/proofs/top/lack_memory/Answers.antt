@@ -1,7 +1,8 @@
-use Rattle.std.proofs.Common.{refl, rules}
+use Rattle.std.proofs.Common.{arith, refl, rules}
 use Rattle.face.specs.Words.{LacksMemory}
 use Rattle.trace_report.proofs.Lacking.{lacked}
 use Rattle.face.proofs.Endings.{only_tells}
+use Rattle.face.proofs.Firsts.{first_line}
 use Rattle.face.proofs.MemoryLaws.{lacked_contract, lacked_load_run, lacked_run}
 use Rattle.face.proofs.Trials.{lacked_trial}
 use Rattle.face.proofs.top.lack_memory.Goals as goal
@@ -24,5 +25,6 @@ returns g c =
       });
       trial = λ geometry. lacked_trial geometry old new c.tell_memory.result c.tell_memory.ensures;
       lacks = lacks;
+      first = first_line 4 old new c.tell_memory.result (λ e. omega (arith, e), λ e. omega (arith, e), λ e. omega (arith, e)) c.tell_memory.ensures.faults;
       goes = search rules;
     }

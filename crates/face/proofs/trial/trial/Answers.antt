@@ -1,11 +1,13 @@
 use Rattle.std.proofs.Common.{◌∙◌, ap, inl, inr, subst, ⊎_elim}
 use Rattle.std.specs.Prelude.{Err, IfErr, Result}
 use Rattle.site.specs.Laws.{stays_honest}
+use Rattle.face.specs.Causes.{RunFaults}
 use Rattle.face.specs.Living.{Ends, IsHaltOfTrial}
 use Rattle.face.specs.Texts.{fault_line}
 use Rattle.face.specs.Trial.{numbers_of}
 use Rattle.face.specs.declared.halt.Halt.{Halt}
 use Rattle.face.proofs.Trials.{caused_by, devices_then, devices_told, numbers_unbegun, told_and_fault}
+use Rattle.face.proofs.Firsts.{first_halted, first_none}
 use Rattle.face.proofs.trial.trial.Goals as goal
 
 pub returns-in-Err-clause-trial : goal.returns-in-Err-clause-trial
@@ -31,3 +33,11 @@ returns-in-Err-clause-trial g c geometry is_new =
       devices = λ honest. devices_then old mid new (work.devices honest) (devices_told (fault_line c.in-Err.halt) mid new (c.tell_halt.ensures.any_moment (stays_honest old mid work.goes honest)));
       reads = λ dev. c.tell_halt.ensures.reads dev ∙ work.reads dev;
     }
+
+pub returns-in-Ok-clause-first : goal.returns-in-Ok-clause-first
+returns-in-Ok-clause-first g c = first_none _ _ (subst (λ (r : Result (Unit {0}) Halt). RunFaults r (g.S.Site.state c.args.site.now) (g.S.Site.state c.work-lived.new.site)) c.in-Ok.is c.work-lived.ensures.faults)
+
+pub returns-in-Err-clause-first : goal.returns-in-Err-clause-first
+returns-in-Err-clause-first g c =
+    first_halted c.in-Err.halt c.status.result (g.S.Site.state c.args.site.now) (g.S.Site.state c.work-lived.new.site) (g.S.Site.state c.tell_halt.new.site) c.tell_halt.result c.status.ensures
+    (subst (λ (r : Result (Unit {0}) Halt). RunFaults r (g.S.Site.state c.args.site.now) (g.S.Site.state c.work-lived.new.site)) c.in-Err.is c.work-lived.ensures.faults) c.tell_halt.ensures.faults

@@ -2,7 +2,7 @@ use Rattle.std.proofs.Common.{◌<◌, [], ◌∷◌, sym, ◌∙◌, ap, arith}
 use Rattle.site.specs.Laws.{stays_honest, goes_in_sequence}
 use Rattle.face.specs.Lines.{to_hear}
 use Rattle.face.proofs.Heard.{line_heard, last_heard, octet_more, octet_is, none_is, then_rest, cut_off, hears_then, over}
-use Rattle.face.proofs.Waits.{takes_none, takes_then}
+use Rattle.face.proofs.Waits.{takes_then}
 use Rattle.face.proofs.source.Source.next.Goals as goal
 
 pub returns-in-None-clause-heard : goal.returns-in-None-clause-heard
