@@ -10,3 +10,5 @@ pub mod SavedHeads
 pub mod Standing
 pub mod UnitsJudged
 pub mod Walks
+pub mod OpenOnes
+pub mod GroupsRead

@@ -1,6 +1,9 @@
 pub mod Counting
 pub mod Findings
+pub mod Framing
 pub mod Laws
 pub mod Octets
+pub mod Opening
+pub mod Unended
 pub mod Verdict
 pub mod Walking

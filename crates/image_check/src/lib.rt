@@ -4,6 +4,7 @@
 mod blocks;
 mod commits;
 mod following;
+mod groups;
 mod kept;
 mod laws;
 mod lengths;
@@ -12,15 +13,20 @@ mod rings;
 mod segments;
 #[cfg(test)]
 mod tests;
+mod txns;
+mod unfinished;
 mod walk;
 
 pub use blocks::rule_blocks;
 pub use commits::rule_commits;
 pub use following::rule_following;
+pub use groups::rule_groups;
 pub use kept::rule_kept;
 pub use laws::{one_reading, sound_is_standing};
 pub use lengths::rule_lengths;
 pub use master::rule_master;
 pub use rings::{Rings, rule_rings};
 pub use segments::rule_segments;
+pub use txns::rule_transactions;
+pub use unfinished::{rule_named, rule_room};
 pub use walk::Walk;

@@ -3,8 +3,8 @@ ghost use Rattle.std.specs.Prelude.{◌<◌, ◌≤◌, length, IfOk};
 ghost use Rattle.site.specs.MemState.{state_of};
 
 use crate::{
-    rule_blocks, rule_commits, rule_following, rule_kept, rule_lengths, rule_master, rule_rings,
-    rule_segments,
+    rule_blocks, rule_commits, rule_following, rule_kept, rule_lengths, rule_master, rule_named,
+    rule_rings, rule_room, rule_segments, rule_transactions,
 };
 use checkpoint::Master;
 use log_store::LogStore;
@@ -72,6 +72,18 @@ fn the_block_of_the_first_commit(rt: HostRuntime) -> Result<(), Fail> {
     assert!(rt; rule_blocks(&mut site, &log, 0)?);
     assert!(rt; rule_kept(&log, &Master::blank()));
     assert!(rt; rule_commits(&mut site, &log, &Master::blank())?);
+    Ok(())
+}
+
+#[test]
+fn the_first_transaction_is_open_until_its_commit(rt: HostRuntime) -> Result<(), Fail> {
+    let mut site = MemSite::new(rt.alloc(), &SMALL)?;
+    site.write_at(Dev::Log, 1_536, &BLOCK)?;
+    let log = LogStore::start(&mut site, &SMALL)?;
+    let blank = Master::blank();
+    assert!(rt; rule_transactions(rt.alloc(), &mut site, &log, &blank)?);
+    assert!(rt; rule_room(rt.alloc(), &mut site, &log, &blank)?);
+    assert!(rt; rule_named(rt.alloc(), &mut site, &log, &blank)?);
     Ok(())
 }
 
