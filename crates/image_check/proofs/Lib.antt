@@ -12,3 +12,4 @@ pub mod UnitsJudged
 pub mod Walks
 pub mod OpenOnes
 pub mod GroupsRead
+pub mod LeftOnes

@@ -119,7 +119,11 @@ impl LeftTxns {
             return false;
         }
         for (place, transaction) in self.left.iter().enumerate() {
-            if master.active.at(place) != (transaction.txn, transaction.last) {
+            let (begin, last) = master.active.at(place);
+            if begin != transaction.txn {
+                return false;
+            }
+            if last != transaction.last {
                 return false;
             }
         }
