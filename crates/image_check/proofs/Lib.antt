@@ -13,3 +13,4 @@ pub mod Walks
 pub mod OpenOnes
 pub mod GroupsRead
 pub mod LeftOnes
+pub mod LastOnes

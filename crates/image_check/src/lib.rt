@@ -15,6 +15,7 @@ mod segments;
 mod tests;
 mod txns;
 mod unfinished;
+mod versions;
 mod walk;
 
 pub use blocks::rule_blocks;
@@ -29,4 +30,5 @@ pub use rings::{Rings, rule_rings};
 pub use segments::rule_segments;
 pub use txns::rule_transactions;
 pub use unfinished::{rule_named, rule_room};
+pub use versions::rule_versions;
 pub use walk::Walk;
