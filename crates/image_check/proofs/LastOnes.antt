@@ -99,12 +99,12 @@ last_is P page (x ∷ frames) frame all is = by (x.page == page) (last_frame pag
 
 -- Frames of all live groups.
 
-none_of_all : (page : ℕ) (contents : List (List ℕ)) → AllByRecursion (λ content. has_frame page (frames_in content) ≡ false) contents → has_frame page (frames_of contents) ≡ false
+pub none_of_all : (page : ℕ) (contents : List (List ℕ)) → AllByRecursion (λ content. has_frame page (frames_in content) ≡ false) contents → has_frame page (frames_of contents) ≡ false
 none_of_all page [] all = refl
 none_of_all page (content ∷ contents) all =
     list_any-append (λ (frame : Frame). frame.page == page) (frames_in content) (frames_of contents) ∙ (λ i. all.0 i || none_of_all page contents all.1 i)
 
-none_of_each : (page : ℕ) (contents : List (List ℕ)) → has_frame page (frames_of contents) ≡ false → AllByRecursion (λ content. has_frame page (frames_in content) ≡ false) contents
+pub none_of_each : (page : ℕ) (contents : List (List ℕ)) → has_frame page (frames_of contents) ≡ false → AllByRecursion (λ content. has_frame page (frames_in content) ≡ false) contents
 none_of_each page [] none = tt
 none_of_each page (content ∷ contents) none =
     let both = parts (has_frame page (frames_in content)) (has_frame page (frames_of contents)) (sym (list_any-append (λ (frame : Frame). frame.page == page) (frames_in content) (frames_of contents)) ∙ none) in
@@ -167,3 +167,23 @@ sound_by_frame g image page slots groups named = let last = some_last page (fram
 pub frame_by_sound : (g : Geometry) (image : Image) (page : ℕ) → 3 ≤ g.groups → (IsSound (disk_on image page) → ⊥) → (IsNamedFrom g image 0 page → ⊥) → IsSound (version_on g image page) → ⊥
 frame_by_sound g image page slots off none sound =
     off (subst (λ (o : Option Frame). IsSound (version_by o (disk_on image page))) (no_last page (frames_on g image) (unnamed_has_none g image page slots none)) sound)
+
+-- Clean frames.
+
+none_named_behind : (page k n : ℕ) → list_any (names_page page) (drop k (replicate n blank)) ≡ false
+none_named_behind page zero n = none_named page n
+none_named_behind page (suc k) zero = refl
+none_named_behind page (suc k) (suc n) = none_named_behind page k n
+
+behind_named : (page k n : ℕ) (frames : List Frame) → list_any (names_page page) (drop k (map head_of frames ++ replicate n blank)) ≡ has_frame page (drop k frames)
+behind_named page zero n frames =
+    list_any-append (names_page page) (map head_of frames) (replicate n blank) ∙ (λ i. frames_named page frames i || none_named page n i) ∙ or_none (has_frame page frames)
+  where
+    or_none : (b : Bool) → (b || false) ≡ b
+    or_none true = refl
+    or_none false = refl
+behind_named page (suc k) n [] = none_named_behind page (suc k) n
+behind_named page (suc k) n (frame ∷ frames) = behind_named page k n frames
+
+pub heads_behind_named : (page k : ℕ) (frames : List Frame) → list_any (names_page page) (drop k (heads_of frames)) ≡ has_frame page (drop k frames)
+heads_behind_named page k frames = behind_named page k (8 - length frames) frames

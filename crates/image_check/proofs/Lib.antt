@@ -14,3 +14,4 @@ pub mod OpenOnes
 pub mod GroupsRead
 pub mod LeftOnes
 pub mod LastOnes
+pub mod CleanOnes

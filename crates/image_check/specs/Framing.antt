@@ -1,5 +1,5 @@
 -- Frames, by the heads and pages of a group.
-use Rattle.std.specs.Prelude.{◌≡◌, ℕ, ◌≤◌, ◌<◌, ◌==◌, Bool, true, List}
+use Rattle.std.specs.Prelude.{◌≡◌, ℕ, ◌+◌, ◌≤◌, ◌<◌, ◌==◌, Bool, true, false, List, drop, Some, slice_get}
 use Rattle.std.specs.List.{list_any}
 use Rattle.site.specs.declared.geometry.Geometry.{Geometry}
 use Rattle.site.specs.State.{Image}
@@ -9,6 +9,7 @@ use Rattle.byte_fields.specs.declared.frame_head.FrameHead.{FrameHead}
 use Rattle.frame_group.specs.Groups.{Frame, frames_in}
 use Rattle.slotted_page.specs.Layout.{lsn_of, IsSound}
 use Rattle.tail_rebuild.specs.Standing.{group_on}
+use Rattle.flash_cache.specs.Held.{disk_on}
 
 -- a head is that of a page's frame, and the page is sound and one that the disk has
 pub record IsFrameBy (pages : ℕ) (head : FrameHead) (page : List ℕ) : Type 0 where
@@ -26,3 +27,9 @@ pub record IsNamedFrom (g : Geometry) (image : Image) (first page : ℕ) : Type 
   pub live : IsLive (group_shape g) (hi_of (group_shape g) image.flash) group
   pub behind : first ≤ group
   pub named : has_frame page (frames_in (group_on g image group)) ≡ true
+
+-- a frame that isn't dirty, and behind which none of its page comes, equals its disk page
+abbrev pub IsCleanFrame : Geometry → Image → ℕ → List Frame → ℕ → Type 0
+IsCleanFrame g image group frames i =
+    (frame : Frame) → slice_get frames i ≡ Some frame → frame.dirty ≡ false → has_frame frame.page (drop (i + 1) frames) ≡ false →
+    (IsNamedFrom g image (group + 1) frame.page → ⊥) → frame.octets ≡ disk_on image frame.page

@@ -64,7 +64,8 @@ fn is_group_on(content: &[u8], pages: u32) -> bool
     are_same(content, &again)
 }
 
-fn are_same(one: &[u8], other: &[u8]) -> bool
+/// Whether two lists of octets are the same.
+pub fn are_same(one: &[u8], other: &[u8]) -> bool
     ensures { IsTrue result ↔ (one.now ≡ other.now) }
 {
     one == other

@@ -2,6 +2,7 @@
 #![tactic(auto)]
 
 mod blocks;
+mod clean;
 mod commits;
 mod following;
 mod groups;
@@ -19,6 +20,7 @@ mod versions;
 mod walk;
 
 pub use blocks::rule_blocks;
+pub use clean::rule_clean;
 pub use commits::rule_commits;
 pub use following::rule_following;
 pub use groups::rule_groups;
