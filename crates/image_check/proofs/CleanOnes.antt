@@ -1,7 +1,7 @@
 -- Frames that aren't dirty, group by group.
-use Rattle.std.proofs.Common.{◌≡◌, ℕ, zero, suc, ◌+◌, ◌-◌, ◌*◌, ◌%◌, ◌<◌, ◌≤◌, min, inl, inr, Bool, true, false, true≢false, ◌||◌, cond, List, [], ◌∷◌, ◌++◌, length, get_or, take, drop, Some, None, refl, sym, ap, subst, ◌∙◌, arith}
+use Rattle.std.proofs.Common.{◌≡◌, ℕ, zero, suc, ◌+◌, ◌-◌, ◌*◌, ◌%◌, ◌<◌, ◌≤◌, min, inl, inr, Bool, true, false, true≢false, cond, List, [], ◌∷◌, ◌++◌, get_or, take, drop, Some, None, refl, sym, ap, subst, ◌∙◌, arith}
 use Rattle.std.specs.Prelude.{Option, ◌==◌, slice_get}
-use Rattle.std.specs.List.{AllByRecursion, list_any}
+use Rattle.std.specs.List.{AllByRecursion}
 use Rattle.std.specs.Option.{option_or}
 use Rattle.std.proofs.lemmas.Bool.{cases_Bool, cases_eq, eqb-true, eq-eqb}
 use Rattle.std.proofs.lemmas.Option.{slice_get_within, slice_get-get_or, get_or_from_slice_get}
@@ -10,7 +10,7 @@ use Rattle.site.specs.State.{Image}
 use Rattle.sealed_ring.specs.declared.slots.Shape.{Shape}
 use Rattle.sealed_ring.specs.Ring.{IsLive, hi_of, content_at, units_from}
 use Rattle.sealed_ring.proofs.Heads.{unit_is}
-use Rattle.image_changes.specs.Rings.{group_shape, units_on}
+use Rattle.image_changes.specs.Rings.{group_shape}
 use Rattle.byte_fields.specs.declared.frame_head.FrameHead.{FrameHead}
 use Rattle.byte_fields.specs.FrameHeads.{blank}
 use Rattle.frame_group.specs.declared.group.TheConstants.{PAGE_LEN, HEADS_LEN}
@@ -19,7 +19,7 @@ use Rattle.frame_group.specs.Versions.{frames_of, last_frame}
 use Rattle.frame_group.proofs.Front.{heads_are_group}
 use Rattle.frame_group.proofs.Pages.{pages_stand}
 use Rattle.byte_fields.proofs.GroupHeads.{present_are_first}
-use Rattle.flash_cache.specs.Held.{frames_on, disk_on, IsCleanOn}
+use Rattle.flash_cache.specs.Held.{disk_on, IsCleanOn}
 use Rattle.tail_rebuild.specs.Standing.{group_on}
 use Rattle.image_meaning.specs.Meaning.{IsFrameOf}
 use Rattle.image_check.specs.Octets.{IsGroupOn}

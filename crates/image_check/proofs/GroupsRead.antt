@@ -1,5 +1,5 @@
 -- A group read frame by frame.
-use Rattle.std.proofs.Common.{◌≡◌, ℕ, zero, suc, ◌+◌, ◌-◌, ◌*◌, ◌<◌, ◌≤◌, Bool, true, IsTrue, List, [], ◌∷◌, ◌++◌, length, get_or, map, take, drop, replicate, refl, sym, ap, subst, ◌∙◌, arith}
+use Rattle.std.proofs.Common.{◌≡◌, ℕ, zero, suc, ◌+◌, ◌-◌, ◌*◌, ◌<◌, ◌≤◌, true, List, [], ◌∷◌, ◌++◌, length, get_or, map, take, drop, replicate, refl, sym, ap, subst, ◌∙◌, arith}
 use Rattle.std.specs.List.{AllByRecursion}
 use Rattle.std.proofs.lemmas.List.{take_all, take_more, length-append, length-map, get_or_append_left, get_or-map}
 use Rattle.site.specs.declared.geometry.Geometry.{Geometry}
@@ -7,7 +7,6 @@ use Rattle.byte_fields.specs.declared.frame_head.FrameHead.{FrameHead}
 use Rattle.byte_fields.specs.FrameHeads.{blank, present_in_front, AreGroupHeads}
 use Rattle.frame_group.specs.declared.group.TheConstants.{PAGE_LEN, HEADS_LEN}
 use Rattle.frame_group.specs.Groups.{Frame, head_of, frame_of, heads_of, group, IsFrame, IsGroup}
-use Rattle.frame_group.proofs.Front.{length_heads}
 use Rattle.frame_group.proofs.Pages.{pages_stand}
 use Rattle.slotted_page.specs.Layout.{lsn_of as page_lsn, IsSound}
 use Rattle.flash_cache.proofs.Given.{same_lsn}

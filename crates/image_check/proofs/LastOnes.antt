@@ -1,5 +1,5 @@
 -- The last frame of a page in the live groups.
-use Rattle.std.proofs.Common.{◌≡◌, ℕ, zero, suc, ◌+◌, ◌-◌, ◌*◌, ◌<◌, ◌≤◌, inl, inr, Bool, true, false, true≢false, ◌&&◌, ◌||◌, cond, IsTrue, List, [], ◌∷◌, ◌++◌, length, map, take, drop, replicate, Some, None, refl, sym, ap, subst, ◌∙◌, arith}
+use Rattle.std.proofs.Common.{◌≡◌, ℕ, zero, suc, ◌-◌, ◌*◌, ◌≤◌, inl, inr, Bool, true, false, true≢false, ◌&&◌, ◌||◌, cond, List, [], ◌∷◌, ◌++◌, length, map, take, drop, replicate, Some, None, refl, sym, ap, subst, ◌∙◌, arith}
 use Rattle.std.specs.Prelude.{Option, ◌==◌}
 use Rattle.std.specs.List.{AllByRecursion, list_any}
 use Rattle.std.specs.Option.{option_or}
@@ -8,12 +8,11 @@ use Rattle.std.proofs.lemmas.List.{take-take}
 use Rattle.std.proofs.lemmas.List.Folds.{list_any-append}
 use Rattle.site.specs.declared.geometry.Geometry.{Geometry}
 use Rattle.site.specs.State.{Image}
-use Rattle.sealed_ring.specs.Ring.{IsLive, hi_of}
 use Rattle.image_changes.specs.Rings.{group_shape, units_on}
 use Rattle.byte_fields.specs.declared.frame_head.FrameHead.{FrameHead}
 use Rattle.byte_fields.specs.FrameHeads.{blank}
 use Rattle.frame_group.specs.Groups.{Frame, head_of, heads_of, frames_in, IsGroup, HasHeads}
-use Rattle.frame_group.specs.Versions.{frames_of, last_frame, version, version_by}
+use Rattle.frame_group.specs.Versions.{frames_of, last_frame, version_by}
 use Rattle.frame_group.proofs.Contents.{frames_are_in}
 use Rattle.frame_group.proofs.Front.{begins_with_heads, one_heads}
 use Rattle.slotted_page.specs.Layout.{IsSound}

@@ -1,18 +1,16 @@
 -- Which transactions are open after one record more.
-use Rattle.std.proofs.Common.{◌≡◌, ℕ, ◌+◌, ◌*◌, ◌<◌, ◌≤◌, ⊎_elim, inl, inr, Bool, true, false, true≢false, not, ◌&&◌, ◌||◌, cond, List, [], ◌∷◌, ◌++◌, refl, sym, ap, subst, ◌∙◌, arith}
-use Rattle.std.specs.Prelude.{IsTrue, filter, map, nat_le, ◌==◌}
+use Rattle.std.proofs.Common.{◌≡◌, ℕ, ◌+◌, ◌*◌, ◌<◌, ◌≤◌, inl, inr, Bool, true, false, true≢false, not, ◌&&◌, ◌||◌, cond, List, [], ◌∷◌, ◌++◌, refl, sym, ap, subst, ◌∙◌, arith}
+use Rattle.std.specs.Prelude.{filter, map, nat_le, ◌==◌}
 use Rattle.std.specs.List.{AllByRecursion, list_any}
 use Rattle.std.proofs.lemmas.List.Elements.{filter-append}
 use Rattle.std.proofs.lemmas.List.Folds.{list_any-append}
 use Rattle.std.proofs.lemmas.Bool.{and_parts, and_from, and_right, cases_Bool, eqb-true, eq-eqb, not-true, not_from_false}
-use Rattle.std.proofs.lemmas.Bool.Decides.{nat_tests}
 use Rattle.log_records.specs.declared.log_record.LogRecord.{LogRecord}
 use Rattle.log_records.specs.declared.log_record.LogRecord.TheVariants.{Begin, Update, Clr, Commit, End}
 use Rattle.log_records.specs.Log.{Entry, txn_of, is_of, is_closing, is_closed}
 use Rattle.log_records.specs.Unfinished.{is_begin}
-use Rattle.log_records.specs.Sound.{Active, Master, Picture, IsInOrder, InTurn, IsOpen, IsOfOpenTransaction, is_known, from_block}
+use Rattle.log_records.specs.Sound.{Active, Master, Picture, IsInOrder, InTurn, IsOfOpenTransaction, is_known, from_block}
 use Rattle.log_laws.specs.Follow.{IsFresh}
-use Rattle.log_laws.proofs.Lists.{all_weaker}
 use Rattle.log_laws.proofs.Values.{closed_push}
 use Rattle.log_laws.proofs.Appends.{fresh_open}
 use Rattle.log_laws.proofs.Orders.{InTurn-weaker, InTurn-all}

@@ -1,5 +1,5 @@
 -- The unfinished transactions, record by record.
-use Rattle.std.specs.Prelude.{◌≡◌, ℕ, ◌+◌, ◌≤◌, List, map, sum_by}
+use Rattle.std.specs.Prelude.{◌≡◌, ℕ, ◌+◌, List, map, sum_by}
 use Rattle.log_records.specs.Log.{Entry}
 use Rattle.log_laws.specs.Analysis.{Unfinished, unfinished_in}
 use Rattle.image_check.specs.declared.unfinished.Left.{Left}

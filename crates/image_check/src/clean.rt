@@ -143,11 +143,7 @@ fn is_clean_group<S: Site>(
 
 /// The seventh rule, of devices whose live groups are of the form: whether each valid frame that isn't dirty equals its
 /// disk page. It reads such a frame and its disk page, and the heads of later groups where these differ.
-pub fn rule_clean<S: Site>(
-    site: &mut S,
-    geometry: &Geometry,
-    rings: &Rings,
-) -> Result<bool, Stop>
+pub fn rule_clean<S: Site>(site: &mut S, geometry: &Geometry, rings: &Rings) -> Result<bool, Stop>
     requires { MayRead geometry.now rings.now (S.state site.old) }
 
     ensures clean { IsTrue (S.state site.old).honest → AreFound rings.now (S.state site.old)

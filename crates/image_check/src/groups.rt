@@ -72,11 +72,7 @@ pub fn are_same(one: &[u8], other: &[u8]) -> bool
 }
 
 /// Whether each live group is of the form, with frames that are sound pages of the disk: reads each once.
-pub fn rule_groups<S: Site>(
-    site: &mut S,
-    geometry: &Geometry,
-    rings: &Rings,
-) -> Result<bool, Stop>
+pub fn rule_groups<S: Site>(site: &mut S, geometry: &Geometry, rings: &Rings) -> Result<bool, Stop>
     requires { MayRead geometry.now rings.now (S.state site.old) }
 
     ensures groups { IsTrue (S.state site.old).honest → AreFound rings.now (S.state site.old)

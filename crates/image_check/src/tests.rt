@@ -3,10 +3,11 @@ ghost use Rattle.std.specs.Prelude.{◌<◌, ◌≤◌, length, IfOk};
 ghost use Rattle.site.specs.MemState.{state_of};
 
 use crate::{
-    rule_blocks, rule_commits, rule_following, rule_kept, rule_lengths, rule_master, rule_named,
-    rule_rings, rule_room, rule_segments, rule_transactions,
+    rule_blocks, rule_clean, rule_commits, rule_following, rule_groups, rule_kept, rule_lengths,
+    rule_master, rule_named, rule_rings, rule_room, rule_segments, rule_transactions,
+    rule_versions,
 };
-use checkpoint::Master;
+use checkpoint::{Master, Pairs};
 use log_store::LogStore;
 use site::{Dev, Failed, Geometry, MemSite, Site, Stop};
 use std::alloc::Global;
@@ -76,18 +77,6 @@ fn the_block_of_the_first_commit(rt: HostRuntime) -> Result<(), Fail> {
 }
 
 #[test]
-fn the_first_transaction_is_open_until_its_commit(rt: HostRuntime) -> Result<(), Fail> {
-    let mut site = MemSite::new(rt.alloc(), &SMALL)?;
-    site.write_at(Dev::Log, 1_536, &BLOCK)?;
-    let log = LogStore::start(&mut site, &SMALL)?;
-    let blank = Master::blank();
-    assert!(rt; rule_transactions(rt.alloc(), &mut site, &log, &blank)?);
-    assert!(rt; rule_room(rt.alloc(), &mut site, &log, &blank)?);
-    assert!(rt; rule_named(rt.alloc(), &mut site, &log, &blank)?);
-    Ok(())
-}
-
-#[test]
 fn a_block_on_a_page_past_the_disk(rt: HostRuntime) -> Result<(), Fail> {
     let mut site = MemSite::new(rt.alloc(), &SMALL)?;
     let mut block = BLOCK;
@@ -107,6 +96,138 @@ fn a_first_commit_with_another_number(rt: HostRuntime) -> Result<(), Fail> {
     let log = LogStore::start(&mut site, &SMALL)?;
     assert!(rt; rule_kept(&log, &Master::blank()));
     assert!(rt; !rule_commits(&mut site, &log, &Master::blank())?);
+    Ok(())
+}
+
+// The last octet of the Commit's transaction.
+const TXN_AT: usize = 46;
+
+// The octets of the block without its Commit, and where they end.
+const UNFINISHED_LEN: usize = 38;
+
+const UNFINISHED_USED: u8 = 29;
+
+// Devices with a block at the front of the log.
+fn with_block(alloc: Global, block: &[u8]) -> Result<MemSite, Fail>
+    requires { length block.now ≤ 55 }
+{
+    let mut site = MemSite::new(alloc, &SMALL)?;
+    site.write_at(Dev::Log, 1_536, block)?;
+    Ok(site)
+}
+
+// Devices whose one transaction is unfinished.
+fn with_unfinished(alloc: Global) -> Result<MemSite, Fail> {
+    let mut block = BLOCK;
+    block[10] = UNFINISHED_USED;
+    with_block(alloc, &block[..UNFINISHED_LEN])
+}
+
+// Whether the records are of open transactions, where the lengths are those of sizes and the kept blocks are live.
+fn are_of_open_ones(
+    alloc: Global,
+    site: &mut MemSite,
+    master: &Master,
+) -> Result<Option<bool>, Stop> {
+    let Some(geometry) = rule_lengths(site) else {
+        return Ok(None);
+    };
+    let log = LogStore::start(site, &geometry)?;
+    if !rule_kept(&log, master) {
+        return Ok(None);
+    }
+    Ok(Some(rule_transactions(alloc, site, &log, master)?))
+}
+
+// Whether undo has room.
+fn has_room(alloc: Global, site: &mut MemSite, master: &Master) -> Result<Option<bool>, Stop> {
+    let Some(geometry) = rule_lengths(site) else {
+        return Ok(None);
+    };
+    let log = LogStore::start(site, &geometry)?;
+    if !rule_kept(&log, master) {
+        return Ok(None);
+    }
+    Ok(Some(rule_room(alloc, site, &log, master)?))
+}
+
+// Whether the master names the active transactions.
+fn names_the_active(
+    alloc: Global,
+    site: &mut MemSite,
+    master: &Master,
+) -> Result<Option<bool>, Stop> {
+    let Some(geometry) = rule_lengths(site) else {
+        return Ok(None);
+    };
+    let log = LogStore::start(site, &geometry)?;
+    if !rule_kept(&log, master) {
+        return Ok(None);
+    }
+    Ok(Some(rule_named(alloc, site, &log, master)?))
+}
+
+#[test]
+fn a_commit_of_an_open_transaction(rt: HostRuntime) -> Result<(), Fail> {
+    let mut site = with_block(rt.alloc(), &BLOCK)?;
+    assert_eq!(rt;
+        are_of_open_ones(rt.alloc(), &mut site, &Master::blank())?,
+        Some(true)
+    );
+    Ok(())
+}
+
+#[test]
+fn a_commit_of_another_transaction(rt: HostRuntime) -> Result<(), Fail> {
+    let mut block = BLOCK;
+    block[TXN_AT] = 3;
+    let mut site = with_block(rt.alloc(), &block)?;
+    assert_eq!(rt;
+        are_of_open_ones(rt.alloc(), &mut site, &Master::blank())?,
+        Some(false)
+    );
+    Ok(())
+}
+
+#[test]
+fn room_for_one_update(rt: HostRuntime) -> Result<(), Fail> {
+    let mut site = with_unfinished(rt.alloc())?;
+    assert_eq!(rt;
+        has_room(rt.alloc(), &mut site, &Master::blank())?,
+        Some(true)
+    );
+    Ok(())
+}
+
+// A master before the second block that names these transactions.
+fn later_master(active: Pairs) -> Master {
+    Master {
+        redo: 1,
+        kept: 0,
+        commits: 0,
+        active,
+    }
+}
+
+#[test]
+fn the_unfinished_transaction_is_named(rt: HostRuntime) -> Result<(), Fail> {
+    let mut site = with_unfinished(rt.alloc())?;
+    let mut active = Pairs::new();
+    active.push(2, 3);
+    assert_eq!(rt;
+        names_the_active(rt.alloc(), &mut site, &later_master(active))?,
+        Some(true)
+    );
+    Ok(())
+}
+
+#[test]
+fn the_unfinished_transaction_is_not_named(rt: HostRuntime) -> Result<(), Fail> {
+    let mut site = with_unfinished(rt.alloc())?;
+    assert_eq!(rt;
+        names_the_active(rt.alloc(), &mut site, &later_master(Pairs::new()))?,
+        Some(false)
+    );
     Ok(())
 }
 
@@ -178,5 +299,84 @@ fn a_segment_with_another_head(rt: HostRuntime) -> Result<(), Fail> {
     let mut site = with_groups(rt.alloc())?;
     put_segment(&mut site, 1)?;
     assert_eq!(rt; do_follow(&mut site)?, Some(false));
+    Ok(())
+}
+
+// Whether the groups are of the form, where the rings are.
+fn are_groups(site: &mut MemSite) -> Result<Option<bool>, Stop> {
+    let Some(geometry) = rule_lengths(site) else {
+        return Ok(None);
+    };
+    let Some(rings) = rule_rings(site, &geometry)? else {
+        return Ok(None);
+    };
+    Ok(Some(rule_groups(site, &geometry, &rings)?))
+}
+
+// Whether the versions are sound pages, where the rings are of the form.
+fn are_versions(site: &mut MemSite) -> Result<Option<bool>, Stop> {
+    let Some(geometry) = rule_lengths(site) else {
+        return Ok(None);
+    };
+    let Some(rings) = rule_rings(site, &geometry)? else {
+        return Ok(None);
+    };
+    Ok(Some(rule_versions(site, &geometry, &rings)?))
+}
+
+// Whether clean frames equal the disk, where the rings are of the form.
+fn are_clean(site: &mut MemSite) -> Result<Option<bool>, Stop> {
+    let Some(geometry) = rule_lengths(site) else {
+        return Ok(None);
+    };
+    let Some(rings) = rule_rings(site, &geometry)? else {
+        return Ok(None);
+    };
+    Ok(Some(rule_clean(site, &geometry, &rings)?))
+}
+
+#[test]
+fn four_groups_of_one_frame(rt: HostRuntime) -> Result<(), Fail> {
+    let mut site = with_groups(rt.alloc())?;
+    assert_eq!(rt; are_groups(&mut site)?, Some(true));
+    Ok(())
+}
+
+#[test]
+fn a_head_with_the_lsn_of_another_page(rt: HostRuntime) -> Result<(), Fail> {
+    let mut site = with_groups(rt.alloc())?;
+    site.write_at(Dev::Flash, 24, &[1])?;
+    assert_eq!(rt; are_groups(&mut site)?, Some(false));
+    Ok(())
+}
+
+#[test]
+fn a_disk_page_of_another_form(rt: HostRuntime) -> Result<(), Fail> {
+    let mut site = MemSite::new(rt.alloc(), &SMALL)?;
+    site.write_at(Dev::Disk, 10, &[1])?;
+    assert_eq!(rt; are_versions(&mut site)?, Some(false));
+    Ok(())
+}
+
+#[test]
+fn a_disk_page_of_another_form_behind_a_frame(rt: HostRuntime) -> Result<(), Fail> {
+    let mut site = with_groups(rt.alloc())?;
+    site.write_at(Dev::Disk, 10, &[1])?;
+    assert_eq!(rt; are_versions(&mut site)?, Some(true));
+    Ok(())
+}
+
+#[test]
+fn frames_that_equal_the_disk(rt: HostRuntime) -> Result<(), Fail> {
+    let mut site = with_groups(rt.alloc())?;
+    assert_eq!(rt; are_clean(&mut site)?, Some(true));
+    Ok(())
+}
+
+#[test]
+fn a_clean_frame_that_differs_from_the_disk(rt: HostRuntime) -> Result<(), Fail> {
+    let mut site = with_groups(rt.alloc())?;
+    site.write_at(Dev::Disk, 10, &[1])?;
+    assert_eq!(rt; are_clean(&mut site)?, Some(false));
     Ok(())
 }

@@ -24,7 +24,7 @@ use std::alloc::Global;
 
 // An unfinished transaction: the LSNs of its Begin, which names it, and of its last record, and how many of its Updates
 // no CLR compensates.
-#[derive(Clone, Copy, Debug, PartialEq, Eq, Drop)]
+#[derive(Clone, Copy, Debug, Drop)]
 struct Left {
     txn: u64,
     last: u64,
@@ -74,7 +74,8 @@ impl LeftTxns {
             txn: lsn,
             last: lsn,
             remaining: 0,
-        }) else {
+        })
+        else {
             return Err(Stop::Memory);
         };
         Ok(())

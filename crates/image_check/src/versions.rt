@@ -27,12 +27,7 @@ fn name(heads: &[FrameHead; 8], page: u32) -> bool
 }
 
 // Whether a live group has a frame of a page: reads its heads.
-fn group_names<S: Site>(
-    site: &mut S,
-    rings: &Rings,
-    group: u64,
-    page: u32,
-) -> Result<bool, Stop>
+fn group_names<S: Site>(site: &mut S, rings: &Rings, group: u64, page: u32) -> Result<bool, Stop>
     requires may_read { (g : Geometry) × MayRead g rings.now (S.state site.old) }
     requires live { IsLive rings.now.groups.shape rings.now.groups.hi group }
 

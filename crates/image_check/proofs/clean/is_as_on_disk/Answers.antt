@@ -1,4 +1,4 @@
-use Rattle.std.proofs.Common.{◌≡◌, arith}
+use Rattle.std.proofs.Common.{arith}
 use Rattle.site.specs.declared.outside.Dev.TheVariants.{Disk}
 use Rattle.image_check.proofs.clean.is_as_on_disk.Goals as goal
 

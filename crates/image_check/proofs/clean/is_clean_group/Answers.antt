@@ -1,4 +1,4 @@
-use Rattle.std.proofs.Common.{rules, ◌≡◌, ◌+◌, ◌<◌, inl, inr, ℕ, List, IsTrue, true, false, true≢false, take, drop, length, refl, sym, ap, ◌∙◌, subst, arith}
+use Rattle.std.proofs.Common.{rules, ◌≡◌, inl, inr, ℕ, true≢false, take, drop, refl, sym, ap, ◌∙◌, subst, arith}
 use Rattle.std.proofs.lemmas.Bool.{cases_eq, cases_lt}
 use Rattle.std.proofs.lemmas.Option.{slice_get_within}
 use Rattle.site.specs.State.{State, Image}
@@ -6,8 +6,7 @@ use Rattle.site.specs.Laws.{stays_honest}
 use Rattle.sealed_ring.specs.declared.slots.Shape.{Shape}
 use Rattle.sealed_ring.specs.Ring.{unit_at}
 use Rattle.image_changes.specs.Rings.{units_on}
-use Rattle.byte_fields.specs.declared.frame_head.FrameHead.{FrameHead}
-use Rattle.frame_group.specs.Groups.{Frame, heads_of}
+use Rattle.frame_group.specs.Groups.{heads_of}
 use Rattle.tail_rebuild.specs.Standing.{group_on}
 use Rattle.image_check.specs.Octets.{IsGroupOn, AreGroups}
 use Rattle.image_check.specs.Framing.{IsCleanFrame}

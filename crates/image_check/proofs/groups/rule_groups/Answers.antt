@@ -1,4 +1,4 @@
-use Rattle.std.proofs.Common.{rules, refl, ◌≡◌, ◌+◌, ◌-◌, ◌/◌, ◌≤◌, ◌<◌, ℕ, List, IsTrue, true, false, take, drop, sym, ap, ◌∙◌, subst, true≢false, arith}
+use Rattle.std.proofs.Common.{rules, refl, ◌≡◌, ◌+◌, ◌-◌, ◌≤◌, ◌<◌, ℕ, List, IsTrue, true, false, take, drop, sym, ap, ◌∙◌, subst, true≢false, arith}
 use Rattle.site.specs.State.{State, Image}
 use Rattle.site.specs.Laws.{stays_honest}
 use Rattle.sealed_ring.specs.declared.slots.Shape.{Shape}

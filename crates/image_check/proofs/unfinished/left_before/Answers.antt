@@ -1,4 +1,4 @@
-use Rattle.std.proofs.Common.{rules, ◌≡◌, ◌+◌, ◌*◌, ◌<◌, ◌≤◌, ◌++◌, ◌∷◌, [], ℕ, List, refl, sym, ap, ◌∙◌, subst, arith}
+use Rattle.std.proofs.Common.{rules, ◌≡◌, ◌+◌, ◌*◌, ◌<◌, ◌≤◌, ◌++◌, ◌∷◌, [], ℕ, List, sym, ap, ◌∙◌, subst, arith}
 use Rattle.std.specs.Prelude.{Option, IfSome, length}
 use Rattle.std.specs.List.{AllByRecursion}
 use Rattle.std.proofs.lemmas.List.{length-append}
@@ -8,7 +8,6 @@ use Rattle.log_records.specs.Log.{Entry, txn_of, log_from}
 use Rattle.log_records.specs.Sound.{IsInOrder, before_block}
 use Rattle.log_laws.proofs.Lists.{all_push}
 use Rattle.log_laws.proofs.Parts.{all_left}
-use Rattle.image_check.specs.declared.unfinished.Left.{Left}
 use Rattle.image_check.specs.Unended.{AreLeft}
 use Rattle.image_check.specs.Walking.{Gives, to_go}
 use Rattle.image_check.proofs.BlocksJudged.{finds_later, going_later}

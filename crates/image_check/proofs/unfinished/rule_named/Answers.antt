@@ -1,5 +1,3 @@
-use Rattle.std.proofs.Common.{◌≡◌, List}
-use Rattle.site.specs.State.{State}
 use Rattle.log_records.specs.Log.{log_from}
 use Rattle.log_records.specs.Sound.{before_block}
 use Rattle.image_check.proofs.LeftOnes.{named_are_active, active_are_named}

@@ -1,10 +1,8 @@
-use Rattle.std.proofs.Common.{◌≡◌, ◌+◌, ◌-◌, ◌*◌, ◌/◌, ◌≤◌, ◌<◌, ℕ, List, sym, ap, ◌∙◌, subst, arith}
-use Rattle.std.specs.Prelude.{length}
+use Rattle.std.proofs.Common.{◌≡◌, ◌*◌, ◌/◌, ◌<◌, ℕ, List, ap, subst, arith}
 use Rattle.std.specs.List.{AllByRecursion}
 use Rattle.site.specs.declared.geometry.Geometry.{Geometry}
-use Rattle.site.specs.State.{State}
 use Rattle.log_records.specs.Log.{Entry, log_from}
-use Rattle.log_records.specs.Sound.{IsInOrder, before_block}
+use Rattle.log_records.specs.Sound.{IsInOrder}
 use Rattle.log_records.specs.Unfinished.{owed}
 use Rattle.log_laws.proofs.Parts.{all_below}
 use Rattle.image_check.specs.Unended.{AreLeft, owed_for}

@@ -1,4 +1,4 @@
-use Rattle.std.proofs.Common.{rules, ◌≡◌, ◌+◌, ◌-◌, ◌≤◌, ◌<◌, inl, inr, ℕ, List, IsTrue, true, false, true≢false, refl, sym, ap, ◌∙◌, subst, arith}
+use Rattle.std.proofs.Common.{rules, ◌≡◌, ◌+◌, ◌-◌, ◌≤◌, inl, inr, ℕ, false, true≢false, refl, sym, ap, ◌∙◌, subst, arith}
 use Rattle.std.proofs.lemmas.Bool.{cases_eq}
 use Rattle.site.specs.State.{State, Image}
 use Rattle.site.specs.Laws.{stays_honest}
@@ -6,7 +6,7 @@ use Rattle.sealed_ring.specs.declared.slots.Shape.{Shape}
 use Rattle.sealed_ring.specs.Ring.{IsLive, hi_of}
 use Rattle.sealed_ring.specs.Ready.{region}
 use Rattle.image_changes.specs.Rings.{group_shape}
-use Rattle.frame_group.specs.Groups.{Frame, frames_in, IsGroup}
+use Rattle.frame_group.specs.Groups.{frames_in, IsGroup}
 use Rattle.frame_group.proofs.Contents.{frames_are_in}
 use Rattle.tail_rebuild.specs.Standing.{group_on}
 use Rattle.image_check.specs.Framing.{has_frame}

@@ -1,10 +1,10 @@
-use Rattle.std.proofs.Common.{◌≡◌, ◌*◌, ◌==◌, ◌++◌, ◌∷◌, [], not, true, false, filter, ℕ, nat_le, sym, ap, subst, ◌∙◌, arith}
+use Rattle.std.proofs.Common.{◌≡◌, ◌*◌, ◌==◌, ◌++◌, ◌∷◌, [], not, true, filter, ℕ, nat_le, sym, ap, subst, ◌∙◌, arith}
 use Rattle.std.proofs.lemmas.Bool.Decides.{nat_tests}
 use Rattle.site.proofs.Working.{ok_as}
 use Rattle.log_records.specs.Log.{Entry, is_closing}
 use Rattle.log_records.specs.Unfinished.{is_begin}
 use Rattle.image_check.specs.Opening.{AreOpen}
-use Rattle.image_check.proofs.OpenOnes.{open_still, open_more, open_without, closing_is_old, begins_go_on}
+use Rattle.image_check.proofs.OpenOnes.{open_more, open_without, closing_is_old, begins_go_on}
 use Rattle.image_check.proofs.txns.OpenTxns.hear.Goals as goal
 
 pub returns-then-closes-clause-heard : goal.returns-then-closes-clause-heard

@@ -1,6 +1,4 @@
 use Rattle.std.proofs.Common.{◌≡◌, map, take}
-use Rattle.checkpoint.specs.declared.pairs.Pair.{Pair}
-use Rattle.image_check.specs.declared.unfinished.Left.{Left}
 use Rattle.image_check.proofs.LeftOnes.{pair_of}
 use Rattle.image_check.proofs.unfinished.LeftTxns.are_named.Given as goal
 

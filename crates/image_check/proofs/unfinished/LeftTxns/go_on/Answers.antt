@@ -1,4 +1,4 @@
-use Rattle.std.proofs.Common.{◌≡◌, ◌==◌, ◌++◌, ◌∷◌, [], ℕ, List, Option, Some, None, true, false, sym, ap, subst, ◌∙◌, arith}
+use Rattle.std.proofs.Common.{◌≡◌, ◌==◌, ◌++◌, ◌∷◌, [], true, false, sym, subst, ◌∙◌, arith}
 use Rattle.std.specs.List.{position}
 use Rattle.log_records.specs.Log.{Entry, txn_of, is_closing}
 use Rattle.image_check.specs.declared.unfinished.Left.{Left}
