@@ -9,19 +9,21 @@ use Rattle.std.proofs.lemmas.List.Quantifiers.{position-Some}
 use Rattle.std.proofs.lemmas.Option.{none-some}
 use Rattle.log_records.specs.declared.log_record.LogRecord.{LogRecord}
 use Rattle.log_records.specs.declared.log_record.LogRecord.TheVariants.{Begin, Update, Clr, Commit, End}
-use Rattle.log_records.specs.Log.{Entry, txn_of, is_of, is_closing, is_closed, entries_of}
+use Rattle.log_records.specs.Spelling.{AreBlock}
+use Rattle.log_records.specs.Log.{Entry, txn_of, is_of, is_closing, is_closed, entries_of, log_from}
 use Rattle.log_records.specs.Unfinished.{is_begin, losers, open_by, open_updates, owed}
 use Rattle.log_records.specs.Sound.{Active, IsInOrder, last_lsn, before_block, active_in}
 use Rattle.log_laws.specs.Analysis.{Unfinished, unfinished_at, unfinished_in, remaining_by, after_record}
 use Rattle.log_laws.specs.Follow.{IsFresh}
 use Rattle.log_laws.specs.UndoLaws.{next_in}
-use Rattle.log_laws.proofs.Parts.{all_made, filter_same, map_same}
+use Rattle.log_laws.proofs.Parts.{all_made, all_below, filter_same, map_same}
 use Rattle.log_laws.proofs.Lists.{all_weaker}
 use Rattle.log_laws.proofs.Orders.{all_from, filter_all, filter_none}
 use Rattle.log_laws.proofs.Values.{closed_push}
 use Rattle.log_laws.proofs.Analysing.{unfinished_begin, unfinished_more, unfinished_closed, unfinished_there, unfinished_owed}
 use Rattle.checkpoint.specs.declared.pairs.Pair.{Pair}
 use Rattle.image_check.specs.declared.unfinished.Left.{Left}
+use Rattle.image_check.proofs.BlockLists.{log_in_order}
 use Rattle.image_check.specs.Unended.{AreLeft, left_of, owed_for}
 
 -- A record of a transaction that isn't in the list.
@@ -283,3 +285,10 @@ active_are_named records items pairs is same =
     sym (back_again (map pair_of items))
     ∙ ap (map pair_back) (ap (λ (l : List Left). map active_of (map pair_of l)) is.are ∙ actives records (losers records) ∙ sym same)
     ∙ back_again pairs
+
+-- what is left before the end of the blocks is left by all records
+pub left_of_all : (kept hi : ℕ) (blocks : List (List LogRecord)) (items : List Left) → AllByRecursion AreBlock blocks → kept + length blocks ≡ hi → AreLeft (before_block hi (log_from kept blocks)) items → AreLeft (log_from kept blocks) items
+left_of_all kept hi blocks items are end left =
+    let records : List Entry = log_from kept blocks in
+    let early = all_below (512 * kept) records (512 * hi) (log_in_order kept blocks (512 * hi) are (omega (arith, end))) in
+    subst (λ (l : List Entry). AreLeft l items) (whole_before_block hi records early) left

@@ -15,3 +15,4 @@ pub mod GroupsRead
 pub mod LeftOnes
 pub mod LastOnes
 pub mod CleanOnes
+pub mod HeldOnes

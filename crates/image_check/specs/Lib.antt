@@ -1,6 +1,7 @@
 pub mod Counting
 pub mod Findings
 pub mod Framing
+pub mod Holding
 pub mod Laws
 pub mod Octets
 pub mod Opening

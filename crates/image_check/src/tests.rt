@@ -3,8 +3,8 @@ ghost use Rattle.std.specs.Prelude.{◌<◌, ◌≤◌, length, IfOk};
 ghost use Rattle.site.specs.MemState.{state_of};
 
 use crate::{
-    rule_blocks, rule_clean, rule_commits, rule_following, rule_groups, rule_kept, rule_lengths,
-    rule_master, rule_named, rule_rings, rule_room, rule_segments, rule_transactions,
+    rule_apart, rule_blocks, rule_clean, rule_commits, rule_following, rule_groups, rule_kept,
+    rule_lengths, rule_master, rule_named, rule_rings, rule_room, rule_segments, rule_transactions,
     rule_versions,
 };
 use checkpoint::{Master, Pairs};
@@ -226,6 +226,63 @@ fn the_unfinished_transaction_is_not_named(rt: HostRuntime) -> Result<(), Fail> 
     let mut site = with_unfinished(rt.alloc())?;
     assert_eq!(rt;
         names_the_active(rt.alloc(), &mut site, &later_master(Pairs::new()))?,
+        Some(false)
+    );
+    Ok(())
+}
+
+// What a second transaction has written behind the unfinished one.
+const SECOND: [u8; 27] = [
+    0x01, // Begin
+    0x02, // Update
+    0x00, 0x00, 0x00, 0x00, 0x00, 0x00, 0x00, 0x1d, // txn
+    0x00, 0x00, 0x00, 0x00, 0x00, 0x00, 0x00, 0x1d, // prev
+    0x00, 0x00, 0x00, 0x00, // page
+    0x05, // slot
+    0x03, 0x0a, 0x0b, // before
+    0x00, // after
+];
+
+// The slot of its Update.
+const SLOT_AT: usize = 22;
+
+// Devices with two unfinished transactions, the second of which has written this slot.
+fn with_two(alloc: Global, slot: u8) -> Result<MemSite, Fail> {
+    let mut site = with_unfinished(alloc)?;
+    let mut second = SECOND;
+    second[SLOT_AT] = slot;
+    site.write_at(Dev::Log, 1_574, &second)?;
+    site.write_at(Dev::Log, 1_545, &[0x00, 0x38])?;
+    Ok(site)
+}
+
+// Whether unfinished transactions hold others off.
+fn are_apart(alloc: Global, site: &mut MemSite, master: &Master) -> Result<Option<bool>, Stop> {
+    let Some(geometry) = rule_lengths(site) else {
+        return Ok(None);
+    };
+    let log = LogStore::start(site, &geometry)?;
+    if !rule_kept(&log, master) {
+        return Ok(None);
+    }
+    Ok(Some(rule_apart(alloc, site, &log, master)?))
+}
+
+#[test]
+fn two_unfinished_ones_on_two_records(rt: HostRuntime) -> Result<(), Fail> {
+    let mut site = with_two(rt.alloc(), 6)?;
+    assert_eq!(rt;
+        are_apart(rt.alloc(), &mut site, &Master::blank())?,
+        Some(true)
+    );
+    Ok(())
+}
+
+#[test]
+fn two_unfinished_ones_on_one_record(rt: HostRuntime) -> Result<(), Fail> {
+    let mut site = with_two(rt.alloc(), 5)?;
+    assert_eq!(rt;
+        are_apart(rt.alloc(), &mut site, &Master::blank())?,
         Some(false)
     );
     Ok(())

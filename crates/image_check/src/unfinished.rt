@@ -1,11 +1,11 @@
 // The transactions that records leave unfinished, record by record.
 ghost use Rattle.std.specs.Prelude.{◌≡◌, ◌==◌, ◌↔◌, ◌^◌, ◌+◌, ◌-◌, ◌<◌, ◌≤◌, ◌++◌, ◌∷◌, [], ℕ, List, length, map, false, IsTrue, IfOk, IfErr, OnOk};
-ghost use Rattle.std.specs.List.{position};
+ghost use Rattle.std.specs.List.{list_any, position};
 ghost use Rattle.site.specs.declared.outside.Stop.{Stop};
 ghost use Rattle.site.specs.Work.{OnlyReads};
 ghost use Rattle.log_records.specs.declared.log_record.LogRecord.{LogRecord};
 ghost use Rattle.log_records.specs.Log.{Entry, log_from};
-ghost use Rattle.log_records.specs.Unfinished.{is_begin};
+ghost use Rattle.log_records.specs.Unfinished.{is_begin, losers};
 ghost use Rattle.log_records.specs.Sound.{IsInOrder, HaveBegunBefore, before_block};
 ghost use Rattle.log_laws.specs.Follow.{IsFresh};
 ghost use Rattle.log_laws.specs.Analysis.{remaining_by};
@@ -25,10 +25,10 @@ use std::alloc::Global;
 // An unfinished transaction: the LSNs of its Begin, which names it, and of its last record, and how many of its Updates
 // no CLR compensates.
 #[derive(Clone, Copy, Debug, Drop)]
-struct Left {
-    txn: u64,
-    last: u64,
-    remaining: u64,
+pub struct Left {
+    pub txn: u64,
+    pub last: u64,
+    pub remaining: u64,
 }
 
 impl Left {
@@ -59,11 +59,19 @@ fn place_of(left: &[Left], txn: u64) -> Option<usize>
 
 // The unfinished transactions, in the order of their Begins.
 #[derive(Drop)]
-struct LeftTxns {
-    left: Vec<Left>,
+pub struct LeftTxns {
+    pub left: Vec<Left>,
 }
 
 impl LeftTxns {
+    /// Whether a transaction is one of them.
+    pub fn has(&self, txn: u64) -> bool
+        ensures { (records : List Entry) → AreLeft records self.now.left.items
+            → result ≡ list_any (λ t. t == txn) (losers records) }
+    {
+        self.left.iter().any(|transaction| transaction.txn == txn)
+    }
+
     // A transaction begins.
     fn begin(&mut self, lsn: u64) -> Result<(), Stop>
         ensures items { OnOk result (self.new.left.items
@@ -146,8 +154,8 @@ impl LeftTxns {
     }
 }
 
-// The transactions that the records from a kept block on leave unfinished before a block.
-fn left_before<S: Site>(
+/// The transactions that the records from a kept block on leave unfinished before a block.
+pub fn left_before<S: Site>(
     alloc: Global,
     site: &mut S,
     log: &LogStore,
