@@ -61,7 +61,8 @@ fn is_as_on_disk<S: Site>(
     Ok(are_same(&octets, &on_disk))
 }
 
-// Whether the frame of a place of a live group is dirty or followed by another one of its page, or equals its disk page.
+// Whether the frame of a place of a live group is dirty or followed by another one of its page, or equals its disk
+// page.
 fn is_clean_frame<S: Site>(
     site: &mut S,
     geometry: &Geometry,
@@ -76,7 +77,8 @@ fn is_clean_frame<S: Site>(
 
     ensures clean { (frames : List Frame) → IsTrue (S.state site.old).honest → AreFound rings.now (S.state site.old)
         → AreGroups geometry.now (S.state site.old).image
-        → IsGroupOn geometry.now (group_on geometry.now (S.state site.old).image group) frames → heads.now ≡ heads_of frames
+        → IsGroupOn geometry.now (group_on geometry.now (S.state site.old).image group) frames
+        → heads.now ≡ heads_of frames
         → IfOk result (λ clean. IsTrue clean ↔ IsCleanFrame geometry.now (S.state site.old).image group frames index) }
     ensures reads { OnlyReads result (S.state site.old) (S.state site.new) }
 {
@@ -119,7 +121,8 @@ fn is_clean_group<S: Site>(
     ensures clean { (frames : List Frame) → IsTrue (S.state site.old).honest → AreFound rings.now (S.state site.old)
         → AreGroups geometry.now (S.state site.old).image
         → IsGroupOn geometry.now (group_on geometry.now (S.state site.old).image group) frames
-        → IfOk result (λ clean. IsTrue clean ↔ ((i : ℕ) → IsCleanFrame geometry.now (S.state site.old).image group frames i)) }
+        → IfOk result (λ clean. IsTrue clean
+        ↔ ((i : ℕ) → IsCleanFrame geometry.now (S.state site.old).image group frames i)) }
     ensures reads { OnlyReads result (S.state site.old) (S.state site.new) }
 {
     let mut octets = [0u8; HEADS_LEN];

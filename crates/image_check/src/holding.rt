@@ -111,8 +111,10 @@ pub fn rule_apart<S: Site>(
 
     ensures apart { (blocks : List (List LogRecord)) → Finds log.now (S.state site.old)
         → HasBlocks log.now.geometry master.now.kept blocks (S.state site.old).image
-        → Rule3 (picture_of (record { g = log.now.geometry; master = master.now; blocks = blocks }) (S.state site.old).image)
-        → Rule4 (picture_of (record { g = log.now.geometry; master = master.now; blocks = blocks }) (S.state site.old).image)
+        → Rule3 (picture_of (record { g = log.now.geometry; master = master.now; blocks = blocks })
+        (S.state site.old).image)
+        → Rule4 (picture_of (record { g = log.now.geometry; master = master.now; blocks = blocks })
+        (S.state site.old).image)
         → IfOk result (λ stand. IsTrue stand ↔ Rule5 (picture_of
         (record { g = log.now.geometry; master = master.now; blocks = blocks }) (S.state site.old).image)) }
     ensures reads { OnlyReads result (S.state site.old) (S.state site.new) }

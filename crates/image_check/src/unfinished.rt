@@ -122,7 +122,8 @@ impl LeftTxns {
 
     // Whether they are those that a master names.
     fn are_named(&self, master: &Master) -> bool
-        ensures { IsTrue result ↔ (map (λ x. record { begin = x.txn; last = x.last }) self.now.left.items ≡ master.now.active) }
+        ensures { IsTrue result
+            ↔ (map (λ x. record { begin = x.txn; last = x.last }) self.now.left.items ≡ master.now.active) }
     {
         if self.left.len() != master.active.len() {
             return false;
@@ -199,7 +200,8 @@ pub fn rule_room<S: Site>(
 
     ensures room { (blocks : List (List LogRecord)) → Finds log.now (S.state site.old)
         → HasBlocks log.now.geometry master.now.kept blocks (S.state site.old).image
-        → Rule3 (picture_of (record { g = log.now.geometry; master = master.now; blocks = blocks }) (S.state site.old).image)
+        → Rule3 (picture_of (record { g = log.now.geometry; master = master.now; blocks = blocks })
+        (S.state site.old).image)
         → IfOk result (λ stand. IsTrue stand ↔ Rule9 (picture_of
         (record { g = log.now.geometry; master = master.now; blocks = blocks }) (S.state site.old).image)) }
     ensures reads { OnlyReads result (S.state site.old) (S.state site.new) }
@@ -211,8 +213,8 @@ pub fn rule_room<S: Site>(
     Ok(left.fit(free))
 }
 
-/// The tenth rule, of devices that meet the third one: whether the master names the transactions that were active at the
-/// redo block. It reads each kept block before that one once, and holds what is kept of each unfinished transaction.
+/// The tenth rule, of devices that meet the third one: whether the master names the transactions that were active at
+/// the redo block. It reads each kept block before that one once, and holds what is kept of each unfinished transaction.
 pub fn rule_named<S: Site>(
     alloc: Global,
     site: &mut S,
@@ -225,7 +227,8 @@ pub fn rule_named<S: Site>(
 
     ensures named { (blocks : List (List LogRecord)) → Finds log.now (S.state site.old)
         → HasBlocks log.now.geometry master.now.kept blocks (S.state site.old).image
-        → Rule3 (picture_of (record { g = log.now.geometry; master = master.now; blocks = blocks }) (S.state site.old).image)
+        → Rule3 (picture_of (record { g = log.now.geometry; master = master.now; blocks = blocks })
+        (S.state site.old).image)
         → IfOk result (λ stand. IsTrue stand ↔ Rule10 (picture_of
         (record { g = log.now.geometry; master = master.now; blocks = blocks }) (S.state site.old).image)) }
     ensures reads { OnlyReads result (S.state site.old) (S.state site.new) }
