@@ -107,17 +107,29 @@ const UNFINISHED_LEN: usize = 38;
 
 const UNFINISHED_USED: u8 = 29;
 
+// Writes octets into the first block's slot.
+fn put_in_block(site: &mut MemSite, at: u8, octets: &[u8]) -> Result<(), Failed>
+    requires few { length octets.now ≤ 55 }
+    requires long { 9728 ≤ length (state_of site.old).image.log }
+    ensures { 9728 ≤ length (state_of site.new).image.log }
+{
+    site.write_at(Dev::Log, 1_536 + at as u64, octets)
+}
+
 // Devices with a block at the front of the log.
 fn with_block(alloc: Global, block: &[u8]) -> Result<MemSite, Fail>
     requires { length block.now ≤ 55 }
+    ensures { IfOk result (λ site. 9728 ≤ length (state_of site).image.log) }
 {
     let mut site = MemSite::new(alloc, &SMALL)?;
-    site.write_at(Dev::Log, 1_536, block)?;
+    put_in_block(&mut site, 0, block)?;
     Ok(site)
 }
 
 // Devices whose one transaction is unfinished.
-fn with_unfinished(alloc: Global) -> Result<MemSite, Fail> {
+fn with_unfinished(alloc: Global) -> Result<MemSite, Fail>
+    ensures { IfOk result (λ site. 9728 ≤ length (state_of site).image.log) }
+{
     let mut block = BLOCK;
     block[10] = UNFINISHED_USED;
     with_block(alloc, &block[..UNFINISHED_LEN])
@@ -251,8 +263,8 @@ fn with_two(alloc: Global, slot: u8) -> Result<MemSite, Fail> {
     let mut site = with_unfinished(alloc)?;
     let mut second = SECOND;
     second[SLOT_AT] = slot;
-    site.write_at(Dev::Log, 1_574, &second)?;
-    site.write_at(Dev::Log, 1_545, &[0x00, 0x38])?;
+    put_in_block(&mut site, 38, &second)?;
+    put_in_block(&mut site, 9, &[0x00, 0x38])?;
     Ok(site)
 }
 
@@ -299,7 +311,9 @@ const GROUP: [u8; 10] = [
 fn put_group(site: &mut MemSite, number: u8) -> Result<(), Failed>
     requires few { number < 8 }
     requires long { 271360 ≤ length (state_of site.old).image.flash }
-    ensures { 271360 ≤ length (state_of site.new).image.flash }
+    requires disk { 4096 ≤ length (state_of site.old).image.disk }
+    ensures long { 271360 ≤ length (state_of site.new).image.flash }
+    ensures disk { 4096 ≤ length (state_of site.new).image.disk }
 {
     let mut octets = GROUP;
     octets[8] = number;
@@ -322,7 +336,8 @@ fn put_segment(site: &mut MemSite, dirty: u8) -> Result<(), Failed>
 
 // Devices with four groups.
 fn with_groups(alloc: Global) -> Result<MemSite, Fail>
-    ensures { IfOk result (λ site. 271360 ≤ length (state_of site).image.flash) }
+    ensures long { IfOk result (λ site. 271360 ≤ length (state_of site).image.flash) }
+    ensures disk { IfOk result (λ site. 4096 ≤ length (state_of site).image.disk) }
 {
     let mut site = MemSite::new(alloc, &SMALL)?;
     put_group(&mut site, 0)?;
