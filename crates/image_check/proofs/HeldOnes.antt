@@ -1,6 +1,6 @@
 -- What unfinished transactions have written, after one record more.
-use Rattle.std.proofs.Common.{◌≡◌, ℕ, ◌+◌, ◌*◌, inl, inr, Bool, true, false, true≢false, not, ◌&&◌, ◌||◌, cond, List, [], ◌∷◌, ◌++◌, map, drop, Option, Some, None, refl, sym, ap, subst, ◌∙◌, arith}
-use Rattle.std.specs.Prelude.{IsTrue, filter, ◌==◌}
+use Rattle.std.proofs.Common.{◌≡◌, ℕ, inl, inr, Bool, true, false, true≢false, not, ◌&&◌, ◌||◌, cond, List, [], ◌∷◌, ◌++◌, map, drop, Option, Some, None, refl, sym, ap, ◌∙◌}
+use Rattle.std.specs.Prelude.{filter, ◌==◌}
 use Rattle.std.specs.List.{AllByRecursion, list_any}
 use Rattle.std.proofs.lemmas.Bool.{and_from, and_parts, and_right, or_left, or_right, cases_Bool, eqb-true, eq-eqb, not-true, not_from_false}
 use Rattle.std.proofs.lemmas.List.{append-nil, map-append}
@@ -8,10 +8,10 @@ use Rattle.std.proofs.lemmas.List.Elements.{filter-append}
 use Rattle.std.proofs.lemmas.List.Folds.{list_any-append}
 use Rattle.log_records.specs.declared.log_record.LogRecord.{LogRecord}
 use Rattle.log_records.specs.declared.log_record.LogRecord.TheVariants.{Begin, Update, Clr, Commit, End}
-use Rattle.log_records.specs.Log.{Entry, txn_by, txn_of, is_of, is_closed, is_loser, is_update, is_number, is_on, number_of, entries_of}
+use Rattle.log_records.specs.Log.{Entry, txn_by, txn_of, is_of, is_closed, is_update, is_number, is_on, number_of, entries_of}
 use Rattle.log_records.specs.Unfinished.{is_begin, losers}
 use Rattle.log_records.specs.Sound.{Picture, Pairwise, HoldsOff}
-use Rattle.log_laws.specs.Analysis.{unfinished_at, unfinished_in}
+use Rattle.log_laws.specs.Analysis.{unfinished_at}
 use Rattle.log_laws.proofs.Listing.{listed_is_loser}
 use Rattle.image_check.specs.declared.holding.Held.{Held}
 use Rattle.image_check.specs.declared.unfinished.Left.{Left}
@@ -28,10 +28,10 @@ left_has log t (n ∷ ns) = ap (λ (b : Bool). (n == t) || b) (left_has log t ns
 pub has_is : (log : List Entry) (items : List Left) (t : ℕ) → AreLeft log items → list_any (λ (x : Left). x.txn == t) items ≡ list_any (λ n. n == t) (losers log)
 has_is log items t is = ap (list_any (λ (x : Left). x.txn == t)) is.are ∙ left_has log t (losers log)
 
-abbrev begins_there : ℕ → Entry → Bool
+abbrev pub begins_there : ℕ → Entry → Bool
 begins_there t x = is_begin x.rec && (x.lsn == t)
 
-begin_found : (t : ℕ) (xs rest : List Entry) → filter (is_of t) xs ≡ record { lsn = t; rec = Begin } ∷ rest → list_any (begins_there t) xs ≡ true
+pub begin_found : (t : ℕ) (xs rest : List Entry) → filter (is_of t) xs ≡ record { lsn = t; rec = Begin } ∷ rest → list_any (begins_there t) xs ≡ true
 begin_found t [] rest is = let none : ⊥ = cc in absurd none
 begin_found t (x ∷ xs) rest is = by (is_of t x) is (begin_found t xs rest)
   where
@@ -42,7 +42,7 @@ begin_found t (x ∷ xs) rest is = by (is_of t x) is (begin_found t xs rest)
         or_left (begins_there t x) (list_any (begins_there t) xs) (ap (begins_there t) here ∙ eq-eqb t t refl)
     by false same again = or_right (begins_there t x) (list_any (begins_there t) xs) (again same)
 
-listed_there : (closed : ℕ → Bool) (t : ℕ) (xs : List Entry) → closed t ≡ false → list_any (begins_there t) xs ≡ true →
+pub listed_there : (closed : ℕ → Bool) (t : ℕ) (xs : List Entry) → closed t ≡ false → list_any (begins_there t) xs ≡ true →
     list_any (λ n. n == t) (map (λ (x : Entry). x.lsn) (filter (λ x. is_begin x.rec && not (closed x.lsn)) xs)) ≡ true
 listed_there closed t [] lives some = some
 listed_there closed t (x ∷ xs) lives some = by (is_begin x.rec) (x.lsn == t) refl some (listed_there closed t xs lives)

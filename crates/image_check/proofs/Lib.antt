@@ -16,3 +16,5 @@ pub mod LeftOnes
 pub mod LastOnes
 pub mod CleanOnes
 pub mod HeldOnes
+pub mod ChainOnes
+pub mod StrayOnes

@@ -119,7 +119,7 @@ open_more m records e txns goes_on begins late fresh is = record {
     by false false false h = refl
 
 -- those without one
-any_without : (s t : ℕ) (xs : List ℕ) → list_any (λ x. x == t) (filter (λ x. not (x == s)) xs) ≡ (list_any (λ x. x == t) xs && not (s == t))
+pub any_without : (s t : ℕ) (xs : List ℕ) → list_any (λ x. x == t) (filter (λ x. not (x == s)) xs) ≡ (list_any (λ x. x == t) xs && not (s == t))
 any_without s t [] = refl
 any_without s t (x ∷ xs) = by (x == s) refl (any_without s t xs)
   where

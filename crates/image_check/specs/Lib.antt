@@ -1,3 +1,4 @@
+pub mod Chaining
 pub mod Counting
 pub mod Findings
 pub mod Framing

@@ -2,6 +2,7 @@
 #![tactic(auto)]
 
 mod blocks;
+mod chain;
 mod clean;
 mod commits;
 mod following;
@@ -16,6 +17,7 @@ mod segments;
 #[cfg(test)]
 mod tests;
 mod txns;
+mod undoable;
 mod unfinished;
 mod versions;
 mod walk;
@@ -33,6 +35,7 @@ pub use master::rule_master;
 pub use rings::{Rings, rule_rings};
 pub use segments::rule_segments;
 pub use txns::rule_transactions;
+pub use undoable::rule_undoable;
 pub use unfinished::{rule_named, rule_room};
 pub use versions::rule_versions;
 pub use walk::Walk;

@@ -5,7 +5,7 @@ ghost use Rattle.site.specs.MemState.{state_of};
 use crate::{
     rule_apart, rule_blocks, rule_clean, rule_commits, rule_following, rule_groups, rule_kept,
     rule_lengths, rule_master, rule_named, rule_rings, rule_room, rule_segments, rule_transactions,
-    rule_versions,
+    rule_undoable, rule_versions,
 };
 use checkpoint::{Master, Pairs};
 use log_store::LogStore;
@@ -101,6 +101,9 @@ fn a_first_commit_with_another_number(rt: HostRuntime) -> Result<(), Fail> {
 
 // The last octet of the Commit's transaction.
 const TXN_AT: usize = 46;
+
+// The last octet of the LSN that the Update names.
+const PREV_AT: u8 = 28;
 
 // The octets of the block without its Commit, and where they end.
 const UNFINISHED_LEN: usize = 38;
@@ -238,6 +241,39 @@ fn the_unfinished_transaction_is_not_named(rt: HostRuntime) -> Result<(), Fail> 
     let mut site = with_unfinished(rt.alloc())?;
     assert_eq!(rt;
         names_the_active(rt.alloc(), &mut site, &later_master(Pairs::new()))?,
+        Some(false)
+    );
+    Ok(())
+}
+
+// Whether unfinished transactions can be undone.
+fn can_be_undone(alloc: Global, site: &mut MemSite, master: &Master) -> Result<Option<bool>, Stop> {
+    let Some(geometry) = rule_lengths(site) else {
+        return Ok(None);
+    };
+    let log = LogStore::start(site, &geometry)?;
+    if !rule_kept(&log, master) {
+        return Ok(None);
+    }
+    Ok(Some(rule_undoable(alloc, site, &log, master)?))
+}
+
+#[test]
+fn an_update_behind_its_begin(rt: HostRuntime) -> Result<(), Fail> {
+    let mut site = with_unfinished(rt.alloc())?;
+    assert_eq!(rt;
+        can_be_undone(rt.alloc(), &mut site, &Master::blank())?,
+        Some(true)
+    );
+    Ok(())
+}
+
+#[test]
+fn an_update_that_names_no_record_before_it(rt: HostRuntime) -> Result<(), Fail> {
+    let mut site = with_unfinished(rt.alloc())?;
+    put_in_block(&mut site, PREV_AT, &[1])?;
+    assert_eq!(rt;
+        can_be_undone(rt.alloc(), &mut site, &Master::blank())?,
         Some(false)
     );
     Ok(())

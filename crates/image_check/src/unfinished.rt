@@ -214,7 +214,8 @@ pub fn rule_room<S: Site>(
 }
 
 /// The tenth rule, of devices that meet the third one: whether the master names the transactions that were active at
-/// the redo block. It reads each kept block before that one once, and holds what is kept of each unfinished transaction.
+/// the redo block. It reads each kept block before that one once, and holds what is kept of each unfinished
+/// transaction.
 pub fn rule_named<S: Site>(
     alloc: Global,
     site: &mut S,

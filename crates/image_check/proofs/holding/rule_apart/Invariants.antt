@@ -2,7 +2,6 @@ use Rattle.std.proofs.Common.{List}
 use Rattle.std.specs.Prelude.{Ok}
 use Rattle.log_records.specs.declared.log_record.LogRecord.{LogRecord}
 use Rattle.log_records.specs.Log.{log_from}
-use Rattle.log_records.specs.Sound.{HaveBegunBefore}
 use Rattle.log_store.specs.Held.{MayGoOn, Finds, HasBlocks}
 use Rattle.site.specs.Work.{OnlyReads}
 use Rattle.image_check.specs.Walking.{MayWalk, to_go}

@@ -1,4 +1,4 @@
-use Rattle.std.proofs.Common.{true, false, true≢false, sym, ap, ◌∙◌}
+use Rattle.std.proofs.Common.{true≢false, sym, ap, ◌∙◌}
 use Rattle.std.specs.Prelude.{Option, ℕ}
 use Rattle.log_records.specs.Log.{txn_by}
 use Rattle.image_check.specs.Holding.{has_other}

@@ -1,10 +1,9 @@
-use Rattle.std.proofs.Common.{◌≡◌, ◌++◌, ◌∷◌, [], true, false, not, ◌&&◌, List, refl, sym, ap, subst, ◌∙◌}
+use Rattle.std.proofs.Common.{◌≡◌, ◌++◌, ◌∷◌, [], true, false, not, sym, ap, subst, ◌∙◌}
 use Rattle.std.proofs.lemmas.Bool.{and_left}
 use Rattle.site.proofs.Working.{ok_as}
 use Rattle.log_records.specs.declared.log_record.LogRecord.{LogRecord}
 use Rattle.log_records.specs.declared.log_record.LogRecord.TheVariants.{Update}
 use Rattle.log_records.specs.Log.{Entry, is_update, is_closed, txn_by}
-use Rattle.image_check.specs.declared.holding.Held.{Held}
 use Rattle.image_check.specs.Holding.{AreHeld, IsListed, held_by}
 use Rattle.image_check.proofs.HeldOnes.{held_more, held_same, not_update}
 use Rattle.image_check.proofs.holding.HeldNumbers.hear.Goals as goal
