@@ -10,3 +10,11 @@ pub mod SavedHeads
 pub mod Standing
 pub mod UnitsJudged
 pub mod Walks
+pub mod OpenOnes
+pub mod GroupsRead
+pub mod LeftOnes
+pub mod LastOnes
+pub mod CleanOnes
+pub mod HeldOnes
+pub mod ChainOnes
+pub mod StrayOnes

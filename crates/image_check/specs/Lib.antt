@@ -1,6 +1,11 @@
+pub mod Chaining
 pub mod Counting
 pub mod Findings
+pub mod Framing
+pub mod Holding
 pub mod Laws
 pub mod Octets
+pub mod Opening
+pub mod Unended
 pub mod Verdict
 pub mod Walking

@@ -70,6 +70,10 @@ pub record IsSegmentOn (pages : ℕ) (content : List ℕ) (heads : List FrameHea
 abbrev pub SegmentsAreFormed : Geometry → Image → Type 0
 SegmentsAreFormed g image = OfLive (segment_shape g) image (λ n. (heads : List FrameHead) × IsSegmentOn g.pages (segment_on g image n) heads)
 
+-- the version of each page is a sound page
+abbrev pub AreVersions : Geometry → Image → Type 0
+AreVersions g image = (number : ℕ) → number < g.pages → page.IsSound (version_on g image number)
+
 -- The first rule, with the sizes and the newest master: what is live is of the form, each frame and each version is a sound page,
 -- and no page is named that the disk hasn't.
 pub record IsFormed (g : Geometry) (m : Master) (image : Image) : Type 0 where
@@ -79,4 +83,4 @@ pub record IsFormed (g : Geometry) (m : Master) (image : Image) : Type 0 where
   pub blocks : AreBlocks g m.kept image
   pub groups : AreGroups g image
   pub segments : SegmentsAreFormed g image
-  pub versions : (number : ℕ) → number < g.pages → page.IsSound (version_on g image number)
+  pub versions : AreVersions g image

@@ -2,8 +2,12 @@
 #![tactic(auto)]
 
 mod blocks;
+mod chain;
+mod clean;
 mod commits;
 mod following;
+mod groups;
+mod holding;
 mod kept;
 mod laws;
 mod lengths;
@@ -12,15 +16,26 @@ mod rings;
 mod segments;
 #[cfg(test)]
 mod tests;
+mod txns;
+mod undoable;
+mod unfinished;
+mod versions;
 mod walk;
 
 pub use blocks::rule_blocks;
+pub use clean::rule_clean;
 pub use commits::rule_commits;
 pub use following::rule_following;
+pub use groups::rule_groups;
+pub use holding::rule_apart;
 pub use kept::rule_kept;
 pub use laws::{one_reading, sound_is_standing};
 pub use lengths::rule_lengths;
 pub use master::rule_master;
 pub use rings::{Rings, rule_rings};
 pub use segments::rule_segments;
+pub use txns::rule_transactions;
+pub use undoable::rule_undoable;
+pub use unfinished::{rule_named, rule_room};
+pub use versions::rule_versions;
 pub use walk::Walk;

@@ -1,0 +1,229 @@
+-- Which transactions are open after one record more.
+use Rattle.std.proofs.Common.{◌≡◌, ℕ, ◌+◌, ◌*◌, ◌<◌, ◌≤◌, inl, inr, Bool, true, false, true≢false, not, ◌&&◌, ◌||◌, cond, List, [], ◌∷◌, ◌++◌, refl, sym, ap, subst, ◌∙◌, arith}
+use Rattle.std.specs.Prelude.{filter, map, nat_le, ◌==◌}
+use Rattle.std.specs.List.{AllByRecursion, list_any}
+use Rattle.std.proofs.lemmas.List.Elements.{filter-append}
+use Rattle.std.proofs.lemmas.List.Folds.{list_any-append}
+use Rattle.std.proofs.lemmas.Bool.{and_parts, and_from, and_right, cases_Bool, eqb-true, eq-eqb, not-true, not_from_false}
+use Rattle.log_records.specs.declared.log_record.LogRecord.{LogRecord}
+use Rattle.log_records.specs.declared.log_record.LogRecord.TheVariants.{Begin, Update, Clr, Commit, End}
+use Rattle.log_records.specs.Log.{Entry, txn_of, is_of, is_closing, is_closed}
+use Rattle.log_records.specs.Unfinished.{is_begin}
+use Rattle.log_records.specs.Sound.{Active, Master, Picture, IsInOrder, InTurn, IsOfOpenTransaction, is_known, from_block}
+use Rattle.log_laws.specs.Follow.{IsFresh}
+use Rattle.log_laws.proofs.Values.{closed_push}
+use Rattle.log_laws.proofs.Appends.{fresh_open}
+use Rattle.log_laws.proofs.Orders.{InTurn-weaker, InTurn-all}
+use Rattle.log_laws.proofs.Parts.{all_both, all_right, InTurn-right}
+use Rattle.checkpoint.specs.declared.pairs.Pair.{Pair}
+use Rattle.image_check.specs.Opening.{AreOpen, MayStand}
+use Rattle.image_check.specs.Verdict.{Rule3}
+
+-- Records one after the other.
+
+-- an entry stands behind all before it
+least : (from : ℕ) (front : List Entry) (e : Entry) (back : List Entry) (to : ℕ) → IsInOrder from (front ++ e ∷ back) to → from ≤ e.lsn
+least from [] e back to order = order.0
+least from (x ∷ front) e back to order = let later = least (x.lsn + 1) front e back to order.1 in let here = order.0 in omega (arith, here, later)
+
+pub all_before : (from : ℕ) (front : List Entry) (e : Entry) (back : List Entry) (to : ℕ) → IsInOrder from (front ++ e ∷ back) to → AllByRecursion (λ x. x.lsn < e.lsn) front
+all_before from [] e back to order = tt
+all_before from (x ∷ front) e back to order = (let later = least (x.lsn + 1) front e back to order.1 in omega (arith, later), all_before (x.lsn + 1) front e back to order.1)
+
+-- where each stands behind its Begin, none is of a later transaction
+pub none_of_later : (lsn : ℕ) (records : List Entry) → AllByRecursion (λ x. x.lsn < lsn) records → AllByRecursion (λ x. txn_of x ≤ x.lsn) records → IsFresh lsn records
+none_of_later lsn records before begun =
+    all_both (λ x. x.lsn < lsn) (λ x. txn_of x ≤ x.lsn) (λ x. is_of lsn x ≡ false)
+    (λ x less low. elim (cases_Bool (is_of lsn x)) [
+      | inl same ↦ let is = eqb-true (txn_of x) lsn same in absurd (omega (arith, less, low, is))
+      | inr other ↦ other
+    ]) records before begun
+
+-- Which transactions are known.
+
+or_apart : (a b c : Bool) → (a || (b || c)) ≡ ((a || b) || c)
+or_apart true b c = refl
+or_apart false b c = refl
+
+passes_one : {X : Type 0} (p : X → Bool) (b : Bool) (x : X) → list_any p (cond b (x ∷ []) []) ≡ (b && p x)
+passes_one p true x = by (p x)
+  where
+    by : (q : Bool) → (q || false) ≡ q
+    by true = refl
+    by false = refl
+passes_one p false x = refl
+
+abbrev is_new : ℕ → Entry → ℕ → Bool
+is_new redo e t = nat_le (512 * redo) e.lsn && (is_begin e.rec && (e.lsn == t))
+
+known_push : (active : List Active) (redo : ℕ) (records : List Entry) (e : Entry) (t : ℕ) →
+    is_known active (from_block redo (records ++ e ∷ [])) t ≡ (is_known active (from_block redo records) t || is_new redo e t)
+known_push active redo records e t =
+    let p : Entry → Bool = λ x. is_begin x.rec && (x.lsn == t) in
+    let late : Bool = nat_le (512 * redo) e.lsn in
+    let named : Bool = list_any (λ (a : Active). a.begin == t) active in
+    ap (λ (l : List Entry). named || list_any p l) (filter-append (λ x. nat_le (512 * redo) x.lsn) records (e ∷ []))
+    ∙ ap (λ (b : Bool). named || b) (list_any-append p (from_block redo records) (cond late (e ∷ []) []) ∙ ap (λ (b : Bool). list_any p (from_block redo records) || b) (passes_one p late e))
+    ∙ or_apart named (list_any p (from_block redo records)) (is_new redo e t)
+
+-- Which are open.
+
+or_false : (a b : Bool) → b ≡ false → (a || b) ≡ a
+or_false true b none = refl
+or_false false b none = none
+
+two_false : (a b : Bool) → b ≡ false → (a || (b || false)) ≡ a
+two_false true b none = refl
+two_false false true none = none
+two_false false false none = refl
+
+-- a record that neither closes a transaction nor begins one from the redo block on
+pub open_still : (m : Master) (records : List Entry) (e : Entry) (txns : List ℕ) → is_closing e.rec ≡ false → (nat_le (512 * m.redo) e.lsn && is_begin e.rec) ≡ false →
+    AreOpen m records txns → AreOpen m (records ++ e ∷ []) txns
+open_still m records e txns goes_on old is = record {
+  are = λ t.
+      let new : is_new m.redo e t ≡ false = none (nat_le (512 * m.redo) e.lsn) (is_begin e.rec) (e.lsn == t) old in
+      let known = known_push m.active m.redo records e t ∙ or_false (is_known m.active (from_block m.redo records) t) (is_new m.redo e t) new in
+      let closed = closed_push records e t ∙ two_false (is_closed records t) (is_of t e && is_closing e.rec) (ap (λ (b : Bool). is_of t e && b) goes_on ∙ and_right (is_of t e) false refl) in
+      is.are t ∙ sym (λ i. known i && not (closed i));
+}
+  where
+    none : (a b c : Bool) → (a && b) ≡ false → (a && (b && c)) ≡ false
+    none true true c h = absurd (true≢false h)
+    none true false c h = refl
+    none false b c h = refl
+
+-- a transaction begins from the redo block on
+pub open_more : (m : Master) (records : List Entry) (e : Entry) (txns : List ℕ) → is_closing e.rec ≡ false → is_begin e.rec ≡ true → nat_le (512 * m.redo) e.lsn ≡ true → IsFresh e.lsn records →
+    AreOpen m records txns → AreOpen m (records ++ e ∷ []) (txns ++ e.lsn ∷ [])
+open_more m records e txns goes_on begins late fresh is = record {
+  are = λ t.
+      let k : Bool = is_known m.active (from_block m.redo records) t in
+      let new : is_new m.redo e t ≡ (e.lsn == t) = (λ i. late i && (begins i && (e.lsn == t))) in
+      let known = known_push m.active m.redo records e t ∙ ap (λ (b : Bool). k || b) new in
+      let closed = closed_push records e t ∙ two_false (is_closed records t) (is_of t e && is_closing e.rec) (ap (λ (b : Bool). is_of t e && b) goes_on ∙ and_right (is_of t e) false refl) in
+      list_any-append (λ x. x == t) txns (e.lsn ∷ [])
+      ∙ ap (λ (b : Bool). b || ((e.lsn == t) || false)) (is.are t)
+      ∙ by k (is_closed records t) (e.lsn == t) (λ same. ap (is_closed records) (sym (eqb-true e.lsn t same)) ∙ fresh_open e.lsn records fresh)
+      ∙ sym (λ i. known i && not (closed i));
+}
+  where
+    by : (k c q : Bool) → (q ≡ true → c ≡ false) → ((k && not c) || (q || false)) ≡ ((k || q) && not c)
+    by true true true h = absurd (true≢false (h refl))
+    by true true false h = refl
+    by true false true h = refl
+    by true false false h = refl
+    by false true true h = absurd (true≢false (h refl))
+    by false true false h = refl
+    by false false true h = refl
+    by false false false h = refl
+
+-- those without one
+pub any_without : (s t : ℕ) (xs : List ℕ) → list_any (λ x. x == t) (filter (λ x. not (x == s)) xs) ≡ (list_any (λ x. x == t) xs && not (s == t))
+any_without s t [] = refl
+any_without s t (x ∷ xs) = by (x == s) refl (any_without s t xs)
+  where
+    gone : (a q : Bool) → (a && not q) ≡ ((q || a) && not q)
+    gone true true = refl
+    gone true false = refl
+    gone false true = refl
+    gone false false = refl
+
+    stays : (a p q : Bool) → (p ≡ true → q ≡ false) → (p || (a && not q)) ≡ ((p || a) && not q)
+    stays a true true h = absurd (true≢false (h refl))
+    stays a true false h = refl
+    stays a false q h = refl
+
+    by : (b : Bool) → (x == s) ≡ b → list_any (λ x. x == t) (filter (λ x. not (x == s)) xs) ≡ (list_any (λ x. x == t) xs && not (s == t)) →
+        list_any (λ x. x == t) (cond (not b) (x ∷ filter (λ x. not (x == s)) xs) (filter (λ x. not (x == s)) xs)) ≡ (((x == t) || list_any (λ x. x == t) xs) && not (s == t))
+    by true same rest =
+        let is : x ≡ s = eqb-true x s same in
+        rest ∙ gone (list_any (λ x. x == t) xs) (s == t) ∙ ap (λ (n : ℕ). ((n == t) || list_any (λ x. x == t) xs) && not (s == t)) (sym is)
+    by false other rest =
+        ap (λ (b : Bool). (x == t) || b) rest
+        ∙ stays (list_any (λ x. x == t) xs) (x == t) (s == t) (λ here. elim (cases_Bool (s == t)) [
+          | inl there ↦ let a : x ≡ t = eqb-true x t here in let b : s ≡ t = eqb-true s t there in absurd (true≢false (sym (eq-eqb x s (a ∙ sym b)) ∙ other))
+          | inr apart ↦ apart
+        ])
+
+-- a transaction is closed
+pub open_without : (m : Master) (records : List Entry) (e : Entry) (txns : List ℕ) → is_closing e.rec ≡ true → is_begin e.rec ≡ false →
+    AreOpen m records txns → AreOpen m (records ++ e ∷ []) (filter (λ x. not (x == txn_of e)) txns)
+open_without m records e txns closing old is = record {
+  are = λ t.
+      let k : Bool = is_known m.active (from_block m.redo records) t in
+      let new : is_new m.redo e t ≡ false = ap (λ (b : Bool). nat_le (512 * m.redo) e.lsn && (b && (e.lsn == t))) old ∙ and_right (nat_le (512 * m.redo) e.lsn) false refl in
+      let known = known_push m.active m.redo records e t ∙ or_false k (is_new m.redo e t) new in
+      let closed = closed_push records e t ∙ ap (λ (b : Bool). is_closed records t || ((is_of t e && b) || false)) closing in
+      any_without (txn_of e) t txns
+      ∙ ap (λ (b : Bool). b && not (txn_of e == t)) (is.are t)
+      ∙ by k (is_closed records t) (txn_of e == t)
+      ∙ sym (λ i. known i && not (closed i));
+}
+  where
+    by : (k c q : Bool) → ((k && not c) && not q) ≡ (k && not (c || ((q && true) || false)))
+    by true true q = refl
+    by true false true = refl
+    by true false false = refl
+    by false c q = refl
+
+-- before the first record
+pub open_first : (m : Master) (pairs : List Pair) (txns : List ℕ) → m.active ≡ map (λ pair. record { begin = pair.begin; last = pair.last }) pairs → txns ≡ map (λ pair. pair.begin) pairs → AreOpen m [] txns
+open_first m pairs txns named is = record {
+  are = λ t.
+      ap (list_any (λ x. x == t)) is ∙ all t pairs ∙ by (list_any (λ (a : Active). a.begin == t) (map (λ (pair : Pair). record { begin = pair.begin; last = pair.last }) pairs))
+      ∙ ap (λ (l : List Active). is_known l [] t && true) (sym named);
+}
+  where
+    all : (t : ℕ) (xs : List Pair) → list_any (λ x. x == t) (map (λ (pair : Pair). pair.begin) xs) ≡ list_any (λ (a : Active). a.begin == t) (map (λ (pair : Pair). record { begin = pair.begin; last = pair.last }) xs)
+    all t [] = refl
+    all t (x ∷ xs) = ap (λ (b : Bool). (x.begin == t) || b) (all t xs)
+
+    by : (b : Bool) → b ≡ ((b || false) && true)
+    by true = refl
+    by false = refl
+
+-- What the rule says of the next record.
+
+pub admitted : (m : Master) (records : List Entry) (e : Entry) (txns : List ℕ) → txn_of e ≤ e.lsn → AreOpen m records txns → list_any (λ x. x == txn_of e) txns ≡ true → MayStand m records e
+admitted m records e txns low is there =
+    let both = and_parts (is_known m.active (from_block m.redo records) (txn_of e)) (not (is_closed records (txn_of e))) (sym (is.are (txn_of e)) ∙ there) in
+    record { begun = low; of_open = λ late old. record { known = both.0; not_closed = not-true (is_closed records (txn_of e)) both.1 } }
+
+pub is_there : (m : Master) (records : List Entry) (e : Entry) (txns : List ℕ) → 512 * m.redo ≤ e.lsn → is_begin e.rec ≡ false → AreOpen m records txns → MayStand m records e → list_any (λ x. x == txn_of e) txns ≡ true
+is_there m records e txns late old is may =
+    let lives = may.of_open late old in
+    is.are (txn_of e) ∙ and_from (is_known m.active (from_block m.redo records) (txn_of e)) (not (is_closed records (txn_of e))) lives.known (not_from_false (is_closed records (txn_of e)) lives.not_closed)
+
+pub third_at : (p : Picture) (front : List Entry) (e : Entry) (back : List Entry) → p.log ≡ front ++ e ∷ back → Rule3 p → MayStand p.master front e
+third_at p front e back split rule = record {
+  begun = (all_right (λ x. txn_of x ≤ x.lsn) front (e ∷ back) (subst (AllByRecursion (λ x. txn_of x ≤ x.lsn)) split rule.begun)).0;
+  of_open = (InTurn-right (IsOfOpenTransaction p.master) [] front (e ∷ back) (subst (InTurn (IsOfOpenTransaction p.master) []) split rule.open_transactions)).0;
+}
+
+pub third_of : (p : Picture) → InTurn (MayStand p.master) [] p.log → Rule3 p
+third_of p stand = record {
+  open_transactions = InTurn-weaker (MayStand p.master) (IsOfOpenTransaction p.master) (λ earlier e may. may.of_open) [] p.log stand;
+  begun = InTurn-all (MayStand p.master) (λ x. txn_of x ≤ x.lsn) (λ earlier e may. may.begun) [] p.log stand;
+}
+
+-- What was heard: the records so far may stand, and these transactions are open.
+pub record Follows (m : Master) (txns : List ℕ) (records : List Entry) : Type 0 where
+  pub are_open : AreOpen m records txns
+  pub stand : InTurn (MayStand m) [] records
+
+-- Which records they are.
+
+pub closing_is_old : (rec : LogRecord) → is_closing rec ≡ true → is_begin rec ≡ false
+closing_is_old Begin closing = absurd (true≢false (sym closing))
+closing_is_old (Update txn prev page slot before after) closing = refl
+closing_is_old (Clr txn prev undo_next page slot after) closing = refl
+closing_is_old (Commit txn number) closing = refl
+closing_is_old (End txn) closing = refl
+
+pub begins_go_on : (rec : LogRecord) → is_begin rec ≡ true → is_closing rec ≡ false
+begins_go_on Begin begins = refl
+begins_go_on (Update txn prev page slot before after) begins = refl
+begins_go_on (Clr txn prev undo_next page slot after) begins = refl
+begins_go_on (Commit txn number) begins = absurd (true≢false (sym begins))
+begins_go_on (End txn) begins = absurd (true≢false (sym begins))

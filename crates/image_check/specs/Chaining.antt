@@ -1,0 +1,39 @@
+-- One unfinished transaction, record by record.
+use Rattle.std.specs.Prelude.{◌≡◌, ℕ, List, [], ◌∷◌, map, reverse, drop, true, false, ◌==◌, ◌||◌}
+use Rattle.std.specs.List.{list_any}
+use Rattle.log_records.specs.declared.log_record.LogRecord.TheVariants.{Begin}
+use Rattle.log_records.specs.Log.{Entry, is_of, is_closed, entries_of}
+use Rattle.log_records.specs.Unfinished.{is_clr, open_updates, losers}
+use Rattle.log_records.specs.Sound.{InTurn, Continues, last_lsn}
+use Rattle.image_check.specs.declared.chain.Chain.{Chain}
+
+-- its Begin
+abbrev pub begin_at : ℕ → Entry
+begin_at t = record { lsn = t; rec = Begin }
+
+-- what is kept of it behind its Begin: these records continue it, the last one has this LSN, these of its Updates no
+-- CLR compensates, and there was a CLR
+pub record IsKept (t : ℕ) (c : Chain) (rest : List Entry) : Type 0 where
+  pub continues : InTurn Continues (begin_at t ∷ []) rest
+  pub last : c.last ≡ last_lsn (begin_at t ∷ rest)
+  pub left : reverse c.updates.items ≡ map (λ u. u.rec) (open_updates [] rest)
+  pub undoing : c.undoing ≡ list_any (λ e. is_clr e.rec) rest
+
+-- a record is the Begin, before which there is none of the transaction, or stands behind it
+pub record StandsThere (t : ℕ) (records : List Entry) (e : Entry) : Type 0 where
+  pub first : is_of t e ≡ true → e.lsn ≡ t → entries_of t records ≡ []
+  pub later : is_of t e ≡ true → (e.lsn ≡ t → ⊥) → entries_of t records ≡ begin_at t ∷ drop 1 (entries_of t records)
+
+-- a record of the transaction behind its Begin doesn't continue it
+pub record Breaks (t : ℕ) (records : List Entry) (e : Entry) : Type 0 where
+  pub own : is_of t e ≡ true
+  pub behind : e.lsn ≡ t → ⊥
+  pub breaks : Continues (begin_at t ∷ drop 1 (entries_of t records)) e → ⊥
+
+-- of a log: each transaction of these records is unfinished with its Begin in the log, or closed, or one of these; and
+-- each of these has a record, and no Begin that leaves it unfinished
+pub record AreStrays (log records : List Entry) (txns : List ℕ) : Type 0 where
+  pub covers : (t : ℕ) → list_any (is_of t) records ≡ true →
+      (list_any (λ n. n == t) (losers log) || (is_closed records t || list_any (λ x. x == t) txns)) ≡ true
+  pub there : (t : ℕ) → list_any (λ x. x == t) txns ≡ true →
+      (list_any (is_of t) records ≡ true) × (list_any (λ n. n == t) (losers log) ≡ false)

@@ -1,0 +1,17 @@
+-- The unfinished transactions, record by record.
+use Rattle.std.specs.Prelude.{◌≡◌, ℕ, ◌+◌, List, map, sum_by}
+use Rattle.log_records.specs.Log.{Entry}
+use Rattle.log_laws.specs.Analysis.{Unfinished, unfinished_in}
+use Rattle.image_check.specs.declared.unfinished.Left.{Left}
+
+-- what is kept of one
+abbrev pub left_of : Unfinished → Left
+left_of x = record { txn = x.txn; last = x.last; remaining = x.remaining }
+
+-- these are the transactions that records leave unfinished, in the order of their Begins
+pub record AreLeft (records : List Entry) (left : List Left) : Type 0 where
+  pub are : left ≡ map left_of (unfinished_in records)
+
+-- the records that undoing all of them makes
+abbrev pub owed_for : List Left → ℕ
+owed_for left = sum_by (λ x. x.remaining + 1) left

@@ -1,0 +1,145 @@
+// One unfinished transaction, record by record.
+ghost use Rattle.std.specs.Prelude.{◌≡◌, ◌↔◌, ◌++◌, ◌∷◌, [], ℕ, List, true, false, drop, IsTrue, IfOk, IfErr, OnOk};
+ghost use Rattle.site.specs.declared.outside.Stop.{Stop};
+ghost use Rattle.log_records.specs.Log.{Entry, entries_of, is_update};
+ghost use Rattle.log_records.specs.Unfinished.{is_clr, open_updates};
+ghost use Rattle.log_records.specs.Sound.{Compensates, Undoes, Continues};
+ghost use Rattle.image_check.specs.Chaining.{IsKept, StandsThere, Breaks, begin_at};
+
+use crate::txns::txn_of;
+use log_records::LogRecord;
+use site::Stop;
+
+// Whether a CLR compensates an Update.
+fn compensates(clr: &LogRecord, update: &LogRecord) -> bool
+    ensures { IsTrue result ↔ Compensates clr.now update.now }
+{
+    let LogRecord::Clr {
+        undo_next,
+        page,
+        slot,
+        after,
+        ..
+    } = clr
+    else {
+        return false;
+    };
+    let LogRecord::Update {
+        prev,
+        page: of_page,
+        slot: of_slot,
+        before,
+        ..
+    } = update
+    else {
+        return false;
+    };
+    if page != of_page {
+        return false;
+    }
+    if slot != of_slot {
+        return false;
+    }
+    if undo_next != prev {
+        return false;
+    }
+    after == before
+}
+
+// Whether a record is an Update.
+fn updates(rec: &LogRecord) -> bool
+    ensures { result ≡ is_update rec.now }
+{
+    match rec {
+        LogRecord::Update { .. } => true,
+        _ => false,
+    }
+}
+
+/// What is kept of a transaction behind its Begin: the LSN of its last record, its Updates that no CLR compensates, the
+/// last one last, and whether there was a CLR.
+#[derive(Drop)]
+pub struct Chain {
+    pub last: u64,
+    pub updates: Vec<LogRecord>,
+    pub undoing: bool,
+}
+
+impl Chain {
+    // Whether a record compensates the last Update that is left.
+    fn undoes(&self, rec: &LogRecord) -> bool
+        ensures { (t : ℕ) (rest : List Entry) → IsKept t self.now rest → is_clr rec.now ≡ true
+            → IsTrue result ↔ Undoes (open_updates [] rest) rec.now }
+    {
+        let Some(update) = self.updates.last() else {
+            return false;
+        };
+        compensates(rec, update)
+    }
+
+    /// Whether a record may come next.
+    pub fn continues(&self, rec: &LogRecord) -> bool
+        ensures { (t : ℕ) (rest : List Entry) (lsn : ℕ) → IsKept t self.now rest
+            → IsTrue result ↔ Continues (begin_at t ∷ rest) (record { lsn = lsn; rec = rec.now }) }
+    {
+        match rec {
+            LogRecord::Update { prev, .. } => {
+                if *prev != self.last {
+                    return false;
+                }
+                !self.undoing
+            }
+            LogRecord::Clr { prev, .. } => {
+                if *prev != self.last {
+                    return false;
+                }
+                self.undoes(rec)
+            }
+            _ => false,
+        }
+    }
+
+    /// Takes a record that may come next.
+    pub fn add(&mut self, lsn: u64, rec: LogRecord) -> Result<(), Stop>
+        ensures kept { (t : ℕ) (rest : List Entry) → IsKept t self.old rest
+            → Continues (begin_at t ∷ rest) (record { lsn = lsn; rec = rec })
+            → OnOk result (IsKept t self.new (rest ++ record { lsn = lsn; rec = rec } ∷ [])) }
+        ensures stops { IfErr result (λ stop. stop ≡ Stop.Memory) }
+    {
+        self.last = lsn;
+        if !updates(&rec) {
+            self.updates.pop();
+            self.undoing = true;
+            return Ok(());
+        }
+        let Ok(()) = self.updates.push(rec) else {
+            return Err(Stop::Memory);
+        };
+        Ok(())
+    }
+
+    /// Hears the next record of a log, and answers whether it continues the transaction, if it is one behind its Begin.
+    pub fn hear(&mut self, txn: u64, lsn: u64, rec: LogRecord) -> Result<bool, Stop>
+        ensures heard { (records : List Entry) → IsKept txn self.old (drop 1 (entries_of txn records))
+            → StandsThere txn records (record { lsn = lsn; rec = rec })
+            → IfOk result (λ goes_on. IsTrue goes_on
+            → IsKept txn self.new (drop 1 (entries_of txn (records ++ record { lsn = lsn; rec = rec } ∷ [])))) }
+        ensures wrong { (records : List Entry) → IsKept txn self.old (drop 1 (entries_of txn records))
+            → IfOk result (λ goes_on. goes_on ≡ false → Breaks txn records (record { lsn = lsn; rec = rec })) }
+        ensures stops { IfErr result (λ stop. stop ≡ Stop.Memory) }
+    {
+        if txn_of(lsn, &rec) != txn {
+            return Ok(true);
+        }
+        if lsn == txn {
+            return Ok(true);
+        }
+        if !self.continues(&rec) {
+            return Ok(false);
+        }
+        if let Err(stop) = self.add(lsn, rec) {
+            return Err(stop);
+        }
+        Ok(true)
+    }
+}

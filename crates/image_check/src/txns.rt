@@ -1,0 +1,167 @@
+// The transactions that are open, record by record.
+ghost use Rattle.std.specs.Prelude.{◌≡◌, ◌↔◌, ◌^◌, ◌≤◌, ◌+◌, ◌-◌, ◌++◌, ◌∷◌, [], not, ◌==◌, filter, List, IsTrue, IfOk, IfErr, OnOk};
+ghost use Rattle.site.specs.declared.outside.Stop.{Stop};
+ghost use Rattle.site.specs.Work.{OnlyReads};
+ghost use Rattle.log_records.specs.declared.log_record.LogRecord.{LogRecord};
+ghost use Rattle.log_records.specs.Log.{Entry, txn_by, is_closing};
+ghost use Rattle.log_records.specs.Unfinished.{is_begin};
+ghost use Rattle.log_records.specs.Sound as sound;
+ghost use Rattle.log_laws.specs.Follow.{IsFresh};
+ghost use Rattle.checkpoint.specs.Newest.{seen};
+ghost use Rattle.log_store.specs.Held.{MayGoOn, Finds, HasBlocks};
+ghost use Rattle.image_check.specs.Opening.{AreOpen, MayStand};
+ghost use Rattle.image_check.specs.Verdict.{Rule3, picture_of};
+
+use crate::walk::Walk;
+use checkpoint::Master;
+use log_records::LogRecord;
+use log_store::LogStore;
+use site::{Site, Stop};
+use std::alloc::Global;
+
+/// The transaction of a record at an LSN.
+pub fn txn_of(lsn: u64, rec: &LogRecord) -> u64
+    ensures { result ≡ txn_by lsn rec.now }
+{
+    match rec {
+        LogRecord::Begin => lsn,
+        LogRecord::Update { txn, .. } => *txn,
+        LogRecord::Clr { txn, .. } => *txn,
+        LogRecord::Commit { txn, .. } => *txn,
+        LogRecord::End { txn } => *txn,
+    }
+}
+
+/// Whether a record is a Begin.
+pub fn begins(rec: &LogRecord) -> bool
+    ensures { result ≡ is_begin rec.now }
+{
+    match rec {
+        LogRecord::Begin => true,
+        _ => false,
+    }
+}
+
+/// Whether a record is a Commit or an End.
+pub fn closes(rec: &LogRecord) -> bool
+    ensures { result ≡ is_closing rec.now }
+{
+    match rec {
+        LogRecord::Commit { .. } => true,
+        LogRecord::End { .. } => true,
+        _ => false,
+    }
+}
+
+// The transactions that are known from the redo block on, and that no record has closed.
+#[derive(Drop)]
+struct OpenTxns {
+    txns: Vec<u64>,
+}
+
+impl OpenTxns {
+    // Before the first record: those that the master names.
+    fn start(alloc: Global, master: &Master) -> Result<OpenTxns, Stop>
+        ensures named { IfOk result (λ set. AreOpen (seen master.now) [] set.txns.items) }
+        ensures stops { IfErr result (λ stop. stop ≡ Stop.Memory) }
+    {
+        let mut txns = Vec::new(alloc);
+        for place in 0..master.active.len() {
+            let (begin, _last) = master.active.at(place);
+            let Ok(()) = txns.push(begin) else {
+                return Err(Stop::Memory);
+            };
+        }
+        Ok(OpenTxns { txns })
+    }
+
+    // Whether a record may come next: it isn't before its transaction's Begin, and from the redo block on it is a Begin
+    // or of an open transaction.
+    fn admits(&self, lsn: u64, rec: &LogRecord, redo: u64) -> bool
+        requires { redo ≤ 2 ^ 40 }
+        ensures { (m : sound.Master) (records : List Entry) → m.redo ≡ redo → AreOpen m records self.now.txns.items
+            → IsTrue result ↔ MayStand m records (record { lsn = lsn; rec = rec.now }) }
+    {
+        let txn = txn_of(lsn, rec);
+        if lsn < txn {
+            return false;
+        }
+        if lsn < 512 * redo {
+            return true;
+        }
+        if begins(rec) {
+            return true;
+        }
+        self.txns.contains(&txn)
+    }
+
+    // A transaction begins.
+    fn begin(&mut self, txn: u64) -> Result<(), Stop>
+        ensures items { OnOk result (self.new.txns.items ≡ self.old.txns.items ++ txn ∷ []) }
+        ensures stops { IfErr result (λ stop. stop ≡ Stop.Memory) }
+    {
+        let Ok(()) = self.txns.push(txn) else {
+            return Err(Stop::Memory);
+        };
+        Ok(())
+    }
+
+    // A transaction is closed.
+    fn close(&mut self, txn: u64)
+        ensures { self.new.txns.items ≡ filter (λ t. not (t == txn)) self.old.txns.items }
+    {
+        self.txns.retain(|other| *other != txn);
+    }
+
+    // Hears a record that may come next.
+    fn hear(&mut self, lsn: u64, rec: &LogRecord, redo: u64) -> Result<(), Stop>
+        requires { redo ≤ 2 ^ 40 }
+        ensures heard { (m : sound.Master) (records : List Entry) → m.redo ≡ redo
+            → AreOpen m records self.old.txns.items → IsFresh lsn records
+            → OnOk result (AreOpen m (records ++ record { lsn = lsn; rec = rec.now } ∷ []) self.new.txns.items) }
+        ensures stops { IfErr result (λ stop. stop ≡ Stop.Memory) }
+    {
+        if closes(rec) {
+            self.close(txn_of(lsn, rec));
+            return Ok(());
+        }
+        if !begins(rec) {
+            return Ok(());
+        }
+        if lsn < 512 * redo {
+            return Ok(());
+        }
+        self.begin(lsn)
+    }
+}
+
+/// The third rule: whether from the redo block on each record but a Begin is of an open transaction, and no record
+/// stands before the Begin that it names. It reads each kept block once, and holds the open transactions.
+pub fn rule_transactions<S: Site>(
+    alloc: Global,
+    site: &mut S,
+    log: &LogStore,
+    master: &Master,
+) -> Result<bool, Stop>
+    requires going { MayGoOn log.now (S.state site.old) }
+    requires live { log.now.ring.hi ≤ master.now.kept + (log.now.geometry.blocks - 1) }
+    requires redo { master.now.redo ≤ log.now.ring.hi }
+
+    ensures transactions { (blocks : List (List LogRecord)) → Finds log.now (S.state site.old)
+        → HasBlocks log.now.geometry master.now.kept blocks (S.state site.old).image
+        → IfOk result (λ stand. IsTrue stand ↔ Rule3 (picture_of
+        (record { g = log.now.geometry; master = master.now; blocks = blocks }) (S.state site.old).image)) }
+    ensures reads { OnlyReads result (S.state site.old) (S.state site.new) }
+{
+    let mut walk = Walk::start(log, master.kept);
+    let mut transactions = OpenTxns::start(alloc, master)?;
+    while let Some((lsn, rec)) = walk.next(site, log)? {
+        if !transactions.admits(lsn, &rec, master.redo) {
+            return Ok(false);
+        }
+        if let Err(stop) = transactions.hear(lsn, &rec, master.redo) {
+            return Err(stop);
+        }
+    }
+    Ok(true)
+}

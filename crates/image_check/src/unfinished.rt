@@ -1,0 +1,239 @@
+// The transactions that records leave unfinished, record by record.
+ghost use Rattle.std.specs.Prelude.{◌≡◌, ◌==◌, ◌↔◌, ◌^◌, ◌+◌, ◌-◌, ◌<◌, ◌≤◌, ◌++◌, ◌∷◌, [], ℕ, List, length, map, false, IsTrue, IfOk, IfErr, OnOk};
+ghost use Rattle.std.specs.List.{list_any, position};
+ghost use Rattle.site.specs.declared.outside.Stop.{Stop};
+ghost use Rattle.site.specs.Work.{OnlyReads};
+ghost use Rattle.log_records.specs.declared.log_record.LogRecord.{LogRecord};
+ghost use Rattle.log_records.specs.Log.{Entry, log_from};
+ghost use Rattle.log_records.specs.Unfinished.{is_begin, losers};
+ghost use Rattle.log_records.specs.Sound.{IsInOrder, HaveBegunBefore, before_block};
+ghost use Rattle.log_laws.specs.Follow.{IsFresh};
+ghost use Rattle.log_laws.specs.Analysis.{remaining_by};
+ghost use Rattle.log_store.specs.Held.{MayGoOn, Finds, HasBlocks};
+ghost use Rattle.checkpoint.specs.declared.pairs.Pair.{Pair};
+ghost use Rattle.image_check.specs.Unended.{AreLeft, owed_for};
+ghost use Rattle.image_check.specs.Verdict.{Rule3, Rule9, Rule10, picture_of};
+
+use crate::txns::{begins, closes, txn_of};
+use crate::walk::Walk;
+use checkpoint::Master;
+use log_records::LogRecord;
+use log_store::LogStore;
+use site::{Site, Stop};
+use std::alloc::Global;
+
+// An unfinished transaction: the LSNs of its Begin, which names it, and of its last record, and how many of its Updates
+// no CLR compensates.
+#[derive(Clone, Copy, Debug, Drop)]
+pub struct Left {
+    pub txn: u64,
+    pub last: u64,
+    pub remaining: u64,
+}
+
+impl Left {
+    // After one more record of its own.
+    fn after(&self, lsn: u64, rec: &LogRecord) -> Left
+        ensures { self.now.remaining < 2 ^ 62
+            → result ≡ record { txn = self.now.txn; last = lsn; remaining = remaining_by self.now.remaining rec.now } }
+    {
+        let remaining = match rec {
+            LogRecord::Update { .. } => self.remaining.saturating_add(1),
+            LogRecord::Clr { .. } => self.remaining.saturating_sub(1),
+            _ => self.remaining,
+        };
+        Left {
+            txn: self.txn,
+            last: lsn,
+            remaining,
+        }
+    }
+}
+
+// The place of a transaction.
+fn place_of(left: &[Left], txn: u64) -> Option<usize>
+    ensures { result ≡ position (λ x. x.txn == txn) left.now }
+{
+    left.iter().position(|transaction| transaction.txn == txn)
+}
+
+// The unfinished transactions, in the order of their Begins.
+#[derive(Drop)]
+pub struct LeftTxns {
+    pub left: Vec<Left>,
+}
+
+impl LeftTxns {
+    /// Whether a transaction is one of them.
+    pub fn has(&self, txn: u64) -> bool
+        ensures { (records : List Entry) → AreLeft records self.now.left.items
+            → result ≡ list_any (λ t. t == txn) (losers records) }
+    {
+        self.left.iter().any(|transaction| transaction.txn == txn)
+    }
+
+    // A transaction begins.
+    fn begin(&mut self, lsn: u64) -> Result<(), Stop>
+        ensures items { OnOk result (self.new.left.items
+            ≡ self.old.left.items ++ record { txn = lsn; last = lsn; remaining = 0 } ∷ []) }
+        ensures stops { IfErr result (λ stop. stop ≡ Stop.Memory) }
+    {
+        let Ok(()) = self.left.push(Left {
+            txn: lsn,
+            last: lsn,
+            remaining: 0,
+        })
+        else {
+            return Err(Stop::Memory);
+        };
+        Ok(())
+    }
+
+    // Hears a record that isn't a Begin.
+    fn go_on(&mut self, lsn: u64, rec: &LogRecord)
+        ensures { (records : List Entry) (from : ℕ) → IsInOrder from records lsn → length records < 2 ^ 62
+            → is_begin rec.now ≡ false → AreLeft records self.old.left.items
+            → AreLeft (records ++ record { lsn = lsn; rec = rec.now } ∷ []) self.new.left.items }
+    {
+        let Some(place) = place_of(&self.left, txn_of(lsn, rec)) else {
+            return;
+        };
+        if closes(rec) {
+            self.left.remove(place);
+            return;
+        }
+        let after = self.left[place].after(lsn, rec);
+        self.left[place] = after;
+    }
+
+    // Hears the next record.
+    fn hear(&mut self, lsn: u64, rec: &LogRecord) -> Result<(), Stop>
+        ensures heard { (records : List Entry) (from : ℕ) → IsInOrder from records lsn → length records < 2 ^ 62
+            → IsFresh lsn records → AreLeft records self.old.left.items
+            → OnOk result (AreLeft (records ++ record { lsn = lsn; rec = rec.now } ∷ []) self.new.left.items) }
+        ensures stops { IfErr result (λ stop. stop ≡ Stop.Memory) }
+    {
+        if begins(rec) {
+            return self.begin(lsn);
+        }
+        self.go_on(lsn, rec);
+        Ok(())
+    }
+
+    // Whether they are those that a master names.
+    fn are_named(&self, master: &Master) -> bool
+        ensures { IsTrue result
+            ↔ (map (λ x. record { begin = x.txn; last = x.last }) self.now.left.items ≡ master.now.active) }
+    {
+        if self.left.len() != master.active.len() {
+            return false;
+        }
+        for (place, transaction) in self.left.iter().enumerate() {
+            let (begin, last) = master.active.at(place);
+            if begin != transaction.txn {
+                return false;
+            }
+            if last != transaction.last {
+                return false;
+            }
+        }
+        true
+    }
+
+    // Whether undoing them makes no more records than there is room for.
+    fn fit(&self, room: u64) -> bool
+        ensures { IsTrue result ↔ (owed_for self.now.left.items ≤ room) }
+    {
+        let mut free = room;
+        for transaction in &self.left {
+            if transaction.remaining >= free {
+                return false;
+            }
+            free = free - transaction.remaining - 1;
+        }
+        true
+    }
+}
+
+/// The transactions that the records from a kept block on leave unfinished before a block.
+pub fn left_before<S: Site>(
+    alloc: Global,
+    site: &mut S,
+    log: &LogStore,
+    kept: u64,
+    end: u64,
+) -> Result<LeftTxns, Stop>
+    requires going { MayGoOn log.now (S.state site.old) }
+    requires live { log.now.ring.hi ≤ kept + (log.now.geometry.blocks - 1) }
+    requires end { end ≤ 2 ^ 40 }
+
+    ensures left { (blocks : List (List LogRecord)) → Finds log.now (S.state site.old)
+        → HasBlocks log.now.geometry kept blocks (S.state site.old).image → HaveBegunBefore (log_from kept blocks)
+        → IfOk result (λ found. AreLeft (before_block end (log_from kept blocks)) found.left.items) }
+    ensures reads { OnlyReads result (S.state site.old) (S.state site.new) }
+{
+    let mut walk = Walk::start(log, kept);
+    let mut found = LeftTxns {
+        left: Vec::new(alloc),
+    };
+    while let Some((lsn, rec)) = walk.next(site, log)? {
+        if lsn >= 512 * end {
+            return Ok(found);
+        }
+        if let Err(stop) = found.hear(lsn, &rec) {
+            return Err(stop);
+        }
+    }
+    Ok(found)
+}
+
+/// The ninth rule, of devices that meet the third one: whether there are blocks for all that undo will write. It reads
+/// each kept block once, and holds what is kept of each unfinished transaction.
+pub fn rule_room<S: Site>(
+    alloc: Global,
+    site: &mut S,
+    log: &LogStore,
+    master: &Master,
+) -> Result<bool, Stop>
+    requires going { MayGoOn log.now (S.state site.old) }
+    requires live { log.now.ring.hi ≤ master.now.kept + (log.now.geometry.blocks - 1) }
+
+    ensures room { (blocks : List (List LogRecord)) → Finds log.now (S.state site.old)
+        → HasBlocks log.now.geometry master.now.kept blocks (S.state site.old).image
+        → Rule3 (picture_of (record { g = log.now.geometry; master = master.now; blocks = blocks })
+        (S.state site.old).image)
+        → IfOk result (λ stand. IsTrue stand ↔ Rule9 (picture_of
+        (record { g = log.now.geometry; master = master.now; blocks = blocks }) (S.state site.old).image)) }
+    ensures reads { OnlyReads result (S.state site.old) (S.state site.new) }
+{
+    let hi = log.sealed_end() / 512;
+    let blocks = log.geometry().blocks as u64;
+    let left = left_before(alloc, site, log, master.kept, hi)?;
+    let free = (blocks - 1).saturating_sub(hi.saturating_sub(master.kept));
+    Ok(left.fit(free))
+}
+
+/// The tenth rule, of devices that meet the third one: whether the master names the transactions that were active at
+/// the redo block. It reads each kept block before that one once, and holds what is kept of each unfinished
+/// transaction.
+pub fn rule_named<S: Site>(
+    alloc: Global,
+    site: &mut S,
+    log: &LogStore,
+    master: &Master,
+) -> Result<bool, Stop>
+    requires going { MayGoOn log.now (S.state site.old) }
+    requires live { log.now.ring.hi ≤ master.now.kept + (log.now.geometry.blocks - 1) }
+    requires redo { master.now.redo ≤ log.now.ring.hi }
+
+    ensures named { (blocks : List (List LogRecord)) → Finds log.now (S.state site.old)
+        → HasBlocks log.now.geometry master.now.kept blocks (S.state site.old).image
+        → Rule3 (picture_of (record { g = log.now.geometry; master = master.now; blocks = blocks })
+        (S.state site.old).image)
+        → IfOk result (λ stand. IsTrue stand ↔ Rule10 (picture_of
+        (record { g = log.now.geometry; master = master.now; blocks = blocks }) (S.state site.old).image)) }
+    ensures reads { OnlyReads result (S.state site.old) (S.state site.new) }
+{
+    let left = left_before(alloc, site, log, master.kept, master.redo)?;
+    Ok(left.are_named(master))
+}
