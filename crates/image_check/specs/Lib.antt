@@ -3,7 +3,9 @@ pub mod Counting
 pub mod Findings
 pub mod Framing
 pub mod Holding
+pub mod Judgement
 pub mod Laws
+pub mod Newest
 pub mod Octets
 pub mod Opening
 pub mod Unended

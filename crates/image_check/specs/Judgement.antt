@@ -1,0 +1,10 @@
+-- The verdict that devices get.
+use Rattle.site.specs.State.{Image}
+use Rattle.image_check.specs.declared.verdict.Verdict.{Verdict}
+use Rattle.image_check.specs.declared.verdict.Verdict.TheVariants.{Sound, Unsound}
+use Rattle.image_check.specs.Verdict.{IsSoundWith, FailsFirst}
+
+-- this is the verdict on three contents
+abbrev pub IsVerdictOn : Image → Verdict → Type 0
+IsVerdictOn image (Sound records commits) = IsSoundWith image records commits
+IsVerdictOn image (Unsound rule) = FailsFirst rule image
