@@ -103,6 +103,12 @@ impl<F> Devices<F> {
         }
     }
 
+    /// How many octets the devices have together.
+    pub fn octets(&self) -> u64 {
+        let caches = self.log.len().saturating_add(self.flash.len());
+        caches.saturating_add(self.disk.len())
+    }
+
     /// What stands for this device.
     pub fn of(&self, dev: Dev) -> &Device<F> {
         match dev {

@@ -11,7 +11,7 @@ use crate::lock::LockFile;
 use crate::making::{Lengths, fresh};
 use crate::opening::{existing, hold_streams};
 use crate::outlet::tells;
-use crate::progress::{Pace, say_heard};
+use crate::progress::{Pace, Reading, note_read, say_heard};
 use crate::trouble::{Absence, Call, Failure, Failures};
 use crate::watch::Watch;
 use site::{Dev, Failed, Site, Stop};
@@ -37,6 +37,8 @@ pub struct FileSite<R: Files + Input + Print + Clock> {
     watch: Watch,
     // Where the input is a trace: when it was last said how much of it is heard.
     pace: Option<Pace>,
+    // Where the files are checked: how much of them is read.
+    reading: Option<Reading>,
 }
 
 // The files that are there, if files may be opened at all.
@@ -95,6 +97,7 @@ where
             failures: Failures::new(),
             watch: Watch::new(),
             pace: None,
+            reading: None,
         })
     }
 
@@ -106,6 +109,17 @@ where
     {
         let mut site = FileSite::bare(rt, alloc)?;
         site.pace = Some(Pace::new(&site.rt));
+        Ok(site)
+    }
+
+    /// As `existing`, for a check of the files: where it takes long to read them, standard error says how far it has come.
+    pub fn for_check(rt: R, alloc: Global) -> Result<FileSite<R>, Stop>
+        ensures fresh { IfOk result (λ site. IsFresh (state_of site.book)) }
+        ensures memory { IfErr result (λ stop. stop ≡ Stop.Memory) }
+    {
+        let mut site = FileSite::existing(rt, alloc)?;
+        let all = site.devices.octets();
+        site.reading = Some(Reading::new(&site.rt, all));
         Ok(site)
     }
 
@@ -123,6 +137,7 @@ where
             failures: Failures::new(),
             watch: Watch::new(),
             pace: None,
+            reading: None,
         }
     }
 
@@ -203,6 +218,7 @@ where
     {
         self.book.read(dev, into.len());
         let done = self.devices.of(dev).read(at, into);
+        note_read(&self.rt, &mut self.reading, into.len());
         let done = self.failures.passes(Call::Read(dev), done);
         self.answer(dev, done)
     }

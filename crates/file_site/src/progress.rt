@@ -1,4 +1,4 @@
-// What is said on standard error while a large file is made, or a long trace is heard.
+// What is said on standard error while a large file is made, a long trace is heard, or large devices are checked.
 
 use crate::watch::Watch;
 use std::io::Eprint;
@@ -47,6 +47,45 @@ pub fn say_heard<R: Clock + Eprint>(rt: &R, pace: &mut Pace, watch: &Watch) {
     }
     let lines = watch.lines();
     let _ = eprintln!(rt; "trace: {lines} lines are heard");
+}
+
+/// How many octets of devices are read. What can't be said is left unsaid.
+#[derive(Drop)]
+pub struct Reading {
+    read: u64,
+    all: u64,
+    pace: Pace,
+}
+
+impl Reading {
+    /// Nothing is read yet of devices that have so many octets together.
+    pub fn new<C: Clock>(clock: &C, all: u64) -> Reading {
+        Reading {
+            read: 0,
+            all,
+            pace: Pace::new(clock),
+        }
+    }
+
+    // So many octets more are read. Says how many are, from time to time.
+    fn add<R: Clock + Eprint>(&mut self, rt: &R, octets: usize) {
+        self.read = self.read.saturating_add(octets as u64);
+        if !self.pace.is_due(rt) {
+            return;
+        }
+        let read = self.read / MEBIBYTE;
+        let all = self.all.div_ceil(MEBIBYTE);
+        let _ = eprintln!(rt;
+            "check: {read} MiB are read; the files have {all} MiB, of which parts are read again"
+        );
+    }
+}
+
+/// Notes that so many octets more are read, where that is to be said.
+pub fn note_read<R: Clock + Eprint>(rt: &R, reading: &mut Option<Reading>, octets: usize) {
+    if let Some(reading) = reading {
+        reading.add(rt, octets);
+    }
 }
 
 /// How much of a file is written. What can't be said is left unsaid.

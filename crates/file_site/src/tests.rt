@@ -379,6 +379,31 @@ fn making_large_files_is_told_of(rt: HostRuntime) -> Result<(), Fail> {
     Ok(())
 }
 
+// Where a check of the files takes long, it is said how much of them is read.
+#[test]
+fn a_long_check_is_told_of(rt: HostRuntime) -> Result<(), Fail> {
+    remove_all(&rt);
+    drop(FileSite::fresh(&rt, rt.alloc(), 1_048_576, 20, 30)?);
+    let world = World::new(rt.alloc());
+    world.let_pass(1_500);
+    let fake = Fake {
+        rt: &rt,
+        world: &world,
+    };
+    let mut site = FileSite::for_check(fake, rt.alloc())?;
+    let mut all = vec![in rt.alloc(); 0u8; 1_048_576]?;
+    assert!(rt; site.len(Dev::Log) >= 1_048_576);
+    assert!(rt; site.read_at(Dev::Log, 0, &mut all).is_ok());
+    assert_eq!(rt; world.said(rt.alloc()).as_str(), "");
+    assert!(rt; site.len(Dev::Disk) >= 30);
+    assert!(rt; site.read_at(Dev::Disk, 0, &mut all[..30]).is_ok());
+    let said = "check: 1 MiB are read; the files have 2 MiB, of which parts are read again\n";
+    assert_eq!(rt; world.said(rt.alloc()).as_str(), said);
+    drop(site);
+    remove_all(&rt);
+    Ok(())
+}
+
 // However the input and the replies are cut, the first line that ends with a carriage return and the refusals are noticed.
 #[test]
 fn carriage_returns_and_refusals_are_noticed(rt: HostRuntime) -> Result<(), Fail> {
