@@ -23,10 +23,10 @@ use Rattle.site.specs.declared.geometry.Geometry.{Geometry}
 use Rattle.face.specs.declared.request.Load.{Load}
 use Rattle.face.specs.declared.request.Simulation.{Simulation}
 use Rattle.face.specs.declared.request.TrialSizes.{TrialSizes}
-use Rattle.face.specs.Words.{IsRun, IsNew, IsLoad, IsSimulate, IsTrial, IsRight}
+use Rattle.face.specs.Words.{IsRun, IsNew, IsLoad, IsSimulate, IsTrial, IsCheck, IsRight}
 use Rattle.face.specs.Program.{AreSizes, IsLoadOf, IsPool, IsReadFrom, IsSimulationOf, IsTrialOf, program}
 use Rattle.face.proofs.WordLists.{first_word, second_word, three_words, four_words, five_words}
-use Rattle.face.proofs.ClapLaws.{named_load, named_new, named_run, named_simulate, named_trial, differ_load_new, differ_simulate_load, differ_simulate_new, differ_simulate_run, differ_trial_load, differ_trial_new, differ_trial_run, differ_trial_simulate, no_long, no_short, no_dashes}
+use Rattle.face.proofs.ClapLaws.{named_check, named_load, named_new, named_run, named_simulate, named_trial, differ_load_new, differ_simulate_load, differ_simulate_new, differ_simulate_run, differ_trial_load, differ_trial_new, differ_trial_run, differ_trial_simulate, no_long, no_short, no_dashes}
 
 -- the words are `run` and a text, and the rows have it
 pub record IsRunLine (words : List Text) (rows : List Row) : Type 0 where
@@ -74,6 +74,10 @@ pub record IsTrialLine (words : List Text) (rows : List Row) : Type 0 where
   pub blocks_are : first_of (codes "blocks") rows ≡ Some blocks
   pub pool_is : first_of (codes "pool") rows ≡ Some pool
 
+-- the words are `check` alone
+abbrev IsCheckLine : List Text → List Row → Type 0
+IsCheckLine words rows = IsCheck words
+
 neither : (a b : Bool) → (a || b) ≡ false → (a ≡ false) × (b ≡ false)
 neither true b e = let bad : true ≡ false = e in cc
 neither false b e = (refl, e)
@@ -96,10 +100,10 @@ dashes (x ∷ xs) e = no_dashes x xs e
 
 -- a first word that is no subcommand is refused
 module _ (w : Text) (rest : List Text) (plain : is_dashed w ≡ false) where
-  stray : bytes_eq (codes "new") w ≡ false → bytes_eq (codes "run") w ≡ false → bytes_eq (codes "load") w ≡ false → bytes_eq (codes "simulate") w ≡ false → bytes_eq (codes "trial") w ≡ false → fault_of program (w ∷ rest) ≡ [] → ⊥
+  stray : bytes_eq (codes "new") w ≡ false → bytes_eq (codes "run") w ≡ false → bytes_eq (codes "load") w ≡ false → bytes_eq (codes "simulate") w ≡ false → bytes_eq (codes "trial") w ≡ false → bytes_eq (codes "check") w ≡ false → fault_of program (w ∷ rest) ≡ [] → ⊥
   unfolding clap_on_literals
-  stray new_not run_not load_not simulate_not trial_not none =
-      let some : is_none (fault_of program (w ∷ rest)) ≡ false = rw (new_not, run_not, load_not, simulate_not, trial_not, dashes w plain, long w plain, short w plain) refl in
+  stray new_not run_not load_not simulate_not trial_not check_not none =
+      let some : is_none (fault_of program (w ∷ rest)) ≡ false = rw (new_not, run_not, load_not, simulate_not, trial_not, check_not, dashes w plain, long w plain, short w plain) refl in
       let bad : true ≡ false = sym (ap is_none none) ∙ some in
       cc
     where
@@ -154,6 +158,10 @@ stop_simulate rest = stop_at (codes "simulate") rest _ refl refl
 stop_trial : (rest : List Text) → stop_after [] names (codes "trial" ∷ rest) ≡ Some (codes "trial", rest)
 unfolding clap_on_literals
 stop_trial rest = stop_at (codes "trial") rest _ refl refl
+
+stop_check : (rest : List Text) → stop_after [] names (codes "check" ∷ rest) ≡ Some (codes "check", rest)
+unfolding clap_on_literals
+stop_check rest = stop_at (codes "check") rest _ refl refl
 
 after : (a b : Kinds) → or_else a b ≡ [] → b ≡ []
 after [] b e = e
@@ -386,20 +394,33 @@ trial_line (t ∷ u ∷ v ∷ w ∷ x ∷ rest) rows plain none same =
     let y = neither (is_dashed x) (list_any is_dashed rest) s.1 in
     absurd (trial_more t u v w x rest p.0 q.0 r.0 s.0 y.0 (below (codes "trial") (t ∷ u ∷ v ∷ w ∷ x ∷ rest) (stop_trial (t ∷ u ∷ v ∷ w ∷ x ∷ rest)) none))
 
+-- what `check` takes
+check_more : (t : Text) (rest : List Text) → is_dashed t ≡ false → entered_fault (built program) (Some (codes "check", t ∷ rest)) ≡ [] → ⊥
+unfolding clap_on_literals
+check_more t rest a none =
+    let some : is_none (entered_fault (built program) (Some (codes "check", t ∷ rest))) ≡ false = rw (dashes t a, long t a, short t a) refl in
+    let bad : true ≡ false = sym (ap is_none none) ∙ some in
+    cc
+
+check_line : (rest : List Text) (rows : List Row) → list_any is_dashed rest ≡ false → fault_of program (codes "check" ∷ rest) ≡ [] → subcommand_of program (codes "check" ∷ rest) ≡ Some (codes "check", rows) → IsCheckLine (codes "check" ∷ rest) rows
+check_line [] rows plain none same = refl
+check_line (t ∷ rest) rows plain none same = absurd (check_more t rest (neither (is_dashed t) (list_any is_dashed rest) plain).0 (below (codes "check") (t ∷ rest) (stop_check (t ∷ rest)) none))
+
 -- the first word names a subcommand, and it is that one which is found
 abbrev IsName : Text → Type 0
-IsName w = (w ≡ codes "new") ⊎ ((w ≡ codes "run") ⊎ ((w ≡ codes "load") ⊎ ((w ≡ codes "simulate") ⊎ (w ≡ codes "trial"))))
+IsName w = (w ≡ codes "new") ⊎ ((w ≡ codes "run") ⊎ ((w ≡ codes "load") ⊎ ((w ≡ codes "simulate") ⊎ ((w ≡ codes "trial") ⊎ (w ≡ codes "check")))))
 
 names_one : (w : Text) (rest : List Text) → is_dashed w ≡ false → fault_of program (w ∷ rest) ≡ [] → IsName w
-names_one w rest plain none = go (bytes_eq (codes "new") w) refl (bytes_eq (codes "run") w) refl (bytes_eq (codes "load") w) refl (bytes_eq (codes "simulate") w) refl (bytes_eq (codes "trial") w) refl
+names_one w rest plain none = go (bytes_eq (codes "new") w) refl (bytes_eq (codes "run") w) refl (bytes_eq (codes "load") w) refl (bytes_eq (codes "simulate") w) refl (bytes_eq (codes "trial") w) refl (bytes_eq (codes "check") w) refl
   where
-    go : (a : Bool) → bytes_eq (codes "new") w ≡ a → (b : Bool) → bytes_eq (codes "run") w ≡ b → (c : Bool) → bytes_eq (codes "load") w ≡ c → (d : Bool) → bytes_eq (codes "simulate") w ≡ d → (x : Bool) → bytes_eq (codes "trial") w ≡ x → IsName w
-    go true e b f c h d k x l = inl (sym ((bytes_eq-Decides (codes "new") w).0 e))
-    go false e true f c h d k x l = inr (inl (sym ((bytes_eq-Decides (codes "run") w).0 f)))
-    go false e false f true h d k x l = inr (inr (inl (sym ((bytes_eq-Decides (codes "load") w).0 h))))
-    go false e false f false h true k x l = inr (inr (inr (inl (sym ((bytes_eq-Decides (codes "simulate") w).0 k)))))
-    go false e false f false h false k true l = inr (inr (inr (inr (sym ((bytes_eq-Decides (codes "trial") w).0 l)))))
-    go false e false f false h false k false l = absurd (stray w rest plain e f h k l none)
+    go : (a : Bool) → bytes_eq (codes "new") w ≡ a → (b : Bool) → bytes_eq (codes "run") w ≡ b → (c : Bool) → bytes_eq (codes "load") w ≡ c → (d : Bool) → bytes_eq (codes "simulate") w ≡ d → (x : Bool) → bytes_eq (codes "trial") w ≡ x → (y : Bool) → bytes_eq (codes "check") w ≡ y → IsName w
+    go true e b f c h d k x l y m = inl (sym ((bytes_eq-Decides (codes "new") w).0 e))
+    go false e true f c h d k x l y m = inr (inl (sym ((bytes_eq-Decides (codes "run") w).0 f)))
+    go false e false f true h d k x l y m = inr (inr (inl (sym ((bytes_eq-Decides (codes "load") w).0 h))))
+    go false e false f false h true k x l y m = inr (inr (inr (inl (sym ((bytes_eq-Decides (codes "simulate") w).0 k)))))
+    go false e false f false h false k true l y m = inr (inr (inr (inr (inl (sym ((bytes_eq-Decides (codes "trial") w).0 l))))))
+    go false e false f false h false k false l true m = inr (inr (inr (inr (inr (sym ((bytes_eq-Decides (codes "check") w).0 m))))))
+    go false e false f false h false k false l false m = absurd (stray w rest plain e f h k l m none)
 
 abbrev name_in : Option (Text × List Row) → Option Text
 name_in = option_map (λ p. p.0)
@@ -424,6 +445,10 @@ trial_found : (rest : List Text) → name_in (subcommand_of program (codes "tria
 unfolding clap_on_literals
 trial_found rest = ap (λ o. name_in (entered (built program) o)) (stop_trial rest)
 
+check_found : (rest : List Text) → name_in (subcommand_of program (codes "check" ∷ rest)) ≡ Some (codes "check")
+unfolding clap_on_literals
+check_found rest = ap (λ o. name_in (entered (built program) o)) (stop_check rest)
+
 abbrev found_name : List Text → Text → Option Text
 found_name rest w = name_in (subcommand_of program (w ∷ rest))
 
@@ -432,7 +457,8 @@ own_name w rest (inl e) = ap (found_name rest) e ∙ new_found rest ∙ ap (λ (
 own_name w rest (inr (inl e)) = ap (found_name rest) e ∙ run_found rest ∙ ap (λ (v : Text). Some v) (sym e)
 own_name w rest (inr (inr (inl e))) = ap (found_name rest) e ∙ load_found rest ∙ ap (λ (v : Text). Some v) (sym e)
 own_name w rest (inr (inr (inr (inl e)))) = ap (found_name rest) e ∙ simulate_found rest ∙ ap (λ (v : Text). Some v) (sym e)
-own_name w rest (inr (inr (inr (inr e)))) = ap (found_name rest) e ∙ trial_found rest ∙ ap (λ (v : Text). Some v) (sym e)
+own_name w rest (inr (inr (inr (inr (inl e))))) = ap (found_name rest) e ∙ trial_found rest ∙ ap (λ (v : Text). Some v) (sym e)
+own_name w rest (inr (inr (inr (inr (inr e))))) = ap (found_name rest) e ∙ check_found rest ∙ ap (λ (v : Text). Some v) (sym e)
 
 no_words : (a : Text) (rows : List Row) → subcommand_of program [] ≡ Some (a, rows) → ⊥
 unfolding clap_on_literals
@@ -466,6 +492,10 @@ pub trial_lines : (words : List Text) (rows : List Row) → list_any is_dashed w
 trial_lines [] rows plain none same = absurd (no_words _ rows same)
 trial_lines (w ∷ rest) rows plain none same = behind w rest rows plain none (codes "trial") same IsTrialLine (trial_line rest rows)
 
+check_lines : (words : List Text) (rows : List Row) → list_any is_dashed words ≡ false → fault_of program words ≡ [] → subcommand_of program words ≡ Some (codes "check", rows) → IsCheckLine words rows
+check_lines [] rows plain none same = absurd (no_words _ rows same)
+check_lines (w ∷ rest) rows plain none same = behind w rest rows plain none (codes "check") same IsCheckLine (check_line rest rows)
+
 -- what was read
 
 both : {A B : Type 0} (o : Option (A × B)) (a : A) (b : B) → option_map (λ p. p.0) o ≡ Some a → option_map (λ p. p.1) o ≡ Some b → o ≡ Some (a, b)
@@ -478,6 +508,16 @@ compose f g (Some x) = refl
 
 has_name : (m : ArgMatches) → option_map (λ p. p.0) (subcommand_rows_of m) ≡ subcommand_name_of m
 has_name m = compose _ _ (out-ArgMatches m).subcommand
+
+-- the words of `check` have nothing behind it
+pub check_right : (words : List Text) (m : ArgMatches) → IsReadFrom words m → subcommand_name_of m ≡ Some (codes "check") → IsCheck words
+check_right words m read is = go (subcommand_rows_of m) refl
+  where
+    go : (o : Option (Text × List Row)) → subcommand_rows_of m ≡ o → IsCheck words
+    go None e = let bad : None ≡ Some (codes "check") = sym (ap name_in e) ∙ has_name m ∙ is in cc
+    go (Some (name, rows)) e =
+        let same : name ≡ codes "check" = only _ _ (sym (ap name_in e) ∙ has_name m ∙ is) in
+        check_lines words rows read.plain read.faultless (sym read.rows ∙ e ∙ ap (λ (t : Text). Some (t, rows)) same)
 
 module _ (words : List Text) (m : ArgMatches) (found : Found) (read : IsReadFrom words m) (rows : option_map (λ p. p.1) (subcommand_rows_of m) ≡ Some (rows_of found)) where
   its : (name : Text) → subcommand_name_of m ≡ Some name → subcommand_of program words ≡ Some (name, rows_of found)
@@ -499,7 +539,11 @@ module _ (words : List Text) (m : ArgMatches) (found : Found) (read : IsReadFrom
       from = run.1.from;
       to = run.1.to;
     })
-    run_wrong none (inr (inr (inr (inr trial)))) =
+    run_wrong none (inr (inr (inr (inr (inr check))))) =
+        let two : length words ≡ 2 = ap length run_read.words_are in
+        let one : length words ≡ 1 = ap length check in
+        absurd (omega (arith, one, two))
+    run_wrong none (inr (inr (inr (inr (inl trial))))) =
         let two : length words ≡ 2 = ap length run_read.words_are in
         let five : length words ≡ 5 = ap length trial.1.words_are in
         absurd (omega (arith, two, five))
@@ -528,7 +572,11 @@ module _ (words : List Text) (m : ArgMatches) (found : Found) (read : IsReadFrom
         record { words_are = new_read.words_are ∙ (λ i. codes "new" ∷ pages i ∷ groups i ∷ blocks i ∷ []); limits = s.limits }
 
     pub new_wrong : ((g : Geometry) → AreSizes found g → ⊥) → IsRight words → ⊥
-    new_wrong none (inr (inr (inr (inr trial)))) = absurd (differ_trial_new (first_word _ _ _ _ (sym trial.1.words_are ∙ new_read.words_are)))
+    new_wrong none (inr (inr (inr (inr (inr check))))) =
+        let four : length words ≡ 4 = ap length new_read.words_are in
+        let one : length words ≡ 1 = ap length check in
+        absurd (omega (arith, one, four))
+    new_wrong none (inr (inr (inr (inr (inl trial))))) = absurd (differ_trial_new (first_word _ _ _ _ (sym trial.1.words_are ∙ new_read.words_are)))
     new_wrong none (inr (inr (inr (inl simulate)))) = absurd (differ_simulate_new (first_word _ _ _ _ (sym simulate.1.words_are ∙ new_read.words_are)))
     new_wrong none (inr (inr (inl load))) = absurd (differ_load_new (first_word _ _ _ _ (sym load.1.words_are ∙ new_read.words_are)))
     new_wrong none (inr (inl new)) =
@@ -556,7 +604,11 @@ module _ (words : List Text) (m : ArgMatches) (found : Found) (read : IsReadFrom
         record { words_are = load_read.words_are ∙ (λ i. codes "load" ∷ count i ∷ seed i ∷ pool i ∷ []); limits = l.limits }
 
     pub load_wrong : ((load : Load) → IsLoadOf found load → ⊥) → IsRight words → ⊥
-    load_wrong none (inr (inr (inr (inr trial)))) = absurd (differ_trial_load (first_word _ _ _ _ (sym trial.1.words_are ∙ load_read.words_are)))
+    load_wrong none (inr (inr (inr (inr (inr check))))) =
+        let four : length words ≡ 4 = ap length load_read.words_are in
+        let one : length words ≡ 1 = ap length check in
+        absurd (omega (arith, one, four))
+    load_wrong none (inr (inr (inr (inr (inl trial))))) = absurd (differ_trial_load (first_word _ _ _ _ (sym trial.1.words_are ∙ load_read.words_are)))
     load_wrong none (inr (inr (inr (inl simulate)))) = absurd (differ_simulate_load (first_word _ _ _ _ (sym simulate.1.words_are ∙ load_read.words_are)))
     load_wrong none (inr (inr (inl load))) =
         let same = four_words _ _ _ _ _ _ _ _ (sym load_read.words_are ∙ load.1.words_are) in
@@ -583,7 +635,11 @@ module _ (words : List Text) (m : ArgMatches) (found : Found) (read : IsReadFrom
         record { words_are = simulate_read.words_are ∙ (λ i. codes "simulate" ∷ groups i ∷ pool i ∷ []); limits = l.limits }
 
     pub simulate_wrong : ((s : Simulation) → IsSimulationOf found s → ⊥) → IsRight words → ⊥
-    simulate_wrong none (inr (inr (inr (inr trial)))) = absurd (differ_trial_simulate (first_word _ _ _ _ (sym trial.1.words_are ∙ simulate_read.words_are)))
+    simulate_wrong none (inr (inr (inr (inr (inr check))))) =
+        let three : length words ≡ 3 = ap length simulate_read.words_are in
+        let one : length words ≡ 1 = ap length check in
+        absurd (omega (arith, one, three))
+    simulate_wrong none (inr (inr (inr (inr (inl trial))))) = absurd (differ_trial_simulate (first_word _ _ _ _ (sym trial.1.words_are ∙ simulate_read.words_are)))
     simulate_wrong none (inr (inr (inr (inl simulate)))) =
         let same = three_words _ _ _ _ _ _ (sym simulate_read.words_are ∙ simulate.1.words_are) in
         none simulate.0 (record {
@@ -608,7 +664,11 @@ module _ (words : List Text) (m : ArgMatches) (found : Found) (read : IsReadFrom
         record { words_are = trial_read.words_are ∙ (λ i. codes "trial" ∷ pages i ∷ groups i ∷ blocks i ∷ pool i ∷ []); limits = l.limits }
 
     pub trial_wrong : ((t : TrialSizes) → IsTrialOf found t → ⊥) → IsRight words → ⊥
-    trial_wrong none (inr (inr (inr (inr trial)))) =
+    trial_wrong none (inr (inr (inr (inr (inr check))))) =
+        let five : length words ≡ 5 = ap length trial_read.words_are in
+        let one : length words ≡ 1 = ap length check in
+        absurd (omega (arith, one, five))
+    trial_wrong none (inr (inr (inr (inr (inl trial))))) =
         let same = five_words _ _ _ _ _ _ _ _ _ _ (sym trial_read.words_are ∙ trial.1.words_are) in
         none trial.0 (record {
           pages = first_value-rows found (codes "pages") ∙ trial_read.pages_are ∙ ap (λ (t : Text). Some t) same.second;
@@ -625,10 +685,13 @@ module _ (words : List Text) (m : ArgMatches) (found : Found) (read : IsReadFrom
 -- right words name a subcommand
 pub right_named : (words : List Text) (m : ArgMatches) → IsReadFrom words m → IsRight words
     → (subcommand_name_of m ≡ Some (codes "run")) ⊎ ((subcommand_name_of m ≡ Some (codes "new"))
-    ⊎ ((subcommand_name_of m ≡ Some (codes "load")) ⊎ ((subcommand_name_of m ≡ Some (codes "simulate")) ⊎ (subcommand_name_of m ≡ Some (codes "trial")))))
+    ⊎ ((subcommand_name_of m ≡ Some (codes "load")) ⊎ ((subcommand_name_of m ≡ Some (codes "simulate")) ⊎ ((subcommand_name_of m ≡ Some (codes "trial"))
+    ⊎ (subcommand_name_of m ≡ Some (codes "check"))))))
 right_named words m read (inl run) = inl (sym (has_name m) ∙ ap name_in (read.rows ∙ ap (subcommand_of program) run.1.words_are) ∙ named_run (decimal run.0))
 right_named words m read (inr (inl new)) = inr (inl (sym (has_name m) ∙ ap name_in (read.rows ∙ ap (subcommand_of program) new.1.words_are) ∙ named_new (decimal new.0.pages) (decimal new.0.groups) (decimal new.0.blocks)))
 right_named words m read (inr (inr (inl load))) = inr (inr (inl (sym (has_name m) ∙ ap name_in (read.rows ∙ ap (subcommand_of program) load.1.words_are) ∙ named_load (decimal load.0.count) (decimal load.0.seed) (decimal load.0.pool))))
-right_named words m read (inr (inr (inr (inr trial)))) =
-    inr (inr (inr (inr (sym (has_name m) ∙ ap name_in (read.rows ∙ ap (subcommand_of program) trial.1.words_are) ∙ named_trial (decimal trial.0.geometry.pages) (decimal trial.0.geometry.groups) (decimal trial.0.geometry.blocks) (decimal trial.0.pool)))))
+right_named words m read (inr (inr (inr (inr (inl trial))))) =
+    inr (inr (inr (inr (inl (sym (has_name m) ∙ ap name_in (read.rows ∙ ap (subcommand_of program) trial.1.words_are) ∙ named_trial (decimal trial.0.geometry.pages) (decimal trial.0.geometry.groups) (decimal trial.0.geometry.blocks) (decimal trial.0.pool))))))
+right_named words m read (inr (inr (inr (inr (inr check))))) =
+    inr (inr (inr (inr (inr (sym (has_name m) ∙ ap name_in (read.rows ∙ ap (subcommand_of program) check) ∙ named_check)))))
 right_named words m read (inr (inr (inr (inl simulate)))) = inr (inr (inr (inl (sym (has_name m) ∙ ap name_in (read.rows ∙ ap (subcommand_of program) simulate.1.words_are) ∙ named_simulate (decimal simulate.0.groups) (decimal simulate.0.pool)))))

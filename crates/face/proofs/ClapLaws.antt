@@ -84,6 +84,14 @@ unfolding clap_on_literals
 taken_trial x xs y ys z zs w ws a b c d =
     rw (no_dashes x xs a, no_long x xs a, no_short x xs a, no_dashes y ys b, no_long y ys b, no_short y ys b, no_dashes z zs c, no_long z zs c, no_short z zs c, no_dashes w ws d, no_long w ws d, no_short w ws d) refl
 
+pub named_check : option_map (λ p. p.0) (subcommand_of program (codes "check" ∷ [])) ≡ Some (codes "check")
+unfolding clap_on_literals
+named_check = refl
+
+taken_check : takes program (codes "check" ∷ []) ≡ true
+unfolding clap_on_literals
+taken_check = refl
+
 -- a number in decimal has a first octet, and it is a digit
 record Begins (t : Text) : Type 0 where
   pub first : ℕ
@@ -165,7 +173,8 @@ trial_begins t limits =
 -- `clap` takes all right words
 pub right_taken : (words : List Text) → IsRight words → takes program words ≡ true
 right_taken words (inl run) = let most = run.1.to in ap (takes program) run.1.words_are ∙ run_taken (decimal run.0) (begins run.0 (omega (arith, most)))
-right_taken words (inr (inr (inr (inr trial)))) =
+right_taken words (inr (inr (inr (inr (inr check))))) = ap (takes program) check ∙ taken_check
+right_taken words (inr (inr (inr (inr (inl trial))))) =
     let b = trial_begins trial.0 trial.1.limits in
     ap (takes program) trial.1.words_are ∙ trial_taken (decimal trial.0.geometry.pages) (decimal trial.0.geometry.groups) (decimal trial.0.geometry.blocks) (decimal trial.0.pool) b.pages b.groups b.blocks b.pool
 right_taken words (inr (inr (inr (inl simulate)))) =
@@ -198,11 +207,15 @@ simulate_undashed t u a b dash = let none : list_any is_dashed (codes "simulate"
 trial_undashed : (t u v w : Text) → is_dashed t ≡ false → is_dashed u ≡ false → is_dashed v ≡ false → is_dashed w ≡ false → HasDash (codes "trial" ∷ t ∷ u ∷ v ∷ w ∷ []) → ⊥
 trial_undashed t u v w a b c d dash = let none : list_any is_dashed (codes "trial" ∷ t ∷ u ∷ v ∷ w ∷ []) ≡ false = rw (a, b, c, d) refl in cc
 
+check_undashed : HasDash (codes "check" ∷ []) → ⊥
+check_undashed dash = let none : list_any is_dashed (codes "check" ∷ []) ≡ false = refl in cc
+
 pub right_undashed : (words : List Text) → IsRight words → HasDash words → ⊥
 right_undashed words (inl run) dash =
     let most = run.1.to in
     run_undashed (decimal run.0) (begins_undashed _ (begins run.0 (omega (arith, most)))) (subst HasDash run.1.words_are dash)
-right_undashed words (inr (inr (inr (inr trial)))) dash =
+right_undashed words (inr (inr (inr (inr (inr check))))) dash = check_undashed (subst HasDash check dash)
+right_undashed words (inr (inr (inr (inr (inl trial))))) dash =
     let b = trial_begins trial.0 trial.1.limits in
     trial_undashed (decimal trial.0.geometry.pages) (decimal trial.0.geometry.groups) (decimal trial.0.geometry.blocks) (decimal trial.0.pool) (begins_undashed _ b.pages) (begins_undashed _ b.groups) (begins_undashed _ b.blocks) (begins_undashed _ b.pool) (subst HasDash trial.1.words_are dash)
 right_undashed words (inr (inr (inr (inl simulate)))) dash =

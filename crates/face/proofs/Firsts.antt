@@ -2,8 +2,9 @@
 use Rattle.std.proofs.Common.{◌≡◌, ◌≢◌, ◌⊎◌, inl, inr, refl, arith, ℕ}
 use Rattle.std.specs.Prelude.{Result, Ok, Err}
 use Rattle.site.specs.State.{State}
-use Rattle.site.specs.Faults.{Faults, faults_in, with_output_fault, TellFaults}
+use Rattle.site.specs.Faults.{Faults, faults_in, with_output_fault, after_work, TellFaults}
 use Rattle.site.specs.declared.outside.Failed.{Failed}
+use Rattle.site.specs.declared.outside.Stop.{Stop}
 use Rattle.site.specs.declared.outside.Stop.TheVariants.{Device, Memory, Worn, Foreign}
 use Rattle.face.specs.declared.halt.Halt.{Halt}
 use Rattle.face.specs.declared.halt.Halt.TheVariants as halt
@@ -16,6 +17,10 @@ use Rattle.face.specs.New.{TestFaults, unfit_status}
 -- no call failed
 pub first_none : (old new : State) → SameFaults old new → FirstDecides 0 old new
 first_none old new same = record { after = faults_in old; first = inr (inr (inr (λ e. omega (arith, e), λ e. omega (arith, e), λ e. omega (arith, e), refl))); line = inl same }
+
+-- nor where the status is another one that speaks of no failed call
+pub first_done : (status : ℕ) (old new : State) → (status ≢ 3) × (status ≢ 5) × (status ≢ 6) → SameFaults old new → FirstDecides status old new
+first_done status old new ne same = record { after = faults_in old; first = inr (inr (inr (ne.0, ne.1, ne.2, refl))); line = inl same }
 
 -- the telling of the line
 line_told : {T : Type 0} (result : Result T Failed) (mid new : State) → TellFaults result mid new → (faults_in new ≡ faults_in mid) ⊎ (faults_in new ≡ with_output_fault (faults_in mid))
@@ -30,6 +35,13 @@ halt_first (halt.Stop Foreign) status before after is same = inr (inr (inr (λ e
 halt_first halt.Input status before after is same = inr (inl (is, same))
 halt_first halt.Output status before after is same = inr (inr (inl (is, same)))
 halt_first halt.Limit status before after is same = inr (inr (inr (λ e. omega (arith, is, e), λ e. omega (arith, is, e), λ e. omega (arith, is, e), same)))
+
+-- work that a device ends, or want of memory, halts so
+pub work_halts : {T : Type 0} (stop : Stop) (f : Faults) → after_work {T = T} (Err stop) f ≡ after_halt (halt.Stop stop) f
+work_halts (Device dev) f = refl
+work_halts Memory f = refl
+work_halts (Worn dev) f = refl
+work_halts Foreign f = refl
 
 -- a run halts, and its line is told
 pub first_halted : {T : Type 0} (h : Halt) (status : ℕ) (old mid new : State) (result : Result T Failed) → status ≡ status_of h → faults_in mid ≡ after_halt h (faults_in old) → TellFaults result mid new → FirstDecides status old new

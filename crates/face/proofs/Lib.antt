@@ -1,5 +1,6 @@
 mod Begun
 mod CauseLaws
+mod CheckLaws
 mod ClapInverse
 mod ClapLaws
 mod CommandLaws

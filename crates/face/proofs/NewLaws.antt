@@ -23,7 +23,8 @@ part_of line old mid same m part = record {
   told = λ j. let front = part.told j in (front.0, front.1 ∙ ap (λ (t : List ℕ). t ++ take front.0 line) same.told);
 }
 
-moments : (line : List ℕ) (old mid new : State) → IsUnchanged old mid → EachMoment mid new (TellsPart line mid) → EachMoment old new (TellsPart line old)
+-- a line that is told after calls that only read
+pub moments : (line : List ℕ) (old mid new : State) → IsUnchanged old mid → EachMoment mid new (TellsPart line mid) → EachMoment old new (TellsPart line old)
 moments line old mid new same told =
     in_sequence old mid new (TellsPart line old)
     (unchanged_calm old old mid (TellsPart line old) (no_call old (TellsPart line old) (nothing_told line old)) same)

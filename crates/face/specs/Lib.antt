@@ -1,4 +1,5 @@
 pub mod Causes
+pub mod Check
 pub mod Going
 pub mod Headline
 pub mod Image

@@ -37,6 +37,10 @@ abbrev pub trial_words : App
 trial_words = with_rule (with_rule (with_rule (with_rule (new_app (codes "trial")) (text (new_rule (codes "pages"))))
     (text (new_rule (codes "groups")))) (text (new_rule (codes "blocks")))) (text (new_rule (codes "pool")))
 
+-- no text stands behind `check`
+abbrev pub check_words : App
+check_words = new_app (codes "check")
+
 abbrev pub bare : App
 bare = on_top (λ s. record s {
   no_binary_name = true;
@@ -50,9 +54,9 @@ bare = on_top (λ s. record s {
 abbrev pub database_words : App
 database_words = with_subcommand (with_subcommand (with_subcommand bare new_words.top) run_words.top) load_words.top
 
--- and `simulate` with two, and `trial` with four
+-- and `simulate` with two, `trial` with four, and `check` with none
 abbrev pub program : App
-program = with_subcommand (with_subcommand database_words simulate_words.top) trial_words.top
+program = with_subcommand (with_subcommand (with_subcommand database_words simulate_words.top) trial_words.top) check_words.top
 
 -- the command is this one, and no argument of it is global
 abbrev pub IsLike : Command → App → Type 0

@@ -10,7 +10,7 @@ use Rattle.face.specs.declared.request.Load.{Load as Workload}
 use Rattle.face.specs.declared.request.Simulation.{Simulation}
 use Rattle.face.specs.declared.request.TrialSizes.{TrialSizes}
 use Rattle.face.specs.declared.request.Request.{Request}
-use Rattle.face.specs.declared.request.Request.TheVariants.{Run, New, Load, Simulate, Trial}
+use Rattle.face.specs.declared.request.Request.TheVariants.{Run, New, Load, Simulate, Trial, Check}
 use Rattle.site.specs.State.{State}
 use Rattle.site.specs.Calls.{SameReads}
 use Rattle.site.specs.Moments.{EachMoment}
@@ -76,12 +76,16 @@ pub record IsTrial (words : List (List ℕ)) (t : TrialSizes) : Type 0 where
       ∷ decimal t.geometry.blocks ∷ decimal t.pool ∷ []
   pub limits : HasTrialLimits t
 
+-- `check`, alone
+abbrev pub IsCheck : List (List ℕ) → Type 0
+IsCheck words = words ≡ codes "check" ∷ []
+
 -- the words are in the table
 abbrev pub IsRight : List (List ℕ) → Type 0
 IsRight words =
     ((pool : ℕ) × IsRun words pool) ⊎ (((g : Geometry) × IsNew words g)
     ⊎ (((load : Workload) × IsLoad words load) ⊎ (((s : Simulation) × IsSimulate words s)
-    ⊎ ((t : TrialSizes) × IsTrial words t))))
+    ⊎ (((t : TrialSizes) × IsTrial words t) ⊎ IsCheck words))))
 
 abbrev pub words_fault : List ℕ
 words_fault = codes "fault words\n"
@@ -111,6 +115,7 @@ IsRequest (New g) words = IsNew words g
 IsRequest (Load load) words = IsLoad words load
 IsRequest (Simulate s) words = IsSimulate words s
 IsRequest (Trial t) words = IsTrial words t
+IsRequest Check words = IsCheck words
 
 -- the word begins with a dash
 abbrev pub is_dashed : List ℕ → Bool

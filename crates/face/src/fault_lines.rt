@@ -1,12 +1,15 @@
 // The lines that the program tells besides the replies: each by a function of its own.
 ghost use Rattle.std.specs.Prelude.{◌≡◌, ◌≤◌, length, codes};
 ghost use Rattle.face.specs.Texts.{dev_name, fault_line};
+ghost use Rattle.image_check.specs.declared.verdict.Verdict.{Verdict};
+ghost use Rattle.face.specs.Check.{verdict_line};
 ghost use Rattle.face.specs.New.{ready_line, unfit_line};
 ghost use Rattle.face.specs.declared.new_database.Unfit.{Unfit};
 ghost use Rattle.face.specs.Tells.{Tells};
 
 use crate::halt::Halt;
 use crate::new_database::Unfit;
+use image_check::Verdict;
 use shell_text::Line;
 use site::{Dev, Failed, Geometry, Site, tell_all};
 
@@ -43,6 +46,28 @@ fn sizes_line(geometry: &Geometry) -> Line
     line.push_number(u64::from(geometry.groups));
     line.push(b" ");
     line.push_number(u64::from(geometry.blocks));
+    line.push(b"\n");
+    line
+}
+
+fn sound_line(records: u64, commits: u64) -> Line
+    ensures { result ≡ verdict_line (Verdict.Sound records commits) }
+{
+    let mut line = Line::new();
+    line.push(b"sound records ");
+    line.push_number(records);
+    line.push(b" commits ");
+    line.push_number(commits);
+    line.push(b"\n");
+    line
+}
+
+fn unsound_line(rule: u8) -> Line
+    ensures { result ≡ verdict_line (Verdict.Unsound rule) }
+{
+    let mut line = Line::new();
+    line.push(b"unsound S");
+    line.push_number(u64::from(rule));
     line.push(b"\n");
     line
 }
@@ -109,4 +134,16 @@ pub fn tell_ready<S: Site>(site: &mut S, geometry: &Geometry) -> Result<(), Fail
     ensures { Tells (ready_line geometry.now) (S.state site.old) (S.state site.new) result }
 {
     tell_all(site, sizes_line(geometry).as_slice())
+}
+
+/// Tells a verdict on the devices.
+pub fn tell_verdict<S: Site>(site: &mut S, verdict: Verdict) -> Result<(), Failed>
+    ensures { Tells (verdict_line verdict) (S.state site.old) (S.state site.new) result }
+{
+    match verdict {
+        Verdict::Sound { records, commits } => {
+            tell_all(site, sound_line(records, commits).as_slice())
+        }
+        Verdict::Unsound { rule } => tell_all(site, unsound_line(rule).as_slice()),
+    }
 }

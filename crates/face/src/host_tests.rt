@@ -210,8 +210,9 @@ impl<'a> Eprint for Caller<'a> {
 // the drafts of those that are missing.
 #[test]
 fn words_open_their_files(rt: HostRuntime) -> Result<(), Fail> {
-    let rows: [(&[&[u8]], &'static [u8], u8, &[u8], u64); 13] = [
+    let rows: [(&[&[u8]], &'static [u8], u8, &[u8], u64); 15] = [
         (&[b"face", b"run", b"1"], b"", 9, b"fault foreign\n", 3),
+        (&[b"face", b"check"], b"", 11, b"unsound S1\n", 3),
         (
             &[b"face", b"new", b"16", b"8", b"64"],
             b"",
@@ -243,6 +244,13 @@ fn words_open_their_files(rt: HostRuntime) -> Result<(), Fail> {
             b"set 5 0a\nget 5\n",
             0,
             b"open 0\ncommitted 1\nvalue 0a\n",
+            3,
+        ),
+        (
+            &[b"face", b"check"],
+            b"",
+            0,
+            b"sound records 1 commits 1\n",
             3,
         ),
         (
@@ -296,7 +304,7 @@ fn a_stop_has_its_line_and_its_status(rt: HostRuntime) -> Result<(), Fail> {
 // The words, without the program's own name, and what is wrong with them.
 #[test]
 fn the_first_wrong_word_is_found(rt: HostRuntime) -> Result<(), Fail> {
-    let rows: [(&str, Option<Wrong>); 31] = [
+    let rows: [(&str, Option<Wrong>); 33] = [
         ("new 1 8 16", None),
         ("new 65536 16384 1048576", None),
         ("run 1", None),
@@ -339,6 +347,8 @@ fn the_first_wrong_word_is_found(rt: HostRuntime) -> Result<(), Fail> {
         ("simulate 16384 4096", None),
         ("simulate 10 1", Some(Wrong::Unfit(2, Number::Groups))),
         ("simulate 8", Some(Wrong::Lacks(Number::Pool))),
+        ("check", None),
+        ("check x", Some(Wrong::TooMany(2))),
         ("RUN 1", Some(Wrong::Unknown)),
     ];
     for (line, wrong) in rows {

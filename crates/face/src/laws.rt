@@ -1,4 +1,5 @@
 // Laws on what an image stands for; their lemmas stand in proofs/.
+ghost use Rattle.face.specs.Check.{OpeningIsSound, SoundOpens};
 ghost use Rattle.face.specs.Image.{OneMeaning, OneOpening, OpensWhereItStands, BlankLaw};
 ghost use Rattle.face.specs.Lives.{LawOfLives};
 
@@ -26,6 +27,15 @@ pub fn blank_stands()
     ensures { BlankLaw }
 {
     image_meaning::blank_stands();
+}
+
+/// Law: a run over an image opens exactly where all rules hold for it, as `check` finds: with so many values after so many
+/// commits.
+pub fn sound_opens()
+    ensures opens { SoundOpens }
+    ensures sound { OpeningIsSound }
+{
+    image_check::sound_is_standing();
 }
 
 /// Law: what a run leaves opens again, with the table after some commits in the range of what was told: what a crash at

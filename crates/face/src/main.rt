@@ -3,6 +3,7 @@
 #![tactic(auto)]
 
 mod answer;
+mod check;
 mod commands;
 mod fault_lines;
 mod halt;

@@ -17,6 +17,7 @@ usage: face new PAGES GROUPS BLOCKS   makes a database in the current folder
        face simulate GROUPS POOL      counts what three page caches do with the touches on standard input
        face trial PAGES GROUPS BLOCKS POOL
                                       plays a script of lives with power cuts in memory
+       face check                     tells whether the database in the current folder is sound, and changes nothing
 PAGES  1 to 65536, each of 32 records and 4096 octets of face.disk
 GROUPS a multiple of 4 from 8 to 16384, each of 33536 octets of face.flash
 BLOCKS 16 to 1048576, each of 512 octets of face.log
@@ -74,7 +75,7 @@ impl Number {
 pub enum Wrong {
     /// There are none, or one isn't text.
     Nothing,
-    /// The first isn't one of `new`, `run`, `load`, `simulate` and `trial`.
+    /// The first isn't one of `new`, `run`, `load`, `simulate`, `trial` and `check`.
     Unknown,
     /// The word of this place isn't this number.
     Unfit(usize, Number),
@@ -104,12 +105,17 @@ fn number_at(first: &str, place: usize) -> Option<Number> {
     }
 }
 
+// Whether a list of words may begin so.
+fn is_command(first: &str) -> bool {
+    first == "check" || number_at(first, 2).is_some()
+}
+
 /// The first thing that is wrong with the words, if anything is.
 pub fn find_wrong(words: &[String]) -> Option<Wrong> {
     let Some(first) = words.first() else {
         return Some(Wrong::Nothing);
     };
-    if number_at(first.as_str(), 2).is_none() {
+    if !is_command(first.as_str()) {
         return Some(Wrong::Unknown);
     }
     for (before, word) in words.iter().enumerate().skip(1) {
@@ -140,7 +146,7 @@ fn say_words<R: Eprint>(rt: &R, words: &[String]) {
         }
         Some(Wrong::Unknown) => {
             let word = word_at(words, 1);
-            eprintln!(rt; "face: word 1 is {word:?}, and not new, run, load, simulate or trial")
+            eprintln!(rt; "face: word 1 is {word:?}, and not new, run, load, simulate, trial or check")
         }
         Some(Wrong::Unfit(place, number)) => {
             let word = word_at(words, place);
@@ -303,28 +309,74 @@ impl Seen {
     }
 }
 
-// Says why a run or a load has no database to work on, and what to do.
-fn say_no_database<R: Eprint>(rt: &R, seen: &Seen) {
+// Says why there is no database to work on, and what to do, where files are missing, can't be used or have odd lengths.
+// Answers whether it was so.
+fn say_no_files<R: Eprint>(rt: &R, seen: &Seen) -> bool {
     if seen.is_bare() {
         let _ = eprintln!(rt;
             "face: this folder has no database: face.log, face.flash and face.disk are missing. To make one: face new PAGES GROUPS BLOCKS"
         );
-        return;
+        return true;
     }
     if let Some((dev, absence)) = seen.first_absence() {
         say_absence(rt, dev, absence);
-        return;
+        return true;
     }
     if let Some((dev, len)) = seen.first_odd() {
         let name = path(dev);
         let _ = eprintln!(rt;
             "face: {name} has {len} octets, as in no database: bring back all three files of one copy"
         );
+        return true;
+    }
+    false
+}
+
+// Says why a run or a load has no database to work on, and what to do.
+fn say_no_database<R: Eprint>(rt: &R, seen: &Seen) {
+    if say_no_files(rt, seen) {
         return;
     }
     let _ = eprintln!(rt;
-        "face: what face.log, face.flash and face.disk hold isn't sound, isn't of one database, or is an older version's: bring back all three files of one copy"
+        "face: what face.log, face.flash and face.disk hold isn't sound, isn't of one database, or is an older version's: face check tells which rule fails. Bring back all three files of one copy"
     );
+}
+
+// What is so where this rule of sound devices fails.
+fn broken(rule: u8) -> &'static str {
+    match rule {
+        1 => {
+            "octets aren't of the form, or name a page that the disk hasn't: of a ring, the newest master, a kept block, a live group or segment, or a page"
+        }
+        2 => "the oldest kept block isn't live, or redo begins before it or behind the log's end",
+        3 => {
+            "a record is of a transaction that isn't open, or stands before the Begin that it names"
+        }
+        4 => "an unfinished transaction can't be undone by its records",
+        5 => {
+            "behind an Update of an unfinished transaction another one has a record on its number"
+        }
+        6 => "a page doesn't show what the log has written",
+        7 => "a valid frame that isn't dirty differs from its disk page",
+        8 => "the live segments don't follow the live groups",
+        9 => "the log has no room for what undo writes",
+        10 => "the master doesn't name the transactions that were active at the redo block",
+        11 => "the commits aren't numbered on by one, or two have sealed one block",
+        _ => "of the rules none is called so",
+    }
+}
+
+// Says why the devices aren't sound, and what to do.
+fn say_unsound<R: Eprint>(rt: &R, seen: &Seen) {
+    if say_no_files(rt, seen) {
+        return;
+    }
+    if let Some(rule) = seen.watch.rule() {
+        let what = broken(rule);
+        let _ = eprintln!(rt;
+            "face: rule {rule} fails: {what}. Bring back all three files of one copy"
+        );
+    }
 }
 
 // Says why no database of these sizes is made, and what to do.
@@ -374,6 +426,7 @@ pub fn say<R: Eprint>(rt: &R, status: u8, words: &[String], seen: &Seen) {
                 "face: the files aren't blank, and nothing was written over. To make a new database move them away, or go to another folder"
             );
         }
+        11 => say_unsound(rt, seen),
         16 => {
             let _ = eprintln!(rt;
                 "face: that line of the input is no touch: each is r PAGE or w PAGE, PAGE 0 to 65535, and there are at most 1000000"

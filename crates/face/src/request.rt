@@ -4,7 +4,7 @@ ghost use Rattle.std.specs.List.{list_any};
 ghost use Rattle.clap.specs.Words.{found_of, kind_of, new_rule, rule_of};
 ghost use Rattle.clap.specs.declared.error.kind.ErrorKind.TheVariants.{OutOfMemory};
 ghost use Rattle.face.specs.Program.{AreSizes, IsLike, IsLoadOf, IsPool, IsReadFrom, IsSimulationOf, IsTrialOf};
-ghost use Rattle.face.specs.Program.{bare, database_words, load_words, new_words, program, run_words, simulate_words};
+ghost use Rattle.face.specs.Program.{bare, check_words, database_words, load_words, new_words, program, run_words, simulate_words};
 ghost use Rattle.face.specs.Program.{text, trial_words};
 ghost use Rattle.face.specs.Words.{HasTrialLimits, IsRight, IsRequest, HasCacheLimits, HasDash, HasLoadLimits, is_dashed, words_of};
 ghost use Rattle.face.specs.declared.request.Load.{Load};
@@ -56,6 +56,8 @@ pub enum Request {
     Simulate(Simulation),
     /// Lives of a script, on devices in memory.
     Trial(TrialSizes),
+    /// Whether the devices are sound.
+    Check,
 }
 
 /// Why words ask for nothing.
@@ -122,6 +124,13 @@ fn trial_command<'a>(alloc: Global) -> Result<Command<'a>, AllocError>
         .arg(text_argument(alloc, "pool"))
 }
 
+// The word `check`.
+fn check_command<'a>(alloc: Global) -> Command<'a>
+    ensures { IsLike result check_words }
+{
+    Command::new(alloc, "check")
+}
+
 // The words are the program's without its own name, and there is no help.
 fn bare_command<'a>(alloc: Global) -> Command<'a>
     ensures { IsLike result bare }
@@ -147,7 +156,7 @@ fn database_command<'a>(alloc: Global) -> Result<Command<'a>, AllocError>
         .subcommand(load)
 }
 
-// The program's command line: the words on a database, and `simulate` and `trial` with their texts.
+// The program's command line: the words on a database, `simulate` and `trial` with their texts, and `check`.
 fn command<'a>(alloc: Global) -> Result<Command<'a>, AllocError>
     ensures { IfOk result (λ c. IsLike c program) }
 {
@@ -155,7 +164,8 @@ fn command<'a>(alloc: Global) -> Result<Command<'a>, AllocError>
     let trial = trial_command(alloc)?;
     database_command(alloc)?
         .subcommand(simulate)?
-        .subcommand(trial)
+        .subcommand(trial)?
+        .subcommand(check_command(alloc))
 }
 
 fn begins_with_dash(word: &[u8]) -> bool
@@ -360,6 +370,9 @@ fn request_in(matches: &ArgMatches<'_>) -> Option<Request>
             return None;
         };
         return Some(Request::Trial(trial));
+    }
+    if let Some(_check) = matches.subcommand_matches("check") {
+        return Some(Request::Check);
     }
     None
 }

@@ -433,6 +433,27 @@ fn a_new_database_is_tested(rt: HostRuntime) -> Result<(), Fail> {
     Ok(())
 }
 
+// A verdict is told, and nothing else is done; devices without sizes aren't read.
+#[test]
+fn devices_are_checked(rt: HostRuntime) -> Result<(), Fail> {
+    let words = ["check"].as_slice();
+    let mut site = MemSite::new(rt.alloc(), &STANDARD)?;
+    assert_eq!(rt; call(rt.alloc(), words, &mut site)?, 0);
+    assert!(rt; site.told() == b"sound records 0 commits 0\n".as_slice());
+    assert_eq!(rt; site.changes(), 1);
+
+    let odd = Geometry {
+        pages: 16,
+        groups: 9,
+        blocks: 64,
+    };
+    let mut site = MemSite::new(rt.alloc(), &odd)?;
+    assert_eq!(rt; call(rt.alloc(), words, &mut site)?, 11);
+    assert!(rt; site.told() == b"unsound S1\n".as_slice());
+    assert_eq!(rt; site.reads(Dev::Log), 0);
+    Ok(())
+}
+
 #[test]
 fn large_devices_are_tested(rt: HostRuntime) -> Result<(), Fail> {
     let sizes = Geometry {
@@ -451,9 +472,11 @@ fn large_devices_are_tested(rt: HostRuntime) -> Result<(), Fail> {
 
 #[test]
 fn other_words_are_refused(rt: HostRuntime) -> Result<(), Fail> {
-    let lists: [&[&str]; 48] = [
+    let lists: [&[&str]; 50] = [
         &[],
         &["help", "run"],
+        &["check", "x"],
+        &["check", "check"],
         &["run", "help"],
         &["run", "1", "2"],
         &["1", "run", "1"],

@@ -14,12 +14,14 @@ ghost use Rattle.face.specs.Working.{Works};
 ghost use Rattle.face.specs.declared.request.Load.{Load};
 ghost use Rattle.face.specs.declared.request.Simulation.{Simulation};
 ghost use Rattle.face.specs.declared.request.TrialSizes.{TrialSizes};
-ghost use Rattle.face.specs.Words.{IsRun, IsNew, IsLoad, IsSimulate, HasTrialLimits, IsTrial, IsRight, HasDash, words_of};
+ghost use Rattle.face.specs.Words.{IsCheck, IsRun, IsNew, IsLoad, IsSimulate, HasTrialLimits, IsTrial, IsRight, HasDash, words_of};
+ghost use Rattle.face.specs.Check.{CheckContract};
 ghost use Rattle.trace_report.specs.Contract.{SimulateContract};
 ghost use Rattle.face.specs.Trial.{TrialContract};
 ghost use Rattle.face.specs.Words.{RefusesWords, RefusesDevices, LacksMemory};
 
 use crate::answer::answer;
+use crate::check::check;
 use crate::fault_lines::{tell_halt, tell_memory, tell_words};
 use crate::halt::Halt;
 use crate::load::serve_load;
@@ -120,6 +122,7 @@ fn lack_memory<S: Site>(site: &mut S) -> u8
     ensures new { (g : Geometry) → NewContract g (S.state site.old) (S.state site.new) result }
     ensures simulate { (s : Simulation) → SimulateContract s.groups s.pool (S.state site.old) (S.state site.new) result }
     ensures trial { (g : Geometry) → TrialContract g (S.state site.old) (S.state site.new) result (0 ∷ []) }
+    ensures check { CheckContract (S.state site.old) (S.state site.new) result }
     ensures lacks { LacksMemory result (S.state site.old) (S.state site.new) }
     ensures first { FirstDecides result (S.state site.old) (S.state site.new) }
     ensures goes { Goes (S.state site.old) (S.state site.new) }
@@ -154,7 +157,8 @@ fn serve_trial<S: Site>(alloc: Global, sizes: &TrialSizes, site: &mut S) -> u8
 /// with COUNT from 1 to 100,000 and SEED below 2^64, are the work of `serve_load`. The words `simulate GROUPS POOL`, with
 /// GROUPS a multiple of 4 from 8 to 16,384, tell what three page caches do with the trace on the input, and touch no
 /// device. The words `trial PAGES GROUPS BLOCKS POOL`, with at most 1,024 pages, 256 groups and 4,096 blocks, are the work of
-/// `trial`, on a site in memory of these sizes, and touch no device either. All other words have status 2.
+/// `trial`, on a site in memory of these sizes, and touch no device either. The word `check` tells whether the devices are
+/// sound, and changes nothing. All other words have status 2.
 /// Reading the words may want memory, which has status 4; then nothing is read or changed.
 pub fn face<S: Site>(alloc: Global, words: &[String], site: &mut S) -> u8
     // What each command does, and when each of its statuses comes.
@@ -168,6 +172,7 @@ pub fn face<S: Site>(alloc: Global, words: &[String], site: &mut S) -> u8
         → SimulateContract s.groups s.pool (S.state site.old) (S.state site.new) result }
     ensures trial { (t : TrialSizes) → IsTrial (words_of words.now) t → (numbers : List ℕ)
         × TrialContract t.geometry (S.state site.old) (S.state site.new) result numbers }
+    ensures check { IsCheck (words_of words.now) → CheckContract (S.state site.old) (S.state site.new) result }
     // Devices without sizes have status 9, or memory was wanted before anything was done.
     ensures sizes { ((pool : ℕ) × IsRun (words_of words.now) pool) → HasNoSizes (S.state site.old)
         → RefusesDevices result (S.state site.old) (S.state site.new)
@@ -194,6 +199,7 @@ pub fn face<S: Site>(alloc: Global, words: &[String], site: &mut S) -> u8
         Ok(Request::Load(load)) => serve_load(alloc, &load, site),
         Ok(Request::Simulate(caches)) => simulate(alloc, caches.groups, caches.pool, site),
         Ok(Request::Trial(sizes)) => serve_trial(alloc, &sizes, site),
+        Ok(Request::Check) => check(alloc, site),
         Err(Unread::Words) => {
             let _ = tell_words(site);
             2

@@ -1,7 +1,7 @@
 use Rattle.std.proofs.Common.{rules, ◌≡◌, codes, ⊎_elim, sym, true≢false}
 use Rattle.std.specs.Prelude.{Some}
 use Rattle.clap.specs.Words.{found_of, subcommand_name_of}
-use Rattle.face.proofs.ClapInverse.{run_right, run_wrong, new_right, new_wrong, load_right, load_wrong, simulate_right, simulate_wrong, trial_right, trial_wrong, right_named}
+use Rattle.face.proofs.ClapInverse.{run_right, run_wrong, new_right, new_wrong, load_right, load_wrong, simulate_right, simulate_wrong, trial_right, trial_wrong, check_right, right_named}
 use Rattle.face.proofs.request.request_in.Goals as goal
 
 pub returns-in_default-pool_in-clause-none : goal.returns-in_default-pool_in-clause-none
@@ -54,6 +54,11 @@ returns-in-Some-subcommand_matches-4-clause-some c words read =
     let is : subcommand_name_of c.args.matches.now ≡ Some (codes "trial") = search rules in
     trial_right words c.args.matches.now (found_of c.in-Some-subcommand_matches-4.trial.now) read c.in-Some-subcommand_matches-4.ensures.rows is c.in-Some-trial_in.trial c.in-Some-trial_in.ensures.trial
 
+pub returns-in-Some-subcommand_matches-5-clause-some : goal.returns-in-Some-subcommand_matches-5-clause-some
+returns-in-Some-subcommand_matches-5-clause-some c words read =
+    let is : subcommand_name_of c.args.matches.now ≡ Some (codes "check") = search rules in
+    check_right words c.args.matches.now read is
+
 pub returns-clause-none : goal.returns-clause-none
 returns-clause-none c words read right = ⊎_elim
     (λ run. absurd (true≢false (sym (c.in_default.ensures.found.1 run))))
@@ -63,5 +68,7 @@ returns-clause-none c words read right = ⊎_elim
     (λ load. absurd (true≢false (sym (c.in_default-subcommand_matches-2.ensures.found.1 load))))
     (λ last. ⊎_elim
     (λ simulate. absurd (true≢false (sym (c.in_default-subcommand_matches-3.ensures.found.1 simulate))))
-    (λ trial. absurd (true≢false (sym (c.in_default-subcommand_matches-4.ensures.found.1 trial)))) last) others) other)
+    (λ end. ⊎_elim
+    (λ trial. absurd (true≢false (sym (c.in_default-subcommand_matches-4.ensures.found.1 trial))))
+    (λ check. absurd (true≢false (sym (c.in_default-subcommand_matches-5.ensures.found.1 check)))) end) last) others) other)
     (right_named words c.args.matches.now read right)

@@ -38,6 +38,9 @@ returns-in-Ok-Trial-clause-trial g c t is_trial =
     let found : IsTrial (words_of c.args.words.now) c.in-Ok-Trial.sizes = search rules in
     subst (λ (x : TrialSizes). (numbers : List ℕ) × TrialContract x.geometry (g.S.Site.state c.args.site.now) (g.S.Site.state c.serve_trial.new.site) c.serve_trial.result numbers) (one_trial (words_of c.args.words.now) _ t found is_trial) c.serve_trial.ensures.trial
 
+pub returns-in-Ok-Check-clause-check : goal.returns-in-Ok-Check-clause-check
+returns-in-Ok-Check-clause-check g c is_check = c.check.ensures.check
+
 pub returns-in-Err-Words-clause-refused : goal.returns-in-Err-Words-clause-refused
 returns-in-Err-Words-clause-refused g c two = only_tells _ (g.S.Site.state c.args.site.now) (g.S.Site.state c.tell_words.new.site) c.tell_words.result c.tell_words.ensures
 
@@ -55,6 +58,9 @@ returns-in-Err-Memory-clause-simulate g c caches is_simulate = c.lack_memory.ens
 
 pub returns-in-Err-Memory-clause-trial : goal.returns-in-Err-Memory-clause-trial
 returns-in-Err-Memory-clause-trial g c t is_trial = (0 ∷ [], c.lack_memory.ensures.trial t.geometry)
+
+pub returns-in-Err-Memory-clause-check : goal.returns-in-Err-Memory-clause-check
+returns-in-Err-Memory-clause-check g c is_check = c.lack_memory.ensures.check
 
 pub returns-in-Err-Words-clause-run : goal.returns-in-Err-Words-clause-run
 returns-in-Err-Words-clause-run g c pool is_run =
@@ -77,6 +83,9 @@ returns-in-Ok-Simulate-clause-first g c =
 
 pub returns-in-Ok-Trial-clause-first : goal.returns-in-Ok-Trial-clause-first
 returns-in-Ok-Trial-clause-first g c = inr c.serve_trial.ensures.first
+
+pub returns-in-Ok-Check-clause-first : goal.returns-in-Ok-Check-clause-first
+returns-in-Ok-Check-clause-first g c = inr c.check.ensures.first
 
 pub returns-in-Err-Words-clause-first : goal.returns-in-Err-Words-clause-first
 returns-in-Err-Words-clause-first g c =

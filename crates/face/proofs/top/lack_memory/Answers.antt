@@ -2,6 +2,7 @@ use Rattle.std.proofs.Common.{arith, refl, rules}
 use Rattle.face.specs.Words.{LacksMemory}
 use Rattle.trace_report.proofs.Lacking.{lacked}
 use Rattle.face.proofs.Endings.{only_tells}
+use Rattle.face.proofs.CheckLaws.{lacked_check}
 use Rattle.face.proofs.Firsts.{first_line}
 use Rattle.face.proofs.MemoryLaws.{lacked_contract, lacked_load_run, lacked_run}
 use Rattle.face.proofs.Trials.{lacked_trial}
@@ -24,6 +25,7 @@ returns g c =
         cause = c.tell_memory.ensures.cause;
       });
       trial = λ geometry. lacked_trial geometry old new c.tell_memory.result c.tell_memory.ensures;
+      check = lacked_check 4 old new lacks;
       lacks = lacks;
       first = first_line 4 old new c.tell_memory.result (λ e. omega (arith, e), λ e. omega (arith, e), λ e. omega (arith, e)) c.tell_memory.ensures.faults;
       goes = search rules;

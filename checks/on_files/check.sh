@@ -1,0 +1,93 @@
+#!/usr/bin/env bash
+# A check of a database: what is told, what standard error says of it, and that it changes no file.
+. "$(dirname "$(readlink -f "$0")")/helpers.bash"
+
+# checks NAME STATUS TEXT PATTERN: the check ends with this status after this line, standard error has a line of this
+# pattern, or nothing where the pattern is empty, and each file has the octets and the times of changes as before
+checks() {
+    local name=$1 status=$2 text=$3 pattern=$4 before out got
+    before=$(stat -c '%n %s %y' face.* 2>/dev/null; cat face.* 2>/dev/null | cksum)
+    out=$("${prefix[@]}" "$face" check 2>"$folder/said" </dev/null)
+    got=$?
+    [ "$got" -eq "$status" ] && [ "$out" = "$text" ]
+    local ok=$?
+    [ $ok -eq 0 ] || echo "  $name: status $got, told: $out"
+    verdict "$name" $ok
+    if [ -n "$pattern" ]; then
+        grep -q -x -e "$pattern" "$folder/said"
+    else
+        [ ! -s "$folder/said" ]
+    fi
+    verdict "$name: what is said" $?
+    [ "$before" = "$(stat -c '%n %s %y' face.* 2>/dev/null; cat face.* 2>/dev/null | cksum)" ]
+    verdict "$name: no file is changed" $?
+}
+
+# poke FILE PLACE OCTET: puts the octet, in octal, at this place
+poke() {
+    printf "\\$3" | dd of="$1" bs=1 seek="$2" conv=notrunc status=none
+}
+
+# --- no files
+mkdir "$folder/none"
+cd "$folder/none" || exit 1
+checks 'a folder without files' 11 'unsound S1' 'face: this folder has no database: .*'
+[ -z "$(ls -A)" ]
+verdict 'no file was made' $?
+
+# --- sound devices, and what isn't sound
+mkdir "$folder/db"
+cd "$folder/db" || exit 1
+told 'a new database' 0 'ready 1 8 16' '' new 1 8 16
+checks 'a new database is sound' 0 'sound records 0 commits 0' ''
+poke face.disk 10 001
+checks 'a page that is none' 11 'unsound S1' 'face: rule 1 fails: .*'
+poke face.disk 10 000
+told 'a commit' 0 'open 0/committed 1' 'set 5 0a0b/' run 1
+checks 'a commit is sound' 0 'sound records 1 commits 1' ''
+cp face.log kept
+poke face.log 1590 002
+checks 'another number of a commit' 11 'unsound S11' 'face: rule 11 fails: .*'
+mv kept face.log
+told 'another commit' 0 'open 1/committed 2/committed 3' 'set 5 -/set 6 0c/' run 1
+checks 'three commits on two numbers' 0 'sound records 2 commits 3' ''
+told 'a run finds them' 0 'open 3/value -/value 0c' 'get 5/get 6/' run 1
+
+# --- files that can't be used
+for file in face.log face.flash face.disk; do
+    mv "$file" kept
+    checks "$file is missing" 11 'unsound S1' "face: $file is missing beside the others: .*"
+    head -c 1000 kept >"$file"
+    checks "$file is too short" 11 'unsound S1' "face: $file has 1000 octets, as in no database: .*"
+    mv kept "$file"
+done
+if has flock; then
+    prefix=(flock face.log)
+    checks 'another program is at work' 11 'unsound S1' 'face: another program is at work on face.log: .*'
+    prefix=()
+else
+    skip 'locks of others: need flock'
+fi
+
+# --- words, and a line that can't be told
+told 'a word too many' 2 'fault words' '' check x
+"$face" check >/dev/full 2>"$folder/said" </dev/null
+[ $? -eq 6 ] && grep -q "^face: standard output couldn't be written: No space left on device (os error 28)$" "$folder/said"
+verdict 'an output that is full' $?
+out=$("$face" check 2>&- </dev/null)
+[ $? -eq 0 ] && [ "$out" = 'sound records 2 commits 3' ]
+verdict 'standard error that is closed' $?
+
+# --- a device that fails, and how far a long check has come
+if has strace && strace -o /dev/null true 2>/dev/null; then
+    out=$(strace -f -o /dev/null -P face.disk -e inject=pread64:error=EIO:when=1 "$face" check 2>"$folder/said" </dev/null)
+    [ $? -eq 3 ] && [ "$out" = 'fault disk' ] && grep -q "^face: face.disk couldn't be read: Input/output error (os error 5)$" "$folder/said"
+    verdict 'a disk that cannot be read' $?
+    out=$(strace -f -o /dev/null -P face.disk -e inject=pread64:delay_enter=2200000:when=1 "$face" check 2>"$folder/said" </dev/null)
+    [ $? -eq 0 ] && [ "$out" = 'sound records 2 commits 3' ] && grep -q -x 'check: 0 MiB are read; the files have 1 MiB, .*' "$folder/said"
+    verdict 'a long check says how far it has come' $?
+else
+    skip 'a device that fails: needs strace'
+fi
+
+finish
