@@ -1,6 +1,6 @@
 -- What `check` tells after it has only read, and when each of its statuses comes.
-use Rattle.std.proofs.Common.{◌≡◌, ◌≢◌, ◌⊎◌, inl, inr, ◌++◌, ◌≤◌, ℕ, zero, suc, List, refl, sym, ◌∙◌, ap, arith, le_trans, subst, IsTrue}
-use Rattle.std.specs.Prelude.{Result, count_by, is_some}
+use Rattle.std.proofs.Common.{◌≡◌, ◌≢◌, ◌⊎◌, inl, inr, ◌++◌, ◌≤◌, ℕ, zero, suc, List, refl, sym, ◌∙◌, ap, arith, subst, IsTrue, ⊎_elim}
+use Rattle.std.specs.Prelude.{Result, Ok, Err, count_by, is_some}
 use Rattle.std.proofs.lemmas.Bool.{cases_lt}
 use Rattle.site.specs.declared.outside.Dev.{Dev}
 use Rattle.site.specs.declared.outside.Failed.{Failed as CallFailed}
@@ -18,12 +18,13 @@ use Rattle.image_check.specs.Verdict.{FailsFirst, Reading, Rule, picture_of}
 use Rattle.image_check.specs.Laws.{SoundFailsNone, SoundStands, StandingIsSound}
 use Rattle.engine.specs.Leaves.{HasNoSizes}
 use Rattle.face.specs.declared.halt.Halt.TheVariants as halt
-use Rattle.face.specs.Causes.{NoFaultRose, SameFaults}
+use Rattle.face.specs.Causes.{FirstDecides, NoFaultRose, SameFaults}
 use Rattle.face.specs.Check.{AreSound, Check, CheckCauses, CheckContract, FailsUnread, IsAnswer, OpeningIsSound, SaysSound, SaysUnsound, SoundOpens, verdict_line, verdict_status}
 use Rattle.face.specs.Tells.{Tells}
 use Rattle.face.specs.Texts.{fault_line, status_of}
-use Rattle.face.specs.Words.{LacksMemory, memory_fault}
-use Rattle.face.proofs.Endings.{ends_with}
+use Rattle.face.specs.Words.{LacksMemory, OnlyTells, memory_fault}
+use Rattle.face.proofs.Endings.{ends_with, only_tells}
+use Rattle.face.proofs.Firsts.{first_done}
 use Rattle.face.proofs.Meanings.{opens_where_it_stands, stands_by}
 use Rattle.face.proofs.NewLaws.{moments}
 
@@ -164,6 +165,38 @@ contract fails_none old new status does others sizes faultless = record {
     faultless = faultless;
   };
 }
+
+-- another status than 0 and 11
+pub six_is_neither : (status : ℕ) → status ≡ 6 → (status ≡ 0) ⊎ (status ≡ 11) → ⊥
+six_is_neither status is (inl e) = omega (arith, is, e)
+six_is_neither status is (inr e) = omega (arith, is, e)
+
+pub never_stopped : (stop : Stop) (status : ℕ) → status ≡ status_of (halt.Stop stop) → IsOutside stop → (status ≡ 0) ⊎ (status ≡ 11) → ⊥
+never_stopped (Device dev) status is outside (inl e) = omega (arith, is, e)
+never_stopped (Device dev) status is outside (inr e) = omega (arith, is, e)
+never_stopped Memory status is outside (inl e) = omega (arith, is, e)
+never_stopped Memory status is outside (inr e) = omega (arith, is, e)
+never_stopped (Worn dev) status is outside done = absurd outside
+never_stopped Foreign status is outside done = absurd outside
+
+same_verdict : (judged : Result Verdict Stop) (a b : Verdict) → judged ≡ Ok a → judged ≡ Ok b → a ≡ b
+same_verdict judged a b first second = cc
+
+pub no_verdict : (judged : Result Verdict Stop) (stop : Stop) (v : Verdict) → judged ≡ Err stop → judged ≡ Ok v → ⊥
+no_verdict judged stop v first second = cc
+
+-- devices without sizes: nothing was done before their line is told
+pub fails_unread : {T : Type 0} (judged : Result Verdict Stop) (v : Verdict) (old mid new : State) (status : ℕ) (result : Result T CallFailed) → judged ≡ Ok v → (judged ≡ Ok (Unsound 1)) × (mid ≡ old) → (status ≡ verdict_status v) ⊎ (status ≡ 6) → Tells (verdict_line v) mid new result → FailsUnread old new status
+fails_unread judged v old mid new status result found unread is tells =
+    let first : v ≡ Unsound 1 = same_verdict judged v (Unsound 1) found unread.0 in
+    record {
+      is = ⊎_elim (λ e. inl (e ∙ ap verdict_status first)) (λ e. inr e) is;
+      tells = subst (λ (m : State). OnlyTells (verdict_line (Unsound 1)) m new) unread.1 (subst (λ (w : Verdict). OnlyTells (verdict_line w) mid new) first (only_tells (verdict_line v) mid new result tells));
+    }
+-- the first event is that the verdict is told
+pub first_verdict : (v : Verdict) (status : ℕ) (old new : State) → status ≡ verdict_status v → SameFaults old new → FirstDecides status old new
+first_verdict (Sound records commits) status old new is same = first_done status old new (λ e. omega (arith, is, e), λ e. omega (arith, is, e), λ e. omega (arith, is, e)) same
+first_verdict (Unsound rule) status old new is same = first_done status old new (λ e. omega (arith, is, e), λ e. omega (arith, is, e), λ e. omega (arith, is, e)) same
 
 -- memory was wanted before anything was done
 pub lacked_check : (status : ℕ) (old new : State) → LacksMemory status old new → CheckContract old new status

@@ -37,11 +37,11 @@ halt_first halt.Output status before after is same = inr (inr (inl (is, same)))
 halt_first halt.Limit status before after is same = inr (inr (inr (λ e. omega (arith, is, e), λ e. omega (arith, is, e), λ e. omega (arith, is, e), same)))
 
 -- work that a device ends, or want of memory, halts so
-pub work_halts : {T : Type 0} (stop : Stop) (f : Faults) → after_work {T = T} (Err stop) f ≡ after_halt (halt.Stop stop) f
-work_halts (Device dev) f = refl
-work_halts Memory f = refl
-work_halts (Worn dev) f = refl
-work_halts Foreign f = refl
+pub work_halts : (T : Type 0) (stop : Stop) (f : Faults) → after_work {T = T} (Err stop) f ≡ after_halt (halt.Stop stop) f
+work_halts T (Device dev) f = refl
+work_halts T Memory f = refl
+work_halts T (Worn dev) f = refl
+work_halts T Foreign f = refl
 
 -- a run halts, and its line is told
 pub first_halted : {T : Type 0} (h : Halt) (status : ℕ) (old mid new : State) (result : Result T Failed) → status ≡ status_of h → faults_in mid ≡ after_halt h (faults_in old) → TellFaults result mid new → FirstDecides status old new

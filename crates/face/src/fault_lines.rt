@@ -72,6 +72,15 @@ fn unsound_line(rule: u8) -> Line
     line
 }
 
+fn line_of(verdict: Verdict) -> Line
+    ensures { result ≡ verdict_line verdict }
+{
+    match verdict {
+        Verdict::Sound { records, commits } => sound_line(records, commits),
+        Verdict::Unsound { rule } => unsound_line(rule),
+    }
+}
+
 /// Tells that the words aren't right.
 pub fn tell_words<S: Site>(site: &mut S) -> Result<(), Failed>
     ensures { Tells (codes "fault words\n") (S.state site.old) (S.state site.new) result }
@@ -140,10 +149,5 @@ pub fn tell_ready<S: Site>(site: &mut S, geometry: &Geometry) -> Result<(), Fail
 pub fn tell_verdict<S: Site>(site: &mut S, verdict: Verdict) -> Result<(), Failed>
     ensures { Tells (verdict_line verdict) (S.state site.old) (S.state site.new) result }
 {
-    match verdict {
-        Verdict::Sound { records, commits } => {
-            tell_all(site, sound_line(records, commits).as_slice())
-        }
-        Verdict::Unsound { rule } => tell_all(site, unsound_line(rule).as_slice()),
-    }
+    tell_all(site, line_of(verdict).as_slice())
 }
