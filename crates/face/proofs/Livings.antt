@@ -66,16 +66,16 @@ module _ (law : LawOfLives) (g : Geometry) (before : Between) (octets : List ℕ
       let xs = commands_of d.ended d.octets in
       let is_fault = fault_is status d.fault old new d.of_status in
       record {
-        table = again.next.table;
-        commits = again.next.commits;
+        table = again.opens.next.table;
+        commits = again.opens.next.commits;
         goes_on = record {
           k = again.k;
           in_range = subst (λ (r : Run). IsInRange new.told (texts r) (commit_marks (turns_of r)) again.k) all_is (range_all g opening d.listings xs longer.0 d.fault new.told is_fault is_told again.k range);
-          table_is = again.table ∙ table_all g opening d.listings xs longer.0 d.fault new.told is_fault is_told again.k range ∙ ap (λ (r : Run). after_commits before.table (turns_of r) again.k) all_is;
-          commits_are = again.commits;
+          table_is = again.opens.table ∙ table_all g opening d.listings xs longer.0 d.fault new.told is_fault is_told again.k range ∙ ap (λ (r : Run). after_commits before.table (turns_of r) again.k) all_is;
+          commits_are = again.opens.commits;
         };
         finds = λ site honest quiet is.
-            let good = again.good site honest quiet is in
+            let good = again.opens.good site honest quiet is in
             record { honest = good.honest; quiet = good.quiet; opens = subst (Opens g site.image) good.opens.state good.opens };
       }
 
