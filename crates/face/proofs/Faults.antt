@@ -239,7 +239,7 @@ module _ (pool : ℕ) (g : Geometry) (opening : State) (listings : List (List Ca
           taken = heard.taken ∙ ap (λ (input : Input). works.octets ++ input.left) (sym same_devices.left);
           end = λ e. ap (λ (input : Input). input.left) same_devices.left ∙ heard.end e;
           fault = fault_line h;
-          of_status = inr (h, is, refl, cause);
+          of_status = inr (h, is, refl);
           ends = λ ne. ends_behind mid new h result works goes honest told (λ output. ne (is ∙ ap status_of output));
           any_moment = left_by g opening listings old mid works.heard works.octets works.ended heard new (fault_line h) (inr (h, refl)) (with_fault run works.heard old mid new h works.stops.0 tells);
           quiet = λ ne. same_devices.loose ∙ works.stops.0.quiet (λ e. ne (is ∙ e));
@@ -251,6 +251,7 @@ module _ (pool : ℕ) (g : Geometry) (opening : State) (listings : List (List Ca
               (now.0, sym (append-nil new.told) ∙ now.1);
           over = λ seven. over_by h works.heard works.octets mid works.stops.1 (sym is ∙ seven);
         };
+        caused = inr (h, is, refl, cause);
         resources = record {
           begun = works.heard;
           has_begun = has_begun pool g opening listings (commands_of true old.input.left) lines works.heard heard.same old mid new (fault_line h) now.0 (sym (append-nil new.told) ∙ now.1) heard.enough works.begun;
@@ -302,6 +303,7 @@ module _ (pool : ℕ) (g : Geometry) (opening : State) (listings : List (List Ca
           taking = λ which. ⊎_elim (λ e. absurd (omega (arith, e))) (λ e. absurd (omega (arith, e))) which;
           over = λ e. absurd (omega (arith, e));
         };
+        caused = inl (refl, refl);
         resources = record {
           begun = works.heard;
           has_begun = has_begun pool g opening listings (commands_of true old.input.left) lines works.heard same old new new [] 0 (sym (append-nil new.told)) heard.enough works.begun;

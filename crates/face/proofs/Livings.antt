@@ -7,21 +7,19 @@ use Rattle.site.specs.declared.geometry.Geometry.{Geometry}
 use Rattle.record_model.specs.State.{State, opened}
 use Rattle.record_model.specs.Run.{IsInRange, Line, after_commits, commit_marks}
 use Rattle.engine.specs.Image.{Opens}
-use Rattle.face.specs.Headline.{Durability, IsFaultOf, ran}
+use Rattle.face.specs.Headline.{Durability, ran}
 use Rattle.face.specs.Lines.{commands_of}
 use Rattle.face.specs.Lives.{LawOfLives, OpensAgain}
 use Rattle.face.specs.Living.{Finds, HasLivedOne, IsFoundAfter}
 use Rattle.face.specs.Range.{IsLeft, IsToldOf, run_text, texts, turns_of}
 use Rattle.face.specs.Run.{Run}
-use Rattle.face.specs.Trial.{Between, IsLineOf, IsTextOf, life_run}
+use Rattle.face.specs.Texts.{IsLineOf}
+use Rattle.face.specs.Trial.{Between, IsTextOf, life_run}
 use Rattle.face.proofs.Longer.{all_heard, lines_longer, range_all, run_with, table_all, told_all}
 use Rattle.face.proofs.Ranges.{IsFault}
 
-fault_is : (status : ℕ) (fault : List ℕ) (old new : Site) → IsFaultOf status fault old new → IsFault fault
-fault_is status fault old new is = ⊎_elim (λ none. inl none.1) (λ halt. inr (halt.0, halt.2)) is
-
-line_is : (status : ℕ) (fault : List ℕ) (old new : Site) → IsFaultOf status fault old new → IsLineOf status fault
-line_is status fault old new is = ⊎_elim (λ none. inl none.1) (λ halt. inr (halt.0, halt.1, halt.2)) is
+fault_is : (status : ℕ) (fault : List ℕ) → IsLineOf status fault → IsFault fault
+fault_is status fault is = ⊎_elim (λ none. inl none.1) (λ halt. inr (halt.0, halt.2)) is
 
 -- A run from nothing told is a life, over all lines of the input.
 module _ (law : LawOfLives) (g : Geometry) (before : Between) (octets : List ℕ) (old new : Site) (status : ℕ) (left : old.input.left ≡ octets) (nothing : old.told ≡ [])
@@ -53,7 +51,7 @@ module _ (law : LawOfLives) (g : Geometry) (before : Between) (octets : List ℕ
   is_text : IsTextOf run status new.told
   is_text = record {
     fault = d.fault;
-    of_status = line_is status d.fault old new d.of_status;
+    of_status = d.of_status;
     told = subst (λ (r : Run). IsToldOf r d.fault new.told) all_is (told_all g opening d.listings (commands_of d.ended d.octets) longer.0 d.fault new.told is_told);
     whole = λ zero. sym (told_same (run_text (ran d)) (d.done zero).told) ∙ sym (all_heard g opening d.listings d.ended octets d.octets new.input.left taken d.end (d.heard zero));
   }
@@ -64,18 +62,18 @@ module _ (law : LawOfLives) (g : Geometry) (before : Between) (octets : List ℕ
       let same = told_same again.told again.told_is in
       let range = subst (λ (l : List ℕ). IsInRange l (texts (ran d)) (commit_marks (turns_of (ran d))) again.k) same again.in_range in
       let xs = commands_of d.ended d.octets in
-      let is_fault = fault_is status d.fault old new d.of_status in
+      let is_fault = fault_is status d.fault d.of_status in
       record {
-        table = again.next.table;
-        commits = again.next.commits;
+        table = again.opens.next.table;
+        commits = again.opens.next.commits;
         goes_on = record {
           k = again.k;
           in_range = subst (λ (r : Run). IsInRange new.told (texts r) (commit_marks (turns_of r)) again.k) all_is (range_all g opening d.listings xs longer.0 d.fault new.told is_fault is_told again.k range);
-          table_is = again.table ∙ table_all g opening d.listings xs longer.0 d.fault new.told is_fault is_told again.k range ∙ ap (λ (r : Run). after_commits before.table (turns_of r) again.k) all_is;
-          commits_are = again.commits;
+          table_is = again.opens.table ∙ table_all g opening d.listings xs longer.0 d.fault new.told is_fault is_told again.k range ∙ ap (λ (r : Run). after_commits before.table (turns_of r) again.k) all_is;
+          commits_are = again.opens.commits;
         };
         finds = λ site honest quiet is.
-            let good = again.good site honest quiet is in
+            let good = again.opens.good site honest quiet is in
             record { honest = good.honest; quiet = good.quiet; opens = subst (Opens g site.image) good.opens.state good.opens };
       }
 

@@ -229,13 +229,14 @@ module _ (load : Load) (g : Geometry) (opening : State) (old : Site) (good : IsG
       record {
         durability = record {
           fault = fault_line h;
-          of_status = inr (h, is, refl, cause);
+          of_status = inr (h, is, refl);
           ends = λ ne. load_ends mid new h result works.stops goes honest told (λ output. ne (is ∙ ap status_of output));
           any_moment = with_fault run' summary' old mid new h works.stops tells;
           quiet = λ ne. same.loose ∙ works.stops.quiet (λ e. ne (is ∙ e));
           done = λ zero. absurd (not_zero h (sym is ∙ zero));
           left = same.left ∙ works.left;
         };
+        caused = inr (h, is, refl, cause);
         resources = record {
           begun = works.begun;
           has_begun = still_begun run' works.begun (fault_line h) old mid new tells works.has_begun;
@@ -261,6 +262,7 @@ module _ (load : Load) (g : Geometry) (opening : State) (old : Site) (good : IsG
       done = λ zero. works.done.whole;
       left = works.left;
     };
+    caused = inl (refl, refl);
     resources = record {
       begun = works.begun;
       has_begun = works.has_begun;

@@ -6,7 +6,7 @@ use Rattle.site.specs.declared.geometry.Geometry.{Geometry}
 use Rattle.record_model.specs.declared.words.CacheLine.{CacheLine}
 use Rattle.record_model.specs.State.{State}
 use Rattle.face.specs.declared.halt.Halt.{Halt}
-use Rattle.face.specs.Texts.{fault_line, status_of}
+use Rattle.face.specs.Texts.{IsLineOf, fault_line, status_of}
 use Rattle.redo_undo.specs.Holding.{IsLogWorn}
 use Rattle.engine.specs.Image.{Opens}
 use Rattle.face.specs.Causes.{HasCause}
@@ -73,7 +73,7 @@ pub record Durability (g : Geometry) (opening : State) (old new : Site) (status 
   pub listings : List (List CacheLine)
   -- the fault line of the status
   pub fault : List ℕ
-  pub of_status : IsFaultOf status fault old new
+  pub of_status : IsLineOf status fault
   -- with any status but 6, the fault line comes behind whole texts
   pub ends : status ≢ 6 → EndsBehind (texts (run_of g opening ended octets listings)) fault old new
   -- each snapshot stands for the table after some number of commits in the range of what it has told
@@ -93,9 +93,8 @@ pub record Durability (g : Geometry) (opening : State) (old new : Site) (status 
       (length octets ≡ limit + 1) × (list_any is_quit (commands_of false (take limit octets)) ≡ false)
 
 -- the run over the octets that were taken
-abbrev pub ran : {g : Geometry} {opening : State} {old new : Site} {status : ℕ} → Durability g opening old new status →
-    Run
-ran {g} {opening} d = run_of g opening d.ended d.octets d.listings
+abbrev pub ran : {g : Geometry} {s : State} {old new : Site} {status : ℕ} → Durability g s old new status → Run
+ran {g} {s} d = run_of g s d.ended d.octets d.listings
 
 -- What a run with a pool of so many pages asks of the devices, of which so many lines were begun.
 pub record Resources (pool : ℕ) (run : Run) (begun : ℕ) (old new : Site) (status : ℕ) : Type 0 where
@@ -127,5 +126,6 @@ pub record SerialOrder (run : Run) : Type 0 where
 -- What comes of a run with a pool of so many pages that opens with this state.
 pub record Headline (pool : ℕ) (g : Geometry) (opening : State) (old new : Site) (status : ℕ) : Type 0 where
   pub durability : Durability g opening old new status
+  pub caused : IsFaultOf status durability.fault old new
   pub resources : RunResources pool (ran durability) durability.fault old new status
   pub order : SerialOrder (ran durability)

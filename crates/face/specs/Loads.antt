@@ -24,7 +24,7 @@ use Rattle.face.specs.Range.{turns_of, all_commits, StandsAfter, WearsOut, Never
 use Rattle.face.specs.Range.{AsksNoMore}
 use Rattle.face.specs.Run.{Run, IsFront, StandsFor, after_lines, works_of, checkpoints_of}
 use Rattle.engine.specs.Numbers.{CountsOn}
-use Rattle.face.specs.Texts.{status_of}
+use Rattle.face.specs.Texts.{IsLineOf, status_of}
 use Rattle.face.specs.Workload.{committed_in, checkpoints_in, found_in, load_run, load_texts, load_turns, opening_text}
 use Rattle.face.specs.Workload.{summary_text}
 
@@ -61,7 +61,7 @@ pub record HasBegunLoad (run : Run) (begun : ℕ) (old now : Site) : Type 0 wher
 pub record LoadDurability (load : Load) (g : Geometry) (opening : State) (old new : Site) (status : ℕ) : Type 0 where
   -- the fault line of the status
   pub fault : List ℕ
-  pub of_status : IsFaultOf status fault old new
+  pub of_status : IsLineOf status fault
   -- with any status but 6, the fault line comes behind whole texts
   pub ends : status ≢ 6 → EndsBehind (load_texts (load_run g opening load) load) fault old new
   pub any_moment : LeavesOnly old new
@@ -84,6 +84,7 @@ pub record LoadResources (pool : ℕ) (run : Run) (old new : Site) (status : ℕ
 -- What comes of a load that opens with this state.
 pub record LoadHeadline (load : Load) (g : Geometry) (opening : State) (old new : Site) (status : ℕ) : Type 0 where
   pub durability : LoadDurability load g opening old new status
+  pub caused : IsFaultOf status durability.fault old new
   pub resources : LoadResources load.pool (load_run g opening load) old new status
 
 -- What comes of a load before its fault line. The summary is the empty text as long as it isn't to be told.

@@ -26,13 +26,8 @@ use Rattle.face.specs.Run.{Run, IsFront, AsksFew}
 
 -- the run that opens with this state, over the lines of these octets, with these listings of the cache
 abbrev pub run_of : Geometry → State → Bool → List ℕ → List (List CacheLine) → Run
-run_of g opening ended octets listings = record {
-  geometry = g;
-  opening = opening;
-  lines =
-      commands_of ended octets;
-  listings = listings;
-}
+run_of g opening ended octets listings =
+    record { geometry = g; opening = opening; lines = commands_of ended octets; listings = listings }
 
 -- its turns, by the record model
 abbrev pub turns_of : Run → List Turn
@@ -60,8 +55,7 @@ StandsAfter run k image = Stands run.geometry image (after_commits run.opening.t
 
 -- a front of the run's text, or some of its texts whole and then a front of the fault line
 abbrev pub IsToldOf : Run → List ℕ → List ℕ → Type 0
-IsToldOf run fault told =
-    IsFront told (run_text run)
+IsToldOf run fault told = IsFront told (run_text run)
     ⊎ ((whole : ℕ) × (whole ≤ length (texts run)) × (rest : List ℕ)
     × (told ≡ first_texts run whole ++ rest) × IsFront rest fault)
 

@@ -30,3 +30,8 @@ status_of halt.Output = 6
 status_of halt.Limit = 7
 status_of (halt.Stop (Worn dev)) = 8
 status_of (halt.Stop Foreign) = 9
+
+-- a status, and the fault line that may be told with it
+abbrev pub IsLineOf : ℕ → List ℕ → Type 0
+IsLineOf status fault =
+    ((status ≡ 0) × (fault ≡ [])) ⊎ ((halt : Halt) × (status ≡ status_of halt) × (fault ≡ fault_line halt))

@@ -19,7 +19,7 @@ use Rattle.face.specs.Image.{blank_table}
 use Rattle.face.specs.Range.{IsToldOf, run_of, run_text, texts, turns_of}
 use Rattle.face.specs.Run.{IsFront, Run}
 use Rattle.face.specs.Tells.{EndsWith}
-use Rattle.face.specs.Texts.{fault_line, status_of}
+use Rattle.face.specs.Texts.{IsLineOf, fault_line, status_of}
 
 -- What stands between two lives: what was told of those before, how many changes each of them asked for, and the table
 -- and the number of commits that the next one finds.
@@ -36,10 +36,6 @@ at_first g = record { told = []; changes = []; table = blank_table g; commits = 
 -- The run of a life: it opens with what it finds, has the lines of these octets to answer, and the cache lists this.
 abbrev pub life_run : Geometry → Between → List ℕ → List (List CacheLine) → Run
 life_run g before octets listings = run_of g (opened before.table before.commits 0 (g.blocks - 1)) true octets listings
-
--- the fault line of a status, or none
-abbrev pub IsLineOf : ℕ → List ℕ → Type 0
-IsLineOf status fault = (fault ≡ []) ⊎ ((halt : Halt) × (status ≡ status_of halt) × (fault ≡ fault_line halt))
 
 -- What a run tells that ends with a status: a front of its text, or some of its texts whole and then a front of the
 -- status's fault line. With status 0 it is all of its text.

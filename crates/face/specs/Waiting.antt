@@ -12,8 +12,7 @@ use Rattle.face.specs.Range.{first_texts}
 pub record IsAnswered (run : Run) (old : Site) (t : Take) : Type 0 where
   pub heard : ℕ
   pub here : t.heard ≡ old.input.heard + heard
-  pub told :
-      length (old.told ++ first_texts run (1 + length (answered_of false (take heard old.input.left)))) ≤ t.told
+  pub told : length (old.told ++ first_texts run (1 + length (answered_of false (take heard old.input.left)))) ≤ t.told
 
 -- and so it was wherever the run asked for input
 pub record NobodyWaits (run : Run) (old new : Site) : Type 0 where

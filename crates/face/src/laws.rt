@@ -1,7 +1,7 @@
 // Laws on what an image stands for; their lemmas stand in proofs/.
 ghost use Rattle.face.specs.Check.{OpeningIsSound, SoundOpens};
 ghost use Rattle.face.specs.Image.{OneMeaning, OneOpening, OpensWhereItStands, BlankLaw};
-ghost use Rattle.face.specs.Lives.{LawOfLives};
+ghost use Rattle.face.specs.Lives.{LawOfLives, LawOfLoads};
 
 /// Law: an image stands for one table and one number of commits only.
 pub fn one_meaning()
@@ -42,4 +42,10 @@ pub fn sound_opens()
 /// any moment of it leaves, on any honest and quiet site, and the site itself, once nothing of it is loose.
 pub fn what_is_left_opens()
     ensures { LawOfLives }
+{}
+
+/// Law: what a load leaves opens again, with the table after a number of its commits that what was told allows: none before
+/// its opening is told, all of them once its last line is.
+pub fn what_a_load_leaves_opens()
+    ensures { LawOfLoads }
 {}
