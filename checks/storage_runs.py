@@ -114,13 +114,30 @@ def short(told):
     return repr(told if len(told) < 100 else told[:40] + b' .. ' + told[-50:])
 
 
+def judge(program, allowed):
+    """Judges the files that are there by `check`, which must find one of the allowed tables and change nothing; answers
+    what it tells."""
+    before = program.files()
+    outcome = program.run(['check'])
+    right = {f'sound records {len(table)} commits {commits}\n'.encode() for commits, table in allowed.items()}
+    if outcome.status != 0 or outcome.told not in right:
+        raise Wrong(f'check has status {outcome.status} and tells {short(outcome.told)}, allowed are {sorted(right)}')
+    if program.files() != before:
+        raise Wrong('check changed a file')
+    return outcome.told
+
+
 def find(program, sizes, allowed, pool):
-    """Runs over the files that are there, which must hold one of the allowed tables; answers how many commits it has."""
+    """Judges the files that are there, and runs over them: both must find one of the allowed tables, and the same; answers
+    how many commits it has."""
+    judged = judge(program, allowed)
     lines = ['get %d' % record for record in range(storage_model.SLOTS * sizes.pages)]
     outcome = program.run(['run', str(pool)], lines)
     commits = opened(outcome.told)
     if commits not in allowed:
         raise Wrong(f'a run tells {short(outcome.told)}, allowed are {sorted(allowed)} commits')
+    if not judged.endswith(b' commits %d\n' % commits):
+        raise Wrong(f'check tells {short(judged)}, and a run finds {commits} commits')
     wanted = Course(sizes, commits, allowed[commits], lines).told()
     if outcome.status != 0 or outcome.told != wanted:
         raise Wrong(f'after {commits} commits a value is lost or changed: ' + first_difference(outcome.told, wanted))

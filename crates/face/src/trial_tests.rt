@@ -1,5 +1,7 @@
 // Lives with stops. What is expected was worked out by hand or by another program.
+use crate::top::serve;
 use crate::trial::trial;
+use image_check::{Verdict, check_image};
 use site::{Geometry, MemSite};
 use std::alloc::Global;
 use std::test::Fail;
@@ -60,5 +62,36 @@ fn changes_are_handed_back(rt: HostRuntime) -> Result<(), Fail> {
     let (status, inner) = play(rt.alloc(), &mut site)?;
     assert_eq!(rt; status, 0);
     assert!(rt; inner.lives() == [12, 5].as_slice());
+    Ok(())
+}
+
+// A power cut after each of these numbers of changes, with this seed, leaves sound devices, and so does what follows it.
+#[test]
+fn power_cuts_leave_sound_devices(rt: HostRuntime) -> Result<(), Fail> {
+    let stops: [(u64, u64); 9] = [
+        (1000, 1),
+        (1, 1),
+        (2, 1),
+        (3, 1),
+        (4, 1),
+        (5, 1),
+        (6, 1),
+        (7, 1),
+        (8, 1),
+    ];
+    let mut site = MemSite::new(rt.alloc(), &STANDARD)?;
+    site.feed(b"set 0 aa\nbegin 0\nwrite 0 0 bb\nwrite 0 32 cc\nwrite 0 64 dd\n")?;
+    for (changes, seed) in stops {
+        site.fuse(changes);
+        let _status = serve(rt.alloc(), 1, &mut site);
+        site = site.crash(seed);
+        assert_eq!(rt;
+            check_image(rt.alloc(), &mut site)?,
+            Verdict::Sound {
+                records: 1,
+                commits: 1
+            }
+        );
+    }
     Ok(())
 }
