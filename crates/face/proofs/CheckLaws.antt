@@ -1,5 +1,5 @@
 -- What `check` tells after it has only read, and when each of its statuses comes.
-use Rattle.std.proofs.Common.{◌≡◌, ◌≢◌, ◌⊎◌, inl, inr, ◌++◌, ◌≤◌, ℕ, zero, suc, List, refl, sym, ◌∙◌, ap, arith, subst, IsTrue, ⊎_elim}
+use Rattle.std.proofs.Common.{◌≡◌, ◌⊎◌, inl, inr, ◌++◌, ◌≤◌, ℕ, zero, suc, List, refl, sym, ◌∙◌, ap, arith, subst, IsTrue, ⊎_elim}
 use Rattle.std.specs.Prelude.{Result, Ok, Err, count_by, is_some}
 use Rattle.std.proofs.lemmas.Bool.{cases_lt}
 use Rattle.site.specs.declared.outside.Dev.{Dev}
@@ -8,7 +8,7 @@ use Rattle.site.specs.declared.outside.Stop.{Stop}
 use Rattle.site.specs.declared.outside.Stop.TheVariants.{Device, Memory, Worn, Foreign}
 use Rattle.site.specs.State.{State, Image, faults_of}
 use Rattle.site.specs.Calls.{Goes, IsUnchanged, Rose}
-use Rattle.site.specs.Laws.{stays_honest, unchanged_devices, devices_in_sequence, rose_since}
+use Rattle.site.specs.Laws.{stays_honest, unchanged_devices, devices_in_sequence}
 use Rattle.site.specs.Work.{IsOutside}
 use Rattle.log_records.specs.Log.{table_of}
 use Rattle.image_check.specs.declared.verdict.Verdict.{Verdict}
@@ -19,7 +19,7 @@ use Rattle.image_check.specs.Laws.{SoundFailsNone, SoundStands, StandingIsSound}
 use Rattle.engine.specs.Leaves.{HasNoSizes}
 use Rattle.face.specs.declared.halt.Halt.TheVariants as halt
 use Rattle.face.specs.Causes.{FirstDecides, NoFaultRose, SameFaults}
-use Rattle.face.specs.Check.{AreSound, Check, CheckCauses, CheckContract, FailsUnread, IsAnswer, OpeningIsSound, SaysSound, SaysUnsound, SoundOpens, verdict_line, verdict_status}
+use Rattle.face.specs.Check.{AreSound, Check, CheckContract, FailsUnread, IsAnswer, OpeningIsSound, SaysSound, SaysUnsound, SoundOpens, verdict_line, verdict_status}
 use Rattle.face.specs.Tells.{Tells}
 use Rattle.face.specs.Texts.{fault_line, status_of}
 use Rattle.face.specs.Words.{LacksMemory, OnlyTells, memory_fault}
@@ -193,6 +193,7 @@ fails_unread judged v old mid new status result found unread is tells =
       is = ⊎_elim (λ e. inl (e ∙ ap verdict_status first)) (λ e. inr e) is;
       tells = subst (λ (m : State). OnlyTells (verdict_line (Unsound 1)) m new) unread.1 (subst (λ (w : Verdict). OnlyTells (verdict_line w) mid new) first (only_tells (verdict_line v) mid new result tells));
     }
+
 -- the first event is that the verdict is told
 pub first_verdict : (v : Verdict) (status : ℕ) (old new : State) → status ≡ verdict_status v → SameFaults old new → FirstDecides status old new
 first_verdict (Sound records commits) status old new is same = first_done status old new (λ e. omega (arith, is, e), λ e. omega (arith, is, e), λ e. omega (arith, is, e)) same

@@ -1,5 +1,5 @@
 -- What `check` does: it tells whether the devices are sound, or the first rule that fails, and changes nothing.
-use Rattle.std.specs.Prelude.{◌≡◌, ◌≢◌, ◌⊎◌, ℕ, ◌≤◌, List, ◌++◌, codes, count_by, decimal, is_some, IsTrue}
+use Rattle.std.specs.Prelude.{◌≡◌, ◌⊎◌, ℕ, ◌≤◌, List, ◌++◌, codes, count_by, decimal, is_some, IsTrue}
 use Rattle.site.specs.declared.outside.Dev.{Dev}
 use Rattle.site.specs.declared.outside.Stop.TheVariants.{Device, Memory}
 use Rattle.site.specs.declared.geometry.Geometry.{Geometry}
@@ -21,7 +21,8 @@ use Rattle.face.specs.Words.{OnlyTells, LacksMemory}
 
 -- the line of a verdict, and its status
 abbrev pub verdict_line : Verdict → List ℕ
-verdict_line (Sound records commits) = codes "sound records " ++ decimal records ++ codes " commits " ++ decimal commits ++ codes "\n"
+verdict_line (Sound records commits) =
+    codes "sound records " ++ decimal records ++ codes " commits " ++ decimal commits ++ codes "\n"
 verdict_line (Unsound rule) = codes "unsound S" ++ decimal rule ++ codes "\n"
 
 abbrev pub verdict_status : Verdict → ℕ
@@ -46,7 +47,8 @@ pub record SaysUnsound (line : List ℕ) (site : State) : Type 0 where
 pub record IsAnswer (status : ℕ) (line : List ℕ) (old new : State) : Type 0 where
   pub sound : status ≡ 0 → SaysSound line old
   pub unsound : status ≡ 11 → SaysUnsound line old
-  pub device : status ≡ 3 → (dev : Dev) × (line ≡ fault_line (halt.Stop (Device dev))) × Rose (faults_of dev old) (faults_of dev new)
+  pub device : status ≡ 3 →
+      (dev : Dev) × (line ≡ fault_line (halt.Stop (Device dev))) × Rose (faults_of dev old) (faults_of dev new)
   pub memory : status ≡ 4 → line ≡ fault_line (halt.Stop Memory)
   -- with 6 telling the verdict failed
   pub output : status ≡ 6 → (SaysSound line old ⊎ SaysUnsound line old) × Rose old.output_faults new.output_faults
@@ -102,8 +104,10 @@ pub record OpensWith (image : Image) (records commits : ℕ) : Type 0 where
 
 -- a run over each image that is sound by the rules opens, with these numbers
 abbrev pub SoundOpens : Type 0
-SoundOpens = (image : Image) (records commits : ℕ) → IsSoundWith image records commits → OpensWith image records commits
+SoundOpens = (image : Image) (records commits : ℕ) →
+    IsSoundWith image records commits → OpensWith image records commits
 
 -- and each image over which a run opens is sound by the rules
 abbrev pub OpeningIsSound : Type 0
-OpeningIsSound = (image : Image) (records commits : ℕ) → OpensWith image records commits → IsSoundWith image records commits
+OpeningIsSound = (image : Image) (records commits : ℕ) →
+    OpensWith image records commits → IsSoundWith image records commits

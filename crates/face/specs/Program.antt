@@ -56,7 +56,8 @@ database_words = with_subcommand (with_subcommand (with_subcommand bare new_word
 
 -- and `simulate` with two, `trial` with four, and `check` with none
 abbrev pub program : App
-program = with_subcommand (with_subcommand (with_subcommand database_words simulate_words.top) trial_words.top) check_words.top
+program =
+    with_subcommand (with_subcommand (with_subcommand database_words simulate_words.top) trial_words.top) check_words.top
 
 -- the command is this one, and no argument of it is global
 abbrev pub IsLike : Command → App → Type 0

@@ -38,9 +38,9 @@ fn judge<S: Site>(alloc: Global, site: &mut S) -> Result<Verdict, Stop>
     check_image(alloc, site)
 }
 
-/// The work of `check`: tells whether the devices are sound, or the first rule that fails, and changes nothing. The answer
-/// is the status: 0 where they are sound, 3 where a device failed, 4 for want of memory, 6 where telling failed, 11 where
-/// they aren't sound. Devices without sizes fail the first rule.
+/// The work of `check`: tells whether the devices are sound, or the first rule that fails, and changes nothing. The
+/// answer is the status: 0 where they are sound, 3 where a device failed, 4 for want of memory, 6 where telling failed,
+/// 11 where they aren't sound. Devices without sizes fail the first rule.
 pub fn check<S: Site>(alloc: Global, site: &mut S) -> u8
     ensures check { CheckContract (S.state site.old) (S.state site.new) result }
     ensures goes { Goes (S.state site.old) (S.state site.new) }

@@ -29,8 +29,8 @@ pub fn blank_stands()
     image_meaning::blank_stands();
 }
 
-/// Law: a run over an image opens exactly where all rules hold for it, as `check` finds: with so many values after so many
-/// commits.
+/// Law: a run over an image opens exactly where all rules hold for it, as `check` finds: with so many values after so
+/// many commits.
 pub fn sound_opens()
     ensures opens { SoundOpens }
     ensures sound { OpeningIsSound }

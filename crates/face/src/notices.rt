@@ -146,7 +146,9 @@ fn say_words<R: Eprint>(rt: &R, words: &[String]) {
         }
         Some(Wrong::Unknown) => {
             let word = word_at(words, 1);
-            eprintln!(rt; "face: word 1 is {word:?}, and not new, run, load, simulate, trial or check")
+            eprintln!(rt;
+                "face: word 1 is {word:?}, and not new, run, load, simulate, trial or check"
+            )
         }
         Some(Wrong::Unfit(place, number)) => {
             let word = word_at(words, place);

@@ -14,7 +14,8 @@ ghost use Rattle.face.specs.Working.{Works};
 ghost use Rattle.face.specs.declared.request.Load.{Load};
 ghost use Rattle.face.specs.declared.request.Simulation.{Simulation};
 ghost use Rattle.face.specs.declared.request.TrialSizes.{TrialSizes};
-ghost use Rattle.face.specs.Words.{IsCheck, IsRun, IsNew, IsLoad, IsSimulate, HasTrialLimits, IsTrial, IsRight, HasDash, words_of};
+ghost use Rattle.face.specs.Words.{IsCheck, IsRun, IsNew, IsLoad, IsSimulate, HasTrialLimits, IsTrial, IsRight};
+ghost use Rattle.face.specs.Words.{HasDash, words_of};
 ghost use Rattle.face.specs.Check.{CheckContract};
 ghost use Rattle.trace_report.specs.Contract.{SimulateContract};
 ghost use Rattle.face.specs.Trial.{TrialContract};
@@ -156,9 +157,9 @@ fn serve_trial<S: Site>(alloc: Global, sizes: &TrialSizes, site: &mut S) -> u8
 /// `new PAGES GROUPS BLOCKS` test that the devices have these sizes and are blank. The words `load COUNT SEED POOL`,
 /// with COUNT from 1 to 100,000 and SEED below 2^64, are the work of `serve_load`. The words `simulate GROUPS POOL`, with
 /// GROUPS a multiple of 4 from 8 to 16,384, tell what three page caches do with the trace on the input, and touch no
-/// device. The words `trial PAGES GROUPS BLOCKS POOL`, with at most 1,024 pages, 256 groups and 4,096 blocks, are the work of
-/// `trial`, on a site in memory of these sizes, and touch no device either. The word `check` tells whether the devices are
-/// sound, and changes nothing. All other words have status 2.
+/// device. The words `trial PAGES GROUPS BLOCKS POOL`, with at most 1,024 pages, 256 groups and 4,096 blocks, are the
+/// work of `trial`, on a site in memory of these sizes, and touch no device either. The word `check` tells whether the
+/// devices are sound, and changes nothing. All other words have status 2.
 /// Reading the words may want memory, which has status 4; then nothing is read or changed.
 pub fn face<S: Site>(alloc: Global, words: &[String], site: &mut S) -> u8
     // What each command does, and when each of its statuses comes.

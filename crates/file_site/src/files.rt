@@ -112,7 +112,8 @@ where
         Ok(site)
     }
 
-    /// As `existing`, for a check of the files: where it takes long to read them, standard error says how far it has come.
+    /// As `existing`, for a check of the files: where it takes long to read them, standard error says how far it has
+    /// come.
     pub fn for_check(rt: R, alloc: Global) -> Result<FileSite<R>, Stop>
         ensures fresh { IfOk result (λ site. IsFresh (state_of site.book)) }
         ensures memory { IfErr result (λ stop. stop ≡ Stop.Memory) }

@@ -9,8 +9,8 @@ const UNSOUND: &[u8] = b"unsound S";
 // What a front's place is once the line is known not to begin so.
 const OTHER: usize = usize::MAX;
 
-/// The number of replies that refused a line, the first line of the input that ends with a carriage return, and the rule
-/// that was told to fail.
+/// The number of replies that refused a line, the first line of the input that ends with a carriage return, and the
+/// rule that was told to fail.
 #[derive(Clone, Copy, Debug, PartialEq, Eq, Drop)]
 pub struct Watch {
     line: u64,

@@ -1,11 +1,10 @@
-use Rattle.std.proofs.Common.{◌≡◌, ◌⊎◌, ◌∙◌, ap, arith, inl, inr, refl, rules, subst}
+use Rattle.std.proofs.Common.{◌∙◌, ap, inl, inr, refl, rules}
 use Rattle.std.specs.Prelude.{Err}
 use Rattle.site.specs.Faults.{with_output_fault}
 use Rattle.site.specs.Laws.{fault_then, stays_honest}
 use Rattle.site.specs.declared.outside.Dev.{Dev}
-use Rattle.site.specs.declared.outside.Stop.TheVariants.{Device}
 use Rattle.image_check.specs.declared.verdict.Verdict.{Verdict}
-use Rattle.face.specs.Check.{CheckContract, FailsUnread, verdict_line}
+use Rattle.face.specs.Check.{verdict_line}
 use Rattle.face.specs.Texts.{fault_line}
 use Rattle.face.specs.declared.halt.Halt.TheVariants as halt
 use Rattle.face.proofs.CheckLaws.{answer_stopped, answer_told, answer_untold, checked, contract, fails_unread, first_verdict, never_stopped, no_verdict, six_is_neither, stopped_others, told_others}
