@@ -1,6 +1,6 @@
 -- Values counted page by page.
-use Rattle.std.proofs.Common.{◌≡◌, ℕ, zero, suc, ◌+◌, ◌*◌, ◌<◌, Bool, cond, List, [], ◌∷◌, ◌++◌, map, length, count_by, is_some, refl, sym, ap, ◌∙◌, arith}
-use Rattle.std.specs.Prelude.{Option, Some, None, option_copied}
+use Rattle.std.proofs.Common.{◌≡◌, ℕ, zero, suc, ◌+◌, ◌*◌, ◌<◌, Bool, true, false, cond, ◌≤◌, option_map, List, [], ◌∷◌, ◌++◌, map, length, count_by, is_some, refl, sym, ap, subst, ◌∙◌, arith}
+use Rattle.std.specs.Prelude.{Option, Some, None, IfSome, IfNone}
 use Rattle.std.specs.List.{range_with_len}
 use Rattle.std.proofs.lemmas.List.FromFn.{sum_by-map-range_with_len_more}
 use Rattle.site.specs.declared.geometry.Geometry.{Geometry}
@@ -10,6 +10,9 @@ use Rattle.log_records.specs.Log.{Entry, Version, version_at, slot_at, value_of,
 use Rattle.log_records.specs.Sound.{Pairwise}
 use Rattle.slotted_page.specs.Layout.{slots_of}
 use Rattle.log_laws.proofs.Parts.{all_left}
+use Rattle.second_chance.specs.Queue.{Queue}
+use Rattle.image_check.specs.declared.rings.Rings.{Rings}
+use Rattle.image_check.specs.Newest.{AreLive, ShowsFrames}
 use Rattle.image_meaning.specs.Meaning.{version_in, versions_on}
 use Rattle.image_meaning.proofs.Redos.{slot_of_page}
 use Rattle.image_meaning.proofs.Versions.{length-versions}
@@ -59,3 +62,22 @@ slot_has pages page slot octets content b less version is same =
 pub pairs_front : {X : Type 0} (R : X → X → Type 0) (xs ys : List X) → Pairwise R (xs ++ ys) → Pairwise R xs
 pairs_front R [] ys pairs = tt
 pairs_front R (x ∷ xs) ys pairs = (all_left (R x) xs ys pairs.0, pairs_front R xs ys pairs.1)
+
+pub one_at_most : (n : ℕ) (b : Bool) → n ≡ cond b 1 0 → n ≤ 1
+one_at_most n true is = omega (arith, is)
+one_at_most n false is = omega (arith, is)
+
+pub some_mapped : {A B : Type 0} (f : A → B) (o : Option A) → is_some o ≡ is_some (option_map f o)
+some_mapped f None = refl
+some_mapped f (Some x) = refl
+
+-- what was found
+
+pub shows_some : (g : Geometry) (image : Image) (o : Option Queue) (frames : Queue) → o ≡ Some frames → IfSome o (λ found. ShowsFrames g image found) → ShowsFrames g image frames
+shows_some g image o frames is shown = subst (λ (x : Option Queue). IfSome x (λ found. ShowsFrames g image found)) is shown
+
+pub live_some : (rings : Rings) (o : Option Queue) (frames : Queue) → o ≡ Some frames → IfSome o (λ found. AreLive rings found) → AreLive rings frames
+live_some rings o frames is live = subst (λ (x : Option Queue). IfSome x (λ found. AreLive rings found)) is live
+
+pub none_found : (o : Option Queue) → o ≡ None → IfNone o ⊥ → ⊥
+none_found o is none = subst (λ (x : Option Queue). IfNone x ⊥) is none

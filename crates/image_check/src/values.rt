@@ -1,5 +1,5 @@
 // The numbers that have a value.
-ghost use Rattle.std.specs.Prelude.{◌≡◌, ◌*◌, ◌-◌, ◌+◌, ◌<◌, ◌≤◌, ℕ, List, map, count_by, is_some, IsTrue, IfOk};
+ghost use Rattle.std.specs.Prelude.{◌≡◌, ◌*◌, ◌-◌, ◌+◌, ◌<◌, ◌≤◌, ℕ, List, map, count_by, is_some, IsTrue, IfOk, if◌then◌else◌};
 ghost use Rattle.std.specs.List.{range_with_len};
 ghost use Rattle.log_records.specs.declared.log_record.LogRecord.{LogRecord};
 ghost use Rattle.log_records.specs.Log.{Entry, Version, version_at, value_of, table_of, log_from};
@@ -52,6 +52,13 @@ fn written_from<S: Site>(
     Ok(written)
 }
 
+// One where there is a value.
+fn one_if(has_value: bool) -> u64
+    ensures { result ≡ (if has_value then 1 else 0) }
+{
+    if has_value { 1 } else { 0 }
+}
+
 // How many numbers of a page have a value, by its version.
 fn count_on(written: &Writings, page: u32, version: &Page) -> u64
     requires { IsSound version.now }
@@ -65,7 +72,7 @@ fn count_on(written: &Writings, page: u32, version: &Page) -> u64
     for slot in 0..32u8 {
         let in_slot = version.get(slot).is_some();
         let has_value = written.has_value(32 * page as u64 + slot as u64, in_slot);
-        count += u64::from(has_value);
+        count += one_if(has_value);
     }
     count
 }
@@ -131,6 +138,33 @@ fn count_pages<S: Site>(
     Ok(count)
 }
 
+// The same: finds the newest frames first, by the heads of the groups.
+fn count_all<S: Site>(
+    alloc: Global,
+    site: &mut S,
+    geometry: &Geometry,
+    rings: &Rings,
+    written: &Writings,
+) -> Result<u64, Stop>
+    requires { MayRead geometry.now rings.now (S.state site.old) }
+
+    ensures values { (log : List Entry) → IsTrue (S.state site.old).honest → AreFound rings.now (S.state site.old)
+        → AreGroups geometry.now (S.state site.old).image → AreVersions geometry.now (S.state site.old).image
+        → AreWritten log log written.now → IfOk result (λ count. count
+        ≡ count_by is_some (table_of log (versions_on geometry.now (S.state site.old).image))) }
+    ensures reads { OnlyReads result (S.state site.old) (S.state site.new) }
+{
+    let frames = match find_frames(alloc, site, geometry, rings) {
+        Ok(Some(frames)) => frames,
+        Ok(None) => return Ok(0),
+        Err(stop) => return Err(stop),
+    };
+    match count_pages(site, geometry, rings, &frames, written) {
+        Ok(count) => Ok(count),
+        Err(stop) => Err(stop),
+    }
+}
+
 /// How many numbers have a value in the table that devices stand for which meet the rules before: an unfinished
 /// transaction counts as undone. It reads each kept block once, the heads of the groups, and the newest version of each
 /// page; it holds what is kept of the last record on each number that the log has written.
@@ -157,12 +191,12 @@ pub fn count_values<S: Site>(
         (record { g = log.now.geometry; master = master.now; blocks = blocks }) (S.state site.old).image)) }
     ensures reads { OnlyReads result (S.state site.old) (S.state site.new) }
 {
-    let written = written_from(alloc, site, log, master.kept)?;
-    let geometry = log.geometry();
-    let Some(frames) = find_frames(alloc, site, &geometry, rings)? else {
-        return Ok(0);
+    let written = match written_from(alloc, site, log, master.kept) {
+        Ok(written) => written,
+        Err(stop) => return Err(stop),
     };
-    match count_pages(site, &geometry, rings, &frames, &written) {
+    let geometry = log.geometry();
+    match count_all(alloc, site, &geometry, rings, &written) {
         Ok(count) => Ok(count),
         Err(stop) => Err(stop),
     }
