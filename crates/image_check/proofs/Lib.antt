@@ -18,3 +18,6 @@ pub mod CleanOnes
 pub mod HeldOnes
 pub mod ChainOnes
 pub mod StrayOnes
+pub mod NewestRead
+pub mod WrittenOnes
+pub mod ValuesCounted

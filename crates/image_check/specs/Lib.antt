@@ -11,3 +11,4 @@ pub mod Opening
 pub mod Unended
 pub mod Verdict
 pub mod Walking
+pub mod Writing

@@ -25,6 +25,7 @@ mod values;
 mod verdict;
 mod versions;
 mod walk;
+mod written;
 
 pub use blocks::rule_blocks;
 pub use clean::rule_clean;

@@ -3,7 +3,7 @@ ghost use Rattle.std.specs.Prelude.{◌<◌, ◌≤◌, length, IfOk};
 ghost use Rattle.site.specs.MemState.{state_of};
 
 use crate::{
-    rule_apart, rule_blocks, rule_clean, rule_commits, rule_following, rule_groups, rule_kept,
+    count_values, rule_apart, rule_blocks, rule_clean, rule_commits, rule_following, rule_groups, rule_kept,
     rule_lengths, rule_master, rule_named, rule_rings, rule_room, rule_segments, rule_transactions,
     rule_undoable, rule_versions,
 };
@@ -486,5 +486,57 @@ fn a_clean_frame_that_differs_from_the_disk(rt: HostRuntime) -> Result<(), Fail>
     let mut site = with_groups(rt.alloc())?;
     site.write_at(Dev::Disk, 10, &[1])?;
     assert_eq!(rt; are_clean(&mut site)?, Some(false));
+    Ok(())
+}
+
+// The entry of a slot with the empty value.
+const ENTRY: [u8; 4] = [0x10, 0x00, 0x00, 0x01];
+
+// How many numbers have a value, where the rings are of the form.
+fn values_on(alloc: Global, site: &mut MemSite) -> Result<Option<u64>, Stop> {
+    let Some(geometry) = rule_lengths(site) else {
+        return Ok(None);
+    };
+    let log = LogStore::start(site, &geometry)?;
+    if !rule_kept(&log, &Master::blank()) {
+        return Ok(None);
+    }
+    let Some(rings) = rule_rings(site, &geometry)? else {
+        return Ok(None);
+    };
+    let count = count_values(alloc, site, &log, &rings, &Master::blank())?;
+    Ok(Some(count))
+}
+
+#[test]
+fn the_value_of_the_first_commit(rt: HostRuntime) -> Result<(), Fail> {
+    let mut site = with_block(rt.alloc(), &BLOCK)?;
+    assert_eq!(rt; values_on(rt.alloc(), &mut site)?, Some(1));
+    Ok(())
+}
+
+#[test]
+fn no_value_of_an_unfinished_transaction(rt: HostRuntime) -> Result<(), Fail> {
+    let mut site = with_unfinished(rt.alloc())?;
+    assert_eq!(rt; values_on(rt.alloc(), &mut site)?, Some(0));
+    Ok(())
+}
+
+// Slot 0 of the frame in the fourth group.
+#[test]
+fn a_value_in_the_newest_frame(rt: HostRuntime) -> Result<(), Fail> {
+    let mut site = with_groups(rt.alloc())?;
+    site.write_at(Dev::Flash, 99_993, &ENTRY)?;
+    assert_eq!(rt; values_on(rt.alloc(), &mut site)?, Some(1));
+    Ok(())
+}
+
+// Slot 0 of the disk page, and of the frame in the third group.
+#[test]
+fn values_behind_the_newest_frame(rt: HostRuntime) -> Result<(), Fail> {
+    let mut site = with_groups(rt.alloc())?;
+    site.write_at(Dev::Disk, 16, &ENTRY)?;
+    site.write_at(Dev::Flash, 66_713, &ENTRY)?;
+    assert_eq!(rt; values_on(rt.alloc(), &mut site)?, Some(0));
     Ok(())
 }
