@@ -16,5 +16,6 @@ pub mod LeftOnes
 pub mod LastOnes
 pub mod CleanOnes
 pub mod HeldOnes
+pub mod ShownOnes
 pub mod ChainOnes
 pub mod StrayOnes

@@ -4,8 +4,8 @@ ghost use Rattle.site.specs.MemState.{state_of};
 
 use crate::{
     rule_apart, rule_blocks, rule_clean, rule_commits, rule_following, rule_groups, rule_kept,
-    rule_lengths, rule_master, rule_named, rule_rings, rule_room, rule_segments, rule_transactions,
-    rule_undoable, rule_versions,
+    rule_lengths, rule_master, rule_named, rule_rings, rule_room, rule_segments, rule_shown,
+    rule_transactions, rule_undoable, rule_versions,
 };
 use checkpoint::{Master, Pairs};
 use log_store::LogStore;
@@ -486,5 +486,95 @@ fn a_clean_frame_that_differs_from_the_disk(rt: HostRuntime) -> Result<(), Fail>
     let mut site = with_groups(rt.alloc())?;
     site.write_at(Dev::Disk, 10, &[1])?;
     assert_eq!(rt; are_clean(&mut site)?, Some(false));
+    Ok(())
+}
+
+// The front of a page with 0a0b in slot 5, which knows of the first Update.
+const PAGE: [u8; 40] = [
+    0x00, 0x00, 0x00, 0x00, 0x00, 0x00, 0x00, 0x03, // LSN
+    0x00, 0x02, // used
+    0x00, 0x00, 0x00, 0x00, 0x00, 0x00, // zeros
+    0x00, 0x00, 0x00, 0x00, // slot 0
+    0x00, 0x00, 0x00, 0x00, // slot 1
+    0x00, 0x00, 0x00, 0x00, // slot 2
+    0x00, 0x00, 0x00, 0x00, // slot 3
+    0x00, 0x00, 0x00, 0x00, // slot 4
+    0x0f, 0xfe, 0x00, 0x03, // slot 5
+];
+
+// Devices with the block of the first commit, and on disk a page with this LSN and these two octets in slot 5.
+fn with_page(alloc: Global, lsn: u16, value: [u8; 2]) -> Result<MemSite, Fail> {
+    let mut site = MemSite::new(alloc, &SMALL)?;
+    site.write_at(Dev::Log, 1_536, &BLOCK)?;
+    let mut front = PAGE;
+    front[6] = (lsn / 256) as u8;
+    front[7] = (lsn % 256) as u8;
+    site.write_at(Dev::Disk, 0, &front)?;
+    site.write_at(Dev::Disk, 4_094, &value)?;
+    Ok(site)
+}
+
+// Whether versions show what the log has, where the rings are of the form.
+fn are_shown(alloc: Global, site: &mut MemSite, master: &Master) -> Result<Option<bool>, Stop> {
+    let Some(geometry) = rule_lengths(site) else {
+        return Ok(None);
+    };
+    let Some(rings) = rule_rings(site, &geometry)? else {
+        return Ok(None);
+    };
+    let log = LogStore::start(site, &geometry)?;
+    if !rule_kept(&log, master) {
+        return Ok(None);
+    }
+    Ok(Some(rule_shown(alloc, site, &log, &rings, master)?))
+}
+
+#[test]
+fn a_page_that_shows_the_first_commit(rt: HostRuntime) -> Result<(), Fail> {
+    let mut site = with_page(rt.alloc(), 3, [0x0a, 0x0b])?;
+    assert_eq!(rt;
+        are_shown(rt.alloc(), &mut site, &later_master(Pairs::new()))?,
+        Some(true)
+    );
+    Ok(())
+}
+
+#[test]
+fn a_page_that_shows_another_value(rt: HostRuntime) -> Result<(), Fail> {
+    let mut site = with_page(rt.alloc(), 3, [0x0a, 0x0c])?;
+    assert_eq!(rt;
+        are_shown(rt.alloc(), &mut site, &Master::blank())?,
+        Some(false)
+    );
+    Ok(())
+}
+
+#[test]
+fn a_page_that_knows_of_no_record_yet(rt: HostRuntime) -> Result<(), Fail> {
+    let mut site = with_page(rt.alloc(), 2, [0x0a, 0x0c])?;
+    assert_eq!(rt;
+        are_shown(rt.alloc(), &mut site, &Master::blank())?,
+        Some(true)
+    );
+    Ok(())
+}
+
+#[test]
+fn a_page_that_misses_a_record_before_the_redo_block(rt: HostRuntime) -> Result<(), Fail> {
+    let mut site = with_page(rt.alloc(), 2, [0x0a, 0x0b])?;
+    assert_eq!(rt;
+        are_shown(rt.alloc(), &mut site, &later_master(Pairs::new()))?,
+        Some(false)
+    );
+    Ok(())
+}
+
+#[test]
+fn a_page_that_knows_of_a_record_behind_the_sealed_ones(rt: HostRuntime) -> Result<(), Fail> {
+    let mut site = with_page(rt.alloc(), 512, [0x0a, 0x0b])?;
+    assert_eq!(rt;
+        are_shown(rt.alloc(), &mut site, &Master::blank())?,
+        Some(false)
+    );
     Ok(())
 }
