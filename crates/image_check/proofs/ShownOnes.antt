@@ -128,8 +128,8 @@ logged_each end pages lsns are all page less =
     let test : Version → Bool = λ v. is_logged end v.lsn in
     let passed : list_all test pages ≡ true = sym (ap (list_all (is_logged end)) are ∙ list_all-map (is_logged end) (λ (v : Version). v.lsn) pages) ∙ all in
     elim (cases_Bool (test (version_at pages page))) [
-      | inl yes ↦ yes
-      | inr no ↦ absurd (true≢false (sym passed ∙ list_all_at test pages page blank_version less no))
+      | inl passes ↦ passes
+      | inr fails ↦ absurd (true≢false (sym passed ∙ list_all_at test pages page blank_version less fails))
     ]
 
 each_passes : (test : Version → Bool) (pages : List Version) → ((page : ℕ) → page < length pages → test (version_at pages page) ≡ true) → list_all test pages ≡ true
