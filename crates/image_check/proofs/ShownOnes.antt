@@ -38,7 +38,7 @@ versions_later g rings frames a b goes same finds = record {
   honest = stays_honest a b goes finds.honest;
   found = found_later rings a b same finds.found;
   groups = subst (AreGroups g) (sym same) finds.groups;
-  frames = subst (λ (image : Image). ShowsFrames g image frames) (sym same) finds.frames;
+  shown = subst (λ (image : Image). ShowsFrames g image frames) (sym same) finds.shown;
 }
 
 -- One record more.

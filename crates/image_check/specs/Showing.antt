@@ -18,7 +18,7 @@ pub record FindsVersions (g : Geometry) (rings : Rings) (frames : Queue) (site :
   pub honest : IsTrue site.honest
   pub found : AreFound rings site
   pub groups : AreGroups g site.image
-  pub frames : ShowsFrames g site.image frames
+  pub shown : ShowsFrames g site.image frames
 
 -- a version knows of nothing, or of no record behind an end
 abbrev pub is_logged : ℕ → ℕ → Bool

@@ -293,6 +293,48 @@ impl Expected {
     }
 }
 
+// The sixth rule, where the newest frames of pages are known.
+fn show_log<S: Site>(
+    alloc: Global,
+    site: &mut S,
+    log: &LogStore,
+    rings: &Rings,
+    master: &Master,
+    frames: &Directory,
+) -> Result<bool, Stop>
+    requires going { MayGoOn log.now (S.state site.old) }
+    requires may_read { MayRead log.now.geometry rings.now (S.state site.old) }
+    requires live { log.now.ring.hi ≤ master.now.kept + (log.now.geometry.blocks - 1) }
+    requires redo { master.now.redo ≤ log.now.ring.hi }
+    requires frames { AreLive rings.now frames.now }
+
+    ensures shown { (blocks : List (List LogRecord)) → Finds log.now (S.state site.old)
+        → FindsVersions log.now.geometry rings.now frames.now (S.state site.old)
+        → AreVersions log.now.geometry (S.state site.old).image
+        → HasBlocks log.now.geometry master.now.kept blocks (S.state site.old).image
+        → IfOk result (λ stand. IsTrue stand ↔ Rule6 (picture_of
+        (record { g = log.now.geometry; master = master.now; blocks = blocks }) (S.state site.old).image)) }
+    ensures reads { OnlyReads result (S.state site.old) (S.state site.new) }
+{
+    let geometry = log.geometry();
+    let lsns = match version_lsns(alloc, site, &geometry, rings, frames) {
+        Ok(lsns) => lsns,
+        Err(stop) => return Err(stop),
+    };
+    if !are_logged(&lsns, log.sealed_end()) {
+        return Ok(false);
+    }
+    let expected = match Expected::of_log(alloc, site, log, master, &lsns) {
+        Ok(Some(expected)) => expected,
+        Ok(None) => return Ok(false),
+        Err(stop) => return Err(stop),
+    };
+    match expected.is_in_versions(site, &geometry, rings, frames) {
+        Ok(shown) => Ok(shown),
+        Err(stop) => Err(stop),
+    }
+}
+
 /// The sixth rule, of devices that meet the first one: whether each version shows the records that it knows of, knows
 /// of all before the redo block, and of none that isn't sealed. It reads the heads of the live groups and each kept
 /// block once, and each version twice; it holds an LSN for each page, where the newest frames stand, and what the kept
@@ -317,25 +359,12 @@ pub fn rule_shown<S: Site>(
         (record { g = log.now.geometry; master = master.now; blocks = blocks }) (S.state site.old).image)) }
     ensures reads { OnlyReads result (S.state site.old) (S.state site.new) }
 {
-    let geometry = log.geometry();
-    let frames = match find_frames(alloc, site, &geometry, rings) {
+    let frames = match find_frames(alloc, site, &log.geometry(), rings) {
         Ok(Some(frames)) => frames,
         Ok(None) => return Ok(false),
         Err(stop) => return Err(stop),
     };
-    let lsns = match version_lsns(alloc, site, &geometry, rings, &frames) {
-        Ok(lsns) => lsns,
-        Err(stop) => return Err(stop),
-    };
-    if !are_logged(&lsns, log.sealed_end()) {
-        return Ok(false);
-    }
-    let expected = match Expected::of_log(alloc, site, log, master, &lsns) {
-        Ok(Some(expected)) => expected,
-        Ok(None) => return Ok(false),
-        Err(stop) => return Err(stop),
-    };
-    match expected.is_in_versions(site, &geometry, rings, &frames) {
+    match show_log(alloc, site, log, rings, master, &frames) {
         Ok(shown) => Ok(shown),
         Err(stop) => Err(stop),
     }
