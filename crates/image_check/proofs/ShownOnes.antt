@@ -1,10 +1,10 @@
 -- What versions know of a log, record by record, and the sixth rule of it.
-use Rattle.std.proofs.Common.{◌≡◌, ℕ, zero, suc, ◌+◌, ◌*◌, ◌/◌, ◌≤◌, ◌<◌, ◌==◌, ◌||◌, ◌&&◌, inl, inr, Bool, true, false, true≢false, cond, nat_eq, nat_lt, nat_le, List, [], ◌∷◌, ◌++◌, length, map, Option, Some, None, option_map, IsTrue, refl, sym, ap, ◌∙◌, subst, arith}
-use Rattle.std.specs.Prelude.{slice_get, slice_index_or}
+use Rattle.std.proofs.Common.{◌≡◌, ℕ, suc, ◌+◌, ◌*◌, ◌/◌, ◌≤◌, ◌<◌, ◌==◌, ◌&&◌, inl, inr, Bool, true, false, true≢false, cond, nat_eq, nat_lt, nat_le, List, [], ◌∷◌, ◌++◌, length, map, Option, Some, None, option_map, refl, sym, ap, ◌∙◌, subst, arith}
+use Rattle.std.specs.Prelude.{slice_get}
 use Rattle.std.specs.List.{AllByRecursion, list_all, range_with_len}
 use Rattle.std.specs.Option.{option_or}
 use Rattle.std.specs.Map.{lookup}
-use Rattle.std.proofs.lemmas.Bool.{and_from, and_parts, cases_Bool, cases_eq, eqb-true, eq-eqb, ne_eqb}
+use Rattle.std.proofs.lemmas.Bool.{and_from, cases_Bool, cases_eq, eqb-true, ne_eqb}
 use Rattle.std.proofs.lemmas.Bool.Decides.{nat_tests}
 use Rattle.std.proofs.lemmas.Option.{slice_get-map, slice_get-get_or, slice_get_within, none-some, same_Some}
 use Rattle.std.proofs.lemmas.List.{map-append}
@@ -16,12 +16,10 @@ use Rattle.site.specs.Calls.{Goes}
 use Rattle.site.specs.Laws.{stays_honest}
 use Rattle.indexmap.specs.IndexMap.{IndexMap, get}
 use Rattle.record_model.specs.State.{Content, content_at}
-use Rattle.log_records.specs.declared.log_record.LogRecord.{LogRecord}
-use Rattle.log_records.specs.declared.log_record.LogRecord.TheVariants.{Begin, Update, Clr, Commit, End}
 use Rattle.log_records.specs.Log.{Entry, Version, blank_version, version_at, number_of, is_number, is_on, after_of, last_where}
-use Rattle.log_records.specs.Sound.{Picture, FitsLog, ShowsLast, before_block, last_known}
+use Rattle.log_records.specs.Sound.{Picture, ShowsLast, before_block, last_known}
 use Rattle.log_laws.proofs.Lists.{last_where-append}
-use Rattle.slotted_page.specs.Layout.{lsn_of, slots_of}
+use Rattle.slotted_page.specs.Layout.{lsn_of}
 use Rattle.second_chance.specs.Queue.{Queue}
 use Rattle.flash_cache.specs.Held.{version_on}
 use Rattle.image_meaning.specs.Meaning.{version_in, versions_on}
@@ -246,8 +244,11 @@ pub record Knows {S : Type 0} (redo : ℕ) (lsns : List ℕ) (contents : IndexMa
 abbrev pub first_lsns : Geometry → Image → ℕ → List ℕ
 first_lsns g image n = map (λ (v : Version). v.lsn) (map (λ number. version_in (version_on g image number)) (range_with_len 0 n))
 
-pub more_lsns : (g : Geometry) (image : Image) (n : ℕ) → first_lsns g image (n + 1) ≡ first_lsns g image n ++ lsn_of (version_on g image n) ∷ []
+more_lsns : (g : Geometry) (image : Image) (n : ℕ) → first_lsns g image (n + 1) ≡ first_lsns g image n ++ lsn_of (version_on g image n) ∷ []
 more_lsns g image n =
     let f : ℕ → Version = λ number. version_in (version_on g image number) in
     let lsn : Version → ℕ = λ v. v.lsn in
     ap (map lsn) (map-range_with_len_more f 0 n n (omega arith)) ∙ map-append lsn (map f (range_with_len 0 n)) (f n ∷ [])
+
+pub lsns_more : (g : Geometry) (image : Image) (n lsn : ℕ) (old new : List ℕ) → old ≡ first_lsns g image n → lsn ≡ lsn_of (version_on g image n) → new ≡ old ++ lsn ∷ [] → new ≡ first_lsns g image (n + 1)
+lsns_more g image n lsn old new so_far is more = more ∙ (λ i. so_far i ++ is i ∷ []) ∙ sym (more_lsns g image n)

@@ -1,5 +1,5 @@
 use Rattle.std.proofs.Common.{◌≡◌, ◌↔◌, ◌*◌, ℕ, Bool, true, false, true≢false, List, map, IsTrue, refl, sym, ap, ◌∙◌, subst}
-use Rattle.std.specs.Prelude.{Option, None, IfSome, IfNone}
+use Rattle.std.specs.Prelude.{Option, IfSome, IfNone}
 use Rattle.std.specs.List.{AllByRecursion, list_all}
 use Rattle.site.specs.declared.geometry.Geometry.{Geometry}
 use Rattle.site.specs.State.{State, Image}
