@@ -489,7 +489,7 @@ fn a_clean_frame_that_differs_from_the_disk(rt: HostRuntime) -> Result<(), Fail>
     Ok(())
 }
 
-// The front of a page with 0a0b in slot 5, which knows of the first Update.
+// The front of a page whose slot 5 has the last two octets, which knows of the first Update.
 const PAGE: [u8; 40] = [
     0x00, 0x00, 0x00, 0x00, 0x00, 0x00, 0x00, 0x03, // LSN
     0x00, 0x02, // used
@@ -502,20 +502,37 @@ const PAGE: [u8; 40] = [
     0x0f, 0xfe, 0x00, 0x03, // slot 5
 ];
 
-// Devices with the block of the first commit, and on disk a page with this LSN and these two octets in slot 5.
-fn with_page(alloc: Global, lsn: u16, value: [u8; 2]) -> Result<MemSite, Fail> {
+// The gate of the first slot of groups: group 0 stands there, with a frame of page 0 that has no values and the LSN 0, or
+// it doesn't.
+const FRAMED: u8 = 0xa5;
+
+const BARE: u8 = 0;
+
+// The redo block; the last octets of the LSN and of slot 5 of the disk page; the gate of group 0; and whether versions
+// then show the block of the first commit.
+type ShownRow = (u64, [u8; 2], u8, u8, bool);
+
+// Devices with the block of the first commit and that page.
+fn with_page(alloc: Global, lsn: [u8; 2], value: u8, gate: u8) -> Result<MemSite, Fail> {
     let mut site = MemSite::new(alloc, &SMALL)?;
+    let mut group = GROUP;
+    group[0] = gate;
     site.write_at(Dev::Log, 1_536, &BLOCK)?;
-    let mut front = PAGE;
-    front[6] = (lsn / 256) as u8;
-    front[7] = (lsn % 256) as u8;
-    site.write_at(Dev::Disk, 0, &front)?;
-    site.write_at(Dev::Disk, 4_094, &value)?;
+    site.write_at(Dev::Disk, 0, &PAGE)?;
+    site.write_at(Dev::Disk, 6, &lsn)?;
+    site.write_at(Dev::Disk, 4_094, &[0x0a, value])?;
+    site.write_at(Dev::Flash, 0, &group)?;
     Ok(site)
 }
 
-// Whether versions show what the log has, where the rings are of the form.
-fn are_shown(alloc: Global, site: &mut MemSite, master: &Master) -> Result<Option<bool>, Stop> {
+// Whether versions show what the log has, where lengths, rings and kept blocks are so.
+fn are_shown(alloc: Global, site: &mut MemSite, redo: u64) -> Result<Option<bool>, Stop> {
+    let master = Master {
+        redo,
+        kept: 0,
+        commits: 0,
+        active: Pairs::new(),
+    };
     let Some(geometry) = rule_lengths(site) else {
         return Ok(None);
     };
@@ -523,58 +540,34 @@ fn are_shown(alloc: Global, site: &mut MemSite, master: &Master) -> Result<Optio
         return Ok(None);
     };
     let log = LogStore::start(site, &geometry)?;
-    if !rule_kept(&log, master) {
+    if !rule_kept(&log, &master) {
         return Ok(None);
     }
-    Ok(Some(rule_shown(alloc, site, &log, &rings, master)?))
+    Ok(Some(rule_shown(alloc, site, &log, &rings, &master)?))
+}
+
+// The first row that isn't so.
+fn first_not_shown(alloc: Global, rows: &[ShownRow]) -> Result<Option<usize>, Fail> {
+    for (index, &(redo, lsn, value, gate, shown)) in rows.iter().enumerate() {
+        let mut site = with_page(alloc, lsn, value, gate)?;
+        if are_shown(alloc, &mut site, redo)? != Some(shown) {
+            return Ok(Some(index));
+        }
+    }
+    Ok(None)
 }
 
 #[test]
-fn a_page_that_shows_the_first_commit(rt: HostRuntime) -> Result<(), Fail> {
-    let mut site = with_page(rt.alloc(), 3, [0x0a, 0x0b])?;
-    assert_eq!(rt;
-        are_shown(rt.alloc(), &mut site, &later_master(Pairs::new()))?,
-        Some(true)
-    );
-    Ok(())
-}
-
-#[test]
-fn a_page_that_shows_another_value(rt: HostRuntime) -> Result<(), Fail> {
-    let mut site = with_page(rt.alloc(), 3, [0x0a, 0x0c])?;
-    assert_eq!(rt;
-        are_shown(rt.alloc(), &mut site, &Master::blank())?,
-        Some(false)
-    );
-    Ok(())
-}
-
-#[test]
-fn a_page_that_knows_of_no_record_yet(rt: HostRuntime) -> Result<(), Fail> {
-    let mut site = with_page(rt.alloc(), 2, [0x0a, 0x0c])?;
-    assert_eq!(rt;
-        are_shown(rt.alloc(), &mut site, &Master::blank())?,
-        Some(true)
-    );
-    Ok(())
-}
-
-#[test]
-fn a_page_that_misses_a_record_before_the_redo_block(rt: HostRuntime) -> Result<(), Fail> {
-    let mut site = with_page(rt.alloc(), 2, [0x0a, 0x0b])?;
-    assert_eq!(rt;
-        are_shown(rt.alloc(), &mut site, &later_master(Pairs::new()))?,
-        Some(false)
-    );
-    Ok(())
-}
-
-#[test]
-fn a_page_that_knows_of_a_record_behind_the_sealed_ones(rt: HostRuntime) -> Result<(), Fail> {
-    let mut site = with_page(rt.alloc(), 512, [0x0a, 0x0b])?;
-    assert_eq!(rt;
-        are_shown(rt.alloc(), &mut site, &Master::blank())?,
-        Some(false)
-    );
+fn a_page_of_the_first_commit(rt: HostRuntime) -> Result<(), Fail> {
+    let rows = [
+        (1, [0x00, 0x03], 0x0b, BARE, true),
+        (0, [0x00, 0x03], 0x0c, BARE, false),
+        (0, [0x00, 0x03], 0x0c, FRAMED, true),
+        (0, [0x00, 0x02], 0x0c, BARE, true),
+        (1, [0x00, 0x02], 0x0b, BARE, false),
+        (0, [0x01, 0xff], 0x0b, BARE, true),
+        (0, [0x02, 0x00], 0x0b, BARE, false),
+    ];
+    assert_eq!(rt; first_not_shown(rt.alloc(), &rows)?, None);
     Ok(())
 }
