@@ -212,11 +212,11 @@ none_apart log records e items is none = by (number_of e.rec) refl none
 
 -- Pairs of records.
 
-all_push : {X : Type 0} (P : X → Type 0) (xs : List X) (x : X) → AllByRecursion P xs → P x → AllByRecursion P (xs ++ x ∷ [])
+pub all_push : {X : Type 0} (P : X → Type 0) (xs : List X) (x : X) → AllByRecursion P xs → P x → AllByRecursion P (xs ++ x ∷ [])
 all_push P [] x all p = (p, tt)
 all_push P (y ∷ xs) x all p = (all.0, all_push P xs x all.1 p)
 
-all_front : {X : Type 0} (P : X → Type 0) (xs : List X) (x : X) (ys : List X) → AllByRecursion P (xs ++ x ∷ ys) → P x
+pub all_front : {X : Type 0} (P : X → Type 0) (xs : List X) (x : X) (ys : List X) → AllByRecursion P (xs ++ x ∷ ys) → P x
 all_front P [] x ys all = all.0
 all_front P (y ∷ xs) x ys all = all_front P xs x ys all.1
 

@@ -16,6 +16,7 @@ pub mod LeftOnes
 pub mod LastOnes
 pub mod CleanOnes
 pub mod HeldOnes
+pub mod ShownOnes
 pub mod ChainOnes
 pub mod StrayOnes
 pub mod NewestRead

@@ -8,6 +8,7 @@ pub mod Laws
 pub mod Newest
 pub mod Octets
 pub mod Opening
+pub mod Showing
 pub mod Unended
 pub mod Verdict
 pub mod Walking

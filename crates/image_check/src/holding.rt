@@ -25,8 +25,8 @@ struct Held {
     txn: u64,
 }
 
-// The number that an Update or a CLR is on.
-fn number_of(rec: &LogRecord) -> Option<u64>
+/// The number that an Update or a CLR is on.
+pub fn number_of(rec: &LogRecord) -> Option<u64>
     ensures { result ≡ number_of rec.now }
 {
     match rec {

@@ -3,9 +3,9 @@ ghost use Rattle.std.specs.Prelude.{◌<◌, ◌≤◌, length, IfOk};
 ghost use Rattle.site.specs.MemState.{state_of};
 
 use crate::{
-    count_values, rule_apart, rule_blocks, rule_clean, rule_commits, rule_following, rule_groups, rule_kept,
-    rule_lengths, rule_master, rule_named, rule_rings, rule_room, rule_segments, rule_transactions,
-    rule_undoable, rule_versions,
+    count_values, rule_apart, rule_blocks, rule_clean, rule_commits, rule_following, rule_groups,
+    rule_kept, rule_lengths, rule_master, rule_named, rule_rings, rule_room, rule_segments,
+    rule_shown, rule_transactions, rule_undoable, rule_versions,
 };
 use checkpoint::{Master, Pairs};
 use log_store::LogStore;
@@ -538,5 +538,88 @@ fn values_behind_the_newest_frame(rt: HostRuntime) -> Result<(), Fail> {
     site.write_at(Dev::Disk, 16, &ENTRY)?;
     site.write_at(Dev::Flash, 66_713, &ENTRY)?;
     assert_eq!(rt; values_on(rt.alloc(), &mut site)?, Some(0));
+    Ok(())
+}
+
+// The front of a page whose slot 5 has the last two octets, which knows of the first Update.
+const PAGE: [u8; 40] = [
+    0x00, 0x00, 0x00, 0x00, 0x00, 0x00, 0x00, 0x03, // LSN
+    0x00, 0x02, // used
+    0x00, 0x00, 0x00, 0x00, 0x00, 0x00, // zeros
+    0x00, 0x00, 0x00, 0x00, // slot 0
+    0x00, 0x00, 0x00, 0x00, // slot 1
+    0x00, 0x00, 0x00, 0x00, // slot 2
+    0x00, 0x00, 0x00, 0x00, // slot 3
+    0x00, 0x00, 0x00, 0x00, // slot 4
+    0x0f, 0xfe, 0x00, 0x03, // slot 5
+];
+
+// The gate of the first slot of groups: group 0 stands there, with a frame of page 0 that has no values and the LSN 0, or
+// it doesn't.
+const FRAMED: u8 = 0xa5;
+
+const BARE: u8 = 0;
+
+// The redo block; the last octets of the LSN and of slot 5 of the disk page; the gate of group 0; and whether versions
+// then show the block of the first commit.
+type ShownRow = (u64, [u8; 2], u8, u8, bool);
+
+// Devices with the block of the first commit and that page.
+fn with_page(alloc: Global, lsn: [u8; 2], value: u8, gate: u8) -> Result<MemSite, Fail> {
+    let mut site = MemSite::new(alloc, &SMALL)?;
+    let mut group = GROUP;
+    group[0] = gate;
+    site.write_at(Dev::Log, 1_536, &BLOCK)?;
+    site.write_at(Dev::Disk, 0, &PAGE)?;
+    site.write_at(Dev::Disk, 6, &lsn)?;
+    site.write_at(Dev::Disk, 4_094, &[0x0a, value])?;
+    site.write_at(Dev::Flash, 0, &group)?;
+    Ok(site)
+}
+
+// Whether versions show what the log has, where lengths, rings and kept blocks are so.
+fn are_shown(alloc: Global, site: &mut MemSite, redo: u64) -> Result<Option<bool>, Stop> {
+    let master = Master {
+        redo,
+        kept: 0,
+        commits: 0,
+        active: Pairs::new(),
+    };
+    let Some(geometry) = rule_lengths(site) else {
+        return Ok(None);
+    };
+    let Some(rings) = rule_rings(site, &geometry)? else {
+        return Ok(None);
+    };
+    let log = LogStore::start(site, &geometry)?;
+    if !rule_kept(&log, &master) {
+        return Ok(None);
+    }
+    Ok(Some(rule_shown(alloc, site, &log, &rings, &master)?))
+}
+
+// The first row that isn't so.
+fn first_not_shown(alloc: Global, rows: &[ShownRow]) -> Result<Option<usize>, Fail> {
+    for (index, &(redo, lsn, value, gate, shown)) in rows.iter().enumerate() {
+        let mut site = with_page(alloc, lsn, value, gate)?;
+        if are_shown(alloc, &mut site, redo)? != Some(shown) {
+            return Ok(Some(index));
+        }
+    }
+    Ok(None)
+}
+
+#[test]
+fn a_page_of_the_first_commit(rt: HostRuntime) -> Result<(), Fail> {
+    let rows = [
+        (1, [0x00, 0x03], 0x0b, BARE, true),
+        (0, [0x00, 0x03], 0x0c, BARE, false),
+        (0, [0x00, 0x03], 0x0c, FRAMED, true),
+        (0, [0x00, 0x02], 0x0c, BARE, true),
+        (1, [0x00, 0x02], 0x0b, BARE, false),
+        (0, [0x01, 0xff], 0x0b, BARE, true),
+        (0, [0x02, 0x00], 0x0b, BARE, false),
+    ];
+    assert_eq!(rt; first_not_shown(rt.alloc(), &rows)?, None);
     Ok(())
 }
