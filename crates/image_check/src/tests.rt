@@ -564,15 +564,24 @@ const BARE: u8 = 0;
 // then show the block of the first commit.
 type ShownRow = (u64, [u8; 2], u8, u8, bool);
 
+// The page with these octets.
+fn page_of(lsn: [u8; 2], value: u8) -> [u8; 4096] {
+    let mut page = [0u8; 4096];
+    page[..40].copy_from_slice(&PAGE);
+    page[6] = lsn[0];
+    page[7] = lsn[1];
+    page[4_094] = 0x0a;
+    page[4_095] = value;
+    page
+}
+
 // Devices with the block of the first commit and that page.
 fn with_page(alloc: Global, lsn: [u8; 2], value: u8, gate: u8) -> Result<MemSite, Fail> {
     let mut site = MemSite::new(alloc, &SMALL)?;
     let mut group = GROUP;
     group[0] = gate;
     site.write_at(Dev::Log, 1_536, &BLOCK)?;
-    site.write_at(Dev::Disk, 0, &PAGE)?;
-    site.write_at(Dev::Disk, 6, &lsn)?;
-    site.write_at(Dev::Disk, 4_094, &[0x0a, value])?;
+    site.write_at(Dev::Disk, 0, &page_of(lsn, value))?;
     site.write_at(Dev::Flash, 0, &group)?;
     Ok(site)
 }
