@@ -54,20 +54,14 @@ fn find<S: Site>(site: &mut S) -> Result<Option<Found>, Stop>
     let Some(geometry) = rule_lengths(site) else {
         return Ok(None);
     };
-    let rings = match rule_rings(site, &geometry) {
-        Ok(Some(rings)) => rings,
-        Ok(None) => return Ok(None),
-        Err(stop) => return Err(stop),
+    let Some(rings) = rule_rings(site, &geometry)? else {
+        return Ok(None);
     };
-    let master = match rule_master(site) {
-        Ok(Some(master)) => master,
-        Ok(None) => return Ok(None),
-        Err(stop) => return Err(stop),
+    let Some(master) = rule_master(site)? else {
+        return Ok(None);
     };
-    let log = match find_log(site, &geometry) {
-        Ok(Some(log)) => log,
-        Ok(None) => return Ok(None),
-        Err(stop) => return Err(stop),
+    let Some(log) = find_log(site, &geometry)? else {
+        return Ok(None);
     };
     Ok(Some(Found { rings, master, log }))
 }

@@ -129,13 +129,8 @@ fn holds_of_log(
     Ok(Some(holds))
 }
 
-// With another octet of the block: whether a rule holds.
-struct LogRow {
-    at: u8,
-    octet: u8,
-    rule: LogRule,
-    holds: bool,
-}
+// A place in the block, another octet there, and whether a rule then holds.
+type LogRow = (u8, u8, LogRule, bool);
 
 // The first row that isn't so of devices with this block.
 fn first_wrong(
@@ -146,10 +141,10 @@ fn first_wrong(
 ) -> Result<Option<usize>, Fail>
     requires { length block.now ≤ 65 }
 {
-    for (index, row) in rows.iter().enumerate() {
+    for (index, &(at, octet, rule, holds)) in rows.iter().enumerate() {
         let mut site = with_block(alloc, block)?;
-        put_in_block(&mut site, row.at, &[row.octet])?;
-        if holds_of_log(alloc, &mut site, master, row.rule)? != Some(row.holds) {
+        put_in_block(&mut site, at, &[octet])?;
+        if holds_of_log(alloc, &mut site, master, rule)? != Some(holds) {
             return Ok(Some(index));
         }
     }
@@ -159,12 +154,12 @@ fn first_wrong(
 #[test]
 fn a_finished_transaction(rt: HostRuntime) -> Result<(), Fail> {
     let rows = [
-        LogRow { at: GATE_AT, octet: 0xa5, rule: LogRule::Blocks, holds: true },
-        LogRow { at: GATE_AT, octet: 0xa5, rule: LogRule::Transactions, holds: true },
-        LogRow { at: GATE_AT, octet: 0xa5, rule: LogRule::OneCommit, holds: true },
-        LogRow { at: PAGE_AT, octet: 1, rule: LogRule::Blocks, holds: false },
-        LogRow { at: TXN_AT, octet: 3, rule: LogRule::Transactions, holds: false },
-        LogRow { at: COMMIT_AT, octet: 2, rule: LogRule::OneCommit, holds: false },
+        (GATE_AT, 0xa5, LogRule::Blocks, true),
+        (GATE_AT, 0xa5, LogRule::Transactions, true),
+        (GATE_AT, 0xa5, LogRule::OneCommit, true),
+        (PAGE_AT, 1, LogRule::Blocks, false),
+        (TXN_AT, 3, LogRule::Transactions, false),
+        (COMMIT_AT, 2, LogRule::OneCommit, false),
     ];
     let wrong = first_wrong(rt.alloc(), &BLOCK, &Master::blank(), &rows)?;
     assert_eq!(rt; wrong, None);
@@ -182,9 +177,9 @@ fn unfinished() -> [u8; UNFINISHED_LEN] {
 #[test]
 fn an_unfinished_transaction(rt: HostRuntime) -> Result<(), Fail> {
     let rows = [
-        LogRow { at: GATE_AT, octet: 0xa5, rule: LogRule::Room, holds: true },
-        LogRow { at: GATE_AT, octet: 0xa5, rule: LogRule::Undoable, holds: true },
-        LogRow { at: PREV_AT, octet: 1, rule: LogRule::Undoable, holds: false },
+        (GATE_AT, 0xa5, LogRule::Room, true),
+        (GATE_AT, 0xa5, LogRule::Undoable, true),
+        (PREV_AT, 1, LogRule::Undoable, false),
     ];
     let wrong = first_wrong(rt.alloc(), &unfinished(), &Master::blank(), &rows)?;
     assert_eq!(rt; wrong, None);
@@ -224,8 +219,8 @@ fn two_unfinished() -> [u8; 65] {
 #[test]
 fn two_unfinished_transactions(rt: HostRuntime) -> Result<(), Fail> {
     let rows = [
-        LogRow { at: SECOND_SLOT_AT, octet: 6, rule: LogRule::Apart, holds: true },
-        LogRow { at: SECOND_SLOT_AT, octet: 5, rule: LogRule::Apart, holds: false },
+        (SECOND_SLOT_AT, 6, LogRule::Apart, true),
+        (SECOND_SLOT_AT, 5, LogRule::Apart, false),
     ];
     let wrong = first_wrong(rt.alloc(), &two_unfinished(), &Master::blank(), &rows)?;
     assert_eq!(rt; wrong, None);
@@ -350,19 +345,15 @@ fn put_written(site: &mut MemSite, written: Written) -> Result<(), Failed>
     }
 }
 
-// With four groups: whether a rule holds.
-struct PageRow {
-    written: Written,
-    rule: PageRule,
-    holds: bool,
-}
+// What is written, and whether a rule then holds.
+type PageRow = (Written, PageRule, bool);
 
 // The first row that isn't so.
 fn first_wrong_of_groups(alloc: Global, rows: &[PageRow]) -> Result<Option<usize>, Fail> {
-    for (index, row) in rows.iter().enumerate() {
+    for (index, &(written, rule, holds)) in rows.iter().enumerate() {
         let mut site = with_groups(alloc)?;
-        put_written(&mut site, row.written)?;
-        if holds_of_pages(&mut site, row.rule)? != Some(row.holds) {
+        put_written(&mut site, written)?;
+        if holds_of_pages(&mut site, rule)? != Some(holds) {
             return Ok(Some(index));
         }
     }
@@ -372,13 +363,13 @@ fn first_wrong_of_groups(alloc: Global, rows: &[PageRow]) -> Result<Option<usize
 #[test]
 fn four_groups_of_one_frame(rt: HostRuntime) -> Result<(), Fail> {
     let rows = [
-        PageRow { written: Written::Nothing, rule: PageRule::Groups, holds: true },
-        PageRow { written: Written::OtherLsn, rule: PageRule::Groups, holds: false },
-        PageRow { written: Written::OtherPage, rule: PageRule::Versions, holds: true },
-        PageRow { written: Written::Nothing, rule: PageRule::Clean, holds: true },
-        PageRow { written: Written::OtherPage, rule: PageRule::Clean, holds: false },
-        PageRow { written: Written::Segment, rule: PageRule::Following, holds: true },
-        PageRow { written: Written::OtherSegment, rule: PageRule::Following, holds: false },
+        (Written::Nothing, PageRule::Groups, true),
+        (Written::OtherLsn, PageRule::Groups, false),
+        (Written::OtherPage, PageRule::Versions, true),
+        (Written::Nothing, PageRule::Clean, true),
+        (Written::OtherPage, PageRule::Clean, false),
+        (Written::Segment, PageRule::Following, true),
+        (Written::OtherSegment, PageRule::Following, false),
     ];
     assert_eq!(rt; first_wrong_of_groups(rt.alloc(), &rows)?, None);
     Ok(())
@@ -397,7 +388,10 @@ fn verdict_on(alloc: Global, block: &[u8], at: u8, octet: u8) -> Result<Verdict,
 fn verdicts_on_the_first_commit(rt: HostRuntime) -> Result<(), Fail> {
     assert_eq!(rt;
         verdict_on(rt.alloc(), &BLOCK, GATE_AT, 0xa5)?,
-        Verdict::Sound { records: 1, commits: 1 }
+        Verdict::Sound {
+            records: 1,
+            commits: 1
+        }
     );
     assert_eq!(rt;
         verdict_on(rt.alloc(), &BLOCK, TXN_AT, 3)?,
@@ -415,7 +409,10 @@ fn verdicts_on_blank_devices(rt: HostRuntime) -> Result<(), Fail> {
     let mut site = MemSite::new(rt.alloc(), &SMALL)?;
     assert_eq!(rt;
         check_image(rt.alloc(), &mut site)?,
-        Verdict::Sound { records: 0, commits: 0 }
+        Verdict::Sound {
+            records: 0,
+            commits: 0
+        }
     );
     Ok(())
 }

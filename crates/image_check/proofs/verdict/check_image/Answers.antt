@@ -1,13 +1,30 @@
-use Rattle.std.proofs.Common.{◌≡◌, IsTrue, sym, subst, arith}
-use Rattle.std.specs.Prelude.{Option, Some, IfOk}
+use Rattle.std.proofs.Common.{◌≡◌, subst, arith}
+use Rattle.std.specs.Prelude.{Option, Some, IfSome, IfOk}
 use Rattle.site.specs.State.{State, Image}
-use Rattle.site.specs.Laws.{stays_honest}
 use Rattle.image_check.specs.Judgement.{IsVerdictOn}
 use Rattle.image_check.specs.declared.formed.Found.{Found}
-use Rattle.image_check.specs.Deciding.{IsFormedOr}
+use Rattle.image_check.specs.Deciding.{MayBeRead, IsFormedOr}
 use Rattle.image_check.specs.Verdict.{FailsFirst}
 use Rattle.image_check.proofs.Decisions.{fails_kept, meets_both}
 use Rattle.image_check.proofs.verdict.check_image.Goals as goal
+
+pub rule_kept-requires-clause-bounded : goal.rule_kept-requires-clause-bounded
+rule_kept-requires-clause-bounded g c =
+    let may : MayBeRead c.in-Some.found (g.S.Site.state c.find_formed.new.site) = subst (λ (o : Option Found). IfSome o (λ found. MayBeRead found (g.S.Site.state c.find_formed.new.site))) c.in-Some.is c.in_ok-found.ensures.may_read in
+    may.going.usable.bounded
+
+pub rule_kept-requires-clause-some : goal.rule_kept-requires-clause-some
+rule_kept-requires-clause-some g c =
+    let may : MayBeRead c.in-Some.found (g.S.Site.state c.find_formed.new.site) = subst (λ (o : Option Found). IfSome o (λ found. MayBeRead found (g.S.Site.state c.find_formed.new.site))) c.in-Some.is c.in_ok-found.ensures.may_read in
+    let some = may.going.limits.blocks in
+    omega (arith, some)
+
+pub judge_found-requires : goal.judge_found-requires
+judge_found-requires g c = record {
+  read = subst (λ (o : Option Found). IfSome o (λ found. MayBeRead found (g.S.Site.state c.find_formed.new.site))) c.in-Some.is c.in_ok-found.ensures.may_read;
+  live = c.rule_kept.ensures.live c.if-not-rule_kept.false;
+  redo = c.rule_kept.ensures.redo c.if-not-rule_kept.false;
+}
 
 pub returns-in_default-clause-verdict : goal.returns-in_default-clause-verdict
 returns-in_default-clause-verdict g c honest =

@@ -1,9 +1,11 @@
-use Rattle.std.proofs.Common.{List, refl, arith}
-use Rattle.std.specs.Prelude.{ℕ, Option, Some, None}
-use Rattle.site.specs.State.{State}
+use Rattle.std.proofs.Common.{◌≡◌, ℕ, List, refl, sym, subst, arith}
+use Rattle.std.specs.Prelude.{Option, Some}
+use Rattle.site.specs.State.{State, Image}
+use Rattle.log_records.specs.Sound.{commit_count}
 use Rattle.image_check.specs.Counting.{CommitsAre}
 use Rattle.image_check.specs.Verdict.{picture_of}
 use Rattle.image_check.specs.Deciding.{reading_of}
+use Rattle.image_check.proofs.Numbering.{no_commits}
 use Rattle.image_check.proofs.Decisions.{Past, may_be_judged_later, at_first, goes_past, holds_so, fails_by, fails_so, verdict_by, sound_by}
 use Rattle.image_check.proofs.verdict.judge_counts.Goals as goal
 
@@ -14,10 +16,26 @@ pub rule_commits-requires-clause-going : goal.rule_commits-requires-clause-going
 rule_commits-requires-clause-going g c = (may_be_judged_later c.args.found.now (g.S.Site.state c.rule_room.new.site) (g.S.Site.state c.rule_named.new.site) c.in_ok-rule_named.ensures.reads.goes (may_be_judged_later c.args.found.now (g.S.Site.state c.args.site.now) (g.S.Site.state c.rule_room.new.site) c.in_ok-rule_room.ensures.reads.goes c.requires)).read.going
 
 pub count_values-requires-clause-going : goal.count_values-requires-clause-going
-count_values-requires-clause-going g c = ?
+count_values-requires-clause-going g c =
+    let s0 : State = g.S.Site.state c.args.site.now in
+    let s1 : State = g.S.Site.state c.rule_room.new.site in
+    let s2 : State = g.S.Site.state c.rule_named.new.site in
+    let s3 : State = g.S.Site.state c.rule_commits.new.site in
+    let found = c.args.found.now in
+    let m1 = may_be_judged_later found s0 s1 c.in_ok-rule_room.ensures.reads.goes c.requires in
+    let m2 = may_be_judged_later found s1 s2 c.in_ok-rule_named.ensures.reads.goes m1 in
+    (may_be_judged_later found s2 s3 c.in_ok-commits.ensures.reads.goes m2).read.going
 
 pub count_values-requires-clause-may_read : goal.count_values-requires-clause-may_read
-count_values-requires-clause-may_read g c = ?
+count_values-requires-clause-may_read g c =
+    let s0 : State = g.S.Site.state c.args.site.now in
+    let s1 : State = g.S.Site.state c.rule_room.new.site in
+    let s2 : State = g.S.Site.state c.rule_named.new.site in
+    let s3 : State = g.S.Site.state c.rule_commits.new.site in
+    let found = c.args.found.now in
+    let m1 = may_be_judged_later found s0 s1 c.in_ok-rule_room.ensures.reads.goes c.requires in
+    let m2 = may_be_judged_later found s1 s2 c.in_ok-rule_named.ensures.reads.goes m1 in
+    (may_be_judged_later found s2 s3 c.in_ok-commits.ensures.reads.goes m2).read.may_read
 
 pub returns-then-not-branch-clause-verdict : goal.returns-then-not-branch-clause-verdict
 returns-then-not-branch-clause-verdict g c blocks meets =

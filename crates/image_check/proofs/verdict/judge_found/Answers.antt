@@ -7,6 +7,16 @@ use Rattle.image_check.specs.Verdict.{HoldBefore}
 use Rattle.image_check.proofs.Decisions.{Past, may_be_judged_later, at_first, reaches, verdict_by}
 use Rattle.image_check.proofs.verdict.judge_found.Goals as goal
 
+pub failing_on_pages-requires : goal.failing_on_pages-requires
+failing_on_pages-requires g c = may_be_judged_later c.args.found.now (g.S.Site.state c.args.site.now) (g.S.Site.state c.failing_on_log.new.site) c.in_ok-rule.ensures.reads.goes c.requires
+
+pub judge_counts-requires : goal.judge_counts-requires
+judge_counts-requires g c =
+    let s0 : State = g.S.Site.state c.args.site.now in
+    let s1 : State = g.S.Site.state c.failing_on_log.new.site in
+    let s2 : State = g.S.Site.state c.failing_on_pages.new.site in
+    may_be_judged_later c.args.found.now s1 s2 c.in_ok-rule-2.ensures.reads.goes (may_be_judged_later c.args.found.now s0 s1 c.in_ok-rule.ensures.reads.goes c.requires)
+
 pub returns-in-Some-clause-verdict : goal.returns-in-Some-clause-verdict
 returns-in-Some-clause-verdict g c blocks meets =
     let r = reading_of c.args.found.now blocks in
