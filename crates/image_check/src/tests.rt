@@ -404,25 +404,24 @@ fn verdicts_on_the_first_commit(rt: HostRuntime) -> Result<(), Fail> {
     Ok(())
 }
 
+// The verdict on blank devices, with another octet of the one page of the disk.
+fn verdict_with_page(alloc: Global, octet: u8) -> Result<Verdict, Fail> {
+    let mut site = MemSite::new(alloc, &SMALL)?;
+    site.write_at(Dev::Disk, 10, &[octet])?;
+    Ok(check_image(alloc, &mut site)?)
+}
+
 #[test]
 fn verdicts_on_blank_devices(rt: HostRuntime) -> Result<(), Fail> {
-    let mut site = MemSite::new(rt.alloc(), &SMALL)?;
     assert_eq!(rt;
-        check_image(rt.alloc(), &mut site)?,
+        verdict_with_page(rt.alloc(), 0)?,
         Verdict::Sound {
             records: 0,
             commits: 0
         }
     );
-    Ok(())
-}
-
-#[test]
-fn the_verdict_on_a_page_of_another_form(rt: HostRuntime) -> Result<(), Fail> {
-    let mut site = MemSite::new(rt.alloc(), &SMALL)?;
-    site.write_at(Dev::Disk, 10, &[1])?;
     assert_eq!(rt;
-        check_image(rt.alloc(), &mut site)?,
+        verdict_with_page(rt.alloc(), 1)?,
         Verdict::Unsound { rule: 1 }
     );
     Ok(())
