@@ -1,6 +1,6 @@
 -- The rules one after the other.
 use Rattle.std.proofs.Common.{◌≡◌, ◌↔◌, inl, inr, ℕ, zero, suc, ◌+◌, ◌≤◌, ◌<◌, true, false, true≢false, Bool, IsTrue, List, refl, sym, ◌∙◌, subst, arith}
-use Rattle.std.specs.Prelude.{Option, Some, None, Ok}
+use Rattle.std.specs.Prelude.{Option, Some, None, Ok, ⊤}
 use Rattle.std.proofs.lemmas.Bool.{cases_eq}
 use Rattle.site.specs.declared.geometry.Geometry.{Geometry}
 use Rattle.site.specs.State.{State, Image}
@@ -58,10 +58,10 @@ still_there x found old a b reads still =
 
 -- what was answered of a part of a rule holds of the image at first
 pub part_holds : (P : Image → Type 0) (stand : Bool) (a b : Image) → b ≡ a → (IsTrue stand ↔ P b) → stand ≡ true → P a
-part_holds P stand a b same says yes = subst P same (says.0 yes)
+part_holds P stand a b same says is = subst P same (says.0 is)
 
 pub part_fails : (P : Image → Type 0) (stand : Bool) (a b : Image) → b ≡ a → (IsTrue stand ↔ P b) → stand ≡ false → P a → ⊥
-part_fails P stand a b same says no p = true≢false (sym (says.1 (subst P (sym same) p)) ∙ no)
+part_fails P stand a b same says other p = true≢false (sym (says.1 (subst P (sym same) p)) ∙ other)
 
 -- The rule of a number.
 
@@ -150,7 +150,7 @@ goes_past x i found blocks old a b reads past holds = reaches x i (i + 1) found 
 
 pub holds_so : (i : ℕ) (found : Found) (blocks : List (List LogRecord)) (old a b : State) (stand : Bool) → Past i found blocks old a → (IsTrue stand ↔ Numbered i (reading_of found blocks) a.image) →
     OnlyReads {T = Bool} (Ok stand) a b → stand ≡ true → Past (i + 1) found blocks old b
-holds_so i found blocks old a b stand past says reads yes = goes_past stand i found blocks old a b reads past (says.0 yes)
+holds_so i found blocks old a b stand past says reads is = goes_past stand i found blocks old a b reads past (says.0 is)
 
 -- a rule that fails
 pub fails_by : (i : ℕ) (found : Found) (blocks : List (List LogRecord)) (old a : State) (end : ℕ) → 3 ≤ i → Past i found blocks old a → (Numbered i (reading_of found blocks) a.image → ⊥) →
@@ -161,7 +161,7 @@ fails_by i found blocks old a end third past fails =
 
 pub fails_so : (i : ℕ) (found : Found) (blocks : List (List LogRecord)) (old a : State) (stand : Bool) (end : ℕ) → 3 ≤ i → Past i found blocks old a → (IsTrue stand ↔ Numbered i (reading_of found blocks) a.image) →
     stand ≡ false → HoldOr end (Some i) (reading_of found blocks) old.image
-fails_so i found blocks old a stand end third past says no = fails_by i found blocks old a end third past (λ holds. true≢false (sym (says.1 holds) ∙ no))
+fails_so i found blocks old a stand end third past says other = fails_by i found blocks old a end third past (λ holds. true≢false (sym (says.1 holds) ∙ other))
 
 -- all of them hold
 pub hold_all : (i : ℕ) (found : Found) (blocks : List (List LogRecord)) (old a : State) → Past i found blocks old a → HoldBefore i (reading_of found blocks) old.image
@@ -188,10 +188,10 @@ sound_by found blocks old a records commits past values count =
 -- the first rule of what was found is that of all sizes and masters
 pub fails_formed : OneNewest → (found : Found) (site : State) (stand : Bool) → IsThere found site → HasSizes found.log.geometry site.image → (IsTrue stand ↔ Rule1 found.log.geometry found.master site.image) → stand ≡ false →
     FailsFirst 1 site.image
-fails_formed newest found site stand there sizes says no g m formed =
+fails_formed newest found site stand there sizes says other g m formed =
     let geometry : g ≡ found.log.geometry = one_size g found.log.geometry site.image formed.sizes sizes in
     let master : m ≡ found.master = newest site.image m found.master formed.master there.master in
-    true≢false (sym (says.1 (subst (λ (x : Master). Rule1 found.log.geometry x site.image) master (subst (λ (x : Geometry). Rule1 x m site.image) geometry formed))) ∙ no)
+    true≢false (sym (says.1 (subst (λ (x : Master). Rule1 found.log.geometry x site.image) master (subst (λ (x : Geometry). Rule1 x m site.image) geometry formed))) ∙ other)
 
 -- before the third rule
 pub meets_both : (found : Found) (site : State) → IsThere found site → Rule1 found.log.geometry found.master site.image → Rule2 found.log.geometry found.master site.image → (blocks : List (List LogRecord)) × MeetsBefore 3 found blocks site
@@ -201,4 +201,4 @@ meets_both found site there formed live =
 
 -- the second one
 pub fails_kept : (found : Found) (site : State) (stand : Bool) → Rule1 found.log.geometry found.master site.image → (IsTrue stand ↔ Rule2 found.log.geometry found.master site.image) → stand ≡ false → FailsFirst 2 site.image
-fails_kept found site stand formed says no = (found.log.geometry, found.master, formed, λ rule. true≢false (sym (says.1 rule) ∙ no))
+fails_kept found site stand formed says other = (found.log.geometry, found.master, formed, λ rule. true≢false (sym (says.1 rule) ∙ other))

@@ -1,5 +1,5 @@
 -- The newest versions of pages, by where their frames stand.
-use Rattle.std.specs.Prelude.{◌≡◌, ℕ, ◌+◌, ◌<◌, ⊥, Option, Some, None, length}
+use Rattle.std.specs.Prelude.{◌≡◌, ℕ, ◌+◌, ◌<◌, length}
 use Rattle.site.specs.declared.geometry.Geometry.{Geometry}
 use Rattle.site.specs.State.{Image}
 use Rattle.sealed_ring.specs.Ring.{IsLive, hi_of}

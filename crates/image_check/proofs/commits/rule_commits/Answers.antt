@@ -10,7 +10,7 @@ use Rattle.image_check.specs.Counting.{Heard, Fit}
 use Rattle.image_check.specs.Verdict.{picture_of}
 use Rattle.image_check.proofs.BlocksJudged.{finds_later, going_later}
 use Rattle.image_check.proofs.Walks.{walked_none, walked_more, walked_all, gives_at}
-use Rattle.image_check.proofs.Numbering.{numbered, fits}
+use Rattle.image_check.proofs.Numbering.{numbered, fits, counted_all}
 use Rattle.image_check.proofs.commits.rule_commits.Goals as goal
 
 pub loop-lsn-init : goal.loop-lsn-init

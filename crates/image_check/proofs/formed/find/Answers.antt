@@ -1,14 +1,16 @@
 use Rattle.std.proofs.Common.{◌≡◌, IsTrue, sym, ◌∙◌, subst, arith}
-use Rattle.std.specs.Prelude.{Option, Some, IfSome}
+use Rattle.std.specs.Prelude.{Option, Some, None, IfSome, Ok}
 use Rattle.site.specs.declared.geometry.Geometry.{Geometry}
 use Rattle.site.specs.State.{State, Image}
 use Rattle.site.specs.Laws.{stays_honest, goes_in_sequence}
+use Rattle.site.proofs.Working.{looks_then, looks_answered}
 use Rattle.sealed_ring.specs.Ring.{IsRing}
 use Rattle.image_changes.specs.Rings.{log_shape}
 use Rattle.checkpoint.specs.declared.master.Master.{Master}
 use Rattle.checkpoint.specs.Newest.{HasMaster}
 use Rattle.log_store.specs.declared.store.LogStore.{LogStore}
 use Rattle.log_store.specs.Held.{MayGoOn}
+use Rattle.image_check.specs.declared.formed.Found.{Found}
 use Rattle.image_check.specs.declared.rings.Rings.{Rings}
 use Rattle.image_check.specs.Octets.{HasSizes, AreRings}
 use Rattle.image_check.specs.Findings.{SizesAre, MayRead, RingsAre, MasterIs}
@@ -121,3 +123,29 @@ returns-clause-may_read g c =
       going = subst (λ (o : Option LogStore). IfSome o (λ log. MayGoOn log s3)) c.in-Some-4.is c.in_ok-log.ensures.going;
       may_read = subst (λ (x : Geometry). MayRead x c.in-Some-2.rings s3) (sym geo) (may_read_later geometry c.in-Some-2.rings s1 s3 goes may);
     }
+
+pub returns-in_default-3-clause-reads : goal.returns-in_default-3-clause-reads
+returns-in_default-3-clause-reads g c =
+    let s0 : State = g.S.Site.state c.args.site.now in
+    let s1 : State = g.S.Site.state c.rule_rings.new.site in
+    let s2 : State = g.S.Site.state c.rule_master.new.site in
+    looks_then c.in_ok-rings.field-0 (Ok None) s0 s1 s2 c.in_ok-rings.ensures.reads (looks_answered c.in_ok-master.field-0 None s1 s2 c.in_ok-master.ensures.reads)
+
+pub returns-in_default-4-clause-reads : goal.returns-in_default-4-clause-reads
+returns-in_default-4-clause-reads g c =
+    let s0 : State = g.S.Site.state c.args.site.now in
+    let s1 : State = g.S.Site.state c.rule_rings.new.site in
+    let s2 : State = g.S.Site.state c.rule_master.new.site in
+    let s3 : State = g.S.Site.state c.find_log.new.site in
+    looks_then c.in_ok-rings.field-0 (Ok None) s0 s1 s3 c.in_ok-rings.ensures.reads
+    (looks_then c.in_ok-master.field-0 (Ok None) s1 s2 s3 c.in_ok-master.ensures.reads (looks_answered c.in_ok-log.field-0 None s2 s3 c.in_ok-log.ensures.reads))
+
+pub returns-clause-reads : goal.returns-clause-reads
+returns-clause-reads g c =
+    let s0 : State = g.S.Site.state c.args.site.now in
+    let s1 : State = g.S.Site.state c.rule_rings.new.site in
+    let s2 : State = g.S.Site.state c.rule_master.new.site in
+    let s3 : State = g.S.Site.state c.find_log.new.site in
+    let found : Found = record { rings = c.in-Some-2.rings; master = c.in-Some-3.master; log = c.in-Some-4.log } in
+    looks_then c.in_ok-rings.field-0 (Ok (Some found)) s0 s1 s3 c.in_ok-rings.ensures.reads
+    (looks_then c.in_ok-master.field-0 (Ok (Some found)) s1 s2 s3 c.in_ok-master.ensures.reads (looks_answered c.in_ok-log.field-0 (Some found) s2 s3 c.in_ok-log.ensures.reads))

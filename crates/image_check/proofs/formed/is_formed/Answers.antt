@@ -1,6 +1,7 @@
-use Rattle.std.proofs.Common.{◌≡◌, ◌↔◌, IsTrue, true≢false, refl, sym, subst}
+use Rattle.std.proofs.Common.{rules, ◌≡◌, ◌↔◌, IsTrue, true, false, true≢false, Ok, refl, sym, subst}
 use Rattle.site.specs.declared.geometry.Geometry.{Geometry}
-use Rattle.site.specs.State.{State, Image}
+use Rattle.site.specs.State.{State}
+use Rattle.site.proofs.Working.{looks_then, looks_answered}
 use Rattle.image_check.specs.Octets.{AreBlocks, AreGroups, SegmentsAreFormed, AreVersions}
 use Rattle.image_check.specs.Findings.{MayRead}
 use Rattle.image_check.proofs.Decisions.{StillThere, may_be_read_later, still_there, part_holds, part_fails}
@@ -107,3 +108,39 @@ returns-clause-formed g c there =
       },
       λ rule. refl,
     )
+
+pub returns-in_err-rule_versions-clause-reads : goal.returns-in_err-rule_versions-clause-reads
+returns-in_err-rule_versions-clause-reads g c =
+    let s0 : State = g.S.Site.state c.args.site.now in
+    let s1 : State = g.S.Site.state c.rule_blocks.new.site in
+    let s2 : State = g.S.Site.state c.rule_groups.new.site in
+    let s3 : State = g.S.Site.state c.rule_segments.new.site in
+    let s4 : State = g.S.Site.state c.rule_versions.new.site in
+    looks_then c.in_ok-rule_blocks.field-0 c.from_residual-in_err-rule_versions.result s0 s1 s4 c.in_ok-rule_blocks.ensures.reads
+    (looks_then c.in_ok-rule_groups.field-0 c.from_residual-in_err-rule_versions.result s1 s2 s4 c.in_ok-rule_groups.ensures.reads
+    (looks_then c.in_ok-rule_segments.field-0 c.from_residual-in_err-rule_versions.result s2 s3 s4 c.in_ok-rule_segments.ensures.reads
+    (search rules)))
+
+pub returns-then-not-branch-4-clause-reads : goal.returns-then-not-branch-4-clause-reads
+returns-then-not-branch-4-clause-reads g c =
+    let s0 : State = g.S.Site.state c.args.site.now in
+    let s1 : State = g.S.Site.state c.rule_blocks.new.site in
+    let s2 : State = g.S.Site.state c.rule_groups.new.site in
+    let s3 : State = g.S.Site.state c.rule_segments.new.site in
+    let s4 : State = g.S.Site.state c.rule_versions.new.site in
+    looks_then c.in_ok-rule_blocks.field-0 (Ok false) s0 s1 s4 c.in_ok-rule_blocks.ensures.reads
+    (looks_then c.in_ok-rule_groups.field-0 (Ok false) s1 s2 s4 c.in_ok-rule_groups.ensures.reads
+    (looks_then c.in_ok-rule_segments.field-0 (Ok false) s2 s3 s4 c.in_ok-rule_segments.ensures.reads
+    (looks_answered c.in_ok-rule_versions.field-0 false s3 s4 c.in_ok-rule_versions.ensures.reads)))
+
+pub returns-clause-reads : goal.returns-clause-reads
+returns-clause-reads g c =
+    let s0 : State = g.S.Site.state c.args.site.now in
+    let s1 : State = g.S.Site.state c.rule_blocks.new.site in
+    let s2 : State = g.S.Site.state c.rule_groups.new.site in
+    let s3 : State = g.S.Site.state c.rule_segments.new.site in
+    let s4 : State = g.S.Site.state c.rule_versions.new.site in
+    looks_then c.in_ok-rule_blocks.field-0 (Ok true) s0 s1 s4 c.in_ok-rule_blocks.ensures.reads
+    (looks_then c.in_ok-rule_groups.field-0 (Ok true) s1 s2 s4 c.in_ok-rule_groups.ensures.reads
+    (looks_then c.in_ok-rule_segments.field-0 (Ok true) s2 s3 s4 c.in_ok-rule_segments.ensures.reads
+    (looks_answered c.in_ok-rule_versions.field-0 true s3 s4 c.in_ok-rule_versions.ensures.reads)))
