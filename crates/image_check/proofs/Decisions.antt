@@ -31,6 +31,9 @@ may_be_read_later found a b goes may = record {
 pub may_be_judged_later : (found : Found) (a b : State) → Goes a b → MayBeJudged found a → MayBeJudged found b
 may_be_judged_later found a b goes may = record { read = may_be_read_later found a b goes may.read; live = may.live; redo = may.redo }
 
+pub some_blocks : (found : Found) (site : State) → MayBeRead found site → 1 ≤ found.log.geometry.blocks
+some_blocks found site may = let some = may.going.limits.blocks in omega (arith, some)
+
 pub there_later : (found : Found) (a b : State) → Goes a b → b.image ≡ a.image → IsThere found a → IsThere found b
 there_later found a b goes same there = record {
   log = finds_later found.log a b goes same there.log;

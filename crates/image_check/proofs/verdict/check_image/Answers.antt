@@ -5,7 +5,7 @@ use Rattle.image_check.specs.Judgement.{IsVerdictOn}
 use Rattle.image_check.specs.declared.formed.Found.{Found}
 use Rattle.image_check.specs.Deciding.{MayBeRead, IsFormedOr}
 use Rattle.image_check.specs.Verdict.{FailsFirst}
-use Rattle.image_check.proofs.Decisions.{fails_kept, meets_both}
+use Rattle.image_check.proofs.Decisions.{some_blocks, fails_kept, meets_both}
 use Rattle.image_check.proofs.verdict.check_image.Goals as goal
 
 pub rule_kept-requires-clause-bounded : goal.rule_kept-requires-clause-bounded
@@ -15,9 +15,7 @@ rule_kept-requires-clause-bounded g c =
 
 pub rule_kept-requires-clause-some : goal.rule_kept-requires-clause-some
 rule_kept-requires-clause-some g c =
-    let may : MayBeRead c.in-Some.found (g.S.Site.state c.find_formed.new.site) = subst (λ (o : Option Found). IfSome o (λ found. MayBeRead found (g.S.Site.state c.find_formed.new.site))) c.in-Some.is c.in_ok-found.ensures.may_read in
-    let some = may.going.limits.blocks in
-    omega (arith, some)
+    some_blocks c.in-Some.found (g.S.Site.state c.find_formed.new.site) (subst (λ (o : Option Found). IfSome o (λ found. MayBeRead found (g.S.Site.state c.find_formed.new.site))) c.in-Some.is c.in_ok-found.ensures.may_read)
 
 pub judge_found-requires : goal.judge_found-requires
 judge_found-requires g c = record {
