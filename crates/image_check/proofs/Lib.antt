@@ -1,4 +1,5 @@
 pub mod BlocksJudged
+pub mod Decisions
 pub mod Numbering
 pub mod Lasting
 pub mod LiveUnits

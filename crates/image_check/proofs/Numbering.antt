@@ -12,9 +12,9 @@ use Rattle.std.proofs.Math.Seq.{get_or-append_seam}
 use Rattle.log_records.specs.declared.log_record.LogRecord.{LogRecord}
 use Rattle.log_records.specs.declared.log_record.LogRecord.TheVariants.{Begin, Update, Clr, Commit, End}
 use Rattle.log_records.specs.Log.{Entry}
-use Rattle.log_records.specs.Sound.{Picture, AreNumbered, commit_number, commit_number_by, commit_numbers, before_block, from_block}
+use Rattle.log_records.specs.Sound.{Picture, AreNumbered, commit_count, commit_number, commit_number_by, commit_numbers, before_block, from_block}
 use Rattle.image_check.specs.declared.commits.Numbers.{Numbers}
-use Rattle.image_check.specs.Counting.{Heard, Counts, Fit}
+use Rattle.image_check.specs.Counting.{Heard, Counts, Fit, CommitsAre}
 
 -- a Commit's number, or none
 abbrev listed : Option ℕ → List ℕ
@@ -210,3 +210,12 @@ fits p n heard are =
       ];
       room = omega (arith, late, room);
     }
+
+-- and so many were made
+pub counted_all : (p : Picture) (n : Numbers) → Heard p.master.redo n p.log → p.master.commits + n.late ≡ commit_count p
+counted_all p n heard = ap (λ (k : ℕ). p.master.commits + k) heard.late
+
+-- or they aren't numbered so
+pub no_commits : (o : Option ℕ) (p : Picture) → ((count : ℕ) → o ≡ Some count → ⊥) → CommitsAre o p → AreNumbered p → ⊥
+no_commits None p none are = are
+no_commits (Some count) p none are = absurd (none count refl)

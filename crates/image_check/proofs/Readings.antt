@@ -24,7 +24,7 @@ use Rattle.image_check.proofs.LiveUnits.{all_from}
 
 -- One reading.
 
-one_size : (a b : Geometry) (image : Image) → HasSizes a image → HasSizes b image → a ≡ b
+pub one_size : (a b : Geometry) (image : Image) → HasSizes a image → HasSizes b image → a ≡ b
 one_size a b image first second =
     let log : a.blocks ≡ b.blocks = omega (arith, first.lengths.log, second.lengths.log) in
     let disk : a.pages ≡ b.pages = omega (arith, first.lengths.disk, second.lengths.disk) in

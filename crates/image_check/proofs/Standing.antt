@@ -1,6 +1,6 @@
 -- Sound by the rules, and standing for a table, are one.
-use Rattle.std.proofs.Common.{◌≡◌, inl, inr, ℕ, zero, suc, ◌+◌, ◌-◌, ◌*◌, ◌≤◌, ◌<◌, List, [], ◌∷◌, ◌++◌, length, get_or, refl, sym, ap, subst, arith}
-use Rattle.std.specs.Prelude.{Option, Some, None, map}
+use Rattle.std.proofs.Common.{◌≡◌, inl, inr, ℕ, zero, suc, ◌+◌, ◌-◌, ◌*◌, ◌≤◌, ◌<◌, List, [], ◌∷◌, ◌++◌, length, get_or, refl, sym, ap, ◌∙◌, subst, arith}
+use Rattle.std.specs.Prelude.{Option, Some, None, map, is_some, count_by}
 use Rattle.std.specs.List.{AllByRecursion}
 use Rattle.std.proofs.lemmas.Bool.{cases_eq}
 use Rattle.std.proofs.lemmas.List.FromFn.{length-map-range_with_len}
@@ -10,7 +10,7 @@ use Rattle.sealed_ring.specs.Ring.{IsRing, hi_of, live, IsLive}
 use Rattle.image_changes.specs.Rings.{master_shape, log_shape, group_shape, segment_shape, units_on}
 use Rattle.record_model.specs.State.{Content}
 use Rattle.log_records.specs.declared.log_record.LogRecord.{LogRecord}
-use Rattle.log_records.specs.Log.{log_from}
+use Rattle.log_records.specs.Log.{log_from, table_of}
 use Rattle.log_records.specs.Sound.{Picture, Means}
 use Rattle.log_records.specs.Sound as lists
 use Rattle.byte_fields.specs.declared.frame_head.FrameHead.{FrameHead}
@@ -29,7 +29,7 @@ use Rattle.image_meaning.specs.Meaning.{IsNewest, HasNewest, IsFrameOf, AreOctet
 use Rattle.image_meaning.specs.Meaning as meaning
 use Rattle.image_check.specs.Octets.{IsGroupOn, AreBlocks, SegmentsAreFormed, IsFormed, IsOnPage, IsSegmentOn}
 use Rattle.image_check.specs.Verdict.{Reading, Reads, HoldBefore, picture_of}
-use Rattle.image_check.specs.Laws.{SoundStands, StandingIsSound}
+use Rattle.image_check.specs.Laws.{SoundStands, StandingIsSound, SoundOpens, OpenIsSound}
 use Rattle.image_check.proofs.LiveUnits.{all_live, each_live}
 use Rattle.image_check.proofs.BlockLists.{one_block, log_in_table, blocks_on_pages, log_in_order}
 
@@ -280,4 +280,28 @@ standing_is_sound g image table commits stands =
         eleventh = λ is. records.commits;
       };
       means = subst (λ (p : Picture). Means p table commits) same stands.stands.means;
+    }
+
+-- Judged sound.
+
+pub sound_opens : SoundOpens
+sound_opens image records commits sound =
+    let r = sound.reading in
+    let p : Picture = picture_of r image in
+    record {
+      sizes = r.g;
+      table = table_of p.log p.pages;
+      stands = sound_stands r image (table_of p.log p.pages) commits sound.reads sound.rules (record { table_is = refl; count_is = sound.count });
+      values = sound.values;
+    }
+
+pub open_is_sound : OpenIsSound
+open_is_sound image records commits opens =
+    let read = standing_is_sound opens.sizes image opens.table commits opens.stands in
+    record {
+      reading = read.reading;
+      reads = read.reads;
+      rules = read.rules;
+      values = opens.values ∙ ap (count_by is_some) read.means.table_is;
+      count = read.means.count_is;
     }

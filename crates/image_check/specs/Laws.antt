@@ -1,5 +1,5 @@
 -- Laws on the rules.
-use Rattle.std.specs.Prelude.{◌≡◌, ℕ, List}
+use Rattle.std.specs.Prelude.{◌≡◌, ℕ, is_some, List, count_by}
 use Rattle.site.specs.declared.geometry.Geometry.{Geometry}
 use Rattle.site.specs.State.{Image}
 use Rattle.record_model.specs.State.{Content}
@@ -37,3 +37,18 @@ AReading = (g : Geometry) (m : Master) (image : Image) → Rule1 g m image → R
 -- Sound devices fail no rule.
 abbrev pub SoundFailsNone : Type 0
 SoundFailsNone = (image : Image) (records commits i : ℕ) → IsSoundWith image records commits → FailsFirst i image → ⊥
+
+-- sizes and a table with so many values, for which devices stand after so many commits
+pub record Opens (image : Image) (records commits : ℕ) : Type 0 where
+  pub sizes : Geometry
+  pub table : List Content
+  pub stands : StandsFor sizes image table commits
+  pub values : records ≡ count_by is_some table
+
+-- Devices that are judged sound stand for a table with as many values and commits as they are judged to have,
+abbrev pub SoundOpens : Type 0
+SoundOpens = (image : Image) (records commits : ℕ) → IsSoundWith image records commits → Opens image records commits
+
+-- and all that stand for a table are judged so.
+abbrev pub OpenIsSound : Type 0
+OpenIsSound = (image : Image) (records commits : ℕ) → Opens image records commits → IsSoundWith image records commits

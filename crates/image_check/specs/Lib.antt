@@ -1,5 +1,6 @@
 pub mod Chaining
 pub mod Counting
+pub mod Deciding
 pub mod Findings
 pub mod Framing
 pub mod Holding

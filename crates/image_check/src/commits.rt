@@ -6,8 +6,8 @@ ghost use Rattle.log_records.specs.declared.log_record.LogRecord.{LogRecord};
 ghost use Rattle.std.specs.List.{range_with_len};
 ghost use Rattle.log_store.specs.Held.{MayGoOn, Finds, HasBlocks};
 ghost use Rattle.site.specs.Work.{OnlyReads};
-ghost use Rattle.image_check.specs.Counting.{Heard, Counts, Fit};
-ghost use Rattle.image_check.specs.Verdict.{Rule11, picture_of};
+ghost use Rattle.image_check.specs.Counting.{Heard, Counts, Fit, CommitsAre};
+ghost use Rattle.image_check.specs.Verdict.{picture_of};
 
 use crate::walk::Walk;
 use checkpoint::Master;
@@ -94,16 +94,21 @@ impl Numbers {
     }
 }
 
-/// The eleventh rule: whether the commits are numbered on by one, up to the master's count before the redo block and
-/// from there on, and are no more than the blocks that were sealed. It reads each kept block once.
-pub fn rule_commits<S: Site>(site: &mut S, log: &LogStore, master: &Master) -> Result<bool, Stop>
+/// The eleventh rule: how many commits were made, or `None` exactly where they aren't numbered on by one, up to the
+/// master's count before the redo block and from there on, or are more than the blocks that were sealed. It reads each
+/// kept block once.
+pub fn rule_commits<S: Site>(
+    site: &mut S,
+    log: &LogStore,
+    master: &Master,
+) -> Result<Option<u64>, Stop>
     requires going { MayGoOn log.now (S.state site.old) }
     requires live { log.now.ring.hi ≤ master.now.kept + (log.now.geometry.blocks - 1) }
     requires redo { master.now.redo ≤ log.now.ring.hi }
 
     ensures commits { (blocks : List (List LogRecord)) → Finds log.now (S.state site.old)
         → HasBlocks log.now.geometry master.now.kept blocks (S.state site.old).image
-        → IfOk result (λ stand. IsTrue stand ↔ Rule11 (picture_of
+        → IfOk result (λ count. CommitsAre count (picture_of
         (record { g = log.now.geometry; master = master.now; blocks = blocks }) (S.state site.old).image)) }
     ensures reads { OnlyReads result (S.state site.old) (S.state site.new) }
 {
@@ -116,8 +121,11 @@ pub fn rule_commits<S: Site>(site: &mut S, log: &LogStore, master: &Master) -> R
     };
     while let Some((lsn, rec)) = walk.next(site, log)? {
         if !numbers.hear(lsn, &rec, master.redo) {
-            return Ok(false);
+            return Ok(None);
         }
     }
-    Ok(numbers.fit(master.commits, hi))
+    if !numbers.fit(master.commits, hi) {
+        return Ok(None);
+    }
+    Ok(Some(master.commits + numbers.late))
 }

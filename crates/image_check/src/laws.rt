@@ -1,5 +1,5 @@
 // Laws on the rules, for the proofs of code above. They do nothing when called.
-ghost use Rattle.image_check.specs.Laws.{SoundStands, StandingIsSound, OneReading, AReading, SoundFailsNone};
+ghost use Rattle.image_check.specs.Laws.{SoundStands, StandingIsSound, OneReading, AReading, SoundFailsNone, SoundOpens, OpenIsSound};
 
 use checkpoint::one_master;
 
@@ -18,3 +18,10 @@ pub fn one_reading()
 {
     one_master();
 }
+
+/// Devices are judged sound exactly where they stand for a table, with as many values and commits as they are judged to
+/// have: a run opens them.
+pub fn sound_opens()
+    ensures opens { SoundOpens }
+    ensures sound { OpenIsSound }
+{}

@@ -3,9 +3,9 @@ ghost use Rattle.std.specs.Prelude.{◌<◌, ◌≤◌, length, IfOk};
 ghost use Rattle.site.specs.MemState.{state_of};
 
 use crate::{
-    count_values, rule_apart, rule_blocks, rule_clean, rule_commits, rule_following, rule_groups,
-    rule_kept, rule_lengths, rule_master, rule_named, rule_rings, rule_room, rule_segments,
-    rule_shown, rule_transactions, rule_undoable, rule_versions,
+    Verdict, check_image, count_values, rule_apart, rule_blocks, rule_clean, rule_commits,
+    rule_following, rule_groups, rule_kept, rule_lengths, rule_master, rule_named, rule_rings,
+    rule_room, rule_segments, rule_shown, rule_transactions, rule_undoable, rule_versions,
 };
 use checkpoint::{Master, Pairs};
 use log_store::LogStore;
@@ -37,247 +37,23 @@ const BLOCK: [u8; 55] = [
     0x00, 0x00, 0x00, 0x00, 0x00, 0x00, 0x00, 0x01, // commit number
 ];
 
-// The last octet of the page's number, and that of the commit's.
-const PAGE_AT: usize = 32;
+// The first octet of the block, its gate; the last ones of what its records name; and the end of its records.
+const GATE_AT: u8 = 0;
 
-const COMMIT_AT: usize = 54;
+const USED_AT: usize = 10;
 
-#[test]
-fn blank_devices_have_sizes_and_rings(rt: HostRuntime) -> Result<(), Fail> {
-    let mut site = MemSite::new(rt.alloc(), &SMALL)?;
-    assert_eq!(rt; rule_lengths(&site), Some(SMALL));
-    let Some(geometry) = rule_lengths(&site) else {
-        return Ok(());
-    };
-    let rings = rule_rings(&mut site, &geometry)?;
-    assert!(rt; rings.is_some());
-    let Some(rings) = rings else {
-        return Ok(());
-    };
-    assert!(rt; rule_segments(&mut site, &geometry, &rings)?);
-    Ok(())
-}
-
-#[test]
-fn blank_devices_have_the_blank_master(rt: HostRuntime) -> Result<(), Fail> {
-    let mut site = MemSite::new(rt.alloc(), &SMALL)?;
-    assert_eq!(rt; rule_master(&mut site)?, Some(Master::blank()));
-    Ok(())
-}
-
-#[test]
-fn the_block_of_the_first_commit(rt: HostRuntime) -> Result<(), Fail> {
-    let mut site = MemSite::new(rt.alloc(), &SMALL)?;
-    site.write_at(Dev::Log, 1_536, &BLOCK)?;
-    let log = LogStore::start(&mut site, &SMALL)?;
-    assert!(rt; rule_blocks(&mut site, &log, 0)?);
-    assert!(rt; rule_kept(&log, &Master::blank()));
-    assert!(rt; rule_commits(&mut site, &log, &Master::blank())?);
-    Ok(())
-}
-
-#[test]
-fn a_block_on_a_page_past_the_disk(rt: HostRuntime) -> Result<(), Fail> {
-    let mut site = MemSite::new(rt.alloc(), &SMALL)?;
-    let mut block = BLOCK;
-    block[PAGE_AT] = 1;
-    site.write_at(Dev::Log, 1_536, &block)?;
-    let log = LogStore::start(&mut site, &SMALL)?;
-    assert!(rt; !rule_blocks(&mut site, &log, 0)?);
-    Ok(())
-}
-
-#[test]
-fn a_first_commit_with_another_number(rt: HostRuntime) -> Result<(), Fail> {
-    let mut site = MemSite::new(rt.alloc(), &SMALL)?;
-    let mut block = BLOCK;
-    block[COMMIT_AT] = 2;
-    site.write_at(Dev::Log, 1_536, &block)?;
-    let log = LogStore::start(&mut site, &SMALL)?;
-    assert!(rt; rule_kept(&log, &Master::blank()));
-    assert!(rt; !rule_commits(&mut site, &log, &Master::blank())?);
-    Ok(())
-}
-
-// The last octet of the Commit's transaction.
-const TXN_AT: usize = 46;
-
-// The last octet of the LSN that the Update names.
 const PREV_AT: u8 = 28;
+
+const PAGE_AT: u8 = 32;
+
+const TXN_AT: u8 = 46;
+
+const COMMIT_AT: u8 = 54;
 
 // The octets of the block without its Commit, and where they end.
 const UNFINISHED_LEN: usize = 38;
 
-const UNFINISHED_USED: u8 = 29;
-
-// Writes octets into the first block's slot.
-fn put_in_block(site: &mut MemSite, at: u8, octets: &[u8]) -> Result<(), Failed>
-    requires few { length octets.now ≤ 55 }
-    requires long { 9728 ≤ length (state_of site.old).image.log }
-    ensures { 9728 ≤ length (state_of site.new).image.log }
-{
-    site.write_at(Dev::Log, 1_536 + at as u64, octets)
-}
-
-// Devices with a block at the front of the log.
-fn with_block(alloc: Global, block: &[u8]) -> Result<MemSite, Fail>
-    requires { length block.now ≤ 55 }
-    ensures { IfOk result (λ site. 9728 ≤ length (state_of site).image.log) }
-{
-    let mut site = MemSite::new(alloc, &SMALL)?;
-    put_in_block(&mut site, 0, block)?;
-    Ok(site)
-}
-
-// Devices whose one transaction is unfinished.
-fn with_unfinished(alloc: Global) -> Result<MemSite, Fail>
-    ensures { IfOk result (λ site. 9728 ≤ length (state_of site).image.log) }
-{
-    let mut block = BLOCK;
-    block[10] = UNFINISHED_USED;
-    with_block(alloc, &block[..UNFINISHED_LEN])
-}
-
-// Whether the records are of open transactions, where the lengths are those of sizes and the kept blocks are live.
-fn are_of_open_ones(
-    alloc: Global,
-    site: &mut MemSite,
-    master: &Master,
-) -> Result<Option<bool>, Stop> {
-    let Some(geometry) = rule_lengths(site) else {
-        return Ok(None);
-    };
-    let log = LogStore::start(site, &geometry)?;
-    if !rule_kept(&log, master) {
-        return Ok(None);
-    }
-    Ok(Some(rule_transactions(alloc, site, &log, master)?))
-}
-
-// Whether undo has room.
-fn has_room(alloc: Global, site: &mut MemSite, master: &Master) -> Result<Option<bool>, Stop> {
-    let Some(geometry) = rule_lengths(site) else {
-        return Ok(None);
-    };
-    let log = LogStore::start(site, &geometry)?;
-    if !rule_kept(&log, master) {
-        return Ok(None);
-    }
-    Ok(Some(rule_room(alloc, site, &log, master)?))
-}
-
-// Whether the master names the active transactions.
-fn names_the_active(
-    alloc: Global,
-    site: &mut MemSite,
-    master: &Master,
-) -> Result<Option<bool>, Stop> {
-    let Some(geometry) = rule_lengths(site) else {
-        return Ok(None);
-    };
-    let log = LogStore::start(site, &geometry)?;
-    if !rule_kept(&log, master) {
-        return Ok(None);
-    }
-    Ok(Some(rule_named(alloc, site, &log, master)?))
-}
-
-#[test]
-fn a_commit_of_an_open_transaction(rt: HostRuntime) -> Result<(), Fail> {
-    let mut site = with_block(rt.alloc(), &BLOCK)?;
-    assert_eq!(rt;
-        are_of_open_ones(rt.alloc(), &mut site, &Master::blank())?,
-        Some(true)
-    );
-    Ok(())
-}
-
-#[test]
-fn a_commit_of_another_transaction(rt: HostRuntime) -> Result<(), Fail> {
-    let mut block = BLOCK;
-    block[TXN_AT] = 3;
-    let mut site = with_block(rt.alloc(), &block)?;
-    assert_eq!(rt;
-        are_of_open_ones(rt.alloc(), &mut site, &Master::blank())?,
-        Some(false)
-    );
-    Ok(())
-}
-
-#[test]
-fn room_for_one_update(rt: HostRuntime) -> Result<(), Fail> {
-    let mut site = with_unfinished(rt.alloc())?;
-    assert_eq!(rt;
-        has_room(rt.alloc(), &mut site, &Master::blank())?,
-        Some(true)
-    );
-    Ok(())
-}
-
-// A master before the second block that names these transactions.
-fn later_master(active: Pairs) -> Master {
-    Master {
-        redo: 1,
-        kept: 0,
-        commits: 0,
-        active,
-    }
-}
-
-#[test]
-fn the_unfinished_transaction_is_named(rt: HostRuntime) -> Result<(), Fail> {
-    let mut site = with_unfinished(rt.alloc())?;
-    let mut active = Pairs::new();
-    active.push(2, 3);
-    assert_eq!(rt;
-        names_the_active(rt.alloc(), &mut site, &later_master(active))?,
-        Some(true)
-    );
-    Ok(())
-}
-
-#[test]
-fn the_unfinished_transaction_is_not_named(rt: HostRuntime) -> Result<(), Fail> {
-    let mut site = with_unfinished(rt.alloc())?;
-    assert_eq!(rt;
-        names_the_active(rt.alloc(), &mut site, &later_master(Pairs::new()))?,
-        Some(false)
-    );
-    Ok(())
-}
-
-// Whether unfinished transactions can be undone.
-fn can_be_undone(alloc: Global, site: &mut MemSite, master: &Master) -> Result<Option<bool>, Stop> {
-    let Some(geometry) = rule_lengths(site) else {
-        return Ok(None);
-    };
-    let log = LogStore::start(site, &geometry)?;
-    if !rule_kept(&log, master) {
-        return Ok(None);
-    }
-    Ok(Some(rule_undoable(alloc, site, &log, master)?))
-}
-
-#[test]
-fn an_update_behind_its_begin(rt: HostRuntime) -> Result<(), Fail> {
-    let mut site = with_unfinished(rt.alloc())?;
-    assert_eq!(rt;
-        can_be_undone(rt.alloc(), &mut site, &Master::blank())?,
-        Some(true)
-    );
-    Ok(())
-}
-
-#[test]
-fn an_update_that_names_no_record_before_it(rt: HostRuntime) -> Result<(), Fail> {
-    let mut site = with_unfinished(rt.alloc())?;
-    put_in_block(&mut site, PREV_AT, &[1])?;
-    assert_eq!(rt;
-        can_be_undone(rt.alloc(), &mut site, &Master::blank())?,
-        Some(false)
-    );
-    Ok(())
-}
+const UNFINISHED_USED: u8 = 0x1d;
 
 // What a second transaction has written behind the unfinished one.
 const SECOND: [u8; 27] = [
@@ -291,21 +67,49 @@ const SECOND: [u8; 27] = [
     0x00, // after
 ];
 
-// The slot of its Update.
-const SLOT_AT: usize = 22;
+// The slot of its Update behind the first transaction, and where its records end.
+const SECOND_SLOT_AT: u8 = 60;
 
-// Devices with two unfinished transactions, the second of which has written this slot.
-fn with_two(alloc: Global, slot: u8) -> Result<MemSite, Fail> {
-    let mut site = with_unfinished(alloc)?;
-    let mut second = SECOND;
-    second[SLOT_AT] = slot;
-    put_in_block(&mut site, 38, &second)?;
-    put_in_block(&mut site, 9, &[0x00, 0x38])?;
+const SECOND_USED: u8 = 0x38;
+
+// Writes octets into the first block's slot.
+fn put_in_block(site: &mut MemSite, at: u8, octets: &[u8]) -> Result<(), Failed>
+    requires few { length octets.now ≤ 65 }
+    requires long { 9728 ≤ length (state_of site.old).image.log }
+    ensures { 9728 ≤ length (state_of site.new).image.log }
+{
+    site.write_at(Dev::Log, 1_536 + at as u64, octets)
+}
+
+// Devices with a block at the front of the log.
+fn with_block(alloc: Global, block: &[u8]) -> Result<MemSite, Fail>
+    requires { length block.now ≤ 65 }
+    ensures { IfOk result (λ site. 9728 ≤ length (state_of site).image.log) }
+{
+    let mut site = MemSite::new(alloc, &SMALL)?;
+    put_in_block(&mut site, 0, block)?;
     Ok(site)
 }
 
-// Whether unfinished transactions hold others off.
-fn are_apart(alloc: Global, site: &mut MemSite, master: &Master) -> Result<Option<bool>, Stop> {
+// The rules on the log.
+#[derive(Clone, Copy, Drop)]
+enum LogRule {
+    Blocks,
+    Transactions,
+    Undoable,
+    Apart,
+    Room,
+    Named,
+    OneCommit,
+}
+
+// Whether a rule on the log holds, where the lengths are those of sizes and the kept blocks are live.
+fn holds_of_log(
+    alloc: Global,
+    site: &mut MemSite,
+    master: &Master,
+    rule: LogRule,
+) -> Result<Option<bool>, Stop> {
     let Some(geometry) = rule_lengths(site) else {
         return Ok(None);
     };
@@ -313,26 +117,158 @@ fn are_apart(alloc: Global, site: &mut MemSite, master: &Master) -> Result<Optio
     if !rule_kept(&log, master) {
         return Ok(None);
     }
-    Ok(Some(rule_apart(alloc, site, &log, master)?))
+    let holds = match rule {
+        LogRule::Blocks => rule_blocks(site, &log, 0)?,
+        LogRule::Transactions => rule_transactions(alloc, site, &log, master)?,
+        LogRule::Undoable => rule_undoable(alloc, site, &log, master)?,
+        LogRule::Apart => rule_apart(alloc, site, &log, master)?,
+        LogRule::Room => rule_room(alloc, site, &log, master)?,
+        LogRule::Named => rule_named(alloc, site, &log, master)?,
+        LogRule::OneCommit => rule_commits(site, &log, master)? == Some(1),
+    };
+    Ok(Some(holds))
+}
+
+// A place in the block, another octet there, and whether a rule then holds.
+type LogRow = (u8, u8, LogRule, bool);
+
+// The first row that isn't so of devices with this block.
+fn first_wrong(
+    alloc: Global,
+    block: &[u8],
+    master: &Master,
+    rows: &[LogRow],
+) -> Result<Option<usize>, Fail>
+    requires { length block.now ≤ 65 }
+{
+    for (index, &(at, octet, rule, holds)) in rows.iter().enumerate() {
+        let mut site = with_block(alloc, block)?;
+        put_in_block(&mut site, at, &[octet])?;
+        if holds_of_log(alloc, &mut site, master, rule)? != Some(holds) {
+            return Ok(Some(index));
+        }
+    }
+    Ok(None)
 }
 
 #[test]
-fn two_unfinished_ones_on_two_records(rt: HostRuntime) -> Result<(), Fail> {
-    let mut site = with_two(rt.alloc(), 6)?;
-    assert_eq!(rt;
-        are_apart(rt.alloc(), &mut site, &Master::blank())?,
-        Some(true)
-    );
+fn a_finished_transaction(rt: HostRuntime) -> Result<(), Fail> {
+    let rows = [
+        (GATE_AT, 0xa5, LogRule::Blocks, true),
+        (GATE_AT, 0xa5, LogRule::Transactions, true),
+        (GATE_AT, 0xa5, LogRule::OneCommit, true),
+        (PAGE_AT, 1, LogRule::Blocks, false),
+        (TXN_AT, 3, LogRule::Transactions, false),
+        (COMMIT_AT, 2, LogRule::OneCommit, false),
+    ];
+    let wrong = first_wrong(rt.alloc(), &BLOCK, &Master::blank(), &rows)?;
+    assert_eq!(rt; wrong, None);
+    Ok(())
+}
+
+// A block of the first transaction without its Commit.
+fn unfinished() -> [u8; UNFINISHED_LEN] {
+    let mut block = [0u8; UNFINISHED_LEN];
+    block.copy_from_slice(&BLOCK[..UNFINISHED_LEN]);
+    block[USED_AT] = UNFINISHED_USED;
+    block
+}
+
+#[test]
+fn an_unfinished_transaction(rt: HostRuntime) -> Result<(), Fail> {
+    let rows = [
+        (GATE_AT, 0xa5, LogRule::Room, true),
+        (GATE_AT, 0xa5, LogRule::Undoable, true),
+        (PREV_AT, 1, LogRule::Undoable, false),
+    ];
+    let wrong = first_wrong(rt.alloc(), &unfinished(), &Master::blank(), &rows)?;
+    assert_eq!(rt; wrong, None);
+    Ok(())
+}
+
+// Whether a master before the second block that names these transactions names the active ones.
+fn names_the_active(alloc: Global, active: Pairs) -> Result<Option<bool>, Fail> {
+    let master = Master {
+        redo: 1,
+        kept: 0,
+        commits: 0,
+        active,
+    };
+    let mut site = with_block(alloc, &unfinished())?;
+    Ok(holds_of_log(alloc, &mut site, &master, LogRule::Named)?)
+}
+
+#[test]
+fn a_master_with_an_active_transaction(rt: HostRuntime) -> Result<(), Fail> {
+    let mut active = Pairs::new();
+    active.push(2, 3);
+    assert_eq!(rt; names_the_active(rt.alloc(), active)?, Some(true));
+    assert_eq!(rt; names_the_active(rt.alloc(), Pairs::new())?, Some(false));
+    Ok(())
+}
+
+// A block of two transactions without Commits.
+fn two_unfinished() -> [u8; 65] {
+    let mut block = [0u8; 65];
+    block[..UNFINISHED_LEN].copy_from_slice(&BLOCK[..UNFINISHED_LEN]);
+    block[UNFINISHED_LEN..].copy_from_slice(&SECOND);
+    block[USED_AT] = SECOND_USED;
+    block
+}
+
+#[test]
+fn two_unfinished_transactions(rt: HostRuntime) -> Result<(), Fail> {
+    let rows = [
+        (SECOND_SLOT_AT, 6, LogRule::Apart, true),
+        (SECOND_SLOT_AT, 5, LogRule::Apart, false),
+    ];
+    let wrong = first_wrong(rt.alloc(), &two_unfinished(), &Master::blank(), &rows)?;
+    assert_eq!(rt; wrong, None);
+    Ok(())
+}
+
+// The rules on the rings of flash, and on pages.
+#[derive(Clone, Copy, Drop)]
+enum PageRule {
+    Groups,
+    Segments,
+    Versions,
+    Clean,
+    Following,
+}
+
+// Whether such a rule holds, where the rings are of the form.
+fn holds_of_pages(site: &mut MemSite, rule: PageRule) -> Result<Option<bool>, Stop> {
+    let Some(geometry) = rule_lengths(site) else {
+        return Ok(None);
+    };
+    let Some(rings) = rule_rings(site, &geometry)? else {
+        return Ok(None);
+    };
+    let holds = match rule {
+        PageRule::Groups => rule_groups(site, &geometry, &rings)?,
+        PageRule::Segments => rule_segments(site, &geometry, &rings)?,
+        PageRule::Versions => rule_versions(site, &geometry, &rings)?,
+        PageRule::Clean => rule_clean(site, &geometry, &rings)?,
+        PageRule::Following => rule_following(site, &geometry, &rings)?,
+    };
+    Ok(Some(holds))
+}
+
+#[test]
+fn blank_devices(rt: HostRuntime) -> Result<(), Fail> {
+    let mut site = MemSite::new(rt.alloc(), &SMALL)?;
+    assert_eq!(rt; rule_lengths(&site), Some(SMALL));
+    assert_eq!(rt; rule_master(&mut site)?, Some(Master::blank()));
+    assert_eq!(rt; holds_of_pages(&mut site, PageRule::Segments)?, Some(true));
     Ok(())
 }
 
 #[test]
-fn two_unfinished_ones_on_one_record(rt: HostRuntime) -> Result<(), Fail> {
-    let mut site = with_two(rt.alloc(), 5)?;
-    assert_eq!(rt;
-        are_apart(rt.alloc(), &mut site, &Master::blank())?,
-        Some(false)
-    );
+fn a_disk_page_of_another_form(rt: HostRuntime) -> Result<(), Fail> {
+    let mut site = MemSite::new(rt.alloc(), &SMALL)?;
+    site.write_at(Dev::Disk, 10, &[1])?;
+    assert_eq!(rt; holds_of_pages(&mut site, PageRule::Versions)?, Some(false));
     Ok(())
 }
 
@@ -383,161 +319,59 @@ fn with_groups(alloc: Global) -> Result<MemSite, Fail>
     Ok(site)
 }
 
-// Whether the segments follow the groups, where the rings are of the form.
-fn do_follow(site: &mut MemSite) -> Result<Option<bool>, Stop> {
-    let Some(geometry) = rule_lengths(site) else {
-        return Ok(None);
-    };
-    let Some(rings) = rule_rings(site, &geometry)? else {
-        return Ok(None);
-    };
-    Ok(Some(rule_following(site, &geometry, &rings)?))
+// What is written besides four groups.
+#[derive(Clone, Copy, Drop)]
+enum Written {
+    Nothing,
+    // the LSN of another page in the head of the first group
+    OtherLsn,
+    // a disk page of another form
+    OtherPage,
+    // the segment of the groups, and one with another head
+    Segment,
+    OtherSegment,
 }
 
-#[test]
-fn a_segment_of_four_groups(rt: HostRuntime) -> Result<(), Fail> {
-    let mut site = with_groups(rt.alloc())?;
-    put_segment(&mut site, 0)?;
-    assert_eq!(rt; do_follow(&mut site)?, Some(true));
-    Ok(())
+fn put_written(site: &mut MemSite, written: Written) -> Result<(), Failed>
+    requires long { 271360 ≤ length (state_of site.old).image.flash }
+    requires disk { 4096 ≤ length (state_of site.old).image.disk }
+{
+    match written {
+        Written::Nothing => Ok(()),
+        Written::OtherLsn => site.write_at(Dev::Flash, 24, &[1]),
+        Written::OtherPage => site.write_at(Dev::Disk, 10, &[1]),
+        Written::Segment => put_segment(site, 0),
+        Written::OtherSegment => put_segment(site, 1),
+    }
 }
 
-#[test]
-fn a_segment_with_another_head(rt: HostRuntime) -> Result<(), Fail> {
-    let mut site = with_groups(rt.alloc())?;
-    put_segment(&mut site, 1)?;
-    assert_eq!(rt; do_follow(&mut site)?, Some(false));
-    Ok(())
-}
+// What is written, and whether a rule then holds.
+type PageRow = (Written, PageRule, bool);
 
-// Whether the groups are of the form, where the rings are.
-fn are_groups(site: &mut MemSite) -> Result<Option<bool>, Stop> {
-    let Some(geometry) = rule_lengths(site) else {
-        return Ok(None);
-    };
-    let Some(rings) = rule_rings(site, &geometry)? else {
-        return Ok(None);
-    };
-    Ok(Some(rule_groups(site, &geometry, &rings)?))
-}
-
-// Whether the versions are sound pages, where the rings are of the form.
-fn are_versions(site: &mut MemSite) -> Result<Option<bool>, Stop> {
-    let Some(geometry) = rule_lengths(site) else {
-        return Ok(None);
-    };
-    let Some(rings) = rule_rings(site, &geometry)? else {
-        return Ok(None);
-    };
-    Ok(Some(rule_versions(site, &geometry, &rings)?))
-}
-
-// Whether clean frames equal the disk, where the rings are of the form.
-fn are_clean(site: &mut MemSite) -> Result<Option<bool>, Stop> {
-    let Some(geometry) = rule_lengths(site) else {
-        return Ok(None);
-    };
-    let Some(rings) = rule_rings(site, &geometry)? else {
-        return Ok(None);
-    };
-    Ok(Some(rule_clean(site, &geometry, &rings)?))
+// The first row that isn't so.
+fn first_wrong_of_groups(alloc: Global, rows: &[PageRow]) -> Result<Option<usize>, Fail> {
+    for (index, &(written, rule, holds)) in rows.iter().enumerate() {
+        let mut site = with_groups(alloc)?;
+        put_written(&mut site, written)?;
+        if holds_of_pages(&mut site, rule)? != Some(holds) {
+            return Ok(Some(index));
+        }
+    }
+    Ok(None)
 }
 
 #[test]
 fn four_groups_of_one_frame(rt: HostRuntime) -> Result<(), Fail> {
-    let mut site = with_groups(rt.alloc())?;
-    assert_eq!(rt; are_groups(&mut site)?, Some(true));
-    Ok(())
-}
-
-#[test]
-fn a_head_with_the_lsn_of_another_page(rt: HostRuntime) -> Result<(), Fail> {
-    let mut site = with_groups(rt.alloc())?;
-    site.write_at(Dev::Flash, 24, &[1])?;
-    assert_eq!(rt; are_groups(&mut site)?, Some(false));
-    Ok(())
-}
-
-#[test]
-fn a_disk_page_of_another_form(rt: HostRuntime) -> Result<(), Fail> {
-    let mut site = MemSite::new(rt.alloc(), &SMALL)?;
-    site.write_at(Dev::Disk, 10, &[1])?;
-    assert_eq!(rt; are_versions(&mut site)?, Some(false));
-    Ok(())
-}
-
-#[test]
-fn a_disk_page_of_another_form_behind_a_frame(rt: HostRuntime) -> Result<(), Fail> {
-    let mut site = with_groups(rt.alloc())?;
-    site.write_at(Dev::Disk, 10, &[1])?;
-    assert_eq!(rt; are_versions(&mut site)?, Some(true));
-    Ok(())
-}
-
-#[test]
-fn frames_that_equal_the_disk(rt: HostRuntime) -> Result<(), Fail> {
-    let mut site = with_groups(rt.alloc())?;
-    assert_eq!(rt; are_clean(&mut site)?, Some(true));
-    Ok(())
-}
-
-#[test]
-fn a_clean_frame_that_differs_from_the_disk(rt: HostRuntime) -> Result<(), Fail> {
-    let mut site = with_groups(rt.alloc())?;
-    site.write_at(Dev::Disk, 10, &[1])?;
-    assert_eq!(rt; are_clean(&mut site)?, Some(false));
-    Ok(())
-}
-
-// The entry of a slot with the empty value.
-const ENTRY: [u8; 4] = [0x10, 0x00, 0x00, 0x01];
-
-// How many numbers have a value, where the rings are of the form.
-fn values_on(alloc: Global, site: &mut MemSite) -> Result<Option<u64>, Stop> {
-    let Some(geometry) = rule_lengths(site) else {
-        return Ok(None);
-    };
-    let log = LogStore::start(site, &geometry)?;
-    if !rule_kept(&log, &Master::blank()) {
-        return Ok(None);
-    }
-    let Some(rings) = rule_rings(site, &geometry)? else {
-        return Ok(None);
-    };
-    let count = count_values(alloc, site, &log, &rings, &Master::blank())?;
-    Ok(Some(count))
-}
-
-#[test]
-fn the_value_of_the_first_commit(rt: HostRuntime) -> Result<(), Fail> {
-    let mut site = with_block(rt.alloc(), &BLOCK)?;
-    assert_eq!(rt; values_on(rt.alloc(), &mut site)?, Some(1));
-    Ok(())
-}
-
-#[test]
-fn no_value_of_an_unfinished_transaction(rt: HostRuntime) -> Result<(), Fail> {
-    let mut site = with_unfinished(rt.alloc())?;
-    assert_eq!(rt; values_on(rt.alloc(), &mut site)?, Some(0));
-    Ok(())
-}
-
-// Slot 0 of the frame in the fourth group.
-#[test]
-fn a_value_in_the_newest_frame(rt: HostRuntime) -> Result<(), Fail> {
-    let mut site = with_groups(rt.alloc())?;
-    site.write_at(Dev::Flash, 99_993, &ENTRY)?;
-    assert_eq!(rt; values_on(rt.alloc(), &mut site)?, Some(1));
-    Ok(())
-}
-
-// Slot 0 of the disk page, and of the frame in the third group.
-#[test]
-fn values_behind_the_newest_frame(rt: HostRuntime) -> Result<(), Fail> {
-    let mut site = with_groups(rt.alloc())?;
-    site.write_at(Dev::Disk, 16, &ENTRY)?;
-    site.write_at(Dev::Flash, 66_713, &ENTRY)?;
-    assert_eq!(rt; values_on(rt.alloc(), &mut site)?, Some(0));
+    let rows = [
+        (Written::Nothing, PageRule::Groups, true),
+        (Written::OtherLsn, PageRule::Groups, false),
+        (Written::OtherPage, PageRule::Versions, true),
+        (Written::Nothing, PageRule::Clean, true),
+        (Written::OtherPage, PageRule::Clean, false),
+        (Written::Segment, PageRule::Following, true),
+        (Written::OtherSegment, PageRule::Following, false),
+    ];
+    assert_eq!(rt; first_wrong_of_groups(rt.alloc(), &rows)?, None);
     Ok(())
 }
 
@@ -554,8 +388,8 @@ const PAGE: [u8; 40] = [
     0x0f, 0xfe, 0x00, 0x03, // slot 5
 ];
 
-// The gate of the first slot of groups: group 0 stands there, with a frame of page 0 that has no values and the LSN 0, or
-// it doesn't.
+// The gate of the first slot of groups: group 0 stands there, with a frame of page 0 that has no values and the LSN 0,
+// or it doesn't.
 const FRAMED: u8 = 0xa5;
 
 const BARE: u8 = 0;
@@ -630,5 +464,97 @@ fn a_page_of_the_first_commit(rt: HostRuntime) -> Result<(), Fail> {
         (0, [0x02, 0x00], 0x0b, BARE, false),
     ];
     assert_eq!(rt; first_not_shown(rt.alloc(), &rows)?, None);
+    Ok(())
+}
+
+// The entry of a slot with the empty value.
+const ENTRY: [u8; 4] = [0x10, 0x00, 0x00, 0x01];
+
+// How many numbers have a value, where the rings are of the form.
+fn values_on(alloc: Global, site: &mut MemSite) -> Result<Option<u64>, Stop> {
+    let Some(geometry) = rule_lengths(site) else {
+        return Ok(None);
+    };
+    let log = LogStore::start(site, &geometry)?;
+    if !rule_kept(&log, &Master::blank()) {
+        return Ok(None);
+    }
+    let Some(rings) = rule_rings(site, &geometry)? else {
+        return Ok(None);
+    };
+    let count = count_values(alloc, site, &log, &rings, &Master::blank())?;
+    Ok(Some(count))
+}
+
+#[test]
+fn values_of_one_transaction(rt: HostRuntime) -> Result<(), Fail> {
+    let mut finished = with_block(rt.alloc(), &BLOCK)?;
+    assert_eq!(rt; values_on(rt.alloc(), &mut finished)?, Some(1));
+    let mut left = with_block(rt.alloc(), &unfinished())?;
+    assert_eq!(rt; values_on(rt.alloc(), &mut left)?, Some(0));
+    Ok(())
+}
+
+// Slot 0 of the disk page and of the frame in the third group has a value, then that of the newest frame too.
+#[test]
+fn values_of_the_newest_frame(rt: HostRuntime) -> Result<(), Fail> {
+    let mut site = with_groups(rt.alloc())?;
+    site.write_at(Dev::Disk, 16, &ENTRY)?;
+    site.write_at(Dev::Flash, 66_713, &ENTRY)?;
+    assert_eq!(rt; values_on(rt.alloc(), &mut site)?, Some(0));
+    site.write_at(Dev::Flash, 99_993, &ENTRY)?;
+    assert_eq!(rt; values_on(rt.alloc(), &mut site)?, Some(1));
+    Ok(())
+}
+
+// The verdict on devices with this block, with another octet of it.
+fn verdict_on(alloc: Global, block: &[u8], at: u8, octet: u8) -> Result<Verdict, Fail>
+    requires { length block.now ≤ 65 }
+{
+    let mut site = with_block(alloc, block)?;
+    put_in_block(&mut site, at, &[octet])?;
+    Ok(check_image(alloc, &mut site)?)
+}
+
+#[test]
+fn verdicts_on_the_first_commit(rt: HostRuntime) -> Result<(), Fail> {
+    assert_eq!(rt;
+        verdict_on(rt.alloc(), &BLOCK, GATE_AT, 0xa5)?,
+        Verdict::Sound {
+            records: 1,
+            commits: 1
+        }
+    );
+    assert_eq!(rt;
+        verdict_on(rt.alloc(), &BLOCK, TXN_AT, 3)?,
+        Verdict::Unsound { rule: 3 }
+    );
+    assert_eq!(rt;
+        verdict_on(rt.alloc(), &BLOCK, COMMIT_AT, 2)?,
+        Verdict::Unsound { rule: 11 }
+    );
+    Ok(())
+}
+
+// The verdict on blank devices, with another octet of the one page of the disk.
+fn verdict_with_page(alloc: Global, octet: u8) -> Result<Verdict, Fail> {
+    let mut site = MemSite::new(alloc, &SMALL)?;
+    site.write_at(Dev::Disk, 10, &[octet])?;
+    Ok(check_image(alloc, &mut site)?)
+}
+
+#[test]
+fn verdicts_on_blank_devices(rt: HostRuntime) -> Result<(), Fail> {
+    assert_eq!(rt;
+        verdict_with_page(rt.alloc(), 0)?,
+        Verdict::Sound {
+            records: 0,
+            commits: 0
+        }
+    );
+    assert_eq!(rt;
+        verdict_with_page(rt.alloc(), 1)?,
+        Verdict::Unsound { rule: 1 }
+    );
     Ok(())
 }

@@ -10,7 +10,7 @@ use Rattle.image_check.specs.Counting.{Heard, Fit}
 use Rattle.image_check.specs.Verdict.{picture_of}
 use Rattle.image_check.proofs.BlocksJudged.{finds_later, going_later}
 use Rattle.image_check.proofs.Walks.{walked_none, walked_more, walked_all, gives_at}
-use Rattle.image_check.proofs.Numbering.{numbered, fits}
+use Rattle.image_check.proofs.Numbering.{numbered, fits, counted_all}
 use Rattle.image_check.proofs.commits.rule_commits.Goals as goal
 
 pub loop-lsn-init : goal.loop-lsn-init
@@ -42,10 +42,8 @@ returns-then-not-hear-clause-commits g c blocks finds has =
     let gives = gives_at log c.loop-lsn.walk c.next.new.self now.image old.image w.left c.in_ok-lsn.field-0 same w.stands (c.in_ok-lsn.ensures.next w.left (finds_later log old now reads.goes same finds)) in
     let more = subst (λ (o : Option (ℕ × LogRecord)). Gives o w.left c.next.new.self log old.image) c.in-Some.is gives in
     let e : Entry = record { lsn = c.in-Some.lsn; rec = c.in-Some.rec } in
-    let all : log_from c.args.master.now.kept blocks ≡ w.done ++ e ∷ more.0 = w.split ∙ ap (λ (l : List Entry). w.done ++ l) more.1 in (
-      λ no. let wrong : false ≡ true = no in absurd (true≢false (sym wrong)),
-      λ are. absurd (c.hear.ensures.wrong w.done more.0 _ _ so_far.1 c.if-not-hear.true (sym (ap commit_numbers all) ∙ are.run_on)),
-    )
+    let all : log_from c.args.master.now.kept blocks ≡ w.done ++ e ∷ more.0 = w.split ∙ ap (λ (l : List Entry). w.done ++ l) more.1 in
+    λ are. c.hear.ensures.wrong w.done more.0 _ _ so_far.1 c.if-not-hear.true (sym (ap commit_numbers all) ∙ are.run_on)
 
 pub loop-lsn-preserved : goal.loop-lsn-preserved
 loop-lsn-preserved g c =
@@ -71,6 +69,24 @@ loop-lsn-preserved g c =
       reads = search rules;
     }
 
+pub returns-then-not-fit-clause-commits : goal.returns-then-not-fit-clause-commits
+returns-then-not-fit-clause-commits g c blocks finds has =
+    let log = c.args.log.now in
+    let old : State = g.S.Site.state c.args.site.now in
+    let now : State = g.S.Site.state c.loop-lsn.site in
+    let reads = c.loop-lsn.invariant.reads in
+    let same : now.image ≡ old.image = (reads.same finds.honest).image in
+    let so_far = c.loop-lsn.invariant.heard blocks finds has in
+    let w = so_far.0 in
+    let gives = gives_at log c.loop-lsn.walk c.next.new.self now.image old.image w.left c.in_ok-lsn.field-0 same w.stands (c.in_ok-lsn.ensures.next w.left (finds_later log old now reads.goes same finds)) in
+    let none : w.left ≡ [] = subst (λ (o : Option (ℕ × LogRecord)). Gives o w.left c.next.new.self log old.image) c.in_default.is gives in
+    let all = walked_all c.loop-lsn.walk log old.image (log_from c.args.master.now.kept blocks) w none in
+    let p = picture_of (record { g = log.geometry; master = c.args.master.now; blocks = blocks }) old.image in
+    let heard : Heard c.args.master.now.redo c.loop-lsn.numbers (log_from c.args.master.now.kept blocks) = subst (Heard c.args.master.now.redo c.loop-lsn.numbers) (sym all) so_far.1 in
+    let hi : c.sealed_end-hi.result / 512 ≡ p.hi = omega (arith, c.sealed_end-hi.ensures, finds.hi) in
+    let wrong : Fit c.loop-lsn.numbers.first c.loop-lsn.numbers.early c.loop-lsn.numbers.late c.args.master.now.commits (c.sealed_end-hi.result / 512) → ⊥ = λ fit. true≢false (sym (c.fit.ensures.1 fit) ∙ c.if-not-fit.true) in
+    λ are. wrong (subst (Fit c.loop-lsn.numbers.first c.loop-lsn.numbers.early c.loop-lsn.numbers.late c.args.master.now.commits) (sym hi) (fits p c.loop-lsn.numbers heard are))
+
 pub returns-clause-commits : goal.returns-clause-commits
 returns-clause-commits g c blocks finds has =
     let log = c.args.log.now in
@@ -85,7 +101,6 @@ returns-clause-commits g c blocks finds has =
     let all = walked_all c.loop-lsn.walk log old.image (log_from c.args.master.now.kept blocks) w none in
     let p = picture_of (record { g = log.geometry; master = c.args.master.now; blocks = blocks }) old.image in
     let heard : Heard c.args.master.now.redo c.loop-lsn.numbers (log_from c.args.master.now.kept blocks) = subst (Heard c.args.master.now.redo c.loop-lsn.numbers) (sym all) so_far.1 in
-    let hi : c.sealed_end-hi.result / 512 ≡ p.hi = omega (arith, c.sealed_end-hi.ensures, finds.hi) in (
-      λ yes. numbered p c.loop-lsn.numbers heard (subst (Fit c.loop-lsn.numbers.first c.loop-lsn.numbers.early c.loop-lsn.numbers.late c.args.master.now.commits) hi (c.fit.ensures.0 yes)),
-      λ are. c.fit.ensures.1 (subst (Fit c.loop-lsn.numbers.first c.loop-lsn.numbers.early c.loop-lsn.numbers.late c.args.master.now.commits) (sym hi) (fits p c.loop-lsn.numbers heard are)),
-    )
+    let hi : c.sealed_end-hi.result / 512 ≡ p.hi = omega (arith, c.sealed_end-hi.ensures, finds.hi) in
+    let fit : Fit c.loop-lsn.numbers.first c.loop-lsn.numbers.early c.loop-lsn.numbers.late c.args.master.now.commits p.hi = subst (Fit c.loop-lsn.numbers.first c.loop-lsn.numbers.early c.loop-lsn.numbers.late c.args.master.now.commits) hi (c.fit.ensures.0 c.if-not-fit.false) in
+    (numbered p c.loop-lsn.numbers heard fit, counted_all p c.loop-lsn.numbers heard)
