@@ -1,19 +1,18 @@
 -- The rules one after the other.
-use Rattle.std.proofs.Common.{◌≡◌, ◌↔◌, inl, inr, ℕ, zero, suc, ◌+◌, ◌≤◌, ◌<◌, true, false, true≢false, Bool, IsTrue, List, refl, sym, ◌∙◌, subst, arith}
-use Rattle.std.specs.Prelude.{Option, Some, None, Ok, ⊤}
+use Rattle.std.proofs.Common.{◌≡◌, ◌↔◌, inl, inr, ℕ, zero, suc, ◌+◌, ◌≤◌, true, false, true≢false, Bool, IsTrue, List, refl, sym, ◌∙◌, subst, arith}
+use Rattle.std.specs.Prelude.{Some, Ok, ⊤}
 use Rattle.std.proofs.lemmas.Bool.{cases_eq}
 use Rattle.site.specs.declared.geometry.Geometry.{Geometry}
 use Rattle.site.specs.State.{State, Image}
 use Rattle.site.specs.Calls.{Goes}
 use Rattle.site.specs.Work.{OnlyReads}
-use Rattle.sealed_ring.specs.Ring.{IsRing}
 use Rattle.log_records.specs.declared.log_record.LogRecord.{LogRecord}
 use Rattle.log_records.specs.Sound.{commit_count}
 use Rattle.checkpoint.specs.declared.master.Master.{Master}
 use Rattle.checkpoint.specs.Newest.{HasMaster}
 use Rattle.checkpoint.specs.Laws.{OneNewest}
 use Rattle.image_check.specs.declared.formed.Found.{Found}
-use Rattle.image_check.specs.Octets.{HasSizes, AreRings, IsFormed}
+use Rattle.image_check.specs.Octets.{HasSizes, AreRings}
 use Rattle.image_check.specs.Deciding.{MayBeRead, MayBeJudged, IsThere, MeetsBefore, HoldOr, reading_of}
 use Rattle.image_check.specs.Verdict.{Reading, Reads, Rule, Rule1, Rule2, Rule3, Rule4, Rule5, Rule6, Rule7, Rule8, Rule9, Rule10, Rule11, HoldBefore, FailsFirst, IsSoundWith, picture_of, values_of}
 use Rattle.image_check.proofs.Lasting.{may_read_later, found_later}

@@ -1,6 +1,5 @@
 -- What is known of devices on the way to the verdict.
-use Rattle.std.specs.Prelude.{◌≡◌, ℕ, ◌+◌, ◌-◌, ◌≤◌, Option, Some, None, List}
-use Rattle.site.specs.declared.geometry.Geometry.{Geometry}
+use Rattle.std.specs.Prelude.{ℕ, ◌+◌, ◌-◌, ◌≤◌, Option, Some, None, List}
 use Rattle.site.specs.State.{State, Image}
 use Rattle.log_records.specs.declared.log_record.LogRecord.{LogRecord}
 use Rattle.checkpoint.specs.Newest.{HasMaster}

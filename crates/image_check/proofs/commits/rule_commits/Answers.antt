@@ -1,4 +1,4 @@
-use Rattle.std.proofs.Common.{rules, ◌≡◌, ◌/◌, ◌<◌, ◌++◌, ◌∷◌, [], ℕ, true, false, true≢false, List, refl, sym, ap, ◌∙◌, subst, arith}
+use Rattle.std.proofs.Common.{rules, ◌≡◌, ◌/◌, ◌<◌, ◌++◌, ◌∷◌, [], ℕ, true≢false, List, refl, sym, ap, ◌∙◌, subst, arith}
 use Rattle.std.specs.Prelude.{Option, IfSome}
 use Rattle.site.specs.State.{State}
 use Rattle.log_records.specs.declared.log_record.LogRecord.{LogRecord}

@@ -1,4 +1,4 @@
-use Rattle.std.proofs.Common.{◌≡◌, subst, arith}
+use Rattle.std.proofs.Common.{◌≡◌, subst}
 use Rattle.std.specs.Prelude.{Option, Some, IfSome, IfOk}
 use Rattle.site.specs.State.{State, Image}
 use Rattle.image_check.specs.Judgement.{IsVerdictOn}

@@ -1,6 +1,5 @@
-use Rattle.std.proofs.Common.{List, refl, arith}
+use Rattle.std.proofs.Common.{refl, arith}
 use Rattle.site.specs.State.{State}
-use Rattle.image_check.specs.Deciding.{reading_of}
 use Rattle.image_check.proofs.Decisions.{Past, may_be_judged_later, at_first, holds_so, fails_so, hold_all}
 use Rattle.image_check.proofs.verdict.failing_on_log.Goals as goal
 

@@ -1,10 +1,9 @@
-use Rattle.std.proofs.Common.{◌≡◌, ◌↔◌, IsTrue, List, refl, sym, subst, arith}
+use Rattle.std.proofs.Common.{◌≡◌, ◌↔◌, IsTrue, sym, subst, arith}
 use Rattle.site.specs.declared.geometry.Geometry.{Geometry}
 use Rattle.site.specs.State.{State}
 use Rattle.image_check.specs.Octets.{AreGroups}
 use Rattle.image_check.specs.Findings.{MayRead}
 use Rattle.image_check.specs.Verdict.{Rule1, Rule7, Rule8}
-use Rattle.image_check.specs.Deciding.{reading_of}
 use Rattle.image_check.proofs.Decisions.{Past, may_be_judged_later, at_first, holds_so, fails_so, hold_all}
 use Rattle.image_check.proofs.verdict.failing_on_pages.Goals as goal
 

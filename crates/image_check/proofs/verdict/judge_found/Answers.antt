@@ -1,4 +1,4 @@
-use Rattle.std.proofs.Common.{ℕ, List, subst}
+use Rattle.std.proofs.Common.{ℕ, subst}
 use Rattle.std.specs.Prelude.{Option, Some, IfOk}
 use Rattle.site.specs.State.{State, Image}
 use Rattle.image_check.specs.Judgement.{IsVerdictOn}
