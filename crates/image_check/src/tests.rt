@@ -502,8 +502,8 @@ const PAGE: [u8; 40] = [
     0x0f, 0xfe, 0x00, 0x03, // slot 5
 ];
 
-// The gate of the first slot of groups: group 0 stands there, with a frame of page 0 that has no values and the LSN 0, or
-// it doesn't.
+// The gate of the first slot of groups: group 0 stands there, with a frame of page 0 that has no values and the LSN 0,
+// or it doesn't.
 const FRAMED: u8 = 0xa5;
 
 const BARE: u8 = 0;
