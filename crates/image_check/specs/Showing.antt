@@ -27,7 +27,8 @@ is_logged end lsn = (lsn == 0) || nat_lt lsn end
 -- A record before the redo block is one that the version of its page knows of, where the versions have these LSNs.
 abbrev pub IsKnownEarly : ℕ → List ℕ → Entry → Type 0
 IsKnownEarly redo lsns e =
-    e.lsn < 512 * redo → (number known : ℕ) → number_of e.rec ≡ Some number → slice_get lsns (number / 32) ≡ Some known → e.lsn ≤ known
+    e.lsn < 512 * redo → (number known : ℕ) →
+    number_of e.rec ≡ Some number → slice_get lsns (number / 32) ≡ Some known → e.lsn ≤ known
 
 -- what the last record on a number that its version knows of has written, if the page has a version with this LSN
 abbrev pub written_by : List Entry → ℕ → Option ℕ → Option Content
@@ -35,7 +36,8 @@ written_by records number None = None
 written_by records number (Some known) = option_map (λ e. after_of e.rec) (last_known records known number)
 
 -- an entry for each number that the versions with these LSNs know records on: what the last of them has written
-pub record AreExpected {S : Type 0} (lsns : List ℕ) (records : List Entry) (contents : IndexMap ℕ Content S) : Type 0 where
+pub record AreExpected {S : Type 0} (lsns : List ℕ) (records : List Entry) (contents : IndexMap ℕ Content S) :
+    Type 0 where
   pub each : (number : ℕ) → get nat_eq contents number ≡ written_by records number (slice_get lsns (number / 32))
 
 -- a slot has this content, if there is one
@@ -45,4 +47,5 @@ IsAs slot (Some content) = slot ≡ content
 
 -- each slot of a page's octets has the content of its number's entry, if there is one
 abbrev pub HasContents : {S : Type 0} → IndexMap ℕ Content S → ℕ → List ℕ → Type 0
-HasContents contents page octets = (slot : ℕ) → slot < 32 → IsAs (content_at (slots_of octets) slot) (get nat_eq contents (32 * page + slot))
+HasContents contents page octets =
+    (slot : ℕ) → slot < 32 → IsAs (content_at (slots_of octets) slot) (get nat_eq contents (32 * page + slot))
