@@ -61,8 +61,11 @@ impl Writings {
         after: bool,
     ) -> Result<(), Stop>
         ensures last { OnOk result ((n : ℕ) → get nat_eq self.new.last n ≡ (if number == n
-            then Some (record { txn = txn; after = after;
-            before = option_or (before_by (get nat_eq self.old.last number) txn) before })
+            then Some (record {
+              txn = txn;
+              after = after;
+              before = option_or (before_by (get nat_eq self.old.last number) txn) before;
+            })
             else get nat_eq self.old.last n)) }
         ensures closed { OnOk result (self.new.closed ≡ self.old.closed) }
         ensures stops { IfErr result (λ stop. stop ≡ Stop.Memory) }
