@@ -167,7 +167,8 @@ fn count_all<S: Site>(
 
 /// How many numbers have a value in the table that devices stand for which meet the rules before: an unfinished
 /// transaction counts as undone. It reads each kept block once, the heads of the groups, and the newest version of each
-/// page; it holds what is kept of the last record on each number that the log has written.
+/// page; it holds what is kept of the last record on each number that the log has written, and which transactions it
+/// closes.
 pub fn count_values<S: Site>(
     alloc: Global,
     site: &mut S,

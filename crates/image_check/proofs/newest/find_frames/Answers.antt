@@ -1,4 +1,4 @@
-use Rattle.std.proofs.Common.{rules, ◌≡◌, ◌+◌, ◌-◌, ◌<◌, ◌≤◌, ◌++◌, ◌∷◌, [], ℕ, List, All, map, length, None, Some, refl, sym, ap, ◌∙◌, subst, arith}
+use Rattle.std.proofs.Common.{rules, ◌≡◌, ◌+◌, ◌-◌, ◌≤◌, ◌++◌, ◌∷◌, [], ℕ, List, All, map, length, sym, ap, ◌∙◌, subst, arith}
 use Rattle.std.proofs.lemmas.List.{length-append}
 use Rattle.std.proofs.lemmas.Option.{none-some, same_Some}
 use Rattle.site.specs.State.{State, Image}
@@ -15,7 +15,6 @@ use Rattle.second_chance.specs.Queue.{Queue}
 use Rattle.frame_group.specs.Groups.{heads_of, IsGroup}
 use Rattle.tail_rebuild.specs.Standing.{group_on}
 use Rattle.flash_directory.specs.Heads.{frames_in as known_in}
-use Rattle.image_check.specs.Newest.{AreLive}
 use Rattle.image_check.proofs.Lasting.{found_later, may_read_later}
 use Rattle.image_check.proofs.NewestRead.{AreHeadsFrom, some_formed, all_pushed, one_group_more, all_groups}
 use Rattle.image_check.proofs.newest.find_frames.Goals as goal

@@ -1,8 +1,8 @@
-use Rattle.std.proofs.Common.{rules, ◌≡◌, sym, ap, ◌∙◌, subst, count_by, is_some}
-use Rattle.std.specs.Prelude.{Ok, Err}
+use Rattle.std.proofs.Common.{◌≡◌, sym, ap, ◌∙◌, subst, count_by, is_some}
+use Rattle.std.specs.Prelude.{Ok}
 use Rattle.site.specs.State.{State, Image}
 use Rattle.site.specs.Laws.{stays_honest}
-use Rattle.site.proofs.Working.{looks_then, looks_answered, looks_failed}
+use Rattle.site.proofs.Working.{looks_then}
 use Rattle.log_records.specs.Log.{table_of}
 use Rattle.image_meaning.specs.Meaning.{versions_on}
 use Rattle.image_check.specs.Octets.{AreGroups, AreVersions}

@@ -1,4 +1,4 @@
-use Rattle.std.proofs.Common.{rules, ◌≡◌, ◌+◌, ◌*◌, ◌≤◌, ℕ, cond, Bool, ap, ◌∙◌, arith}
+use Rattle.std.proofs.Common.{◌≡◌, ◌+◌, ◌*◌, ℕ, ap, ◌∙◌, arith}
 use Rattle.log_records.specs.Log.{value_of}
 use Rattle.image_check.proofs.ValuesCounted.{values_among, one_value, one_at_most, some_mapped, slot_has}
 use Rattle.image_check.proofs.values.count_on.Goals as goal

@@ -1,4 +1,4 @@
-use Rattle.std.proofs.Common.{rules, ◌≡◌, List, true≢false, sym, ap, ◌∙◌, subst}
+use Rattle.std.proofs.Common.{◌≡◌, true≢false, sym, ap, ◌∙◌, subst}
 use Rattle.site.specs.State.{State}
 use Rattle.slotted_page.specs.Layout.{IsSound}
 use Rattle.image_meaning.specs.Meaning.{version_in, versions_on}

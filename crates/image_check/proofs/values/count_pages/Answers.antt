@@ -1,6 +1,4 @@
-use Rattle.std.proofs.Common.{rules, ◌≡◌, ◌+◌, ◌*◌, ◌≤◌, ℕ, List, sym, ap, ◌∙◌, subst, arith}
-use Rattle.std.specs.Prelude.{map, count_by, is_some}
-use Rattle.std.specs.List.{range_with_len}
+use Rattle.std.proofs.Common.{rules, ◌≡◌, ◌*◌, ℕ, sym, ap, ◌∙◌, subst, arith}
 use Rattle.site.specs.State.{State, Image}
 use Rattle.site.specs.Laws.{stays_honest}
 use Rattle.log_records.specs.Log.{value_of}

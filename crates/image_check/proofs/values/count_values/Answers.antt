@@ -1,14 +1,13 @@
-use Rattle.std.proofs.Common.{rules, ◌≡◌, List, sym, ap, ◌∙◌, subst, count_by, is_some, IsTrue}
-use Rattle.std.specs.Prelude.{Ok, Err}
+use Rattle.std.proofs.Common.{◌≡◌, List, sym, ap, ◌∙◌, subst, count_by, is_some}
+use Rattle.std.specs.Prelude.{Ok}
 use Rattle.site.specs.declared.geometry.Geometry.{Geometry}
 use Rattle.site.specs.State.{State, Image}
 use Rattle.site.specs.Laws.{stays_honest}
-use Rattle.site.proofs.Working.{looks_then, looks_answered, looks_failed}
+use Rattle.site.proofs.Working.{looks_then}
 use Rattle.log_records.specs.Log.{Entry, table_of, log_from}
 use Rattle.image_meaning.specs.Meaning.{versions_on}
 use Rattle.image_check.specs.Octets.{AreGroups, AreVersions}
-use Rattle.image_check.specs.Findings.{MayRead, AreFound}
-use Rattle.image_check.specs.Writing.{AreWritten}
+use Rattle.image_check.specs.Findings.{MayRead}
 use Rattle.image_check.proofs.Lasting.{found_later, may_read_later}
 use Rattle.image_check.proofs.values.count_values.Goals as goal
 

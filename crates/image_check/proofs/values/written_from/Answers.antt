@@ -1,4 +1,4 @@
-use Rattle.std.proofs.Common.{rules, ◌≡◌, ◌++◌, ◌∷◌, [], ℕ, List, sym, ap, ◌∙◌, subst}
+use Rattle.std.proofs.Common.{rules, ◌≡◌, [], ℕ, List, sym, subst}
 use Rattle.std.specs.Prelude.{Option}
 use Rattle.site.specs.State.{State}
 use Rattle.log_records.specs.declared.log_record.LogRecord.{LogRecord}
