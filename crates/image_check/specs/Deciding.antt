@@ -15,7 +15,7 @@ pub record MayBeRead (found : Found) (site : State) : Type 0 where
   pub going : MayGoOn found.log site
   pub may_read : MayRead found.log.geometry found.rings site
 
--- over every site: besides, the blocks from the oldest kept one on can all be live, and redo begins no later than the next block
+-- over every site: besides, the kept blocks can all be live, and redo begins no later than the next block
 pub record MayBeJudged (found : Found) (site : State) : Type 0 where
   pub read : MayBeRead found site
   pub live : found.log.ring.hi ≤ found.master.kept + (found.log.geometry.blocks - 1)
