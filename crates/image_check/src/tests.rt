@@ -495,15 +495,16 @@ fn values_of_one_transaction(rt: HostRuntime) -> Result<(), Fail> {
     Ok(())
 }
 
-// Slot 0 of the disk page and of the frame in the third group has a value, then that of the newest frame too.
+// Slot 0 of the frame in the fourth group has a value, or those of the disk page and of the frame in the third.
 #[test]
 fn values_of_the_newest_frame(rt: HostRuntime) -> Result<(), Fail> {
-    let mut site = with_groups(rt.alloc())?;
-    site.write_at(Dev::Disk, 16, &ENTRY)?;
-    site.write_at(Dev::Flash, 66_713, &ENTRY)?;
-    assert_eq!(rt; values_on(rt.alloc(), &mut site)?, Some(0));
-    site.write_at(Dev::Flash, 99_993, &ENTRY)?;
-    assert_eq!(rt; values_on(rt.alloc(), &mut site)?, Some(1));
+    let mut shown = with_groups(rt.alloc())?;
+    shown.write_at(Dev::Flash, 99_993, &ENTRY)?;
+    assert_eq!(rt; values_on(rt.alloc(), &mut shown)?, Some(1));
+    let mut hidden = with_groups(rt.alloc())?;
+    hidden.write_at(Dev::Disk, 16, &ENTRY)?;
+    hidden.write_at(Dev::Flash, 66_713, &ENTRY)?;
+    assert_eq!(rt; values_on(rt.alloc(), &mut hidden)?, Some(0));
     Ok(())
 }
 
