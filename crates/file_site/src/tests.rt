@@ -404,7 +404,8 @@ fn a_long_check_is_told_of(rt: HostRuntime) -> Result<(), Fail> {
     Ok(())
 }
 
-// However the input and the replies are cut, the first line that ends with a carriage return and the refusals are noticed.
+// However the input and the replies are cut, the first line that ends with a carriage return, the refusals and the rule
+// that fails are noticed.
 #[test]
 fn carriage_returns_and_refusals_are_noticed(rt: HostRuntime) -> Result<(), Fail> {
     let rows: [(&[u8], Option<u64>); 6] = [
@@ -432,11 +433,12 @@ fn carriage_returns_and_refusals_are_noticed(rt: HostRuntime) -> Result<(), Fail
             watch.tells(piece);
         }
         assert_eq!(rt; watch.refused(), 3);
-        assert_eq!(rt; watch.rule(), None);
-        for piece in b"unsound S11\n".chunks(size) {
-            watch.tells(piece);
-        }
-        assert_eq!(rt; watch.rule(), Some(11));
     }
+    let mut watch = Watch::new();
+    watch.tells(b"sound S2\nunsou");
+    assert_eq!(rt; watch.rule(), None);
+    watch.tells(b"nd S1");
+    watch.tells(b"1\n");
+    assert_eq!(rt; watch.rule(), Some(11));
     Ok(())
 }
