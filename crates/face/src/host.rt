@@ -10,8 +10,9 @@ use crate::request::{Request, Unread, read_words};
 use crate::top::face;
 use crate::words::sizes;
 use file_site::{FileSite, LockFile, tell_line};
+use image_check::{Place, find_place};
 use site::Stop;
-use std::alloc::AllocError;
+use std::alloc::{AllocError, Global};
 use std::env;
 use std::io::{Eprint, ErrorKind};
 use std::os::unix::fs::FileExt;
@@ -55,6 +56,19 @@ where
     }
 }
 
+// Where the rule fails that was told to fail, as far as it is known.
+fn find_failing<R>(alloc: Global, site: &mut FileSite<R>) -> Option<Place>
+where
+    R: Files + Input + Print + Eprint + Clock + Drop,
+    R::File: FileExt + LockFile,
+{
+    let rule = site.watch().rule()?;
+    match find_place(alloc, site, rule) {
+        Ok(place) => place,
+        Err(_) => None,
+    }
+}
+
 // Runs the program over the files, says why it ends as it does, and answers its status.
 fn run_over_files<R>(rt: &R) -> Result<u8, Stop>
 where
@@ -64,7 +78,8 @@ where
     let words = words(rt)?;
     let mut site = site(rt, words.as_slice())?;
     let status = face(rt.alloc(), words.as_slice(), &mut site);
-    say(rt, status, words.as_slice(), &see(&site));
+    let place = find_failing(rt.alloc(), &mut site);
+    say(rt, status, words.as_slice(), &see(&site), place);
     Ok(status)
 }
 

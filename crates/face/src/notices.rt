@@ -5,6 +5,7 @@ use crate::words::{
     COUNT_MAX, POOL_MAX, geometry_of, groups_in, number_in, number_within, sizes, trial_geometry_of,
 };
 use file_site::{Absence, Call, Failure, FileSite, LockFile, Watch, path};
+use image_check::Place;
 use site::{Dev, Geometry, Site};
 use std::io::{Eprint, Input, Print};
 use std::os::unix::fs::FileExt;
@@ -368,17 +369,32 @@ fn broken(rule: u8) -> &'static str {
     }
 }
 
-// Says why the devices aren't sound, and what to do.
-fn say_unsound<R: Eprint>(rt: &R, seen: &Seen) {
+// Says why the devices aren't sound and where, as far as it is known, and what to do.
+fn say_unsound<R: Eprint>(rt: &R, seen: &Seen, place: Option<Place>) {
     if say_no_files(rt, seen) {
         return;
     }
-    if let Some(rule) = seen.watch.rule() {
-        let what = broken(rule);
-        let _ = eprintln!(rt;
-            "face: rule {rule} fails: {what}. Bring back all three files of one copy"
-        );
-    }
+    let Some(rule) = seen.watch.rule() else {
+        return;
+    };
+    let what = broken(rule);
+    let _ = match place {
+        None => eprintln!(rt; "face: rule {rule} fails: {what}"),
+        Some(Place::Master) => {
+            eprintln!(rt; "face: rule {rule} fails at the newest master: {what}")
+        }
+        Some(Place::Block(block)) => {
+            eprintln!(rt; "face: rule {rule} fails at block {block} of the log: {what}")
+        }
+        Some(Place::Group(group)) => {
+            eprintln!(rt; "face: rule {rule} fails at group {group}: {what}")
+        }
+        Some(Place::Segment(segment)) => {
+            eprintln!(rt; "face: rule {rule} fails at segment {segment}: {what}")
+        }
+        Some(Place::Page(page)) => eprintln!(rt; "face: rule {rule} fails at page {page}: {what}"),
+    };
+    let _ = rt.eprintln("face: bring back all three files of one copy");
 }
 
 // Says why no database of these sizes is made, and what to do.
@@ -410,7 +426,13 @@ fn say_refused<R: Eprint>(rt: &R, watch: Watch) {
 }
 
 /// Says on standard error why the program ends with this status, where there is something to say.
-pub fn say<R: Eprint>(rt: &R, status: u8, words: &[String], seen: &Seen) {
+pub fn say<R: Eprint>(
+    rt: &R,
+    status: u8,
+    words: &[String],
+    seen: &Seen,
+    place: Option<Place>,
+) {
     say_refused(rt, seen.watch);
     match status {
         2 => say_words(rt, words),
@@ -428,7 +450,7 @@ pub fn say<R: Eprint>(rt: &R, status: u8, words: &[String], seen: &Seen) {
                 "face: the files aren't blank, and nothing was written over. To make a new database move them away, or go to another folder"
             );
         }
-        11 => say_unsound(rt, seen),
+        11 => say_unsound(rt, seen, place),
         16 => {
             let _ = eprintln!(rt;
                 "face: that line of the input is no touch: each is r PAGE or w PAGE, PAGE 0 to 65535, and there are at most 1000000"
