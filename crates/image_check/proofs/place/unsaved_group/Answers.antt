@@ -10,7 +10,9 @@ returns-then-not-same g c =
     let old : State = g.S.Site.state c.args.site.now in
     let now : State = g.S.Site.state c.loop-group.site in
     let new : State = g.S.Site.state c.are_saved.new.site in
-    looks_answered c.in-Ok.same (Some (Group c.loop-group.group)) old new (looks_then tt (Ok c.in-Ok.same) old now new c.loop-group.invariant.reads c.in-Ok.ensures.reads)
+    record {
+      reads = looks_answered c.in-Ok.same (Some (Group c.loop-group.group)) old new (looks_then tt (Ok c.in-Ok.same) old now new c.loop-group.invariant.reads c.in-Ok.ensures.reads);
+    }
 
 pub loop-group-preserved : goal.loop-group-preserved
 loop-group-preserved g c =
