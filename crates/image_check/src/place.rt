@@ -3,20 +3,29 @@ ghost use Rattle.std.specs.Prelude.{◌≤◌, ◌+◌, ◌-◌};
 ghost use Rattle.site.specs.Work.{OnlyReads};
 ghost use Rattle.sealed_ring.specs.Ring.{IsLive};
 ghost use Rattle.log_store.specs.Held.{MayGoOn};
+ghost use Rattle.image_check.specs.Deciding.{MayBeJudged};
 ghost use Rattle.image_check.specs.Findings.{MayRead};
+ghost use Rattle.image_check.specs.Newest.{AreLive};
 
 use crate::blocks::are_on_pages;
 use crate::clean::is_clean_group;
 use crate::following::are_saved;
 use crate::formed::{Found, find_formed, find_log};
 use crate::groups::is_group_on;
+use crate::holding::number_of;
+use crate::kept::rule_kept;
 use crate::lengths::rule_lengths;
 use crate::master::rule_master;
+use crate::newest::find_frames;
 use crate::rings::{Rings, rule_rings};
 use crate::segments::is_segment_on;
+use crate::showing::{Expected, is_known_early, version_lsns};
+use crate::txns::OpenTxns;
 use crate::versions::is_sound_version;
+use crate::walk::Walk;
+use flash_directory::Directory;
 use frame_group::GROUP_LEN;
-use log_records::BLOCK_LEN;
+use log_records::{BLOCK_LEN, LogRecord};
 use log_store::LogStore;
 use meta_segments::SEGMENT_LEN;
 use site::{Geometry, Site, Stop};
@@ -193,6 +202,119 @@ fn place_of_form<S: Site>(site: &mut S) -> Result<Option<Place>, Stop>
     unformed_place(site, &geometry, &rings, master.kept)
 }
 
+// The first block with a record from the redo block on that is of no open transaction, or before the Begin that it
+// names.
+fn unopened_block<S: Site>(alloc: Global, site: &mut S, found: &Found) -> Result<Option<Place>, Stop>
+    requires { MayBeJudged found.now (S.state site.old) }
+    ensures reads { OnlyReads result (S.state site.old) (S.state site.new) }
+{
+    let redo = found.master.redo;
+    let mut walk = Walk::start(&found.log, found.master.kept);
+    let mut transactions = OpenTxns::start(alloc, &found.master)?;
+    while let Some((lsn, rec)) = walk.next(site, &found.log)? {
+        if !transactions.admits(lsn, &rec, redo) {
+            return Ok(Some(Place::Block(lsn / 512)));
+        }
+        if let Err(stop) = transactions.hear(lsn, &rec, redo) {
+            return Err(stop);
+        }
+    }
+    Ok(None)
+}
+
+// The page of a record, if it writes one.
+fn page_of(rec: &LogRecord) -> Option<Place> {
+    match rec {
+        LogRecord::Update { page, .. } => Some(Place::Page(*page)),
+        LogRecord::Clr { page, .. } => Some(Place::Page(*page)),
+        _ => None,
+    }
+}
+
+// The page of the first record before the redo block that the version of its page doesn't know of.
+fn unknowing_page<S: Site>(site: &mut S, found: &Found, lsns: &[u64]) -> Result<Option<Place>, Stop>
+    requires { MayBeJudged found.now (S.state site.old) }
+    ensures reads { OnlyReads result (S.state site.old) (S.state site.new) }
+{
+    let mut walk = Walk::start(&found.log, found.master.kept);
+    while let Some((lsn, rec)) = walk.next(site, &found.log)? {
+        if !is_known_early(lsns, lsn, &rec, found.master.redo) {
+            return Ok(page_of(&rec));
+        }
+    }
+    Ok(None)
+}
+
+// The first page whose version doesn't have what is expected of it.
+fn unshown_page<S: Site>(
+    site: &mut S,
+    geometry: &Geometry,
+    rings: &Rings,
+    frames: &Directory,
+    expected: &Expected,
+) -> Result<Option<Place>, Stop>
+    requires may_read { MayRead geometry.now rings.now (S.state site.old) }
+    requires live { AreLive rings.now frames.now }
+    ensures reads { OnlyReads result (S.state site.old) (S.state site.new) }
+{
+    for page in 0..geometry.pages {
+        let shown = match expected.is_in_version(site, geometry, rings, frames, page) {
+            Ok(shown) => shown,
+            Err(stop) => return Err(stop),
+        };
+        if !shown {
+            return Ok(Some(Place::Page(page)));
+        }
+    }
+    Ok(None)
+}
+
+// The first page whose version doesn't show what it has to, where the newest frames of pages are known.
+fn page_of_frames<S: Site>(
+    alloc: Global,
+    site: &mut S,
+    found: &Found,
+    frames: &Directory,
+) -> Result<Option<Place>, Stop>
+    requires judged { MayBeJudged found.now (S.state site.old) }
+    requires live { AreLive found.now.rings frames.now }
+    ensures reads { OnlyReads result (S.state site.old) (S.state site.new) }
+{
+    let geometry = found.log.geometry();
+    let lsns = version_lsns(alloc, site, &geometry, &found.rings, frames)?;
+    match Expected::of_log(alloc, site, &found.log, &found.master, &lsns)? {
+        Some(expected) => unshown_page(site, &geometry, &found.rings, frames, &expected),
+        None => unknowing_page(site, found, &lsns),
+    }
+}
+
+// The first page whose version doesn't show what it has to.
+fn place_of_showing<S: Site>(alloc: Global, site: &mut S, found: &Found) -> Result<Option<Place>, Stop>
+    requires { MayBeJudged found.now (S.state site.old) }
+    ensures reads { OnlyReads result (S.state site.old) (S.state site.new) }
+{
+    match find_frames(alloc, site, &found.log.geometry(), &found.rings)? {
+        Some(frames) => page_of_frames(alloc, site, found, &frames),
+        None => Ok(None),
+    }
+}
+
+// Where devices that meet the first two rules fail another one.
+fn place_of_rule<S: Site>(alloc: Global, site: &mut S, found: &Found, rule: u8) -> Result<Option<Place>, Stop>
+    requires { MayBeJudged found.now (S.state site.old) }
+    ensures reads { OnlyReads result (S.state site.old) (S.state site.new) }
+{
+    let geometry = found.log.geometry();
+    match rule {
+        3 => unopened_block(alloc, site, found),
+        6 => place_of_showing(alloc, site, found),
+        7 => unclean_group(site, &geometry, &found.rings),
+        8 => unsaved_group(site, &geometry, &found.rings),
+        10 => Ok(Some(Place::Master)),
+        _ => Ok(None),
+    }
+}
+
 /// Where devices fail a rule that `check_image` has named, as far as it is known; nothing is promised of the place.
 /// Nothing is changed.
 pub fn find_place<S: Site>(alloc: Global, site: &mut S, rule: u8) -> Result<Option<Place>, Stop>
@@ -204,11 +326,8 @@ pub fn find_place<S: Site>(alloc: Global, site: &mut S, rule: u8) -> Result<Opti
     let Some(found) = find_formed(site)? else {
         return Ok(None);
     };
-    let geometry = found.log.geometry();
-    match rule {
-        7 => unclean_group(site, &geometry, &found.rings),
-        8 => unsaved_group(site, &geometry, &found.rings),
-        10 => Ok(Some(Place::Master)),
-        _ => Ok(None),
+    if !rule_kept(&found.log, &found.master) {
+        return Ok(None);
     }
+    place_of_rule(alloc, site, &found, rule)
 }
