@@ -269,6 +269,25 @@ fn unshown_page<S: Site>(
     Ok(None)
 }
 
+// The first page whose version doesn't show what it has to, where the LSNs of the versions are known.
+fn page_of_lsns<S: Site>(
+    alloc: Global,
+    site: &mut S,
+    found: &Found,
+    frames: &Directory,
+    lsns: &[u64],
+) -> Result<Option<Place>, Stop>
+    requires judged { MayBeJudged found.now (S.state site.old) }
+    requires live { AreLive found.now.rings frames.now }
+    ensures reads { OnlyReads result (S.state site.old) (S.state site.new) }
+{
+    let geometry = found.log.geometry();
+    match Expected::of_log(alloc, site, &found.log, &found.master, lsns)? {
+        Some(expected) => unshown_page(site, &geometry, &found.rings, frames, &expected),
+        None => unknowing_page(site, found, lsns),
+    }
+}
+
 // The first page whose version doesn't show what it has to, where the newest frames of pages are known.
 fn page_of_frames<S: Site>(
     alloc: Global,
@@ -282,10 +301,7 @@ fn page_of_frames<S: Site>(
 {
     let geometry = found.log.geometry();
     let lsns = version_lsns(alloc, site, &geometry, &found.rings, frames)?;
-    match Expected::of_log(alloc, site, &found.log, &found.master, &lsns)? {
-        Some(expected) => unshown_page(site, &geometry, &found.rings, frames, &expected),
-        None => unknowing_page(site, found, &lsns),
-    }
+    page_of_lsns(alloc, site, found, frames, &lsns)
 }
 
 // The first page whose version doesn't show what it has to.
