@@ -23,8 +23,8 @@ pub unknowing_page-requires : goal.unknowing_page-requires
 unknowing_page-requires g c =
     may_be_judged_later c.args.found.now (g.S.Site.state c.args.site.now) (g.S.Site.state c.of_log.new.site) c.in_ok-expected.ensures.reads.goes c.requires.judged
 
-pub returns : goal.returns
-returns g c =
+pub returns-in-None : goal.returns-in-None
+returns-in-None g c =
     let s0 : State = g.S.Site.state c.args.site.now in
     let s1 : State = g.S.Site.state c.of_log.new.site in
     record { reads = looks_then c.in_ok-expected.field-0 _ s0 s1 (g.S.Site.state c.unknowing_page.new.site) c.in_ok-expected.ensures.reads c.unknowing_page.ensures.reads; }
