@@ -3,9 +3,10 @@ ghost use Rattle.std.specs.Prelude.{◌<◌, ◌≤◌, length, IfOk};
 ghost use Rattle.site.specs.MemState.{state_of};
 
 use crate::{
-    Place, Verdict, check_image, count_values, find_place, rule_apart, rule_blocks, rule_clean, rule_commits,
-    rule_following, rule_groups, rule_kept, rule_lengths, rule_master, rule_named, rule_rings,
-    rule_room, rule_segments, rule_shown, rule_transactions, rule_undoable, rule_versions,
+    Place, Verdict, check_image, count_values, find_place, rule_apart, rule_blocks, rule_clean,
+    rule_commits, rule_following, rule_groups, rule_kept, rule_lengths, rule_master, rule_named,
+    rule_rings, rule_room, rule_segments, rule_shown, rule_transactions, rule_undoable,
+    rule_versions,
 };
 use checkpoint::{Master, Pairs};
 use log_store::LogStore;

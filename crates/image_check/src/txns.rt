@@ -75,8 +75,8 @@ impl OpenTxns {
         Ok(OpenTxns { txns })
     }
 
-    /// Whether a record may come next: it isn't before its transaction's Begin, and from the redo block on it is a Begin
-    /// or of an open transaction.
+    /// Whether a record may come next: it isn't before its transaction's Begin, and from the redo block on it is a
+    /// Begin or of an open transaction.
     pub fn admits(&self, lsn: u64, rec: &LogRecord, redo: u64) -> bool
         requires { redo ≤ 2 ^ 40 }
         ensures { (m : sound.Master) (records : List Entry) → m.redo ≡ redo → AreOpen m records self.now.txns.items
