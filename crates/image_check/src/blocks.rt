@@ -22,8 +22,8 @@ fn is_on_page(rec: &LogRecord, pages: u32) -> bool
     }
 }
 
-// Whether the records of a block are all on pages of the disk.
-fn are_on_pages(content: &[u8], pages: u32) -> bool
+/// Whether the records of a block are all on pages of the disk.
+pub fn are_on_pages(content: &[u8], pages: u32) -> bool
     requires size { length content.now ≡ BLOCK_LEN }
     requires block { (records : List LogRecord) × IsBlock content.now records }
     ensures { IsTrue result ↔ ((records : List LogRecord) × IsBlockOn pages content.now records) }

@@ -108,8 +108,8 @@ fn is_clean_frame<S: Site>(
     }
 }
 
-// Whether that holds of each frame of a live group.
-fn is_clean_group<S: Site>(
+/// Whether that holds of each frame of a live group.
+pub fn is_clean_group<S: Site>(
     site: &mut S,
     geometry: &Geometry,
     rings: &Rings,

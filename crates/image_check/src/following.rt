@@ -19,8 +19,8 @@ fn are_same(one: &[u8], other: &[u8]) -> bool
     one == other
 }
 
-// Whether the heads of a live group are those that its live segment has of it: two reads.
-fn are_saved<S: Site>(site: &mut S, rings: &Rings, group: u64) -> Result<bool, Stop>
+/// Whether the heads of a live group are those that its live segment has of it: two reads.
+pub fn are_saved<S: Site>(site: &mut S, rings: &Rings, group: u64) -> Result<bool, Stop>
     requires may_read { (g : Geometry) × MayRead g rings.now (S.state site.old) }
     requires group { IsLive rings.now.groups.shape rings.now.groups.hi group }
     requires segment { IsLive rings.now.segments.shape rings.now.segments.hi (group / 4) }

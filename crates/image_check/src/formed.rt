@@ -27,8 +27,8 @@ pub struct Found {
     pub log: LogStore,
 }
 
-// The log of devices of these sizes whose ring of blocks is of the form.
-fn find_log<S: Site>(site: &mut S, geometry: &Geometry) -> Result<Option<LogStore>, Stop>
+/// The log of devices of these sizes whose ring of blocks is of the form.
+pub fn find_log<S: Site>(site: &mut S, geometry: &Geometry) -> Result<Option<LogStore>, Stop>
     requires { HasSizes geometry.now (S.state site.old).image }
 
     ensures log { IsTrue (S.state site.old).honest → IsRing (log_shape geometry.now) (S.state site.old).image.log

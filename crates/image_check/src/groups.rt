@@ -42,9 +42,9 @@ fn is_frame(head: &FrameHead, page: &Page, pages: u32) -> bool
     page.sound()
 }
 
-// Whether a content is that of a group, whose frames are sound pages of the disk: its frames are put into an empty
-// content, which then is the same.
-fn is_group_on(content: &[u8], pages: u32) -> bool
+/// Whether a content is that of a group, whose frames are sound pages of the disk: its frames are put into an empty
+/// content, which then is the same.
+pub fn is_group_on(content: &[u8], pages: u32) -> bool
     requires { length content.now ≡ GROUP_LEN }
     ensures { (g : Geometry) → g.pages ≡ pages
         → IsTrue result ↔ ((frames : List Frame) × IsGroupOn g content.now frames) }

@@ -23,8 +23,8 @@ fn pages_exist(heads: &[FrameHead; 32], pages: u32) -> bool
     true
 }
 
-// Whether a content is that of a segment, with heads of pages that the disk has.
-fn is_segment_on(content: &[u8], pages: u32) -> bool
+/// Whether a content is that of a segment, with heads of pages that the disk has.
+pub fn is_segment_on(content: &[u8], pages: u32) -> bool
     requires { length content.now ≡ SEGMENT_LEN }
     ensures { IsTrue result ↔ ((heads : List FrameHead) × IsSegmentOn pages content.now heads) }
 {

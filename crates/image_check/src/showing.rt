@@ -56,8 +56,8 @@ fn version_of<S: Site>(
     Ok(Page::from_bytes(&octets))
 }
 
-// The LSNs of the versions of all pages: reads each once.
-fn version_lsns<S: Site>(
+/// The LSNs of the versions of all pages: reads each once.
+pub fn version_lsns<S: Site>(
     alloc: Global,
     site: &mut S,
     geometry: &Geometry,
@@ -98,8 +98,8 @@ fn lsn_for(lsns: &[u64], number: u64) -> Option<u64>
     lsns.get((number / 32) as usize).copied()
 }
 
-// Whether a record stands from the redo block on, or the version of its page knows of it.
-fn is_known_early(lsns: &[u64], lsn: u64, rec: &LogRecord, redo: u64) -> bool
+/// Whether a record stands from the redo block on, or the version of its page knows of it.
+pub fn is_known_early(lsns: &[u64], lsn: u64, rec: &LogRecord, redo: u64) -> bool
     requires { redo ≤ 2 ^ 40 }
     ensures { IsTrue result ↔ IsKnownEarly redo lsns.now (record { lsn = lsn; rec = rec.now }) }
 {
@@ -139,9 +139,9 @@ fn is_content(slot: Option<&[u8]>, content: &Option<Octets>) -> bool
     are_same(value, octets.as_slice())
 }
 
-// What versions have to show: of each number that they know records on, what the last of these has written.
+/// What versions have to show: of each number that they know records on, what the last of these has written.
 #[derive(Drop)]
-struct Expected {
+pub struct Expected {
     contents: IndexMap<u64, Option<Octets>>,
 }
 
@@ -167,9 +167,9 @@ impl Expected {
         Ok(())
     }
 
-    // What the kept blocks say of versions with these LSNs, `None` where one of them doesn't know of a record of its
-    // page before the redo block: reads each kept block once.
-    fn of_log<S: Site>(
+    /// What the kept blocks say of versions with these LSNs, `None` where one of them doesn't know of a record of its
+    /// page before the redo block: reads each kept block once.
+    pub fn of_log<S: Site>(
         alloc: Global,
         site: &mut S,
         log: &LogStore,
@@ -234,8 +234,8 @@ impl Expected {
         true
     }
 
-    // Whether the version of a page has in all slots what is expected there.
-    fn is_in_version<S: Site>(
+    /// Whether the version of a page has in all slots what is expected there.
+    pub fn is_in_version<S: Site>(
         &self,
         site: &mut S,
         geometry: &Geometry,

@@ -3,9 +3,10 @@ ghost use Rattle.std.specs.Prelude.{◌<◌, ◌≤◌, length, IfOk};
 ghost use Rattle.site.specs.MemState.{state_of};
 
 use crate::{
-    Verdict, check_image, count_values, rule_apart, rule_blocks, rule_clean, rule_commits,
-    rule_following, rule_groups, rule_kept, rule_lengths, rule_master, rule_named, rule_rings,
-    rule_room, rule_segments, rule_shown, rule_transactions, rule_undoable, rule_versions,
+    Place, Verdict, check_image, count_values, find_place, rule_apart, rule_blocks, rule_clean,
+    rule_commits, rule_following, rule_groups, rule_kept, rule_lengths, rule_master, rule_named,
+    rule_rings, rule_room, rule_segments, rule_shown, rule_transactions, rule_undoable,
+    rule_versions,
 };
 use checkpoint::{Master, Pairs};
 use log_store::LogStore;
@@ -557,5 +558,76 @@ fn verdicts_on_blank_devices(rt: HostRuntime) -> Result<(), Fail> {
         verdict_with_page(rt.alloc(), 1)?,
         Verdict::Unsound { rule: 1 }
     );
+    Ok(())
+}
+
+// The place where devices fail the rule that they are judged to fail, if they do.
+fn place_on(alloc: Global, site: &mut MemSite) -> Result<Option<Place>, Stop> {
+    match check_image(alloc, site)? {
+        Verdict::Sound { .. } => Ok(None),
+        Verdict::Unsound { rule } => find_place(alloc, site, rule),
+    }
+}
+
+// A place in the first commit's block, another octet there, and the place that is then found.
+type BlockPlaceRow = (u8, u8, Option<Place>);
+
+// The first row that isn't so.
+fn first_misplaced(alloc: Global, rows: &[BlockPlaceRow]) -> Result<Option<usize>, Fail> {
+    for (index, &(at, octet, place)) in rows.iter().enumerate() {
+        let mut site = with_block(alloc, &BLOCK)?;
+        put_in_block(&mut site, at, &[octet])?;
+        if place_on(alloc, &mut site)? != place {
+            return Ok(Some(index));
+        }
+    }
+    Ok(None)
+}
+
+#[test]
+fn places_in_the_log(rt: HostRuntime) -> Result<(), Fail> {
+    let rows = [
+        (GATE_AT, 0xa5, None),
+        (PAGE_AT, 1, Some(Place::Block(0))),
+        (TXN_AT, 3, Some(Place::Block(0))),
+    ];
+    assert_eq!(rt; first_misplaced(rt.alloc(), &rows)?, None);
+    Ok(())
+}
+
+// What is written besides four groups, and the place that is then found.
+type GroupPlaceRow = (Written, Option<Place>);
+
+// The first row that isn't so.
+fn first_misplaced_of_groups(alloc: Global, rows: &[GroupPlaceRow]) -> Result<Option<usize>, Fail> {
+    for (index, &(written, place)) in rows.iter().enumerate() {
+        let mut site = with_groups(alloc)?;
+        put_written(&mut site, written)?;
+        if place_on(alloc, &mut site)? != place {
+            return Ok(Some(index));
+        }
+    }
+    Ok(None)
+}
+
+#[test]
+fn places_in_four_groups(rt: HostRuntime) -> Result<(), Fail> {
+    let rows = [
+        (Written::Nothing, None),
+        (Written::OtherLsn, Some(Place::Group(0))),
+        (Written::OtherPage, Some(Place::Group(3))),
+        (Written::OtherSegment, Some(Place::Group(3))),
+    ];
+    assert_eq!(rt; first_misplaced_of_groups(rt.alloc(), &rows)?, None);
+    Ok(())
+}
+
+#[test]
+fn places_on_pages(rt: HostRuntime) -> Result<(), Fail> {
+    let mut other = MemSite::new(rt.alloc(), &SMALL)?;
+    other.write_at(Dev::Disk, 10, &[1])?;
+    assert_eq!(rt; place_on(rt.alloc(), &mut other)?, Some(Place::Page(0)));
+    let mut unshown = with_page(rt.alloc(), [0x00, 0x03], 0x0c, BARE)?;
+    assert_eq!(rt; place_on(rt.alloc(), &mut unshown)?, Some(Place::Page(0)));
     Ok(())
 }

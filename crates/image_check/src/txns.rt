@@ -53,15 +53,15 @@ pub fn closes(rec: &LogRecord) -> bool
     }
 }
 
-// The transactions that are known from the redo block on, and that no record has closed.
+/// The transactions that are known from the redo block on, and that no record has closed.
 #[derive(Drop)]
-struct OpenTxns {
+pub struct OpenTxns {
     txns: Vec<u64>,
 }
 
 impl OpenTxns {
-    // Before the first record: those that the master names.
-    fn start(alloc: Global, master: &Master) -> Result<OpenTxns, Stop>
+    /// Before the first record: those that the master names.
+    pub fn start(alloc: Global, master: &Master) -> Result<OpenTxns, Stop>
         ensures named { IfOk result (λ set. AreOpen (seen master.now) [] set.txns.items) }
         ensures stops { IfErr result (λ stop. stop ≡ Stop.Memory) }
     {
@@ -75,9 +75,9 @@ impl OpenTxns {
         Ok(OpenTxns { txns })
     }
 
-    // Whether a record may come next: it isn't before its transaction's Begin, and from the redo block on it is a Begin
-    // or of an open transaction.
-    fn admits(&self, lsn: u64, rec: &LogRecord, redo: u64) -> bool
+    /// Whether a record may come next: it isn't before its transaction's Begin, and from the redo block on it is a
+    /// Begin or of an open transaction.
+    pub fn admits(&self, lsn: u64, rec: &LogRecord, redo: u64) -> bool
         requires { redo ≤ 2 ^ 40 }
         ensures { (m : sound.Master) (records : List Entry) → m.redo ≡ redo → AreOpen m records self.now.txns.items
             → IsTrue result ↔ MayStand m records (record { lsn = lsn; rec = rec.now }) }
@@ -113,8 +113,8 @@ impl OpenTxns {
         self.txns.retain(|other| *other != txn);
     }
 
-    // Hears a record that may come next.
-    fn hear(&mut self, lsn: u64, rec: &LogRecord, redo: u64) -> Result<(), Stop>
+    /// Hears a record that may come next.
+    pub fn hear(&mut self, lsn: u64, rec: &LogRecord, redo: u64) -> Result<(), Stop>
         requires { redo ≤ 2 ^ 40 }
         ensures heard { (m : sound.Master) (records : List Entry) → m.redo ≡ redo
             → AreOpen m records self.old.txns.items → IsFresh lsn records

@@ -117,8 +117,8 @@ pub fn rule_versions<S: Site>(
     Ok(true)
 }
 
-// Whether the version of a page is a sound page: the page of the disk is, or a live group has a frame of it.
-fn is_sound_version<S: Site>(
+/// Whether the version of a page is a sound page: the page of the disk is, or a live group has a frame of it.
+pub fn is_sound_version<S: Site>(
     site: &mut S,
     geometry: &Geometry,
     rings: &Rings,

@@ -1,0 +1,12 @@
+use Rattle.std.proofs.Common.{rules}
+use Rattle.site.specs.State.{State}
+use Rattle.image_check.proofs.Lasting.{may_read_later}
+use Rattle.image_check.proofs.place.unclean_group.Goals as goal
+
+pub loop-group-preserved : goal.loop-group-preserved
+loop-group-preserved g c =
+    let now : State = g.S.Site.state c.loop-group.site in
+    record {
+      may_read = may_read_later c.args.geometry.now c.args.rings.now now (g.S.Site.state c.is_clean_group.new.site) c.in-Ok.ensures.reads.goes c.loop-group.invariant.may_read;
+      reads = search rules;
+    }

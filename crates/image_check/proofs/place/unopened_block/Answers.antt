@@ -1,0 +1,13 @@
+use Rattle.std.proofs.Common.{rules}
+use Rattle.site.specs.State.{State}
+use Rattle.image_check.proofs.BlocksJudged.{going_later}
+use Rattle.image_check.proofs.place.unopened_block.Goals as goal
+
+pub loop-transactions-preserved : goal.loop-transactions-preserved
+loop-transactions-preserved g c =
+    let now : State = g.S.Site.state c.loop-transactions.site in
+    record {
+      going = going_later c.args.found.now.log now (g.S.Site.state c.next.new.site) c.in_ok-lsn.ensures.reads.goes c.loop-transactions.invariant.going;
+      walks = c.in_ok-lsn.ensures.walk;
+      reads = search rules;
+    }
