@@ -41,7 +41,7 @@ cd "$folder/db" || exit 1
 told 'a new database' 0 'ready 1 8 16' '' new 1 8 16
 checks 'a new database is sound' 0 'sound records 0 commits 0' ''
 poke face.disk 10 001
-checks 'a page that is none' 11 'unsound S1' 'face: rule 1 fails: .*'
+checks 'a page that is none' 11 'unsound S1' 'face: rule 1 fails at page 0: .*'
 poke face.disk 10 000
 told 'a commit' 0 'open 0/committed 1' 'set 5 0a0b/' run 1
 checks 'a commit is sound' 0 'sound records 1 commits 1' ''
