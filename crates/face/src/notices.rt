@@ -426,13 +426,7 @@ fn say_refused<R: Eprint>(rt: &R, watch: Watch) {
 }
 
 /// Says on standard error why the program ends with this status, where there is something to say.
-pub fn say<R: Eprint>(
-    rt: &R,
-    status: u8,
-    words: &[String],
-    seen: &Seen,
-    place: Option<Place>,
-) {
+pub fn say<R: Eprint>(rt: &R, status: u8, words: &[String], seen: &Seen, place: Option<Place>) {
     say_refused(rt, seen.watch);
     match status {
         2 => say_words(rt, words),

@@ -69,7 +69,11 @@ fn unformed_block<S: Site>(site: &mut S, log: &LogStore, kept: u64) -> Result<Op
 }
 
 // The first live group that isn't of the form, or has a frame that isn't a sound page of the disk.
-fn unformed_group<S: Site>(site: &mut S, geometry: &Geometry, rings: &Rings) -> Result<Option<Place>, Stop>
+fn unformed_group<S: Site>(
+    site: &mut S,
+    geometry: &Geometry,
+    rings: &Rings,
+) -> Result<Option<Place>, Stop>
     requires { MayRead geometry.now rings.now (S.state site.old) }
     ensures reads { OnlyReads result (S.state site.old) (S.state site.new) }
 {
@@ -87,7 +91,11 @@ fn unformed_group<S: Site>(site: &mut S, geometry: &Geometry, rings: &Rings) -> 
 }
 
 // The first live segment that isn't of the form, or has a head of a page that the disk hasn't.
-fn unformed_segment<S: Site>(site: &mut S, geometry: &Geometry, rings: &Rings) -> Result<Option<Place>, Stop>
+fn unformed_segment<S: Site>(
+    site: &mut S,
+    geometry: &Geometry,
+    rings: &Rings,
+) -> Result<Option<Place>, Stop>
     requires { MayRead geometry.now rings.now (S.state site.old) }
     ensures reads { OnlyReads result (S.state site.old) (S.state site.new) }
 {
@@ -105,7 +113,11 @@ fn unformed_segment<S: Site>(site: &mut S, geometry: &Geometry, rings: &Rings) -
 }
 
 // The first page whose version isn't sound.
-fn unsound_page<S: Site>(site: &mut S, geometry: &Geometry, rings: &Rings) -> Result<Option<Place>, Stop>
+fn unsound_page<S: Site>(
+    site: &mut S,
+    geometry: &Geometry,
+    rings: &Rings,
+) -> Result<Option<Place>, Stop>
     requires { MayRead geometry.now rings.now (S.state site.old) }
     ensures reads { OnlyReads result (S.state site.old) (S.state site.new) }
 {
@@ -122,7 +134,11 @@ fn unsound_page<S: Site>(site: &mut S, geometry: &Geometry, rings: &Rings) -> Re
 }
 
 // The first live group with a frame that isn't dirty and doesn't equal its disk page.
-fn unclean_group<S: Site>(site: &mut S, geometry: &Geometry, rings: &Rings) -> Result<Option<Place>, Stop>
+fn unclean_group<S: Site>(
+    site: &mut S,
+    geometry: &Geometry,
+    rings: &Rings,
+) -> Result<Option<Place>, Stop>
     requires { MayRead geometry.now rings.now (S.state site.old) }
     ensures reads { OnlyReads result (S.state site.old) (S.state site.new) }
 {
@@ -140,7 +156,11 @@ fn unclean_group<S: Site>(site: &mut S, geometry: &Geometry, rings: &Rings) -> R
 
 // The first live group whose heads aren't those that its saved segment has of it, where the segments end where they
 // must.
-fn unsaved_group<S: Site>(site: &mut S, geometry: &Geometry, rings: &Rings) -> Result<Option<Place>, Stop>
+fn unsaved_group<S: Site>(
+    site: &mut S,
+    geometry: &Geometry,
+    rings: &Rings,
+) -> Result<Option<Place>, Stop>
     requires { MayRead geometry.now rings.now (S.state site.old) }
     ensures reads { OnlyReads result (S.state site.old) (S.state site.new) }
 {
@@ -204,7 +224,11 @@ fn place_of_form<S: Site>(site: &mut S) -> Result<Option<Place>, Stop>
 
 // The first block with a record from the redo block on that is of no open transaction, or before the Begin that it
 // names.
-fn unopened_block<S: Site>(alloc: Global, site: &mut S, found: &Found) -> Result<Option<Place>, Stop>
+fn unopened_block<S: Site>(
+    alloc: Global,
+    site: &mut S,
+    found: &Found,
+) -> Result<Option<Place>, Stop>
     requires { MayBeJudged found.now (S.state site.old) }
     ensures reads { OnlyReads result (S.state site.old) (S.state site.new) }
 {
@@ -305,7 +329,11 @@ fn page_of_frames<S: Site>(
 }
 
 // The first page whose version doesn't show what it has to.
-fn place_of_showing<S: Site>(alloc: Global, site: &mut S, found: &Found) -> Result<Option<Place>, Stop>
+fn place_of_showing<S: Site>(
+    alloc: Global,
+    site: &mut S,
+    found: &Found,
+) -> Result<Option<Place>, Stop>
     requires { MayBeJudged found.now (S.state site.old) }
     ensures reads { OnlyReads result (S.state site.old) (S.state site.new) }
 {
@@ -316,7 +344,12 @@ fn place_of_showing<S: Site>(alloc: Global, site: &mut S, found: &Found) -> Resu
 }
 
 // Where devices that meet the first two rules fail another one.
-fn place_of_rule<S: Site>(alloc: Global, site: &mut S, found: &Found, rule: u8) -> Result<Option<Place>, Stop>
+fn place_of_rule<S: Site>(
+    alloc: Global,
+    site: &mut S,
+    found: &Found,
+    rule: u8,
+) -> Result<Option<Place>, Stop>
     requires { MayBeJudged found.now (S.state site.old) }
     ensures reads { OnlyReads result (S.state site.old) (S.state site.new) }
 {

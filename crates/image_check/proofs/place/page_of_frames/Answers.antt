@@ -11,4 +11,4 @@ pub returns : goal.returns
 returns g c =
     let s0 : State = g.S.Site.state c.args.site.now in
     let s1 : State = g.S.Site.state c.version_lsns.new.site in
-    record { reads = looks_then c.in_ok-lsns.lsns _ s0 s1 (g.S.Site.state c.page_of_lsns.new.site) c.in_ok-lsns.ensures.reads c.page_of_lsns.ensures.reads; }
+    record { reads = looks_then c.in_ok-lsns.lsns _ s0 s1 (g.S.Site.state c.page_of_lsns.new.site) c.in_ok-lsns.ensures.reads c.page_of_lsns.ensures.reads }

@@ -17,7 +17,7 @@ pub returns-in-Some : goal.returns-in-Some
 returns-in-Some g c =
     let s0 : State = g.S.Site.state c.args.site.now in
     let s1 : State = g.S.Site.state c.of_log.new.site in
-    record { reads = looks_then c.in_ok-expected.field-0 _ s0 s1 (g.S.Site.state c.unshown_page.new.site) c.in_ok-expected.ensures.reads c.unshown_page.ensures.reads; }
+    record { reads = looks_then c.in_ok-expected.field-0 _ s0 s1 (g.S.Site.state c.unshown_page.new.site) c.in_ok-expected.ensures.reads c.unshown_page.ensures.reads }
 
 pub unknowing_page-requires : goal.unknowing_page-requires
 unknowing_page-requires g c =
@@ -27,4 +27,4 @@ pub returns-in-None : goal.returns-in-None
 returns-in-None g c =
     let s0 : State = g.S.Site.state c.args.site.now in
     let s1 : State = g.S.Site.state c.of_log.new.site in
-    record { reads = looks_then c.in_ok-expected.field-0 _ s0 s1 (g.S.Site.state c.unknowing_page.new.site) c.in_ok-expected.ensures.reads c.unknowing_page.ensures.reads; }
+    record { reads = looks_then c.in_ok-expected.field-0 _ s0 s1 (g.S.Site.state c.unknowing_page.new.site) c.in_ok-expected.ensures.reads c.unknowing_page.ensures.reads }

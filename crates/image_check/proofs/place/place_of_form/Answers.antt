@@ -15,7 +15,7 @@ returns-in_default-3 g c =
     let s2 : State = g.S.Site.state c.rule_master.new.site in
     record {
       reads = looks_then c.in_ok-rings.field-0 (Ok (Some Master)) s0 s1 s2 c.in_ok-rings.ensures.reads
-      (looks_answered c.in_ok-master.field-0 (Some Master) s1 s2 c.in_ok-master.ensures.reads);
+          (looks_answered c.in_ok-master.field-0 (Some Master) s1 s2 c.in_ok-master.ensures.reads);
     }
 
 pub unformed_place-requires : goal.unformed_place-requires

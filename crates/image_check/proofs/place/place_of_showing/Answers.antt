@@ -11,4 +11,4 @@ pub returns-in-Some : goal.returns-in-Some
 returns-in-Some g c =
     let s0 : State = g.S.Site.state c.args.site.now in
     let s1 : State = g.S.Site.state c.find_frames.new.site in
-    record { reads = looks_then c.in_ok-frames.field-0 _ s0 s1 (g.S.Site.state c.page_of_frames.new.site) c.in_ok-frames.ensures.reads c.page_of_frames.ensures.reads; }
+    record { reads = looks_then c.in_ok-frames.field-0 _ s0 s1 (g.S.Site.state c.page_of_frames.new.site) c.in_ok-frames.ensures.reads c.page_of_frames.ensures.reads }
