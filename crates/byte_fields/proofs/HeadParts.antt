@@ -1,12 +1,12 @@
 -- The parts of a head, and that they are the head.
-use Rattle.std.proofs.Common.{◌≡◌, ℕ, ◌+◌, ◌<◌, ◌≤◌, Bool, true, false, List, [], ◌∷◌, ◌++◌, length, get_or, take, drop, refl, ap, sym, ◌∙◌, arith, Result, Ok, Err}
+use Rattle.std.proofs.Common.{◌≡◌, ℕ, ◌+◌, ◌<◌, ◌≤◌, Bool, true, false, List, [], ◌∷◌, ◌++◌, length, get_or, take, drop, refl, ap, sym, ◌∙◌, arith, inr, Result, Ok, Err}
 use Rattle.std.specs.Prelude.{IfErr, OnErr}
 use Rattle.std.specs.Int.{w16, w32, w64, from_be_bytes, to_be_bytes}
 use Rattle.std.proofs.lemmas.List.{length-drop, length-take, get_or-take, get_or-drop, drop-drop}
 use Rattle.std.proofs.Math.Seq.{take-add}
 use Rattle.std.proofs.lemmas.Nat.{be_bytes_2, be_bytes_4, be_bytes_8, from_be_bytes-to_be_bytes_4, from_be_bytes-to_be_bytes_8}
 use Rattle.byte_fields.specs.declared.frame_head.FrameHead.{FrameHead}
-use Rattle.byte_fields.specs.FrameHeads.{flag, spelling, HasForm, FitsFields, IsHeadAt}
+use Rattle.byte_fields.specs.FrameHeads.{flag, blank, spelling, HasForm, FitsFields, IsHeadAt}
 use Rattle.byte_fields.specs.Writes.{Writes}
 use Rattle.byte_fields.proofs.Texts.{IsBytes, IsBytes-drop, IsBytes-take, part_of, stands_there}
 
@@ -104,3 +104,35 @@ if_err (Err e) P p = p
 pub on_err : {X E : Type 0} (r : Result X E) (P : Type 0) → P → OnErr r P
 on_err (Ok x) P p = tt
 on_err (Err e) P p = p
+
+-- the numbers in the two halves of a head's octets
+abbrev pub front_half : List ℕ → ℕ → ℕ
+front_half octets at = from_be_bytes w64 (take 8 (drop at octets))
+
+abbrev pub back_half : List ℕ → ℕ → ℕ
+back_half octets at = from_be_bytes w64 (take 8 (drop (at + 8) octets))
+
+-- octets that are all 0 are those of the head of no frame
+pub blank_at : (octets : List ℕ) (at : ℕ) → IsBytes octets → at + 16 ≤ length octets → front_half octets at ≡ 0 → back_half octets at ≡ 0 → IsHeadAt octets at blank
+unfolding spelling
+blank_at octets at bytes room front back =
+    let l = drop at octets in
+    let long : 16 ≤ length l = omega (arith, length-drop at octets, room) in
+    let fits = IsBytes-drop at octets bytes in
+    let first : to_be_bytes w64 0 ≡ take 8 l = be_bytes_8 (take 8 l) 0 (omega (arith, length-take 8 l, long)) (IsBytes-take 8 l fits) (sym front) in
+    let second : to_be_bytes w64 0 ≡ take 8 (drop 8 l) = be_bytes_8 (take 8 (drop 8 l)) 0
+    (omega (arith, length-take 8 (drop 8 l), length-drop 8 l, long)) (IsBytes-take 8 (drop 8 l) (IsBytes-drop 8 l fits))
+    (sym back ∙ ap (λ (t : List ℕ). from_be_bytes w64 (take 8 t)) (sym (drop-drop 8 at octets))) in
+    record {
+      text = take-add 8 8 l ∙ ap (λ (t : List ℕ). t ++ take 8 (drop 8 l)) (sym first) ∙ ap (λ (t : List ℕ). to_be_bytes w64 0 ++ t) (sym second);
+      has_form = inr refl;
+      fits_fields = (omega arith, omega arith);
+    }
+
+-- and those of the head of no frame are all 0
+pub halves_of_blank : (octets : List ℕ) (at : ℕ) → IsHeadAt octets at blank → (front_half octets at ≡ 0) × (back_half octets at ≡ 0)
+unfolding spelling
+halves_of_blank octets at is = (
+  ap (λ n. from_be_bytes w64 (take 8 (drop n octets))) (omega arith) ∙ ap (from_be_bytes w64) (part_of octets (spelling blank) at 16 0 8 is.text (omega arith)),
+  ap (from_be_bytes w64) (part_of octets (spelling blank) at 16 8 8 is.text (omega arith)),
+)

@@ -61,12 +61,23 @@ fn has_form(head: &FrameHead) -> bool
     head.present || *head == FrameHead::BLANK
 }
 
+// Whether the head of no frame is spelled at a place: most heads are, where groups have few frames.
+fn is_blank_at(bytes: &[u8], at: usize) -> bool
+    requires { at + HEAD_LEN ≤ length bytes.now }
+    ensures { IsTrue result ↔ IsHeadAt bytes.now at blank }
+{
+    get_u64(bytes, at) == 0 && get_u64(bytes, at + 8) == 0
+}
+
 /// The head whose 16 octets begin at a place. `BadHead` comes exactly where no head is spelled there.
 pub fn read_head(bytes: &[u8], at: usize) -> Result<FrameHead, BadHead>
     requires { at + HEAD_LEN ≤ length bytes.now }
     ensures found { IfOk result (λ head. IsHeadAt bytes.now at head) }
     ensures bad { IfErr result (λ e. (head : FrameHead) → IsHeadAt bytes.now at head → ⊥) }
 {
+    if is_blank_at(bytes, at) {
+        return Ok(FrameHead::BLANK);
+    }
     let present = flag_of(bytes[at])?;
     let dirty = flag_of(bytes[at + 1])?;
     let head = FrameHead {

@@ -18,12 +18,13 @@ use sealed_ring::Ring;
 use site::{Geometry, Site, Stop};
 
 // The eight heads of one of a segment's four groups.
-fn heads_of(heads: &[FrameHead; 32], group: usize) -> [FrameHead; 8]
+fn heads_of(heads: &[FrameHead; 32], group: usize) -> &[FrameHead; 8]
     requires { group < 4 }
-    ensures { result ≡ heads_of_group heads.now group }
+    ensures { result.now ≡ heads_of_group heads.now group }
 {
-    let mut eight = [FrameHead::BLANK; 8];
-    eight.copy_from_slice(&heads[8 * group..8 * group + 8]);
+    let Some(eight) = heads[8 * group..].first_chunk::<8>() else {
+        unreachable!();
+    };
     eight
 }
 
@@ -48,10 +49,10 @@ fn list_saved(
 {
     for group in skip..4 {
         let eight = heads_of(heads, group);
-        if !pages_exist(&eight, pages) {
+        if !pages_exist(eight, pages) {
             return Err(Stop::Foreign);
         }
-        let Ok(()) = list.push(eight) else {
+        let Ok(()) = list.push(*eight) else {
             return Err(Stop::Memory);
         };
     }
