@@ -1,8 +1,9 @@
 -- The rules one after the other.
-use Rattle.std.proofs.Common.{◌≡◌, ◌↔◌, inl, inr, ℕ, zero, suc, ◌+◌, ◌≤◌, true, false, true≢false, Bool, IsTrue, List, refl, sym, ◌∙◌, subst, arith}
-use Rattle.std.specs.Prelude.{Some, Ok, ⊤}
+use Rattle.std.proofs.Common.{◌≡◌, ◌↔◌, inl, inr, ℕ, zero, suc, ◌+◌, ◌≤◌, true, false, true≢false, Bool, IsTrue, List, refl, sym, ap, ◌∙◌, subst, arith}
+use Rattle.std.specs.Prelude.{Option, Some, None, is_none, Result, Ok, Err, IfOk, ⊤}
 use Rattle.std.proofs.lemmas.Bool.{cases_eq}
 use Rattle.site.specs.declared.geometry.Geometry.{Geometry}
+use Rattle.site.specs.declared.outside.Stop.{Stop}
 use Rattle.site.specs.State.{State, Image}
 use Rattle.site.specs.Calls.{Goes}
 use Rattle.site.specs.Work.{OnlyReads}
@@ -12,6 +13,7 @@ use Rattle.checkpoint.specs.declared.master.Master.{Master}
 use Rattle.checkpoint.specs.Newest.{HasMaster}
 use Rattle.checkpoint.specs.Laws.{OneNewest}
 use Rattle.image_check.specs.declared.formed.Found.{Found}
+use Rattle.image_check.specs.declared.place.Place.{Place}
 use Rattle.image_check.specs.Octets.{HasSizes, AreRings}
 use Rattle.image_check.specs.Deciding.{MayBeRead, MayBeJudged, IsThere, MeetsBefore, HoldOr, reading_of}
 use Rattle.image_check.specs.Verdict.{Reading, Reads, Rule, Rule1, Rule2, Rule3, Rule4, Rule5, Rule6, Rule7, Rule8, Rule9, Rule10, Rule11, HoldBefore, FailsFirst, IsSoundWith, picture_of, values_of}
@@ -150,20 +152,32 @@ pub goes_past : {T : Type 0} (x : T) (i : ℕ) (found : Found) (blocks : List (L
     Numbered i (reading_of found blocks) a.image → Past (i + 1) found blocks old b
 goes_past x i found blocks old a b reads past holds = reaches x i (i + 1) found blocks old a b reads past (one_more i (reading_of found blocks) a.image past.meets.rules holds)
 
-pub holds_so : (i : ℕ) (found : Found) (blocks : List (List LogRecord)) (old a b : State) (stand : Bool) → Past i found blocks old a → (IsTrue stand ↔ Numbered i (reading_of found blocks) a.image) →
-    OnlyReads {T = Bool} (Ok stand) a b → stand ≡ true → Past (i + 1) found blocks old b
-holds_so i found blocks old a b stand past says reads is = goes_past stand i found blocks old a b reads past (says.0 is)
+pub holds_so : {T : Type 0} (x : T) (i : ℕ) (found : Found) (blocks : List (List LogRecord)) (old a b : State) (stand : Bool) → Past i found blocks old a → (IsTrue stand ↔ Numbered i (reading_of found blocks) a.image) →
+    OnlyReads {T = T} (Ok x) a b → stand ≡ true → Past (i + 1) found blocks old b
+holds_so x i found blocks old a b stand past says reads is = goes_past x i found blocks old a b reads past (says.0 is)
 
 -- a rule that fails
-pub fails_by : (i : ℕ) (found : Found) (blocks : List (List LogRecord)) (old a : State) (end : ℕ) → 3 ≤ i → Past i found blocks old a → (Numbered i (reading_of found blocks) a.image → ⊥) →
-    HoldOr end (Some i) (reading_of found blocks) old.image
-fails_by i found blocks old a end third past fails =
+pub fails_by : (i : ℕ) (place : Place) (found : Found) (blocks : List (List LogRecord)) (old a : State) (end : ℕ) → 3 ≤ i → Past i found blocks old a → (Numbered i (reading_of found blocks) a.image → ⊥) →
+    HoldOr end (Some (i, place)) (reading_of found blocks) old.image
+fails_by i place found blocks old a end third past fails =
     let r : Reading = reading_of found blocks in
-    subst (HoldOr end (Some i) r) past.same (third, past.meets.rules, λ rule. fails (numbered_of i r a.image rule))
+    subst (HoldOr end (Some (i, place)) r) past.same (third, past.meets.rules, λ rule. fails (numbered_of i r a.image rule))
 
-pub fails_so : (i : ℕ) (found : Found) (blocks : List (List LogRecord)) (old a : State) (stand : Bool) (end : ℕ) → 3 ≤ i → Past i found blocks old a → (IsTrue stand ↔ Numbered i (reading_of found blocks) a.image) →
-    stand ≡ false → HoldOr end (Some i) (reading_of found blocks) old.image
-fails_so i found blocks old a stand end third past says other = fails_by i found blocks old a end third past (λ holds. true≢false (sym (says.1 holds) ∙ other))
+pub fails_so : (i : ℕ) (place : Place) (found : Found) (blocks : List (List LogRecord)) (old a : State) (stand : Bool) (end : ℕ) → 3 ≤ i → Past i found blocks old a →
+    (IsTrue stand ↔ Numbered i (reading_of found blocks) a.image) → stand ≡ false → HoldOr end (Some (i, place)) (reading_of found blocks) old.image
+fails_so i place found blocks old a stand end third past says other = fails_by i place found blocks old a end third past (λ holds. true≢false (sym (says.1 holds) ∙ other))
+
+-- where a place fails a rule it doesn't hold, and where none does it holds
+pub placed : (failing : Option Place) (place : Place) → failing ≡ Some place → is_none failing ≡ false
+placed failing place is = ap is_none is
+
+pub unplaced : (failing : Option Place) → failing ≡ None → is_none failing ≡ true
+unplaced failing is = ap is_none is
+
+-- what is answered, said otherwise
+pub answers_as : {T : Type 0} (r : Result T Stop) (P Q : T → Type 0) → ((x : T) → P x → Q x) → IfOk r P → IfOk r Q
+answers_as (Ok x) P Q to p = to x p
+answers_as (Err e) P Q to p = tt
 
 -- all of them hold
 pub hold_all : (i : ℕ) (found : Found) (blocks : List (List LogRecord)) (old a : State) → Past i found blocks old a → HoldBefore i (reading_of found blocks) old.image
@@ -178,8 +192,8 @@ fails_at (suc zero) r image third reads before fails = absurd (omega (arith, thi
 fails_at (suc (suc zero)) r image third reads before fails = absurd (omega (arith, third))
 fails_at (suc (suc (suc i))) r image third reads before fails = (r, reads, before, fails)
 
-pub verdict_by : (end i : ℕ) (r : Reading) (image : Image) → Reads r image → HoldOr end (Some i) r image → FailsFirst i image
-verdict_by end i r image reads fails = fails_at i r image fails.0 reads fails.1 fails.2
+pub verdict_by : (end i : ℕ) (place : Place) (r : Reading) (image : Image) → Reads r image → HoldOr end (Some (i, place)) r image → FailsFirst i image
+verdict_by end i place r image reads fails = fails_at i r image fails.0 reads fails.1 fails.2
 
 -- or none does
 pub sound_by : (found : Found) (blocks : List (List LogRecord)) (old a : State) (records commits : ℕ) → Past 12 found blocks old a → records ≡ values_of (picture_of (reading_of found blocks) a.image) →

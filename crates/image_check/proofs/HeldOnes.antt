@@ -1,22 +1,26 @@
 -- What unfinished transactions have written, after one record more.
-use Rattle.std.proofs.Common.{◌≡◌, ℕ, inl, inr, Bool, true, false, true≢false, not, ◌&&◌, ◌||◌, cond, List, [], ◌∷◌, ◌++◌, map, drop, Option, Some, None, refl, sym, ap, ◌∙◌}
+use Rattle.std.proofs.Common.{◌≡◌, ℕ, inl, inr, Bool, true, false, true≢false, not, ◌&&◌, ◌||◌, cond, nat_eq, List, [], ◌∷◌, ◌++◌, map, drop, Option, Some, None, option_map, refl, sym, ap, ◌∙◌}
 use Rattle.std.specs.Prelude.{filter, ◌==◌}
 use Rattle.std.specs.List.{AllByRecursion, list_any}
-use Rattle.std.proofs.lemmas.Bool.{and_from, and_parts, and_right, or_left, or_right, cases_Bool, eqb-true, eq-eqb, not-true, not_from_false}
-use Rattle.std.proofs.lemmas.List.{append-nil, map-append}
+use Rattle.std.specs.Option.{option_or}
+use Rattle.std.specs.Map.{lookup}
+use Rattle.std.proofs.lemmas.Bool.{and_from, and_parts, or_left, or_right, cases_Bool, eqb-true, eq-eqb, not-true, not_from_false}
+use Rattle.std.proofs.lemmas.List.{append-nil}
 use Rattle.std.proofs.lemmas.List.Elements.{filter-append}
 use Rattle.std.proofs.lemmas.List.Folds.{list_any-append}
+use Rattle.indexmap.specs.IndexMap.{IndexMap, get}
 use Rattle.log_records.specs.declared.log_record.LogRecord.{LogRecord}
 use Rattle.log_records.specs.declared.log_record.LogRecord.TheVariants.{Begin, Update, Clr, Commit, End}
-use Rattle.log_records.specs.Log.{Entry, txn_by, txn_of, is_of, is_closed, is_update, is_number, is_on, number_of, entries_of}
+use Rattle.log_records.specs.Log.{Entry, txn_of, is_of, is_closed, is_update, is_number, is_on, number_of, entries_of, last_where, last_on}
 use Rattle.log_records.specs.Unfinished.{is_begin, losers}
 use Rattle.log_records.specs.Sound.{Picture, Pairwise, HoldsOff}
 use Rattle.log_laws.specs.Analysis.{unfinished_at}
+use Rattle.log_laws.proofs.Lists.{one, one_true, last_where-filter, last_passes, all_last, all_weaker, all_push}
 use Rattle.log_laws.proofs.Listing.{listed_is_loser}
-use Rattle.image_check.specs.declared.holding.Held.{Held}
+use Rattle.log_laws.proofs.Values.{last_same, last_new}
 use Rattle.image_check.specs.declared.unfinished.Left.{Left}
 use Rattle.image_check.specs.Unended.{AreLeft, left_of}
-use Rattle.image_check.specs.Holding.{AreHeld, IsListed, holds, held_by, has_other}
+use Rattle.image_check.specs.Holding.{AreHeld, IsListed, holds, is_others, clashes_by}
 use Rattle.image_check.specs.Verdict.{Rule4}
 
 -- Who is on the list.
@@ -47,21 +51,23 @@ pub listed_there : (closed : ℕ → Bool) (t : ℕ) (xs : List Entry) → close
 listed_there closed t [] lives some = some
 listed_there closed t (x ∷ xs) lives some = by (is_begin x.rec) (x.lsn == t) refl some (listed_there closed t xs lives)
   where
-    later : List ℕ
-    later = map (λ (y : Entry). y.lsn) (filter (λ y. is_begin y.rec && not (closed y.lsn)) xs)
+    rest : List Entry
+    rest = filter (λ y. is_begin y.rec && not (closed y.lsn)) xs
 
-    more : (k : Bool) → list_any (λ n. n == t) later ≡ true → list_any (λ n. n == t) (map (λ (y : Entry). y.lsn) (cond k (x ∷ filter (λ y. is_begin y.rec && not (closed y.lsn)) xs) (filter (λ y. is_begin y.rec && not (closed y.lsn)) xs))) ≡ true
-    more true there = or_right (x.lsn == t) (list_any (λ n. n == t) later) there
+    has : List Entry → Bool
+    has ys = list_any (λ n. n == t) (map (λ (y : Entry). y.lsn) ys)
+
+    more : (k : Bool) → has rest ≡ true → has (cond k (x ∷ rest) rest) ≡ true
+    more true there = or_right (x.lsn == t) (has rest) there
     more false there = there
 
-    by : (b q : Bool) → (x.lsn == t) ≡ q → ((b && q) || list_any (begins_there t) xs) ≡ true → (list_any (begins_there t) xs ≡ true → list_any (λ n. n == t) later ≡ true) →
-        list_any (λ n. n == t) (map (λ (y : Entry). y.lsn) (cond (b && not (closed x.lsn)) (x ∷ filter (λ y. is_begin y.rec && not (closed y.lsn)) xs) (filter (λ y. is_begin y.rec && not (closed y.lsn)) xs))) ≡ true
+    by : (b q : Bool) → (x.lsn == t) ≡ q → ((b && q) || list_any (begins_there t) xs) ≡ true → (list_any (begins_there t) xs ≡ true → has rest ≡ true) →
+        has (cond (b && not (closed x.lsn)) (x ∷ rest) rest) ≡ true
     by true true own here again =
         let same : closed x.lsn ≡ false = ap closed (eqb-true x.lsn t own) ∙ lives in
-        ap (λ (k : Bool). list_any (λ n. n == t) (map (λ (y : Entry). y.lsn) (cond (not k) (x ∷ filter (λ y. is_begin y.rec && not (closed y.lsn)) xs) (filter (λ y. is_begin y.rec && not (closed y.lsn)) xs)))) same
-        ∙ or_left (x.lsn == t) (list_any (λ n. n == t) later) own
-    by true false own rest again = more (not (closed x.lsn)) (again rest)
-    by false q own rest again = more false (again rest)
+        ap (λ (k : Bool). has (cond (not k) (x ∷ rest) rest)) same ∙ or_left (x.lsn == t) (has rest) own
+    by true false own later again = more (not (closed x.lsn)) (again later)
+    by false q own later again = more false (again later)
 
 any_at : (p : Entry → Bool) (front : List Entry) (e : Entry) (back : List Entry) → p e ≡ true → list_any p (front ++ e ∷ back) ≡ true
 any_at p front e back here = list_any-append p front (e ∷ back) ∙ or_right (list_any p front) (p e || list_any p back) (or_left (p e) (list_any p back) here)
@@ -90,17 +96,35 @@ listed p front e back split fourth = elim (cases_Bool (is_closed p.log t)) [
 
 -- One record more.
 
-made : (log records : List Entry) (e : Entry) (b : Bool) → holds log e ≡ b → map (λ (u : Entry). held_by u.rec) (filter (holds log) (records ++ e ∷ [])) ≡
-    map (λ (u : Entry). held_by u.rec) (filter (holds log) records) ++ map (λ (u : Entry). held_by u.rec) (cond b (e ∷ []) [])
-made log records e b is =
-    let f : Entry → Held = λ u. held_by u.rec in
-    ap (map f) (filter-append (holds log) records (e ∷ []) ∙ ap (λ (k : Bool). filter (holds log) records ++ cond k (e ∷ []) []) is) ∙ map-append f (filter (holds log) records) (cond b (e ∷ []) [])
+pub held_none : {S : Type 0} (log : List Entry) (held : IndexMap ℕ ℕ S) → held.entries ≡ [] → AreHeld log [] held
+held_none log held empty = record { each = λ number. ap (lookup (nat_eq number)) empty }
 
-pub held_more : (log records : List Entry) (e : Entry) (items : List Held) → holds log e ≡ true → AreHeld log records items → AreHeld log (records ++ e ∷ []) (items ++ held_by e.rec ∷ [])
-held_more log records e items own is = record { are = ap (λ (l : List Held). l ++ held_by e.rec ∷ []) is.are ∙ sym (made log records e true own) }
+filtered : (log records : List Entry) (e : Entry) (b : Bool) → holds log e ≡ b → filter (holds log) (records ++ e ∷ []) ≡ filter (holds log) records ++ cond b (e ∷ []) []
+filtered log records e b is = filter-append (holds log) records (e ∷ []) ∙ ap (λ (k : Bool). filter (holds log) records ++ cond k (e ∷ []) []) is
 
-pub held_same : (log records : List Entry) (e : Entry) (items : List Held) → holds log e ≡ false → AreHeld log records items → AreHeld log (records ++ e ∷ []) items
-held_same log records e items other is = record { are = is.are ∙ sym (made log records e false other ∙ append-nil (map (λ (u : Entry). held_by u.rec) (filter (holds log) records))) }
+-- one that doesn't hold
+pub held_same : {S : Type 0} (log records : List Entry) (e : Entry) (held : IndexMap ℕ ℕ S) → holds log e ≡ false → AreHeld log records held → AreHeld log (records ++ e ∷ []) held
+held_same log records e held other is =
+    let same = filtered log records e false other ∙ append-nil (filter (holds log) records) in
+    record { each = λ number. is.each number ∙ ap (λ (l : List Entry). option_map txn_of (last_on l number)) (sym same) }
+
+-- one that holds a number
+pub held_more : {S : Type 0} (log records : List Entry) (e : Entry) (m : ℕ) (old new : IndexMap ℕ ℕ S) → holds log e ≡ true → number_of e.rec ≡ Some m →
+    ((number : ℕ) → get nat_eq new number ≡ cond (nat_eq m number) (Some (txn_of e)) (get nat_eq old number)) → AreHeld log records old → AreHeld log (records ++ e ∷ []) new
+held_more log records e m old new own on updates is = record {
+  each = λ number. updates number ∙ by number (m == number) refl ∙ ap (λ (l : List Entry). option_map txn_of (last_on l number)) (sym (filtered log records e true own));
+}
+  where
+    before : List Entry
+    before = filter (holds log) records
+
+    by : (number : ℕ) (b : Bool) → (m == number) ≡ b → cond (nat_eq m number) (Some (txn_of e)) (get nat_eq old number) ≡ option_map txn_of (last_on (before ++ e ∷ []) number)
+    by number true here =
+        let test : nat_eq m number ≡ true = here in
+        ap (λ (b : Bool). cond b (Some (txn_of e)) (get nat_eq old number)) test ∙ ap (option_map txn_of) (sym (last_new before e number (ap (is_number number) on ∙ here)))
+    by number false other =
+        let test : nat_eq m number ≡ false = other in
+        ap (λ (b : Bool). cond b (Some (txn_of e)) (get nat_eq old number)) test ∙ is.each number ∙ ap (option_map txn_of) (sym (last_same before e number (ap (is_number number) on ∙ other)))
 
 pub not_update : (rec : LogRecord) → ((txn prev page slot : ℕ) (before after : Option (List ℕ)) → rec ≡ Update txn prev page slot before after → ⊥) → is_update rec ≡ false
 not_update Begin other = refl
@@ -111,112 +135,85 @@ not_update (End txn) other = refl
 
 -- Records on one number.
 
-held_number : (rec : LogRecord) → is_update rec ≡ true → number_of rec ≡ Some (held_by rec).number
-held_number Begin is = absurd (true≢false (sym is))
-held_number (Update txn prev page slot before after) is = refl
-held_number (Clr txn prev undo_next page slot after) is = absurd (true≢false (sym is))
-held_number (Commit txn number) is = absurd (true≢false (sym is))
-held_number (End txn) is = absurd (true≢false (sym is))
+-- an Update on it that the log leaves open
+abbrev holds_there : List Entry → ℕ → Entry → Bool
+holds_there log number u = holds log u && is_on number u
 
-held_txn : (lsn : ℕ) (rec : LogRecord) → is_update rec ≡ true → txn_by lsn rec ≡ (held_by rec).txn
-held_txn lsn Begin is = absurd (true≢false (sym is))
-held_txn lsn (Update txn prev page slot before after) is = refl
-held_txn lsn (Clr txn prev undo_next page slot after) is = absurd (true≢false (sym is))
-held_txn lsn (Commit txn number) is = absurd (true≢false (sym is))
-held_txn lsn (End txn) is = absurd (true≢false (sym is))
-
-abbrev clash : ℕ → ℕ → Held → Bool
-clash number txn h = (h.number == number) && not (h.txn == txn)
-
-no_clash : (log : List Entry) (u e : Entry) (n : ℕ) → number_of e.rec ≡ Some n → HoldsOff log u e → holds log u ≡ true → clash n (txn_of e) (held_by u.rec) ≡ false
-no_clash log u e n on off own =
-    let both = and_parts (is_update u.rec) (not (is_closed log (txn_of u))) own in
-    let h : Held = held_by u.rec in
-    elim (cases_Bool (h.number == n)) [
-      | inl same ↦
-          let on_u : is_on n u ≡ true = ap (is_number n) (held_number u.rec both.0) ∙ same in
-          let on_e : is_on n e ≡ true = ap (is_number n) on ∙ eq-eqb n n refl in
-          let one = off n both.0 on_u on_e (not-true (is_closed log (txn_of u)) both.1) in
-          let txn : h.txn ≡ txn_of e = sym (held_txn u.lsn u.rec both.0) ∙ one in
-          ap (λ (b : Bool). (h.number == n) && not b) (eq-eqb h.txn (txn_of e) txn) ∙ and_right (h.number == n) false refl
-      | inr other ↦ ap (λ (b : Bool). b && not (h.txn == txn_of e)) other
-    ]
-
-holds_off : (log : List Entry) (u e : Entry) (n : ℕ) → number_of e.rec ≡ Some n → (holds log u ≡ true → clash n (txn_of e) (held_by u.rec) ≡ false) → HoldsOff log u e
-holds_off log u e n on none number update on_u on_e lives =
-    let h : Held = held_by u.rec in
-    let own = none (and_from (is_update u.rec) (not (is_closed log (txn_of u))) update (not_from_false (is_closed log (txn_of u)) lives)) in
-    let a : h.number ≡ number = eqb-true h.number number (sym (ap (is_number number) (held_number u.rec update)) ∙ on_u) in
-    let b : n ≡ number = eqb-true n number (sym (ap (is_number number) on) ∙ on_e) in
-    let same : (h.number == n) ≡ true = eq-eqb h.number n (a ∙ sym b) in
-    let txn : (h.txn == txn_of e) ≡ true = from_not (h.txn == txn_of e) (sym (ap (λ (k : Bool). k && not (h.txn == txn_of e)) same) ∙ own) in
-    held_txn u.lsn u.rec update ∙ eqb-true h.txn (txn_of e) txn
+-- where the last of these is of a transaction, or there is none, each is: those before the last hold others off from it
+all_of : (log : List Entry) (number t : ℕ) (xs : List Entry) → Pairwise (HoldsOff log) xs → is_others (option_map txn_of (last_where (holds_there log number) xs)) t ≡ false →
+    AllByRecursion (λ u. holds_there log number u ≡ true → txn_of u ≡ t) xs
+all_of log number t [] pairs off = tt
+all_of log number t (y ∷ ys) pairs off = by (last_where (holds_there log number) ys) refl off (all_of log number t ys pairs.1)
   where
-    from_not : (k : Bool) → not k ≡ false → k ≡ true
-    from_not true is = refl
-    from_not false is = absurd (true≢false is)
+    own : (n : ℕ) → not (n == t) ≡ false → n ≡ t
+    own n is = eqb-true n t (from_not (n == t) is)
+      where
+        from_not : (k : Bool) → not k ≡ false → k ≡ true
+        from_not true is = refl
+        from_not false is = absurd (true≢false is)
 
-none_other : (log : List Entry) (e : Entry) (n : ℕ) → number_of e.rec ≡ Some n → (xs : List Entry) → AllByRecursion (λ u. HoldsOff log u e) xs →
-    list_any (clash n (txn_of e)) (map (λ (u : Entry). held_by u.rec) (filter (holds log) xs)) ≡ false
-none_other log e n on [] all = refl
-none_other log e n on (u ∷ xs) all = by (holds log u) refl (none_other log e n on xs all.1)
-  where
-    rest : List Entry
-    rest = filter (holds log) xs
+    by : (o : Option Entry) → last_where (holds_there log number) ys ≡ o → is_others (option_map txn_of (option_or o (one (holds_there log number) y))) t ≡ false →
+        (is_others (option_map txn_of (last_where (holds_there log number) ys)) t ≡ false → AllByRecursion (λ u. holds_there log number u ≡ true → txn_of u ≡ t) ys) →
+        (holds_there log number y ≡ true → txn_of y ≡ t) × AllByRecursion (λ u. holds_there log number u ≡ true → txn_of u ≡ t) ys
+    by None last off again = (
+      λ here. own (txn_of y) (sym (ap (λ (o : Option Entry). is_others (option_map txn_of o) t) (one_true (holds_there log number) y here)) ∙ off),
+      again (ap (λ (o : Option Entry). is_others (option_map txn_of o) t) last),
+    )
+    by (Some x) last off again = (
+      λ here.
+          let mine = and_parts (holds log y) (is_on number y) here in
+          let both = and_parts (is_update y.rec) (not (is_closed log (txn_of y))) mine.0 in
+          let its = and_parts (holds log x) (is_on number x) (last_passes (holds_there log number) ys x last) in
+          all_last (HoldsOff log y) (holds_there log number) ys x pairs.0 last number both.0 mine.1 its.1 (not-true (is_closed log (txn_of y)) both.1) ∙ own (txn_of x) off,
+      again (ap (λ (o : Option Entry). is_others (option_map txn_of o) t) last ∙ off),
+    )
 
-    by : (b : Bool) → holds log u ≡ b → list_any (clash n (txn_of e)) (map (λ (x : Entry). held_by x.rec) rest) ≡ false → list_any (clash n (txn_of e)) (map (λ (x : Entry). held_by x.rec) (cond b (u ∷ rest) rest)) ≡ false
-    by true own none = (λ i. no_clash log u e n on all.0 own i || none i)
-    by false own none = none
-
-all_off : (log : List Entry) (e : Entry) (n : ℕ) → number_of e.rec ≡ Some n → (xs : List Entry) → list_any (clash n (txn_of e)) (map (λ (u : Entry). held_by u.rec) (filter (holds log) xs)) ≡ false →
-    AllByRecursion (λ u. HoldsOff log u e) xs
-all_off log e n on [] none = tt
-all_off log e n on (u ∷ xs) none = by (holds log u) refl none (all_off log e n on xs)
-  where
-    rest : List Entry
-    rest = filter (holds log) xs
-
-    parts : (a b : Bool) → (a || b) ≡ false → (a ≡ false) × (b ≡ false)
-    parts true b is = absurd (true≢false is)
-    parts false b is = (refl, is)
-
-    by : (b : Bool) → holds log u ≡ b → list_any (clash n (txn_of e)) (map (λ (x : Entry). held_by x.rec) (cond b (u ∷ rest) rest)) ≡ false →
-        (list_any (clash n (txn_of e)) (map (λ (x : Entry). held_by x.rec) rest) ≡ false → AllByRecursion (λ x. HoldsOff log x e) xs) → HoldsOff log u e × AllByRecursion (λ x. HoldsOff log x e) xs
-    by true own off again =
-        let both = parts (clash n (txn_of e) (held_by u.rec)) (list_any (clash n (txn_of e)) (map (λ (x : Entry). held_by x.rec) rest)) off in
-        (holds_off log u e n on (λ holds. both.0), again both.1)
-    by false other off again = (holds_off log u e n on (λ own. absurd (true≢false (sym own ∙ other))), again off)
-
-pub never_other : (held : List Held) → list_any (λ (h : Held). false) held ≡ false
-never_other [] = refl
-never_other (h ∷ held) = never_other held
+-- and then none holds off a record of that transaction
+off_none : (log : List Entry) (e : Entry) (n : ℕ) → number_of e.rec ≡ Some n → (u : Entry) → (holds_there log n u ≡ true → txn_of u ≡ txn_of e) → HoldsOff log u e
+off_none log e n on u own number update on_u on_e lives =
+    let same : n ≡ number = eqb-true n number (sym (ap (is_number number) on) ∙ on_e) in
+    let holder : holds log u ≡ true = and_from (is_update u.rec) (not (is_closed log (txn_of u))) update (not_from_false (is_closed log (txn_of u)) lives) in
+    own (and_from (holds log u) (is_on n u) holder (ap (λ (m : ℕ). is_on m u) same ∙ on_u))
 
 none_off : (log : List Entry) (e : Entry) → number_of e.rec ≡ None → (xs : List Entry) → AllByRecursion (λ u. HoldsOff log u e) xs
 none_off log e none [] = tt
 none_off log e none (u ∷ xs) = ((λ number update on_u on_e lives. absurd (true≢false (sym on_e ∙ ap (is_number number) none))), none_off log e none xs)
 
--- a record is on no number that another one holds exactly where those before it hold no other off
-pub apart_none : (log records : List Entry) (e : Entry) (items : List Held) → AreHeld log records items → AllByRecursion (λ u. HoldsOff log u e) records → has_other (number_of e.rec) (txn_of e) items ≡ false
-apart_none log records e items is all = by (number_of e.rec) refl
-  where
-    by : (o : Option ℕ) → number_of e.rec ≡ o → has_other o (txn_of e) items ≡ false
-    by None on = never_other items
-    by (Some n) on = ap (list_any (clash n (txn_of e))) is.are ∙ none_other log e n on records all
+-- what is held of a number, by one test
+holder_is : {S : Type 0} (log records : List Entry) (held : IndexMap ℕ ℕ S) (n : ℕ) → AreHeld log records held → get nat_eq held n ≡ option_map txn_of (last_where (holds_there log n) records)
+holder_is log records held n is = is.each n ∙ ap (option_map txn_of) (last_where-filter (is_on n) (holds log) records)
 
-pub none_apart : (log records : List Entry) (e : Entry) (items : List Held) → AreHeld log records items → has_other (number_of e.rec) (txn_of e) items ≡ false → AllByRecursion (λ u. HoldsOff log u e) records
-none_apart log records e items is none = by (number_of e.rec) refl none
+-- a record is on no number that another one holds exactly where those before it hold no other off
+pub apart_none : {S : Type 0} (log records : List Entry) (e : Entry) (held : IndexMap ℕ ℕ S) → AreHeld log records held → AllByRecursion (λ u. HoldsOff log u e) records →
+    clashes_by (get nat_eq held) (number_of e.rec) (txn_of e) ≡ false
+apart_none log records e held is all = by (number_of e.rec) refl
   where
-    by : (o : Option ℕ) → number_of e.rec ≡ o → has_other o (txn_of e) items ≡ false → AllByRecursion (λ u. HoldsOff log u e) records
+    free : (n : ℕ) → is_on n e ≡ true → (o : Option Entry) → last_where (holds_there log n) records ≡ o → is_others (option_map txn_of o) (txn_of e) ≡ false
+    free n on None last = refl
+    free n on (Some x) last =
+        let its = and_parts (holds log x) (is_on n x) (last_passes (holds_there log n) records x last) in
+        let both = and_parts (is_update x.rec) (not (is_closed log (txn_of x))) its.0 in
+        let same = all_last (λ u. HoldsOff log u e) (holds_there log n) records x all last n both.0 its.1 on (not-true (is_closed log (txn_of x)) both.1) in
+        ap not (eq-eqb (txn_of x) (txn_of e) same)
+
+    by : (o : Option ℕ) → number_of e.rec ≡ o → clashes_by (get nat_eq held) o (txn_of e) ≡ false
+    by None on = refl
+    by (Some n) on =
+        ap (λ (o : Option ℕ). is_others o (txn_of e)) (holder_is log records held n is) ∙ free n (ap (is_number n) on ∙ eq-eqb n n refl) (last_where (holds_there log n) records) refl
+
+pub none_apart : {S : Type 0} (log records : List Entry) (e : Entry) (held : IndexMap ℕ ℕ S) → AreHeld log records held → Pairwise (HoldsOff log) records →
+    clashes_by (get nat_eq held) (number_of e.rec) (txn_of e) ≡ false → AllByRecursion (λ u. HoldsOff log u e) records
+none_apart log records e held is pairs none = by (number_of e.rec) refl none
+  where
+    by : (o : Option ℕ) → number_of e.rec ≡ o → clashes_by (get nat_eq held) o (txn_of e) ≡ false → AllByRecursion (λ u. HoldsOff log u e) records
     by None on off = none_off log e on records
-    by (Some n) on off = all_off log e n on records (sym (ap (list_any (clash n (txn_of e))) is.are) ∙ off)
+    by (Some n) on off =
+        all_weaker (λ u. holds_there log n u ≡ true → txn_of u ≡ txn_of e) (λ u. HoldsOff log u e) (off_none log e n on) records
+        (all_of log n (txn_of e) records pairs (ap (λ (o : Option ℕ). is_others o (txn_of e)) (sym (holder_is log records held n is)) ∙ off))
 
 -- Pairs of records.
 
-pub all_push : {X : Type 0} (P : X → Type 0) (xs : List X) (x : X) → AllByRecursion P xs → P x → AllByRecursion P (xs ++ x ∷ [])
-all_push P [] x all p = (p, tt)
-all_push P (y ∷ xs) x all p = (all.0, all_push P xs x all.1 p)
-
-pub all_front : {X : Type 0} (P : X → Type 0) (xs : List X) (x : X) (ys : List X) → AllByRecursion P (xs ++ x ∷ ys) → P x
+all_front : {X : Type 0} (P : X → Type 0) (xs : List X) (x : X) (ys : List X) → AllByRecursion P (xs ++ x ∷ ys) → P x
 all_front P [] x ys all = all.0
 all_front P (y ∷ xs) x ys all = all_front P xs x ys all.1
 
@@ -229,6 +226,6 @@ pairwise_at R [] x ys pairs = tt
 pairwise_at R (y ∷ xs) x ys pairs = (all_front (R y) xs x ys pairs.0, pairwise_at R xs x ys pairs.1)
 
 -- What was heard: no record so far is on another's number, and these are held.
-pub record Apart (log : List Entry) (items : List Held) (records : List Entry) : Type 0 where
-  pub held : AreHeld log records items
+pub record Apart {S : Type 0} (log : List Entry) (numbers : IndexMap ℕ ℕ S) (records : List Entry) : Type 0 where
+  pub held : AreHeld log records numbers
   pub apart : Pairwise (HoldsOff log) records

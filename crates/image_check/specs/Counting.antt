@@ -1,5 +1,5 @@
 -- The numbers of the commits, counted record by record.
-use Rattle.std.specs.Prelude.{◌≡◌, ◌⊎◌, ℕ, ◌+◌, ◌≤◌, ◌<◌, Bool, if◌then◌else◌, Option, Some, None, List, length}
+use Rattle.std.specs.Prelude.{◌≡◌, ◌⊎◌, ℕ, ◌+◌, ◌≤◌, ◌<◌, Bool, if◌then◌else◌, Option, Some, None, List, ◌++◌, length}
 use Rattle.std.specs.List.{range_with_len}
 use Rattle.log_records.specs.Log.{Entry}
 use Rattle.log_records.specs.Sound.{Picture, AreNumbered, commit_count, commit_numbers, before_block, from_block}
@@ -10,6 +10,11 @@ pub record Heard (redo : ℕ) (numbers : Numbers) (records : List Entry) : Type 
   pub early : numbers.early ≡ length (commit_numbers (before_block redo records))
   pub late : numbers.late ≡ length (commit_numbers (from_block redo records))
   pub run_on : commit_numbers records ≡ range_with_len numbers.first (numbers.early + numbers.late)
+
+-- these are the numbers that were heard; or they don't run on, whatever records come behind
+abbrev pub NumbersAre : ℕ → List Entry → Option Numbers → Type 0
+NumbersAre redo records (Some numbers) = Heard redo numbers records
+NumbersAre redo records None = (rest : List Entry) (a n : ℕ) → commit_numbers (records ++ rest) ≡ range_with_len a n → ⊥
 
 -- one Commit more, before the redo block or from it on
 pub record Counts (old : Numbers) (number : ℕ) (early : Bool) (new : Numbers) : Type 0 where

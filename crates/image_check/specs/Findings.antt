@@ -1,5 +1,5 @@
 -- What the judges of the first rule say.
-use Rattle.std.specs.Prelude.{◌≡◌, ℕ, ◌*◌, ◌/◌, ◌%◌, take, drop, Option, Some, None}
+use Rattle.std.specs.Prelude.{◌≡◌, ℕ, ◌*◌, ◌/◌, ◌%◌, take, drop, Option, Some, None, Result, Ok, Err}
 use Rattle.site.specs.declared.geometry.Geometry.{Geometry}
 use Rattle.site.specs.State.{State, Image}
 use Rattle.sealed_ring.specs.Ready.{IsUsable, Fits}
@@ -7,6 +7,7 @@ use Rattle.image_changes.specs.Rings.{master_shape, log_shape, group_shape, segm
 use Rattle.checkpoint.specs.declared.master.Master.{Master}
 use Rattle.checkpoint.specs.Newest.{HasMaster}
 use Rattle.tail_rebuild.specs.Standing.{group_on, segment_on}
+use Rattle.image_check.specs.declared.place.Place.{Place}
 use Rattle.image_check.specs.declared.rings.Rings.{Rings}
 use Rattle.image_check.specs.Octets.{HasSizes, AreRings}
 
@@ -35,9 +36,9 @@ pub record AreFound (rings : Rings) (site : State) : Type 0 where
   pub segments : Fits rings.segments site
 
 -- these are the four rings, each of the form; or one isn't
-abbrev pub RingsAre : Geometry → Option Rings → State → Type 0
-RingsAre g (Some rings) site = AreRings g site.image × AreFound rings site
-RingsAre g None site = AreRings g site.image → ⊥
+abbrev pub RingsAre : Geometry → Result Rings Place → State → Type 0
+RingsAre g (Ok rings) site = AreRings g site.image × AreFound rings site
+RingsAre g (Err place) site = AreRings g site.image → ⊥
 
 -- its unit is that of this master; or it is that of none
 abbrev pub MasterIs : Option Master → Image → Type 0

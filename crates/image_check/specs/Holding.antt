@@ -1,11 +1,9 @@
 -- The records that unfinished transactions have written, record by record.
-use Rattle.std.specs.Prelude.{◌≡◌, ℕ, ◌+◌, ◌*◌, ◌==◌, Bool, false, not, ◌&&◌, List, map, filter, Option, Some, None}
+use Rattle.std.specs.Prelude.{◌≡◌, ℕ, ◌==◌, nat_eq, Bool, false, not, ◌&&◌, List, filter, Option, Some, None, option_map}
 use Rattle.std.specs.List.{list_any}
-use Rattle.log_records.specs.declared.log_record.LogRecord.{LogRecord}
-use Rattle.log_records.specs.declared.log_record.LogRecord.TheVariants.{Update}
-use Rattle.log_records.specs.Log.{Entry, txn_of, is_update, is_closed}
+use Rattle.indexmap.specs.IndexMap.{IndexMap, get}
+use Rattle.log_records.specs.Log.{Entry, txn_of, is_update, is_closed, last_on}
 use Rattle.log_records.specs.Unfinished.{losers}
-use Rattle.image_check.specs.declared.holding.Held.{Held}
 
 -- an Update of a transaction that a log leaves open
 abbrev pub holds : List Entry → Entry → Bool
@@ -15,16 +13,16 @@ holds log u = is_update u.rec && not (is_closed log (txn_of u))
 abbrev pub IsListed : List Entry → ℕ → Type 0
 IsListed log t = is_closed log t ≡ not (list_any (λ n. n == t) (losers log))
 
--- the number that an Update is on, and its transaction
-abbrev pub held_by : LogRecord → Held
-held_by (Update txn prev page slot before after) = record { number = 32 * page + slot; txn = txn }
-held_by _ = record { number = 0; txn = 0 }
+-- of these records of a log: for each number the transaction of the last Update on it that the log leaves open
+pub record AreHeld {S : Type 0} (log records : List Entry) (held : IndexMap ℕ ℕ S) : Type 0 where
+  pub each : (number : ℕ) → get nat_eq held number ≡ option_map txn_of (last_on (filter (holds log) records) number)
 
--- of these records of a log, what its open transactions have written
-pub record AreHeld (log records : List Entry) (held : List Held) : Type 0 where
-  pub are : held ≡ map (λ u. held_by u.rec) (filter (holds log) records)
+-- whether a transaction isn't the one that holds a number, if one does
+abbrev pub is_others : Option ℕ → ℕ → Bool
+is_others None txn = false
+is_others (Some holder) txn = not (holder == txn)
 
--- another transaction has written this number
-abbrev pub has_other : Option ℕ → ℕ → List Held → Bool
-has_other None txn held = list_any (λ h. false) held
-has_other (Some number) txn held = list_any (λ h. (h.number == number) && not (h.txn == txn)) held
+-- whether a record of a transaction is on a number that another one holds
+abbrev pub clashes_by : (ℕ → Option ℕ) → Option ℕ → ℕ → Bool
+clashes_by held None txn = false
+clashes_by held (Some number) txn = is_others (held number) txn

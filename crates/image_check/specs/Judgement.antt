@@ -7,4 +7,4 @@ use Rattle.image_check.specs.Verdict.{IsSoundWith, FailsFirst}
 -- this is the verdict on three contents
 abbrev pub IsVerdictOn : Image → Verdict → Type 0
 IsVerdictOn image (Sound records commits) = IsSoundWith image records commits
-IsVerdictOn image (Unsound rule) = FailsFirst rule image
+IsVerdictOn image (Unsound rule place) = FailsFirst rule image

@@ -10,6 +10,7 @@ pub mod Newest
 pub mod Octets
 pub mod Opening
 pub mod Showing
+pub mod Surveying
 pub mod Unended
 pub mod Verdict
 pub mod Walking

@@ -1,11 +1,12 @@
 // The live blocks of the log.
-ghost use Rattle.std.specs.Prelude.{◌≡◌, ◌↔◌, ◌-◌, ◌≤◌, List, length, IsTrue, IfOk};
+ghost use Rattle.std.specs.Prelude.{◌≡◌, ◌↔◌, ◌-◌, ◌≤◌, List, length, is_none, IsTrue, IfOk};
 ghost use Rattle.log_records.specs.declared.log_record.LogRecord.{LogRecord};
 ghost use Rattle.log_records.specs.Spelling.{IsBlock};
 ghost use Rattle.log_store.specs.Held.{MayGoOn, Finds};
 ghost use Rattle.site.specs.Work.{OnlyReads};
 ghost use Rattle.image_check.specs.Octets.{IsOnPage, IsBlockOn, AreBlocks};
 
+use crate::place::Place;
 use byte_fields::get_u16;
 use log_records::{BLOCK_LEN, LogRecord, read_record};
 use log_store::LogStore;
@@ -22,8 +23,8 @@ fn is_on_page(rec: &LogRecord, pages: u32) -> bool
     }
 }
 
-/// Whether the records of a block are all on pages of the disk.
-pub fn are_on_pages(content: &[u8], pages: u32) -> bool
+// Whether the records of a block are all on pages of the disk.
+fn are_on_pages(content: &[u8], pages: u32) -> bool
     requires size { length content.now ≡ BLOCK_LEN }
     requires block { (records : List LogRecord) × IsBlock content.now records }
     ensures { IsTrue result ↔ ((records : List LogRecord) × IsBlockOn pages content.now records) }
@@ -42,12 +43,13 @@ pub fn are_on_pages(content: &[u8], pages: u32) -> bool
     true
 }
 
-/// Whether each live block from `kept` on is of the form, with records on pages that the disk has: reads each once.
-pub fn rule_blocks<S: Site>(site: &mut S, log: &LogStore, kept: u64) -> Result<bool, Stop>
+/// The first live block from `kept` on that isn't of the form, or has a record on a page that the disk hasn't; `None`
+/// exactly where there is none: reads each once.
+pub fn rule_blocks<S: Site>(site: &mut S, log: &LogStore, kept: u64) -> Result<Option<Place>, Stop>
     requires { MayGoOn log.now (S.state site.old) }
 
     ensures blocks { Finds log.now (S.state site.old)
-        → IfOk result (λ stand. IsTrue stand ↔ AreBlocks log.now.geometry kept (S.state site.old).image) }
+        → IfOk result (λ failing. IsTrue (is_none failing) ↔ AreBlocks log.now.geometry kept (S.state site.old).image) }
     ensures reads { OnlyReads result (S.state site.old) (S.state site.new) }
 {
     let geometry = log.geometry();
@@ -57,12 +59,12 @@ pub fn rule_blocks<S: Site>(site: &mut S, log: &LogStore, kept: u64) -> Result<b
         let mut content = [0u8; BLOCK_LEN];
         match log.read_block(site, block, &mut content) {
             Ok(_used) => {}
-            Err(Stop::Foreign) => return Ok(false),
+            Err(Stop::Foreign) => return Ok(Some(Place::Block(block))),
             Err(stop) => return Err(stop),
         }
         if !are_on_pages(&content, geometry.pages) {
-            return Ok(false);
+            return Ok(Some(Place::Block(block)));
         }
     }
-    Ok(true)
+    Ok(None)
 }

@@ -1,5 +1,5 @@
 // The frames that aren't dirty.
-ghost use Rattle.std.specs.Prelude.{◌≡◌, ◌↔◌, ◌+◌, ◌*◌, ◌<◌, ◌≤◌, ℕ, List, length, drop, take, IsTrue, IfOk};
+ghost use Rattle.std.specs.Prelude.{◌≡◌, ◌↔◌, ◌+◌, ◌*◌, ◌<◌, ◌≤◌, ℕ, List, length, drop, take, is_none, IsTrue, IfOk};
 ghost use Rattle.site.specs.declared.geometry.Geometry.{Geometry};
 ghost use Rattle.site.specs.Work.{OnlyReads};
 ghost use Rattle.sealed_ring.specs.Ring.{IsLive};
@@ -13,6 +13,7 @@ ghost use Rattle.image_check.specs.Findings.{MayRead, AreFound};
 ghost use Rattle.image_check.specs.Verdict.{Rule7};
 
 use crate::groups::are_same;
+use crate::place::Place;
 use crate::rings::Rings;
 use crate::versions::is_named_from;
 use byte_fields::FrameHead;
@@ -108,8 +109,8 @@ fn is_clean_frame<S: Site>(
     }
 }
 
-/// Whether that holds of each frame of a live group.
-pub fn is_clean_group<S: Site>(
+// Whether that holds of each frame of a live group.
+fn is_clean_group<S: Site>(
     site: &mut S,
     geometry: &Geometry,
     rings: &Rings,
@@ -144,14 +145,19 @@ pub fn is_clean_group<S: Site>(
     Ok(true)
 }
 
-/// The seventh rule, of devices whose live groups are of the form: whether each valid frame that isn't dirty equals its
-/// disk page. It reads such a frame and its disk page, and the heads of later groups where these differ.
-pub fn rule_clean<S: Site>(site: &mut S, geometry: &Geometry, rings: &Rings) -> Result<bool, Stop>
+/// The seventh rule, of devices whose live groups are of the form: the first group with a valid frame that isn't dirty and
+/// doesn't equal its disk page, `None` exactly where there is none. It reads such a frame and its disk page, and the heads
+/// of later groups where these differ.
+pub fn rule_clean<S: Site>(
+    site: &mut S,
+    geometry: &Geometry,
+    rings: &Rings,
+) -> Result<Option<Place>, Stop>
     requires { MayRead geometry.now rings.now (S.state site.old) }
 
     ensures clean { IsTrue (S.state site.old).honest → AreFound rings.now (S.state site.old)
         → AreGroups geometry.now (S.state site.old).image
-        → IfOk result (λ stand. IsTrue stand ↔ Rule7 geometry.now (S.state site.old).image) }
+        → IfOk result (λ failing. IsTrue (is_none failing) ↔ Rule7 geometry.now (S.state site.old).image) }
     ensures reads { OnlyReads result (S.state site.old) (S.state site.new) }
 {
     for group in rings.groups.oldest()..rings.groups.hi() {
@@ -160,8 +166,8 @@ pub fn rule_clean<S: Site>(site: &mut S, geometry: &Geometry, rings: &Rings) -> 
             Err(stop) => return Err(stop),
         };
         if !clean {
-            return Ok(false);
+            return Ok(Some(Place::Group(group)));
         }
     }
-    Ok(true)
+    Ok(None)
 }

@@ -1,45 +1,46 @@
 // The numbers of the commits.
-ghost use Rattle.std.specs.Prelude.{◌≡◌, ◌⊎◌, ◌↔◌, ◌+◌, ◌-◌, ◌^◌, ◌<◌, ◌≤◌, ◌++◌, ◌∷◌, [], ℕ, false, List, IsTrue, IfOk};
-ghost use Rattle.log_records.specs.Log.{Entry};
-ghost use Rattle.log_records.specs.Sound.{commit_numbers};
+ghost use Rattle.std.specs.Prelude.{◌≡◌, ◌⊎◌, ◌↔◌, ◌+◌, ◌^◌, ◌<◌, ◌≤◌, ◌++◌, ◌∷◌, [], List, length, IsTrue};
+ghost use Rattle.site.specs.State.{State};
 ghost use Rattle.log_records.specs.declared.log_record.LogRecord.{LogRecord};
-ghost use Rattle.std.specs.List.{range_with_len};
-ghost use Rattle.log_store.specs.Held.{MayGoOn, Finds, HasBlocks};
-ghost use Rattle.site.specs.Work.{OnlyReads};
-ghost use Rattle.image_check.specs.Counting.{Heard, Counts, Fit, CommitsAre};
+ghost use Rattle.log_records.specs.Log.{Entry, log_from};
+ghost use Rattle.log_store.specs.Held.{Finds};
+ghost use Rattle.image_check.specs.Counting.{Heard, NumbersAre, Counts, Fit, CommitsAre};
 ghost use Rattle.image_check.specs.Verdict.{picture_of};
 
-use crate::walk::Walk;
 use checkpoint::Master;
 use log_records::LogRecord;
 use log_store::LogStore;
-use site::{Site, Stop};
 
-// Of the Commits heard so far: the number of the first one, and how many stand before the redo block and from it on.
+/// Of the Commits heard so far: the number of the first one, and how many stand before the redo block and from it on.
 #[derive(Clone, Copy, Debug, PartialEq, Eq, Drop)]
-struct Numbers {
-    first: u64,
-    early: u64,
-    late: u64,
+pub struct Numbers {
+    pub first: u64,
+    pub early: u64,
+    pub late: u64,
 }
 
 impl Numbers {
+    /// Before the first record.
+    pub const NONE: Numbers = Numbers {
+        first: 0,
+        early: 0,
+        late: 0,
+    };
+
     // Whether a Commit with this number may come next.
     fn is_next(&self, number: u64) -> bool
-        requires { self.now.early + self.now.late < 2 ^ 62 }
-        ensures { IsTrue result ↔ ((self.now.early + self.now.late ≡ 0)
+        ensures { self.now.early + self.now.late < 2 ^ 62 → IsTrue result ↔ ((self.now.early + self.now.late ≡ 0)
             ⊎ (number ≡ self.now.first + (self.now.early + self.now.late))) }
     {
-        let count = self.early + self.late;
+        let count = self.early.saturating_add(self.late);
         count == 0 || (self.first <= number && number - self.first == count)
     }
 
     // With one Commit more.
     fn with(&self, number: u64, early: bool) -> Numbers
-        requires { self.now.early + self.now.late < 2 ^ 62 }
-        ensures { Counts self.now number early result }
+        ensures { self.now.early + self.now.late < 2 ^ 62 → Counts self.now number early result }
     {
-        let first = if self.early + self.late == 0 {
+        let first = if self.early.saturating_add(self.late) == 0 {
             number
         } else {
             self.first
@@ -47,85 +48,66 @@ impl Numbers {
         if early {
             Numbers {
                 first,
-                early: self.early + 1,
+                early: self.early.saturating_add(1),
                 late: self.late,
             }
         } else {
             Numbers {
                 first,
                 early: self.early,
-                late: self.late + 1,
+                late: self.late.saturating_add(1),
             }
         }
     }
 
-    // Hears the next record, and answers whether the numbers run on.
-    fn hear(&mut self, lsn: u64, rec: &LogRecord, redo: u64) -> bool
-        requires few { self.old.early + self.old.late < 2 ^ 62 }
-        requires redo { redo ≤ 2 ^ 40 }
-        ensures heard { (records : List Entry) → Heard redo self.old records → IsTrue result
-            → Heard redo self.new (records ++ record { lsn = lsn; rec = rec.now } ∷ []) }
-        ensures wrong { (records : List Entry) (rest : List Entry) (a : ℕ) (n : ℕ) → Heard redo self.old records
-            → result ≡ false
-            → commit_numbers (records ++ record { lsn = lsn; rec = rec.now } ∷ rest) ≡ range_with_len a n → ⊥ }
-        ensures more { self.new.early + self.new.late ≤ self.old.early + self.old.late + 1 }
+    /// With the next record, `None` where the numbers don't run on.
+    pub fn after(&self, lsn: u64, rec: &LogRecord, redo: u64) -> Option<Numbers>
+        requires { redo ≤ 2 ^ 40 }
+        ensures { (records : List Entry) → length records < 2 ^ 62 → Heard redo self.now records
+            → NumbersAre redo (records ++ record { lsn = lsn; rec = rec.now } ∷ []) result }
     {
         let LogRecord::Commit { number, .. } = rec else {
-            return true;
+            return Some(*self);
         };
         if !self.is_next(*number) {
-            return false;
+            return None;
         }
-        *self = self.with(*number, lsn < 512 * redo);
-        true
+        Some(self.with(*number, lsn < 512 * redo))
     }
 
     // Whether they run on from the master's count, and are no more than the blocks.
     fn fit(&self, commits: u64, hi: u64) -> bool
-        requires few { self.now.early + self.now.late < 2 ^ 62 }
-        requires hi { hi ≤ 2 ^ 40 }
-        ensures { IsTrue result ↔ Fit self.now.first self.now.early self.now.late commits hi }
+        ensures fit { self.now.early + self.now.late < 2 ^ 62
+            → IsTrue result ↔ Fit self.now.first self.now.early self.now.late commits hi }
+        ensures room { IsTrue result → commits + self.now.late ≤ hi }
     {
         if self.late > hi || commits > hi - self.late {
             return false;
         }
-        self.early + self.late == 0
-            || (self.first <= commits + 1 && self.first + self.early == commits + 1)
+        let count = self.early.saturating_add(self.late);
+        count == 0
+            || (self.first <= commits.saturating_add(1)
+                && self.first.saturating_add(self.early) == commits.saturating_add(1))
     }
 }
 
-/// The eleventh rule: how many commits were made, or `None` exactly where they aren't numbered on by one, up to the
-/// master's count before the redo block and from there on, or are more than the blocks that were sealed. It reads each
-/// kept block once.
-pub fn rule_commits<S: Site>(
-    site: &mut S,
-    log: &LogStore,
-    master: &Master,
-) -> Result<Option<u64>, Stop>
-    requires going { MayGoOn log.now (S.state site.old) }
-    requires live { log.now.ring.hi ≤ master.now.kept + (log.now.geometry.blocks - 1) }
-    requires redo { master.now.redo ≤ log.now.ring.hi }
+/// The eleventh rule, by the numbers of the commits: how many were made, or `None` exactly where they aren't numbered on
+/// by one, up to the master's count before the redo block and from there on, or are more than the blocks that were sealed.
+pub fn rule_commits(log: &LogStore, master: &Master, numbers: &Option<Numbers>) -> Option<u64>
+    requires bounded { log.now.ring.hi ≤ 2 ^ 40 }
 
-    ensures commits { (blocks : List (List LogRecord)) → Finds log.now (S.state site.old)
-        → HasBlocks log.now.geometry master.now.kept blocks (S.state site.old).image
-        → IfOk result (λ count. CommitsAre count (picture_of
-        (record { g = log.now.geometry; master = master.now; blocks = blocks }) (S.state site.old).image)) }
-    ensures reads { OnlyReads result (S.state site.old) (S.state site.new) }
+    ensures commits { (site : State) (blocks : List (List LogRecord)) → Finds log.now site
+        → length (log_from master.now.kept blocks) < 2 ^ 62
+        → NumbersAre master.now.redo (log_from master.now.kept blocks) numbers.now
+        → CommitsAre result (picture_of
+        (record { g = log.now.geometry; master = master.now; blocks = blocks }) site.image) }
 {
-    let hi = log.sealed_end() / 512;
-    let mut walk = Walk::start(log, master.kept);
-    let mut numbers = Numbers {
-        first: 0,
-        early: 0,
-        late: 0,
+    let Some(numbers) = numbers else {
+        return None;
     };
-    while let Some((lsn, rec)) = walk.next(site, log)? {
-        if !numbers.hear(lsn, &rec, master.redo) {
-            return Ok(None);
-        }
-    }
+    let hi = log.sealed_end() / 512;
     if !numbers.fit(master.commits, hi) {
-        return Ok(None);
+        return None;
     }
-    Ok(Some(master.commits + numbers.late))
+    Some(master.commits + numbers.late)
 }

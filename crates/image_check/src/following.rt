@@ -1,5 +1,5 @@
 // The live segments and the live groups.
-ghost use Rattle.std.specs.Prelude.{◌≡◌, ◌↔◌, ◌/◌, IsTrue, IfOk};
+ghost use Rattle.std.specs.Prelude.{◌≡◌, ◌↔◌, ◌/◌, is_none, IsTrue, IfOk};
 ghost use Rattle.sealed_ring.specs.Ring.{IsLive};
 ghost use Rattle.site.specs.Work.{OnlyReads};
 ghost use Rattle.checkpoint.specs.declared.master.Master.{Master};
@@ -7,6 +7,7 @@ ghost use Rattle.site.specs.declared.geometry.Geometry.{Geometry};
 ghost use Rattle.image_check.specs.Findings.{MayRead, AreFound, AreHeadsSaved};
 ghost use Rattle.image_check.specs.Verdict.{Rule1, Rule8};
 
+use crate::place::Place;
 use crate::rings::Rings;
 use site::{Geometry, Site, Stop};
 
@@ -19,8 +20,8 @@ fn are_same(one: &[u8], other: &[u8]) -> bool
     one == other
 }
 
-/// Whether the heads of a live group are those that its live segment has of it: two reads.
-pub fn are_saved<S: Site>(site: &mut S, rings: &Rings, group: u64) -> Result<bool, Stop>
+// Whether the heads of a live group are those that its live segment has of it: two reads.
+fn are_saved<S: Site>(site: &mut S, rings: &Rings, group: u64) -> Result<bool, Stop>
     requires may_read { (g : Geometry) × MayRead g rings.now (S.state site.old) }
     requires group { IsLive rings.now.groups.shape rings.now.groups.hi group }
     requires segment { IsLive rings.now.segments.shape rings.now.segments.hi (group / 4) }
@@ -42,24 +43,25 @@ pub fn are_saved<S: Site>(site: &mut S, rings: &Rings, group: u64) -> Result<boo
     Ok(are_same(&own, &saved))
 }
 
-/// The eighth rule, of devices that meet the first one: whether the live segments follow the live groups. It reads the
-/// heads of each live group of a saved segment, and what its segment has of it.
+/// The eighth rule, of devices that meet the first one: the ring of segments where it doesn't end as the groups say, or
+/// the first group whose heads its segment hasn't; `None` exactly where the live segments follow the live groups. It reads
+/// the heads of each live group of a saved segment, and what its segment has of it.
 pub fn rule_following<S: Site>(
     site: &mut S,
     geometry: &Geometry,
     rings: &Rings,
-) -> Result<bool, Stop>
+) -> Result<Option<Place>, Stop>
     requires { MayRead geometry.now rings.now (S.state site.old) }
 
     ensures following { (m : Master) → IsTrue (S.state site.old).honest → AreFound rings.now (S.state site.old)
         → Rule1 geometry.now m (S.state site.old).image
-        → IfOk result (λ stand. IsTrue stand ↔ Rule8 geometry.now (S.state site.old).image) }
+        → IfOk result (λ failing. IsTrue (is_none failing) ↔ Rule8 geometry.now (S.state site.old).image) }
     ensures reads { OnlyReads result (S.state site.old) (S.state site.new) }
 {
     let saved = 4 * rings.segments.hi();
     let end = rings.groups.hi();
     if end < saved || saved + 4 < end {
-        return Ok(false);
+        return Ok(Some(Place::Segments));
     }
     for group in rings.groups.oldest()..saved {
         let same = match are_saved(site, rings, group) {
@@ -67,8 +69,8 @@ pub fn rule_following<S: Site>(
             Err(stop) => return Err(stop),
         };
         if !same {
-            return Ok(false);
+            return Ok(Some(Place::Group(group)));
         }
     }
-    Ok(true)
+    Ok(None)
 }

@@ -1,5 +1,5 @@
 // What stands on the devices, and whether it is of the form.
-ghost use Rattle.std.specs.Prelude.{◌≡◌, ◌↔◌, IsTrue, IfOk, IfSome};
+ghost use Rattle.std.specs.Prelude.{◌≡◌, ◌↔◌, is_none, IsTrue, IfOk, IfSome};
 ghost use Rattle.image_changes.specs.Rings.{log_shape};
 ghost use Rattle.sealed_ring.specs.Ring.{IsRing};
 ghost use Rattle.log_store.specs.Held.{MayGoOn};
@@ -12,6 +12,7 @@ use crate::blocks::rule_blocks;
 use crate::groups::rule_groups;
 use crate::lengths::rule_lengths;
 use crate::master::rule_master;
+use crate::place::Place;
 use crate::rings::{Rings, rule_rings};
 use crate::segments::rule_segments;
 use crate::versions::rule_versions;
@@ -27,8 +28,8 @@ pub struct Found {
     pub log: LogStore,
 }
 
-/// The log of devices of these sizes whose ring of blocks is of the form.
-pub fn find_log<S: Site>(site: &mut S, geometry: &Geometry) -> Result<Option<LogStore>, Stop>
+// The log of devices of these sizes whose ring of blocks is of the form.
+fn find_log<S: Site>(site: &mut S, geometry: &Geometry) -> Result<Option<LogStore>, Stop>
     requires { HasSizes geometry.now (S.state site.old).image }
 
     ensures log { IsTrue (S.state site.old).honest → IsRing (log_shape geometry.now) (S.state site.old).image.log
@@ -44,66 +45,65 @@ pub fn find_log<S: Site>(site: &mut S, geometry: &Geometry) -> Result<Option<Log
     }
 }
 
-// What stands there, `None` only where the first rule fails: sizes, rings of the form, a master, a log.
-fn find<S: Site>(site: &mut S) -> Result<Option<Found>, Stop>
+// What stands there: sizes, rings of the form, a master, a log. A place only where the first rule fails.
+fn find<S: Site>(site: &mut S) -> Result<Result<Found, Place>, Stop>
     ensures found { IsTrue (S.state site.old).honest
         → IfOk result (λ found. IsThereOr found (S.state site.new)) }
-    ensures may_read { IfOk result (λ found. IfSome found (λ found. MayBeRead found (S.state site.new))) }
+    ensures may_read { IfOk result (λ found. IfOk found (λ found. MayBeRead found (S.state site.new))) }
     ensures reads { OnlyReads result (S.state site.old) (S.state site.new) }
 {
     let Some(geometry) = rule_lengths(site) else {
-        return Ok(None);
+        return Ok(Err(Place::Lengths));
     };
-    let Some(rings) = rule_rings(site, &geometry)? else {
-        return Ok(None);
+    let rings = match rule_rings(site, &geometry)? {
+        Ok(rings) => rings,
+        Err(place) => return Ok(Err(place)),
     };
     let Some(master) = rule_master(site)? else {
-        return Ok(None);
+        return Ok(Err(Place::Master));
     };
     let Some(log) = find_log(site, &geometry)? else {
-        return Ok(None);
+        return Ok(Err(Place::Blocks));
     };
-    Ok(Some(Found { rings, master, log }))
+    Ok(Ok(Found { rings, master, log }))
 }
 
-// Whether what stands there meets the first rule.
-fn is_formed<S: Site>(site: &mut S, found: &Found) -> Result<bool, Stop>
+// Where what stands there fails the first rule, `None` exactly where it doesn't.
+fn find_unformed<S: Site>(site: &mut S, found: &Found) -> Result<Option<Place>, Stop>
     requires { MayBeRead found.now (S.state site.old) }
 
     ensures formed { IsThere found.now (S.state site.old)
-        → IfOk result (λ stand. IsTrue stand
+        → IfOk result (λ failing. IsTrue (is_none failing)
         ↔ Rule1 found.now.log.geometry found.now.master (S.state site.old).image) }
     ensures reads { OnlyReads result (S.state site.old) (S.state site.new) }
 {
     let geometry = found.log.geometry();
-    if !rule_blocks(site, &found.log, found.master.kept)? {
-        return Ok(false);
+    if let Some(place) = rule_blocks(site, &found.log, found.master.kept)? {
+        return Ok(Some(place));
     }
-    if !rule_groups(site, &geometry, &found.rings)? {
-        return Ok(false);
+    if let Some(place) = rule_groups(site, &geometry, &found.rings)? {
+        return Ok(Some(place));
     }
-    if !rule_segments(site, &geometry, &found.rings)? {
-        return Ok(false);
+    if let Some(place) = rule_segments(site, &geometry, &found.rings)? {
+        return Ok(Some(place));
     }
-    if !rule_versions(site, &geometry, &found.rings)? {
-        return Ok(false);
-    }
-    Ok(true)
+    rule_versions(site, &geometry, &found.rings)
 }
 
-/// What stands there and meets the first rule, or `None` exactly where that rule fails.
-pub fn find_formed<S: Site>(site: &mut S) -> Result<Option<Found>, Stop>
+/// What stands there and meets the first rule, or where it doesn't, exactly where that rule fails.
+pub fn find_formed<S: Site>(site: &mut S) -> Result<Result<Found, Place>, Stop>
     ensures formed { IsTrue (S.state site.old).honest
         → IfOk result (λ found. IsFormedOr found (S.state site.new)) }
-    ensures may_read { IfOk result (λ found. IfSome found (λ found. MayBeRead found (S.state site.new))) }
+    ensures may_read { IfOk result (λ found. IfOk found (λ found. MayBeRead found (S.state site.new))) }
     ensures reads { OnlyReads result (S.state site.old) (S.state site.new) }
 {
     one_master();
-    let Some(found) = find(site)? else {
-        return Ok(None);
+    let found = match find(site)? {
+        Ok(found) => found,
+        Err(place) => return Ok(Err(place)),
     };
-    if !is_formed(site, &found)? {
-        return Ok(None);
+    if let Some(place) = find_unformed(site, &found)? {
+        return Ok(Err(place));
     }
-    Ok(Some(found))
+    Ok(Ok(found))
 }

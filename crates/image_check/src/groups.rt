@@ -1,5 +1,5 @@
 // The live groups.
-ghost use Rattle.std.specs.Prelude.{◌≡◌, ◌↔◌, ◌≤◌, List, length, IsTrue, IfOk};
+ghost use Rattle.std.specs.Prelude.{◌≡◌, ◌↔◌, ◌≤◌, List, length, is_none, IsTrue, IfOk};
 ghost use Rattle.site.specs.declared.geometry.Geometry.{Geometry};
 ghost use Rattle.site.specs.Work.{OnlyReads};
 ghost use Rattle.byte_fields.specs.FrameHeads.{present_in_front, AreGroupHeads};
@@ -8,6 +8,7 @@ ghost use Rattle.image_check.specs.Octets.{IsGroupOn, AreGroups};
 ghost use Rattle.image_check.specs.Framing.{IsFrameBy};
 ghost use Rattle.image_check.specs.Findings.{MayRead, AreFound};
 
+use crate::place::Place;
 use crate::rings::Rings;
 use byte_fields::FrameHead;
 use frame_group::{GROUP_LEN, HEADS_LEN, PAGE_LEN, group_heads, put_frame};
@@ -42,9 +43,9 @@ fn is_frame(head: &FrameHead, page: &Page, pages: u32) -> bool
     page.sound()
 }
 
-/// Whether a content is that of a group, whose frames are sound pages of the disk: its frames are put into an empty
+// Whether a content is that of a group, whose frames are sound pages of the disk: its frames are put into an empty
 /// content, which then is the same.
-pub fn is_group_on(content: &[u8], pages: u32) -> bool
+fn is_group_on(content: &[u8], pages: u32) -> bool
     requires { length content.now ≡ GROUP_LEN }
     ensures { (g : Geometry) → g.pages ≡ pages
         → IsTrue result ↔ ((frames : List Frame) × IsGroupOn g content.now frames) }
@@ -71,12 +72,17 @@ pub fn are_same(one: &[u8], other: &[u8]) -> bool
     one == other
 }
 
-/// Whether each live group is of the form, with frames that are sound pages of the disk: reads each once.
-pub fn rule_groups<S: Site>(site: &mut S, geometry: &Geometry, rings: &Rings) -> Result<bool, Stop>
+/// The first live group that isn't of the form, or has a frame that isn't a sound page of the disk; `None` exactly where
+/// there is none: reads each once.
+pub fn rule_groups<S: Site>(
+    site: &mut S,
+    geometry: &Geometry,
+    rings: &Rings,
+) -> Result<Option<Place>, Stop>
     requires { MayRead geometry.now rings.now (S.state site.old) }
 
     ensures groups { IsTrue (S.state site.old).honest → AreFound rings.now (S.state site.old)
-        → IfOk result (λ stand. IsTrue stand ↔ AreGroups geometry.now (S.state site.old).image) }
+        → IfOk result (λ failing. IsTrue (is_none failing) ↔ AreGroups geometry.now (S.state site.old).image) }
     ensures reads { OnlyReads result (S.state site.old) (S.state site.new) }
 {
     let ring = &rings.groups;
@@ -86,8 +92,8 @@ pub fn rule_groups<S: Site>(site: &mut S, geometry: &Geometry, rings: &Rings) ->
             return Err(stop);
         }
         if !is_group_on(&content, geometry.pages) {
-            return Ok(false);
+            return Ok(Some(Place::Group(group)));
         }
     }
-    Ok(true)
+    Ok(None)
 }

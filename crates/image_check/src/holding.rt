@@ -1,29 +1,25 @@
 // The records that unfinished transactions have written, record by record.
-ghost use Rattle.std.specs.Prelude.{◌≡◌, ◌↔◌, ◌+◌, ◌-◌, ◌≤◌, ◌++◌, ◌∷◌, [], List, Some, IsTrue, IfOk, IfErr, OnOk};
+ghost use Rattle.std.specs.Prelude.{◌≡◌, ◌↔◌, ◌+◌, ◌-◌, ◌≤◌, ◌++◌, ◌∷◌, [], nat_eq, List, is_none, IsTrue, IfOk, IfErr, OnOk};
+ghost use Rattle.indexmap.specs.IndexMap.{get};
 ghost use Rattle.site.specs.declared.outside.Stop.{Stop};
 ghost use Rattle.site.specs.Work.{OnlyReads};
 ghost use Rattle.log_records.specs.declared.log_record.LogRecord.{LogRecord};
-ghost use Rattle.log_records.specs.Log.{Entry, txn_by, number_of};
+ghost use Rattle.log_records.specs.Log.{Entry, txn_by, number_of, log_from};
 ghost use Rattle.log_store.specs.Held.{MayGoOn, Finds, HasBlocks};
 ghost use Rattle.image_check.specs.Unended.{AreLeft};
-ghost use Rattle.image_check.specs.Holding.{AreHeld, IsListed, has_other};
-ghost use Rattle.image_check.specs.Verdict.{Rule3, Rule4, Rule5, picture_of};
+ghost use Rattle.image_check.specs.Holding.{AreHeld, IsListed, clashes_by};
+ghost use Rattle.image_check.specs.Verdict.{Rule4, Rule5, picture_of};
 
+use crate::place::Place;
 use crate::txns::txn_of;
-use crate::unfinished::{LeftTxns, left_before};
+use crate::unfinished::LeftTxns;
 use crate::walk::Walk;
 use checkpoint::Master;
+use indexmap::IndexMap;
 use log_records::LogRecord;
 use log_store::LogStore;
 use site::{Site, Stop};
 use std::alloc::Global;
-
-// The number of a record that an unfinished transaction has written, and the transaction.
-#[derive(Clone, Copy, Debug, Drop)]
-struct Held {
-    number: u64,
-    txn: u64,
-}
 
 /// The number that an Update or a CLR is on.
 pub fn number_of(rec: &LogRecord) -> Option<u64>
@@ -36,49 +32,32 @@ pub fn number_of(rec: &LogRecord) -> Option<u64>
     }
 }
 
-// What they have written.
+// The numbers that they have written, each with the transaction that did.
 #[derive(Drop)]
 struct HeldNumbers {
-    held: Vec<Held>,
+    held: IndexMap<u64, u64>,
 }
 
 impl HeldNumbers {
-    // Whether another transaction has written a number.
-    fn has_other(&self, number: u64, txn: u64) -> bool
-        ensures { result ≡ has_other (Some number) txn self.now.held.items }
-    {
-        self.held
-            .iter()
-            .any(|held| held.number == number && held.txn != txn)
-    }
-
     // Whether a record is on a number that another unfinished transaction has written.
     fn clashes(&self, lsn: u64, rec: &LogRecord) -> bool
-        ensures { IsTrue result ↔ IsTrue (has_other (number_of rec.now) (txn_by lsn rec.now) self.now.held.items) }
+        ensures { result ≡ clashes_by (get nat_eq self.now.held) (number_of rec.now) (txn_by lsn rec.now) }
     {
-        match number_of(rec) {
-            Some(number) => self.has_other(number, txn_of(lsn, rec)),
+        let Some(number) = number_of(rec) else {
+            return false;
+        };
+        match self.held.get(&number) {
+            Some(txn) => *txn != txn_of(lsn, rec),
             None => false,
         }
     }
 
-    // An unfinished transaction has written a number.
-    fn add(&mut self, number: u64, txn: u64) -> Result<(), Stop>
-        ensures items { OnOk result (self.new.held.items
-            ≡ self.old.held.items ++ record { number = number; txn = txn } ∷ []) }
-        ensures stops { IfErr result (λ stop. stop ≡ Stop.Memory) }
-    {
-        let Ok(()) = self.held.push(Held { number, txn }) else {
-            return Err(Stop::Memory);
-        };
-        Ok(())
-    }
-
-    // Hears the next record of a log that leaves these transactions unfinished.
+    // Hears the next record of a log that leaves these transactions unfinished: an Update of one of them holds its
+    // number.
     fn hear(&mut self, lsn: u64, rec: &LogRecord, left: &LeftTxns) -> Result<(), Stop>
         ensures heard { (log : List Entry) (records : List Entry) → AreLeft log left.now.left.items
-            → IsListed log (txn_by lsn rec.now) → AreHeld log records self.old.held.items
-            → OnOk result (AreHeld log (records ++ record { lsn = lsn; rec = rec.now } ∷ []) self.new.held.items) }
+            → IsListed log (txn_by lsn rec.now) → AreHeld log records self.old.held
+            → OnOk result (AreHeld log (records ++ record { lsn = lsn; rec = rec.now } ∷ []) self.new.held) }
         ensures stops { IfErr result (λ stop. stop ≡ Stop.Memory) }
     {
         let LogRecord::Update {
@@ -93,45 +72,46 @@ impl HeldNumbers {
         if !left.has(*txn) {
             return Ok(());
         }
-        self.add(32 * *page as u64 + *slot as u64, *txn)
+        let Ok(_) = self.held.insert(32 * *page as u64 + *slot as u64, *txn) else {
+            return Err(Stop::Memory);
+        };
+        Ok(())
     }
 }
 
-/// The fifth rule, of devices that meet the third and the fourth one: whether behind an Update of an unfinished
-/// transaction no other one has a record on its number. It reads each kept block twice, and holds the unfinished
-/// transactions and what they have written.
+/// The fifth rule, of devices that meet the fourth one, by what is left unfinished: the block of the first record of
+/// another transaction on a number that an unfinished one has written before, `None` exactly where there is none. It
+/// reads each kept block once, and holds each number that the unfinished transactions have written, once.
 pub fn rule_apart<S: Site>(
     alloc: Global,
     site: &mut S,
     log: &LogStore,
     master: &Master,
-) -> Result<bool, Stop>
+    left: &LeftTxns,
+) -> Result<Option<Place>, Stop>
     requires going { MayGoOn log.now (S.state site.old) }
     requires live { log.now.ring.hi ≤ master.now.kept + (log.now.geometry.blocks - 1) }
 
     ensures apart { (blocks : List (List LogRecord)) → Finds log.now (S.state site.old)
         → HasBlocks log.now.geometry master.now.kept blocks (S.state site.old).image
-        → Rule3 (picture_of (record { g = log.now.geometry; master = master.now; blocks = blocks })
-        (S.state site.old).image)
         → Rule4 (picture_of (record { g = log.now.geometry; master = master.now; blocks = blocks })
         (S.state site.old).image)
-        → IfOk result (λ stand. IsTrue stand ↔ Rule5 (picture_of
+        → AreLeft (log_from master.now.kept blocks) left.now.left.items
+        → IfOk result (λ failing. IsTrue (is_none failing) ↔ Rule5 (picture_of
         (record { g = log.now.geometry; master = master.now; blocks = blocks }) (S.state site.old).image)) }
     ensures reads { OnlyReads result (S.state site.old) (S.state site.new) }
 {
-    let hi = log.sealed_end() / 512;
-    let left = left_before(alloc, site, log, master.kept, hi)?;
     let mut walk = Walk::start(log, master.kept);
     let mut held = HeldNumbers {
-        held: Vec::new(alloc),
+        held: IndexMap::new(alloc),
     };
     while let Some((lsn, rec)) = walk.next(site, log)? {
         if held.clashes(lsn, &rec) {
-            return Ok(false);
+            return Ok(Some(Place::Block(lsn / 512)));
         }
-        if let Err(stop) = held.hear(lsn, &rec, &left) {
+        if let Err(stop) = held.hear(lsn, &rec, left) {
             return Err(stop);
         }
     }
-    Ok(true)
+    Ok(None)
 }

@@ -1,10 +1,11 @@
 // The four rings of the devices.
-ghost use Rattle.std.specs.Prelude.{◌≡◌, IsTrue, IfOk, IfSome};
+ghost use Rattle.std.specs.Prelude.{◌≡◌, IsTrue, IfOk};
 ghost use Rattle.image_changes.specs.Rings.{log_shape, group_shape, segment_shape, master_shape};
 ghost use Rattle.site.specs.Work.{OnlyReads};
 ghost use Rattle.image_check.specs.Octets.{HasSizes};
 ghost use Rattle.image_check.specs.Findings.{RingsAre, MayRead};
 
+use crate::place::Place;
 use sealed_ring::{Ring, Shape, judge};
 use site::{Dev, Geometry, Site, Stop};
 
@@ -61,36 +62,39 @@ fn segments_of(geometry: &Geometry) -> Shape
     }
 }
 
-/// The four rings, or `None` exactly where one of them isn't of the form.
-pub fn rule_rings<S: Site>(site: &mut S, geometry: &Geometry) -> Result<Option<Rings>, Stop>
+/// The four rings, or the first of them that isn't of the form, exactly where one isn't.
+pub fn rule_rings<S: Site>(
+    site: &mut S,
+    geometry: &Geometry,
+) -> Result<Result<Rings, Place>, Stop>
     requires { HasSizes geometry.now (S.state site.old).image }
 
     ensures rings { IsTrue (S.state site.old).honest
         → IfOk result (λ rings. RingsAre geometry.now rings (S.state site.new)) }
-    ensures may_read { IfOk result (λ rings. IfSome rings (λ rings. MayRead geometry.now rings (S.state site.new))) }
+    ensures may_read { IfOk result (λ rings. IfOk rings (λ rings. MayRead geometry.now rings (S.state site.new))) }
     ensures reads { OnlyReads result (S.state site.old) (S.state site.new) }
 {
     let masters = match judge(site, MASTERS) {
         Ok(Some(ring)) => ring,
-        Ok(None) => return Ok(None),
+        Ok(None) => return Ok(Err(Place::Masters)),
         Err(stop) => return Err(stop),
     };
     let blocks = match judge(site, blocks_of(geometry)) {
         Ok(Some(ring)) => ring,
-        Ok(None) => return Ok(None),
+        Ok(None) => return Ok(Err(Place::Blocks)),
         Err(stop) => return Err(stop),
     };
     let groups = match judge(site, groups_of(geometry)) {
         Ok(Some(ring)) => ring,
-        Ok(None) => return Ok(None),
+        Ok(None) => return Ok(Err(Place::Groups)),
         Err(stop) => return Err(stop),
     };
     let segments = match judge(site, segments_of(geometry)) {
         Ok(Some(ring)) => ring,
-        Ok(None) => return Ok(None),
+        Ok(None) => return Ok(Err(Place::Segments)),
         Err(stop) => return Err(stop),
     };
-    Ok(Some(Rings {
+    Ok(Ok(Rings {
         masters,
         blocks,
         groups,

@@ -1,11 +1,12 @@
 // The live segments.
-ghost use Rattle.std.specs.Prelude.{◌≡◌, ◌↔◌, List, length, IsTrue, IfOk};
+ghost use Rattle.std.specs.Prelude.{◌≡◌, ◌↔◌, List, length, is_none, IsTrue, IfOk};
 ghost use Rattle.byte_fields.specs.declared.frame_head.FrameHead.{FrameHead};
 ghost use Rattle.flash_cache.specs.Held.{PagesExist};
 ghost use Rattle.site.specs.Work.{OnlyReads};
 ghost use Rattle.image_check.specs.Octets.{IsSegmentOn, SegmentsAreFormed};
 ghost use Rattle.image_check.specs.Findings.{MayRead, AreFound};
 
+use crate::place::Place;
 use crate::rings::Rings;
 use byte_fields::FrameHead;
 use meta_segments::{SEGMENT_LEN, one_segment, segment_heads};
@@ -23,8 +24,8 @@ fn pages_exist(heads: &[FrameHead; 32], pages: u32) -> bool
     true
 }
 
-/// Whether a content is that of a segment, with heads of pages that the disk has.
-pub fn is_segment_on(content: &[u8], pages: u32) -> bool
+// Whether a content is that of a segment, with heads of pages that the disk has.
+fn is_segment_on(content: &[u8], pages: u32) -> bool
     requires { length content.now ≡ SEGMENT_LEN }
     ensures { IsTrue result ↔ ((heads : List FrameHead) × IsSegmentOn pages content.now heads) }
 {
@@ -35,16 +36,17 @@ pub fn is_segment_on(content: &[u8], pages: u32) -> bool
     }
 }
 
-/// Whether each live segment is of the form, with heads of pages that the disk has: reads each once.
+/// The first live segment that isn't of the form, or has a head of a page that the disk hasn't; `None` exactly where there
+/// is none: reads each once.
 pub fn rule_segments<S: Site>(
     site: &mut S,
     geometry: &Geometry,
     rings: &Rings,
-) -> Result<bool, Stop>
+) -> Result<Option<Place>, Stop>
     requires { MayRead geometry.now rings.now (S.state site.old) }
 
     ensures segments { IsTrue (S.state site.old).honest → AreFound rings.now (S.state site.old)
-        → IfOk result (λ stand. IsTrue stand ↔ SegmentsAreFormed geometry.now (S.state site.old).image) }
+        → IfOk result (λ failing. IsTrue (is_none failing) ↔ SegmentsAreFormed geometry.now (S.state site.old).image) }
     ensures reads { OnlyReads result (S.state site.old) (S.state site.new) }
 {
     let ring = &rings.segments;
@@ -54,8 +56,8 @@ pub fn rule_segments<S: Site>(
             return Err(stop);
         }
         if !is_segment_on(&content, geometry.pages) {
-            return Ok(false);
+            return Ok(Some(Place::Segment(segment)));
         }
     }
-    Ok(true)
+    Ok(None)
 }

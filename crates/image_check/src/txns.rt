@@ -1,22 +1,17 @@
 // The transactions that are open, record by record.
-ghost use Rattle.std.specs.Prelude.{◌≡◌, ◌↔◌, ◌^◌, ◌≤◌, ◌+◌, ◌-◌, ◌++◌, ◌∷◌, [], not, ◌==◌, filter, List, IsTrue, IfOk, IfErr, OnOk};
+ghost use Rattle.std.specs.Prelude.{◌≡◌, ◌↔◌, ◌^◌, ◌≤◌, ◌++◌, ◌∷◌, [], not, ◌==◌, filter, List, IsTrue, IfOk, IfErr, OnOk};
 ghost use Rattle.site.specs.declared.outside.Stop.{Stop};
-ghost use Rattle.site.specs.Work.{OnlyReads};
 ghost use Rattle.log_records.specs.declared.log_record.LogRecord.{LogRecord};
 ghost use Rattle.log_records.specs.Log.{Entry, txn_by, is_closing};
 ghost use Rattle.log_records.specs.Unfinished.{is_begin};
 ghost use Rattle.log_records.specs.Sound as sound;
 ghost use Rattle.log_laws.specs.Follow.{IsFresh};
 ghost use Rattle.checkpoint.specs.Newest.{seen};
-ghost use Rattle.log_store.specs.Held.{MayGoOn, Finds, HasBlocks};
 ghost use Rattle.image_check.specs.Opening.{AreOpen, MayStand};
-ghost use Rattle.image_check.specs.Verdict.{Rule3, picture_of};
 
-use crate::walk::Walk;
 use checkpoint::Master;
 use log_records::LogRecord;
-use log_store::LogStore;
-use site::{Site, Stop};
+use site::Stop;
 use std::alloc::Global;
 
 /// The transaction of a record at an LSN.
@@ -133,35 +128,4 @@ impl OpenTxns {
         }
         self.begin(lsn)
     }
-}
-
-/// The third rule: whether from the redo block on each record but a Begin is of an open transaction, and no record
-/// stands before the Begin that it names. It reads each kept block once, and holds the open transactions.
-pub fn rule_transactions<S: Site>(
-    alloc: Global,
-    site: &mut S,
-    log: &LogStore,
-    master: &Master,
-) -> Result<bool, Stop>
-    requires going { MayGoOn log.now (S.state site.old) }
-    requires live { log.now.ring.hi ≤ master.now.kept + (log.now.geometry.blocks - 1) }
-    requires redo { master.now.redo ≤ log.now.ring.hi }
-
-    ensures transactions { (blocks : List (List LogRecord)) → Finds log.now (S.state site.old)
-        → HasBlocks log.now.geometry master.now.kept blocks (S.state site.old).image
-        → IfOk result (λ stand. IsTrue stand ↔ Rule3 (picture_of
-        (record { g = log.now.geometry; master = master.now; blocks = blocks }) (S.state site.old).image)) }
-    ensures reads { OnlyReads result (S.state site.old) (S.state site.new) }
-{
-    let mut walk = Walk::start(log, master.kept);
-    let mut transactions = OpenTxns::start(alloc, master)?;
-    while let Some((lsn, rec)) = walk.next(site, log)? {
-        if !transactions.admits(lsn, &rec, master.redo) {
-            return Ok(false);
-        }
-        if let Err(stop) = transactions.hear(lsn, &rec, master.redo) {
-            return Err(stop);
-        }
-    }
-    Ok(true)
 }

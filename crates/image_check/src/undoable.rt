@@ -1,5 +1,5 @@
 // Whether unfinished transactions can be undone.
-ghost use Rattle.std.specs.Prelude.{◌≡◌, ◌↔◌, ◌==◌, ◌+◌, ◌-◌, ◌≤◌, ◌++◌, ◌∷◌, [], true, not, filter, ◌&&◌, ℕ, List, IsTrue, IfOk, IfErr, OnOk};
+ghost use Rattle.std.specs.Prelude.{◌≡◌, ◌↔◌, ◌==◌, ◌+◌, ◌-◌, ◌≤◌, ◌++◌, ◌∷◌, [], true, not, filter, ◌&&◌, ℕ, List, is_none, IsTrue, IfOk, IfErr, OnOk};
 ghost use Rattle.std.specs.List.{list_any};
 ghost use Rattle.site.specs.declared.outside.Stop.{Stop};
 ghost use Rattle.site.specs.Work.{OnlyReads};
@@ -13,8 +13,9 @@ ghost use Rattle.image_check.specs.Chaining.{AreStrays};
 ghost use Rattle.image_check.specs.Verdict.{Rule3, Rule4, picture_of};
 
 use crate::chain::Chain;
+use crate::place::Place;
 use crate::txns::{closes, txn_of};
-use crate::unfinished::{LeftTxns, left_before};
+use crate::unfinished::LeftTxns;
 use crate::walk::Walk;
 use checkpoint::Master;
 use log_records::LogRecord;
@@ -163,14 +164,19 @@ fn find_strays<S: Site>(
     Ok(strays)
 }
 
-// Whether the records close each of some transactions.
-fn are_closed<S: Site>(site: &mut S, log: &LogStore, kept: u64, txns: &[u64]) -> Result<bool, Stop>
+// The first of some transactions that no record closes, `None` exactly where there is none.
+fn find_open<S: Site>(
+    site: &mut S,
+    log: &LogStore,
+    kept: u64,
+    txns: &[u64],
+) -> Result<Option<Place>, Stop>
     requires going { MayGoOn log.now (S.state site.old) }
     requires live { log.now.ring.hi ≤ kept + (log.now.geometry.blocks - 1) }
 
     ensures closed { (blocks : List (List LogRecord)) → Finds log.now (S.state site.old)
         → HasBlocks log.now.geometry kept blocks (S.state site.old).image
-        → IfOk result (λ closed. IsTrue closed ↔ ((t : ℕ) → list_any (λ x. x == t) txns.now ≡ true
+        → IfOk result (λ failing. IsTrue (is_none failing) ↔ ((t : ℕ) → list_any (λ x. x == t) txns.now ≡ true
         → is_closed (log_from kept blocks) t ≡ true)) }
     ensures reads { OnlyReads result (S.state site.old) (S.state site.new) }
 {
@@ -180,51 +186,55 @@ fn are_closed<S: Site>(site: &mut S, log: &LogStore, kept: u64, txns: &[u64]) ->
             Err(stop) => return Err(stop),
         };
         if !closed {
-            return Ok(false);
+            return Ok(Some(Place::Transaction(txns[place])));
         }
     }
-    Ok(true)
+    Ok(None)
 }
 
-// Whether the records of each unfinished transaction with its Begin among them can be undone.
-fn are_chains<S: Site>(
+// The first unfinished transaction with its Begin among the records that they don't undo, `None` exactly where there is
+// none.
+fn find_unchained<S: Site>(
     alloc: Global,
     site: &mut S,
     log: &LogStore,
     kept: u64,
     left: &LeftTxns,
-) -> Result<bool, Stop>
+) -> Result<Option<Place>, Stop>
     requires going { MayGoOn log.now (S.state site.old) }
     requires live { log.now.ring.hi ≤ kept + (log.now.geometry.blocks - 1) }
 
     ensures chains { (blocks : List (List LogRecord)) → Finds log.now (S.state site.old)
         → HasBlocks log.now.geometry kept blocks (S.state site.old).image → HaveBegunBefore (log_from kept blocks)
         → AreLeft (log_from kept blocks) left.now.left.items
-        → IfOk result (λ stand. IsTrue stand ↔ ((t : ℕ) → list_any (λ n. n == t) (losers (log_from kept blocks)) ≡ true
+        → IfOk result (λ failing. IsTrue (is_none failing) ↔ ((t : ℕ) → list_any (λ n. n == t) (losers (log_from kept blocks)) ≡ true
         → IsLoserChain t (entries_of t (log_from kept blocks)))) }
     ensures reads { OnlyReads result (S.state site.old) (S.state site.new) }
 {
     for place in 0..left.left.len() {
-        let stands = match is_chain(alloc, site, log, kept, left.left[place].txn) {
+        let txn = left.left[place].txn;
+        let stands = match is_chain(alloc, site, log, kept, txn) {
             Ok(stands) => stands,
             Err(stop) => return Err(stop),
         };
         if !stands {
-            return Ok(false);
+            return Ok(Some(Place::Transaction(txn)));
         }
     }
-    Ok(true)
+    Ok(None)
 }
 
-/// The fourth rule, of devices that meet the third one: whether an unfinished transaction has its Begin, then Updates,
-/// then compensation records of the last of these backwards. It reads each kept block twice, and once more for each
-/// transaction whose last record doesn't close it; it holds those that are open, and of one what remains of its Updates.
+/// The fourth rule, of devices that meet the third one, by what is left unfinished: the first unfinished transaction that
+/// hasn't its Begin, then Updates, then compensation records of the last of these backwards; `None` exactly where there is
+/// none. It reads each kept block once, and once more for each transaction whose last record doesn't close it; it holds
+/// those that are open, and of one what remains of its Updates.
 pub fn rule_undoable<S: Site>(
     alloc: Global,
     site: &mut S,
     log: &LogStore,
     master: &Master,
-) -> Result<bool, Stop>
+    left: &LeftTxns,
+) -> Result<Option<Place>, Stop>
     requires going { MayGoOn log.now (S.state site.old) }
     requires live { log.now.ring.hi ≤ master.now.kept + (log.now.geometry.blocks - 1) }
 
@@ -232,28 +242,22 @@ pub fn rule_undoable<S: Site>(
         → HasBlocks log.now.geometry master.now.kept blocks (S.state site.old).image
         → Rule3 (picture_of (record { g = log.now.geometry; master = master.now; blocks = blocks })
         (S.state site.old).image)
-        → IfOk result (λ stand. IsTrue stand ↔ Rule4 (picture_of
+        → AreLeft (log_from master.now.kept blocks) left.now.left.items
+        → IfOk result (λ failing. IsTrue (is_none failing) ↔ Rule4 (picture_of
         (record { g = log.now.geometry; master = master.now; blocks = blocks }) (S.state site.old).image)) }
     ensures reads { OnlyReads result (S.state site.old) (S.state site.new) }
 {
-    let hi = log.sealed_end() / 512;
-    let left = match left_before(alloc, site, log, master.kept, hi) {
-        Ok(left) => left,
+    match find_unchained(alloc, site, log, master.kept, left) {
+        Ok(None) => {}
+        Ok(Some(place)) => return Ok(Some(place)),
         Err(stop) => return Err(stop),
-    };
-    let stand = match are_chains(alloc, site, log, master.kept, &left) {
-        Ok(stand) => stand,
-        Err(stop) => return Err(stop),
-    };
-    if !stand {
-        return Ok(false);
     }
-    let strays = match find_strays(alloc, site, log, master.kept, &left) {
+    let strays = match find_strays(alloc, site, log, master.kept, left) {
         Ok(strays) => strays,
         Err(stop) => return Err(stop),
     };
-    match are_closed(site, log, master.kept, &strays.txns) {
-        Ok(closed) => Ok(closed),
+    match find_open(site, log, master.kept, &strays.txns) {
+        Ok(failing) => Ok(failing),
         Err(stop) => Err(stop),
     }
 }

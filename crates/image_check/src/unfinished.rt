@@ -2,24 +2,24 @@
 ghost use Rattle.std.specs.Prelude.{◌≡◌, ◌==◌, ◌↔◌, ◌^◌, ◌+◌, ◌-◌, ◌<◌, ◌≤◌, ◌++◌, ◌∷◌, [], ℕ, List, length, map, false, IsTrue, IfOk, IfErr, OnOk};
 ghost use Rattle.std.specs.List.{list_any, position};
 ghost use Rattle.site.specs.declared.outside.Stop.{Stop};
-ghost use Rattle.site.specs.Work.{OnlyReads};
+ghost use Rattle.site.specs.State.{State};
 ghost use Rattle.log_records.specs.declared.log_record.LogRecord.{LogRecord};
 ghost use Rattle.log_records.specs.Log.{Entry, log_from};
 ghost use Rattle.log_records.specs.Unfinished.{is_begin, losers};
-ghost use Rattle.log_records.specs.Sound.{IsInOrder, HaveBegunBefore, before_block};
+ghost use Rattle.log_records.specs.Sound.{IsInOrder, active_in, before_block};
 ghost use Rattle.log_laws.specs.Follow.{IsFresh};
 ghost use Rattle.log_laws.specs.Analysis.{remaining_by};
-ghost use Rattle.log_store.specs.Held.{MayGoOn, Finds, HasBlocks};
+ghost use Rattle.log_store.specs.Held.{Finds, HasBlocks};
+ghost use Rattle.checkpoint.specs.Newest.{seen};
 ghost use Rattle.checkpoint.specs.declared.pairs.Pair.{Pair};
 ghost use Rattle.image_check.specs.Unended.{AreLeft, owed_for};
-ghost use Rattle.image_check.specs.Verdict.{Rule3, Rule9, Rule10, picture_of};
+ghost use Rattle.image_check.specs.Verdict.{Rule9, picture_of};
 
 use crate::txns::{begins, closes, txn_of};
-use crate::walk::Walk;
 use checkpoint::Master;
 use log_records::LogRecord;
 use log_store::LogStore;
-use site::{Site, Stop};
+use site::Stop;
 use std::alloc::Global;
 
 // An unfinished transaction: the LSNs of its Begin, which names it, and of its last record, and how many of its Updates
@@ -106,8 +106,17 @@ impl LeftTxns {
         self.left[place] = after;
     }
 
-    // Hears the next record.
-    fn hear(&mut self, lsn: u64, rec: &LogRecord) -> Result<(), Stop>
+    /// None.
+    pub fn none(alloc: Global) -> LeftTxns
+        ensures { AreLeft [] result.left.items }
+    {
+        LeftTxns {
+            left: Vec::new(alloc),
+        }
+    }
+
+    /// Hears the next record.
+    pub fn hear(&mut self, lsn: u64, rec: &LogRecord) -> Result<(), Stop>
         ensures heard { (records : List Entry) (from : ℕ) → IsInOrder from records lsn → length records < 2 ^ 62
             → IsFresh lsn records → AreLeft records self.old.left.items
             → OnOk result (AreLeft (records ++ record { lsn = lsn; rec = rec.now } ∷ []) self.new.left.items) }
@@ -155,85 +164,28 @@ impl LeftTxns {
     }
 }
 
-/// The transactions that the records from a kept block on leave unfinished before a block.
-pub fn left_before<S: Site>(
-    alloc: Global,
-    site: &mut S,
-    log: &LogStore,
-    kept: u64,
-    end: u64,
-) -> Result<LeftTxns, Stop>
-    requires going { MayGoOn log.now (S.state site.old) }
-    requires live { log.now.ring.hi ≤ kept + (log.now.geometry.blocks - 1) }
-    requires end { end ≤ 2 ^ 40 }
-
-    ensures left { (blocks : List (List LogRecord)) → Finds log.now (S.state site.old)
-        → HasBlocks log.now.geometry kept blocks (S.state site.old).image → HaveBegunBefore (log_from kept blocks)
-        → IfOk result (λ found. AreLeft (before_block end (log_from kept blocks)) found.left.items) }
-    ensures reads { OnlyReads result (S.state site.old) (S.state site.new) }
-{
-    let mut walk = Walk::start(log, kept);
-    let mut found = LeftTxns {
-        left: Vec::new(alloc),
-    };
-    while let Some((lsn, rec)) = walk.next(site, log)? {
-        if lsn >= 512 * end {
-            return Ok(found);
-        }
-        if let Err(stop) = found.hear(lsn, &rec) {
-            return Err(stop);
-        }
-    }
-    Ok(found)
-}
-
-/// The ninth rule, of devices that meet the third one: whether there are blocks for all that undo will write. It reads
-/// each kept block once, and holds what is kept of each unfinished transaction.
-pub fn rule_room<S: Site>(
-    alloc: Global,
-    site: &mut S,
-    log: &LogStore,
-    master: &Master,
-) -> Result<bool, Stop>
-    requires going { MayGoOn log.now (S.state site.old) }
+/// The ninth rule, by the unfinished transactions: whether there are blocks for all that undo will write.
+pub fn rule_room(log: &LogStore, master: &Master, left: &LeftTxns) -> bool
+    requires bounded { log.now.ring.hi ≤ 2 ^ 40 }
+    requires some { 1 ≤ log.now.geometry.blocks }
     requires live { log.now.ring.hi ≤ master.now.kept + (log.now.geometry.blocks - 1) }
 
-    ensures room { (blocks : List (List LogRecord)) → Finds log.now (S.state site.old)
-        → HasBlocks log.now.geometry master.now.kept blocks (S.state site.old).image
-        → Rule3 (picture_of (record { g = log.now.geometry; master = master.now; blocks = blocks })
-        (S.state site.old).image)
-        → IfOk result (λ stand. IsTrue stand ↔ Rule9 (picture_of
-        (record { g = log.now.geometry; master = master.now; blocks = blocks }) (S.state site.old).image)) }
-    ensures reads { OnlyReads result (S.state site.old) (S.state site.new) }
+    ensures room { (site : State) (blocks : List (List LogRecord)) → Finds log.now site
+        → HasBlocks log.now.geometry master.now.kept blocks site.image
+        → AreLeft (log_from master.now.kept blocks) left.now.left.items
+        → IsTrue result ↔ Rule9 (picture_of
+        (record { g = log.now.geometry; master = master.now; blocks = blocks }) site.image) }
 {
     let hi = log.sealed_end() / 512;
     let blocks = log.geometry().blocks as u64;
-    let left = left_before(alloc, site, log, master.kept, hi)?;
     let free = (blocks - 1).saturating_sub(hi.saturating_sub(master.kept));
-    Ok(left.fit(free))
+    left.fit(free)
 }
 
-/// The tenth rule, of devices that meet the third one: whether the master names the transactions that were active at
-/// the redo block. It reads each kept block before that one once, and holds what is kept of each unfinished
-/// transaction.
-pub fn rule_named<S: Site>(
-    alloc: Global,
-    site: &mut S,
-    log: &LogStore,
-    master: &Master,
-) -> Result<bool, Stop>
-    requires going { MayGoOn log.now (S.state site.old) }
-    requires live { log.now.ring.hi ≤ master.now.kept + (log.now.geometry.blocks - 1) }
-    requires redo { master.now.redo ≤ log.now.ring.hi }
-
-    ensures named { (blocks : List (List LogRecord)) → Finds log.now (S.state site.old)
-        → HasBlocks log.now.geometry master.now.kept blocks (S.state site.old).image
-        → Rule3 (picture_of (record { g = log.now.geometry; master = master.now; blocks = blocks })
-        (S.state site.old).image)
-        → IfOk result (λ stand. IsTrue stand ↔ Rule10 (picture_of
-        (record { g = log.now.geometry; master = master.now; blocks = blocks }) (S.state site.old).image)) }
-    ensures reads { OnlyReads result (S.state site.old) (S.state site.new) }
+/// The tenth rule, by the transactions that were unfinished before the redo block: whether the master names these.
+pub fn rule_named(master: &Master, early: &LeftTxns) -> bool
+    ensures named { (records : List Entry) → AreLeft (before_block master.now.redo records) early.now.left.items
+        → IsTrue result ↔ ((seen master.now).active ≡ active_in (before_block master.now.redo records)) }
 {
-    let left = left_before(alloc, site, log, master.kept, master.redo)?;
-    Ok(left.are_named(master))
+    early.are_named(master)
 }

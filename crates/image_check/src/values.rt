@@ -1,56 +1,36 @@
-// The numbers that have a value.
-ghost use Rattle.std.specs.Prelude.{◌≡◌, ◌*◌, ◌-◌, ◌+◌, ◌<◌, ◌≤◌, ℕ, List, map, count_by, is_some, IsTrue, IfOk, if◌then◌else◌};
-ghost use Rattle.std.specs.List.{range_with_len};
+// What versions show of the log, and the numbers that have a value.
+ghost use Rattle.std.specs.Prelude.{◌≡◌, ◌↔◌, ◌*◌, ◌-◌, ◌+◌, ◌^◌, ◌<◌, ◌≤◌, ◌++◌, ◌∷◌, [], ℕ, List, map, count_by, is_some, is_ok, IsTrue, IfOk, IfErr, IfSome, OnOk, if◌then◌else◌};
+ghost use Rattle.std.specs.List.{AllByRecursion, range_with_len};
+ghost use Rattle.site.specs.declared.outside.Stop.{Stop};
+ghost use Rattle.site.specs.Work.{OnlyReads};
 ghost use Rattle.log_records.specs.declared.log_record.LogRecord.{LogRecord};
 ghost use Rattle.log_records.specs.Log.{Entry, Version, version_at, value_of, table_of, log_from};
 ghost use Rattle.log_records.specs.Sound.{Pairwise, HoldsOff};
 ghost use Rattle.log_store.specs.Held.{MayGoOn, Finds, HasBlocks};
 ghost use Rattle.slotted_page.specs.Layout.{IsSound};
+ghost use Rattle.flash_cache.specs.Held.{version_on};
 ghost use Rattle.image_meaning.specs.Meaning.{version_in, versions_on};
-ghost use Rattle.site.specs.Work.{OnlyReads};
-ghost use Rattle.image_check.specs.Octets.{AreGroups, AreVersions};
+ghost use Rattle.image_check.specs.Octets.{AreVersions};
 ghost use Rattle.image_check.specs.Findings.{MayRead, AreFound};
-ghost use Rattle.image_check.specs.Newest.{AreLive, ShowsFrames};
-ghost use Rattle.image_check.specs.Verdict.{Rule1, Rule3, Rule5, picture_of, values_of};
+ghost use Rattle.image_check.specs.Newest.{AreLive};
+ghost use Rattle.image_check.specs.Showing.{FindsVersions, AreExpected, IsKnownEarly, HasContents};
+ghost use Rattle.image_check.specs.Verdict.{Rule1, Rule5, Rule6, picture_of, values_of};
 ghost use Rattle.image_check.specs.Writing.{AreWritten};
 
-use crate::newest::{find_frames, read_version};
+use crate::holding::number_of;
+use crate::newest::find_frames;
+use crate::place::Place;
 use crate::rings::Rings;
+use crate::showing::{Expected, find_unlogged, is_known_early, version_lsns, version_of};
 use crate::walk::Walk;
 use crate::written::Writings;
 use checkpoint::Master;
 use flash_directory::Directory;
-use frame_group::PAGE_LEN;
+use log_records::LogRecord;
 use log_store::LogStore;
 use site::{Geometry, Site, Stop};
 use slotted_page::Page;
 use std::alloc::Global;
-
-// What the records from a kept block on have written.
-fn written_from<S: Site>(
-    alloc: Global,
-    site: &mut S,
-    log: &LogStore,
-    kept: u64,
-) -> Result<Writings, Stop>
-    requires going { MayGoOn log.now (S.state site.old) }
-    requires live { log.now.ring.hi ≤ kept + (log.now.geometry.blocks - 1) }
-
-    ensures written { (blocks : List (List LogRecord)) → Finds log.now (S.state site.old)
-        → HasBlocks log.now.geometry kept blocks (S.state site.old).image
-        → Pairwise (HoldsOff (log_from kept blocks)) (log_from kept blocks)
-        → IfOk result (λ written. AreWritten (log_from kept blocks) (log_from kept blocks) written) }
-    ensures reads { OnlyReads result (S.state site.old) (S.state site.new) }
-{
-    let mut walk = Walk::start(log, kept);
-    let mut written = Writings::new(alloc);
-    while let Some((_lsn, rec)) = walk.next(site, log)? {
-        if let Err(stop) = written.hear(&rec) {
-            return Err(stop);
-        }
-    }
-    Ok(written)
-}
 
 // One where there is a value.
 fn one_if(has_value: bool) -> u64
@@ -77,128 +57,252 @@ fn count_on(written: &Writings, page: u32, version: &Page) -> u64
     count
 }
 
-// How many numbers of a page have a value: reads its newest version.
-fn count_page<S: Site>(
-    site: &mut S,
-    geometry: &Geometry,
-    rings: &Rings,
-    frames: &Directory,
-    written: &Writings,
-    page: u32,
-) -> Result<u64, Stop>
-    requires may_read { MayRead geometry.now rings.now (S.state site.old) }
-    requires live { AreLive rings.now frames.now }
-    requires exists { page < geometry.now.pages }
-
-    ensures values { (log : List Entry) → IsTrue (S.state site.old).honest → AreFound rings.now (S.state site.old)
-        → AreGroups geometry.now (S.state site.old).image → AreVersions geometry.now (S.state site.old).image
-        → ShowsFrames geometry.now (S.state site.old).image frames.now → AreWritten log log written.now
-        → IfOk result (λ count. count ≡ count_by is_some (map
-        (value_of log (versions_on geometry.now (S.state site.old).image)) (range_with_len (32 * page) 32))) }
-    ensures few { IfOk result (λ count. count ≤ 32) }
-    ensures reads { OnlyReads result (S.state site.old) (S.state site.new) }
-{
-    let mut octets = [0u8; PAGE_LEN];
-    if let Err(stop) = read_version(site, geometry, rings, frames, page, &mut octets) {
-        return Err(stop);
+// The page of a record.
+fn page_of(rec: &LogRecord) -> Place {
+    match number_of(rec) {
+        Some(number) => Place::Page((number / 32) as u32),
+        None => Place::Blocks,
     }
-    let version = Page::from_bytes(&octets);
-    if !version.sound() {
-        return Ok(0);
-    }
-    Ok(count_on(written, page, &version))
 }
 
-// How many numbers of all pages have a value: reads the newest version of each.
-fn count_pages<S: Site>(
-    site: &mut S,
-    geometry: &Geometry,
-    rings: &Rings,
-    frames: &Directory,
-    written: &Writings,
-) -> Result<u64, Stop>
-    requires may_read { MayRead geometry.now rings.now (S.state site.old) }
-    requires live { AreLive rings.now frames.now }
+// What the records of a log say of versions: what these have to show, and what was written last on each number.
+#[derive(Drop)]
+struct Logged {
+    expected: Expected,
+    written: Writings,
+}
 
-    ensures values { (log : List Entry) → IsTrue (S.state site.old).honest → AreFound rings.now (S.state site.old)
-        → AreGroups geometry.now (S.state site.old).image → AreVersions geometry.now (S.state site.old).image
-        → ShowsFrames geometry.now (S.state site.old).image frames.now → AreWritten log log written.now
-        → IfOk result (λ count. count
-        ≡ count_by is_some (table_of log (versions_on geometry.now (S.state site.old).image))) }
-    ensures reads { OnlyReads result (S.state site.old) (S.state site.new) }
-{
-    let mut count = 0;
-    for page in 0..geometry.pages {
-        let more = match count_page(site, geometry, rings, frames, written, page) {
-            Ok(more) => more,
+impl Logged {
+    // Before the first record.
+    fn new(alloc: Global) -> Logged
+        ensures expected { (lsns : List ℕ) → AreExpected lsns [] result.expected.contents }
+        ensures written { (log : List Entry) → AreWritten log [] result.written }
+    {
+        Logged {
+            expected: Expected::new(alloc),
+            written: Writings::new(alloc),
+        }
+    }
+
+    // Hears the next record of a log, where the versions have these LSNs.
+    fn hear(&mut self, lsns: &[u64], lsn: u64, rec: LogRecord) -> Result<(), Stop>
+        ensures expected { (records : List Entry) → AreExpected lsns.now records self.old.expected.contents
+            → OnOk result (AreExpected lsns.now (records ++ record { lsn = lsn; rec = rec } ∷ [])
+            self.new.expected.contents) }
+        ensures written { (log : List Entry) (records : List Entry) → Pairwise (HoldsOff log) records
+            → AreWritten log records self.old.written
+            → OnOk result (AreWritten log (records ++ record { lsn = lsn; rec = rec } ∷ []) self.new.written) }
+        ensures stops { IfErr result (λ stop. stop ≡ Stop.Memory) }
+    {
+        self.written.hear(&rec)?;
+        self.expected.hear(lsns, lsn, rec)
+    }
+
+    // What the kept blocks say of versions with these LSNs, or a page whose version doesn't know of a record before the
+    // redo block, exactly where there is one: reads each kept block once.
+    fn of_log<S: Site>(
+        alloc: Global,
+        site: &mut S,
+        log: &LogStore,
+        master: &Master,
+        lsns: &[u64],
+    ) -> Result<Result<Logged, Place>, Stop>
+        requires going { MayGoOn log.now (S.state site.old) }
+        requires live { log.now.ring.hi ≤ master.now.kept + (log.now.geometry.blocks - 1) }
+        requires redo { master.now.redo ≤ log.now.ring.hi }
+
+        ensures known { (blocks : List (List LogRecord)) → Finds log.now (S.state site.old)
+            → HasBlocks log.now.geometry master.now.kept blocks (S.state site.old).image
+            → IfOk result (λ found. IsTrue (is_ok found)
+            ↔ AllByRecursion (IsKnownEarly master.now.redo lsns.now) (log_from master.now.kept blocks)) }
+        ensures expected { (blocks : List (List LogRecord)) → Finds log.now (S.state site.old)
+            → HasBlocks log.now.geometry master.now.kept blocks (S.state site.old).image
+            → IfOk result (λ found. IfOk found (λ logged.
+            AreExpected lsns.now (log_from master.now.kept blocks) logged.expected.contents)) }
+        ensures written { (blocks : List (List LogRecord)) → Finds log.now (S.state site.old)
+            → HasBlocks log.now.geometry master.now.kept blocks (S.state site.old).image
+            → Pairwise (HoldsOff (log_from master.now.kept blocks)) (log_from master.now.kept blocks)
+            → IfOk result (λ found. IfOk found (λ logged.
+            AreWritten (log_from master.now.kept blocks) (log_from master.now.kept blocks) logged.written)) }
+        ensures reads { OnlyReads result (S.state site.old) (S.state site.new) }
+    {
+        let mut walk = Walk::start(log, master.kept);
+        let mut logged = Logged::new(alloc);
+        while let Some((lsn, rec)) = walk.next(site, log)? {
+            if !is_known_early(lsns, lsn, &rec, master.redo) {
+                return Ok(Err(page_of(&rec)));
+            }
+            if let Err(stop) = logged.hear(lsns, lsn, rec) {
+                return Err(stop);
+            }
+        }
+        Ok(Ok(logged))
+    }
+
+    // How many numbers of a page have a value, `None` exactly where its version hasn't what is expected there: reads it.
+    fn count_page<S: Site>(
+        &self,
+        site: &mut S,
+        geometry: &Geometry,
+        rings: &Rings,
+        frames: &Directory,
+        page: u32,
+    ) -> Result<Option<u64>, Stop>
+        requires may_read { MayRead geometry.now rings.now (S.state site.old) }
+        requires live { AreLive rings.now frames.now }
+        requires exists { page < geometry.now.pages }
+
+        ensures shown { FindsVersions geometry.now rings.now frames.now (S.state site.old)
+            → AreVersions geometry.now (S.state site.old).image
+            → IfOk result (λ count. IsTrue (is_some count)
+            ↔ HasContents self.now.expected.contents page (version_on geometry.now (S.state site.old).image page)) }
+        ensures values { (log : List Entry) → FindsVersions geometry.now rings.now frames.now (S.state site.old)
+            → AreVersions geometry.now (S.state site.old).image → AreWritten log log self.now.written
+            → IfOk result (λ count. IfSome count (λ count. count ≡ count_by is_some (map
+            (value_of log (versions_on geometry.now (S.state site.old).image)) (range_with_len (32 * page) 32)))) }
+        ensures few { IfOk result (λ count. IfSome count (λ count. count ≤ 32)) }
+        ensures reads { OnlyReads result (S.state site.old) (S.state site.new) }
+    {
+        let version = match version_of(site, geometry, rings, frames, page) {
+            Ok(version) => version,
             Err(stop) => return Err(stop),
         };
-        count += more;
+        if !version.sound() {
+            return Ok(None);
+        }
+        if !self.expected.is_on_page(page, &version) {
+            return Ok(None);
+        }
+        Ok(Some(count_on(&self.written, page, &version)))
     }
-    Ok(count)
+
+    // How many numbers of all pages have a value, or the first page whose version hasn't what is expected there, exactly
+    // where there is one: reads each version once.
+    fn count_pages<S: Site>(
+        &self,
+        site: &mut S,
+        geometry: &Geometry,
+        rings: &Rings,
+        frames: &Directory,
+    ) -> Result<Result<u64, Place>, Stop>
+        requires may_read { MayRead geometry.now rings.now (S.state site.old) }
+        requires live { AreLive rings.now frames.now }
+
+        ensures shown { FindsVersions geometry.now rings.now frames.now (S.state site.old)
+            → AreVersions geometry.now (S.state site.old).image
+            → IfOk result (λ found. IsTrue (is_ok found) ↔ ((page : ℕ) → page < geometry.now.pages
+            → HasContents self.now.expected.contents page
+            (version_on geometry.now (S.state site.old).image page))) }
+        ensures values { (log : List Entry) → FindsVersions geometry.now rings.now frames.now (S.state site.old)
+            → AreVersions geometry.now (S.state site.old).image → AreWritten log log self.now.written
+            → IfOk result (λ found. IfOk found (λ count. count
+            ≡ count_by is_some (table_of log (versions_on geometry.now (S.state site.old).image)))) }
+        ensures reads { OnlyReads result (S.state site.old) (S.state site.new) }
+    {
+        let mut count = 0;
+        for page in 0..geometry.pages {
+            let more = match self.count_page(site, geometry, rings, frames, page) {
+                Ok(Some(more)) => more,
+                Ok(None) => return Ok(Err(Place::Page(page))),
+                Err(stop) => return Err(stop),
+            };
+            count += more;
+        }
+        Ok(Ok(count))
+    }
 }
 
-// The same: finds the newest frames first, by the heads of the groups.
-fn count_all<S: Site>(
-    alloc: Global,
-    site: &mut S,
-    geometry: &Geometry,
-    rings: &Rings,
-    written: &Writings,
-) -> Result<u64, Stop>
-    requires { MayRead geometry.now rings.now (S.state site.old) }
-
-    ensures values { (log : List Entry) → IsTrue (S.state site.old).honest → AreFound rings.now (S.state site.old)
-        → AreGroups geometry.now (S.state site.old).image → AreVersions geometry.now (S.state site.old).image
-        → AreWritten log log written.now → IfOk result (λ count. count
-        ≡ count_by is_some (table_of log (versions_on geometry.now (S.state site.old).image))) }
-    ensures reads { OnlyReads result (S.state site.old) (S.state site.new) }
-{
-    let frames = match find_frames(alloc, site, geometry, rings) {
-        Ok(Some(frames)) => frames,
-        Ok(None) => return Ok(0),
-        Err(stop) => return Err(stop),
-    };
-    match count_pages(site, geometry, rings, &frames, written) {
-        Ok(count) => Ok(count),
-        Err(stop) => Err(stop),
-    }
-}
-
-/// How many numbers have a value in the table that devices stand for which meet the rules before: an unfinished
-/// transaction counts as undone. It reads each kept block once, the heads of the groups, and the newest version of each
-/// page; it holds what is kept of the last record on each number that the log has written, and which transactions it
-/// closes.
-pub fn count_values<S: Site>(
+// The sixth rule, where the newest frames of pages are known.
+fn show_log<S: Site>(
     alloc: Global,
     site: &mut S,
     log: &LogStore,
     rings: &Rings,
     master: &Master,
-) -> Result<u64, Stop>
+    frames: &Directory,
+) -> Result<Result<u64, Place>, Stop>
     requires going { MayGoOn log.now (S.state site.old) }
     requires may_read { MayRead log.now.geometry rings.now (S.state site.old) }
     requires live { log.now.ring.hi ≤ master.now.kept + (log.now.geometry.blocks - 1) }
+    requires redo { master.now.redo ≤ log.now.ring.hi }
+    requires frames { AreLive rings.now frames.now }
 
+    ensures shown { (blocks : List (List LogRecord)) → Finds log.now (S.state site.old)
+        → FindsVersions log.now.geometry rings.now frames.now (S.state site.old)
+        → AreVersions log.now.geometry (S.state site.old).image
+        → HasBlocks log.now.geometry master.now.kept blocks (S.state site.old).image
+        → IfOk result (λ found. IsTrue (is_ok found) ↔ Rule6 (picture_of
+        (record { g = log.now.geometry; master = master.now; blocks = blocks }) (S.state site.old).image)) }
+    ensures values { (blocks : List (List LogRecord)) → Finds log.now (S.state site.old)
+        → FindsVersions log.now.geometry rings.now frames.now (S.state site.old)
+        → AreVersions log.now.geometry (S.state site.old).image
+        → HasBlocks log.now.geometry master.now.kept blocks (S.state site.old).image
+        → Rule5 (picture_of (record { g = log.now.geometry; master = master.now; blocks = blocks })
+        (S.state site.old).image)
+        → IfOk result (λ found. IfOk found (λ count. count ≡ values_of (picture_of
+        (record { g = log.now.geometry; master = master.now; blocks = blocks }) (S.state site.old).image))) }
+    ensures reads { OnlyReads result (S.state site.old) (S.state site.new) }
+{
+    let geometry = log.geometry();
+    let lsns = match version_lsns(alloc, site, &geometry, rings, frames) {
+        Ok(lsns) => lsns,
+        Err(stop) => return Err(stop),
+    };
+    if let Some(place) = find_unlogged(&lsns, log.sealed_end()) {
+        return Ok(Err(place));
+    }
+    let logged = match Logged::of_log(alloc, site, log, master, &lsns) {
+        Ok(Ok(logged)) => logged,
+        Ok(Err(place)) => return Ok(Err(place)),
+        Err(stop) => return Err(stop),
+    };
+    match logged.count_pages(site, &geometry, rings, frames) {
+        Ok(found) => Ok(found),
+        Err(stop) => Err(stop),
+    }
+}
+
+/// The sixth rule, of devices that meet the first one: how many numbers have a value, an unfinished transaction counting as
+/// undone, where each version shows the records that it knows of, knows of all before the redo block, and of none that
+/// isn't sealed; or the first page of which that isn't so. The number is that of the table that devices stand for which
+/// meet the fifth rule, too. It reads the heads of the live groups and each kept block once, and each version twice; it
+/// holds an LSN for each page, where the newest frames stand, what the kept blocks have written last on each number, and
+/// which transactions they close.
+pub fn rule_shown<S: Site>(
+    alloc: Global,
+    site: &mut S,
+    log: &LogStore,
+    rings: &Rings,
+    master: &Master,
+) -> Result<Result<u64, Place>, Stop>
+    requires going { MayGoOn log.now (S.state site.old) }
+    requires may_read { MayRead log.now.geometry rings.now (S.state site.old) }
+    requires live { log.now.ring.hi ≤ master.now.kept + (log.now.geometry.blocks - 1) }
+    requires redo { master.now.redo ≤ log.now.ring.hi }
+
+    ensures shown { (blocks : List (List LogRecord)) → Finds log.now (S.state site.old)
+        → AreFound rings.now (S.state site.old)
+        → Rule1 log.now.geometry master.now (S.state site.old).image
+        → HasBlocks log.now.geometry master.now.kept blocks (S.state site.old).image
+        → IfOk result (λ found. IsTrue (is_ok found) ↔ Rule6 (picture_of
+        (record { g = log.now.geometry; master = master.now; blocks = blocks }) (S.state site.old).image)) }
     ensures values { (blocks : List (List LogRecord)) → Finds log.now (S.state site.old)
         → AreFound rings.now (S.state site.old)
         → Rule1 log.now.geometry master.now (S.state site.old).image
         → HasBlocks log.now.geometry master.now.kept blocks (S.state site.old).image
-        → Rule3 (picture_of (record { g = log.now.geometry; master = master.now; blocks = blocks })
-        (S.state site.old).image)
         → Rule5 (picture_of (record { g = log.now.geometry; master = master.now; blocks = blocks })
         (S.state site.old).image)
-        → IfOk result (λ count. count ≡ values_of (picture_of
-        (record { g = log.now.geometry; master = master.now; blocks = blocks }) (S.state site.old).image)) }
+        → IfOk result (λ found. IfOk found (λ count. count ≡ values_of (picture_of
+        (record { g = log.now.geometry; master = master.now; blocks = blocks }) (S.state site.old).image))) }
     ensures reads { OnlyReads result (S.state site.old) (S.state site.new) }
 {
-    let written = match written_from(alloc, site, log, master.kept) {
-        Ok(written) => written,
+    let frames = match find_frames(alloc, site, &log.geometry(), rings) {
+        Ok(Some(frames)) => frames,
+        Ok(None) => return Ok(Err(Place::Groups)),
         Err(stop) => return Err(stop),
     };
-    let geometry = log.geometry();
-    match count_all(alloc, site, &geometry, rings, &written) {
-        Ok(count) => Ok(count),
+    match show_log(alloc, site, log, rings, master, &frames) {
+        Ok(found) => Ok(found),
         Err(stop) => Err(stop),
     }
 }

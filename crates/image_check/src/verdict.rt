@@ -1,9 +1,11 @@
 // The verdict on devices.
-ghost use Rattle.std.specs.Prelude.{List, IsTrue, IfOk};
-ghost use Rattle.log_records.specs.declared.log_record.LogRecord.{LogRecord};
+ghost use Rattle.std.specs.Prelude.{◌≡◌, List, IsTrue, IfOk};
+ghost use Rattle.site.specs.State.{State};
 ghost use Rattle.site.specs.Work.{OnlyReads};
-ghost use Rattle.image_check.specs.Deciding.{MayBeJudged, MeetsBefore, HoldOr, reading_of};
+ghost use Rattle.log_records.specs.declared.log_record.LogRecord.{LogRecord};
+ghost use Rattle.image_check.specs.Deciding.{MayBeJudged, MeetsBefore, HoldOr, IsSurveyOf, reading_of};
 ghost use Rattle.image_check.specs.Judgement.{IsVerdictOn};
+ghost use Rattle.image_check.specs.Verdict.{picture_of, values_of};
 
 use crate::clean::rule_clean;
 use crate::commits::rule_commits;
@@ -11,11 +13,11 @@ use crate::following::rule_following;
 use crate::formed::{Found, find_formed};
 use crate::holding::rule_apart;
 use crate::kept::rule_kept;
-use crate::showing::rule_shown;
-use crate::txns::rule_transactions;
+use crate::place::Place;
+use crate::survey::{Survey, rule_transactions};
 use crate::undoable::rule_undoable;
 use crate::unfinished::{rule_named, rule_room};
-use crate::values::count_values;
+use crate::values::rule_shown;
 use site::{Site, Stop};
 use std::alloc::Global;
 
@@ -24,70 +26,103 @@ use std::alloc::Global;
 pub enum Verdict {
     /// All rules hold: how many numbers have a value, and after how many commits.
     Sound { records: u64, commits: u64 },
-    /// The first rule that fails, from 1 to 11.
-    Unsound { rule: u8 },
+    /// The first rule that fails, from 1 to 11, and where it does. Of the place nothing is promised.
+    Unsound { rule: u8, place: Place },
 }
 
-// The first of the rules on the log alone that fails, the third to the fifth.
-fn failing_on_log<S: Site>(alloc: Global, site: &mut S, found: &Found) -> Result<Option<u8>, Stop>
+// The first that fails of the fourth and the fifth rule, and where.
+fn failing_on_log<S: Site>(
+    alloc: Global,
+    site: &mut S,
+    found: &Found,
+    survey: &Survey,
+) -> Result<Option<(u8, Place)>, Stop>
     requires { MayBeJudged found.now (S.state site.old) }
 
-    ensures judged { (blocks : List (List LogRecord)) → MeetsBefore 3 found.now blocks (S.state site.old)
-        → IfOk result (λ rule. HoldOr 6 rule (reading_of found.now blocks) (S.state site.old).image) }
+    ensures judged { (blocks : List (List LogRecord)) → MeetsBefore 4 found.now blocks (S.state site.old)
+        → IsSurveyOf found.now blocks survey.now
+        → IfOk result (λ failing. HoldOr 6 failing (reading_of found.now blocks) (S.state site.old).image) }
     ensures reads { OnlyReads result (S.state site.old) (S.state site.new) }
 {
-    if !rule_transactions(alloc, site, &found.log, &found.master)? {
-        return Ok(Some(3));
+    if let Some(place) = rule_undoable(alloc, site, &found.log, &found.master, &survey.left)? {
+        return Ok(Some((4, place)));
     }
-    if !rule_undoable(alloc, site, &found.log, &found.master)? {
-        return Ok(Some(4));
-    }
-    if !rule_apart(alloc, site, &found.log, &found.master)? {
-        return Ok(Some(5));
+    if let Some(place) = rule_apart(alloc, site, &found.log, &found.master, &survey.left)? {
+        return Ok(Some((5, place)));
     }
     Ok(None)
 }
 
-// The first of the rules on pages that fails, the sixth to the eighth.
-fn failing_on_pages<S: Site>(alloc: Global, site: &mut S, found: &Found) -> Result<Option<u8>, Stop>
+// The first that fails of the seventh and the eighth rule, and where.
+fn failing_on_flash<S: Site>(site: &mut S, found: &Found) -> Result<Option<(u8, Place)>, Stop>
     requires { MayBeJudged found.now (S.state site.old) }
 
-    ensures judged { (blocks : List (List LogRecord)) → MeetsBefore 6 found.now blocks (S.state site.old)
-        → IfOk result (λ rule. HoldOr 9 rule (reading_of found.now blocks) (S.state site.old).image) }
+    ensures judged { (blocks : List (List LogRecord)) → MeetsBefore 7 found.now blocks (S.state site.old)
+        → IfOk result (λ failing. HoldOr 9 failing (reading_of found.now blocks) (S.state site.old).image) }
     ensures reads { OnlyReads result (S.state site.old) (S.state site.new) }
 {
     let geometry = found.log.geometry();
-    if !rule_shown(alloc, site, &found.log, &found.rings, &found.master)? {
-        return Ok(Some(6));
+    if let Some(place) = rule_clean(site, &geometry, &found.rings)? {
+        return Ok(Some((7, place)));
     }
-    if !rule_clean(site, &geometry, &found.rings)? {
-        return Ok(Some(7));
-    }
-    if !rule_following(site, &geometry, &found.rings)? {
-        return Ok(Some(8));
+    if let Some(place) = rule_following(site, &geometry, &found.rings)? {
+        return Ok(Some((8, place)));
     }
     Ok(None)
 }
 
-// The verdict where the rules before the ninth hold.
-fn judge_counts<S: Site>(alloc: Global, site: &mut S, found: &Found) -> Result<Verdict, Stop>
+// The verdict where the rules before the ninth hold and so many numbers have a value.
+fn judge_counts(found: &Found, survey: &Survey, records: u64) -> Verdict
+    requires { (site : State) × MayBeJudged found.now site }
+
+    ensures verdict { (site : State) (blocks : List (List LogRecord)) → MeetsBefore 9 found.now blocks site
+        → IsSurveyOf found.now blocks survey.now
+        → records ≡ values_of (picture_of (reading_of found.now blocks) site.image)
+        → IsVerdictOn site.image result }
+{
+    if !rule_room(&found.log, &found.master, &survey.left) {
+        return Verdict::Unsound {
+            rule: 9,
+            place: Place::Blocks,
+        };
+    }
+    if !rule_named(&found.master, &survey.early) {
+        return Verdict::Unsound {
+            rule: 10,
+            place: Place::Master,
+        };
+    }
+    match rule_commits(&found.log, &found.master, &survey.numbers) {
+        Some(commits) => Verdict::Sound { records, commits },
+        None => Verdict::Unsound {
+            rule: 11,
+            place: Place::Blocks,
+        },
+    }
+}
+
+// The verdict where the rules before the sixth hold.
+fn judge_pages<S: Site>(
+    alloc: Global,
+    site: &mut S,
+    found: &Found,
+    survey: &Survey,
+) -> Result<Verdict, Stop>
     requires { MayBeJudged found.now (S.state site.old) }
 
-    ensures verdict { (blocks : List (List LogRecord)) → MeetsBefore 9 found.now blocks (S.state site.old)
+    ensures verdict { (blocks : List (List LogRecord)) → MeetsBefore 6 found.now blocks (S.state site.old)
+        → IsSurveyOf found.now blocks survey.now
         → IfOk result (λ verdict. IsVerdictOn (S.state site.old).image verdict) }
     ensures reads { OnlyReads result (S.state site.old) (S.state site.new) }
 {
-    if !rule_room(alloc, site, &found.log, &found.master)? {
-        return Ok(Verdict::Unsound { rule: 9 });
-    }
-    if !rule_named(alloc, site, &found.log, &found.master)? {
-        return Ok(Verdict::Unsound { rule: 10 });
-    }
-    let Some(commits) = rule_commits(site, &found.log, &found.master)? else {
-        return Ok(Verdict::Unsound { rule: 11 });
+    let records = match rule_shown(alloc, site, &found.log, &found.rings, &found.master)? {
+        Ok(records) => records,
+        Err(place) => return Ok(Verdict::Unsound { rule: 6, place }),
     };
-    let records = count_values(alloc, site, &found.log, &found.rings, &found.master)?;
-    Ok(Verdict::Sound { records, commits })
+    if let Some((rule, place)) = failing_on_flash(site, found)? {
+        return Ok(Verdict::Unsound { rule, place });
+    }
+    Ok(judge_counts(found, survey, records))
 }
 
 // The verdict where the first two rules hold.
@@ -98,13 +133,14 @@ fn judge_found<S: Site>(alloc: Global, site: &mut S, found: &Found) -> Result<Ve
         → IfOk result (λ verdict. IsVerdictOn (S.state site.old).image verdict) }
     ensures reads { OnlyReads result (S.state site.old) (S.state site.new) }
 {
-    if let Some(rule) = failing_on_log(alloc, site, found)? {
-        return Ok(Verdict::Unsound { rule });
+    let survey = match rule_transactions(alloc, site, &found.log, &found.master)? {
+        Ok(survey) => survey,
+        Err(place) => return Ok(Verdict::Unsound { rule: 3, place }),
+    };
+    if let Some((rule, place)) = failing_on_log(alloc, site, found, &survey)? {
+        return Ok(Verdict::Unsound { rule, place });
     }
-    if let Some(rule) = failing_on_pages(alloc, site, found)? {
-        return Ok(Verdict::Unsound { rule });
-    }
-    judge_counts(alloc, site, found)
+    judge_pages(alloc, site, found, &survey)
 }
 
 /// Judges the devices: whether all rules hold, or which is the first that fails. Nothing is changed.
@@ -113,11 +149,15 @@ pub fn check_image<S: Site>(alloc: Global, site: &mut S) -> Result<Verdict, Stop
         → IfOk result (λ verdict. IsVerdictOn (S.state site.old).image verdict) }
     ensures reads { OnlyReads result (S.state site.old) (S.state site.new) }
 {
-    let Some(found) = find_formed(site)? else {
-        return Ok(Verdict::Unsound { rule: 1 });
+    let found = match find_formed(site)? {
+        Ok(found) => found,
+        Err(place) => return Ok(Verdict::Unsound { rule: 1, place }),
     };
     if !rule_kept(&found.log, &found.master) {
-        return Ok(Verdict::Unsound { rule: 2 });
+        return Ok(Verdict::Unsound {
+            rule: 2,
+            place: Place::Master,
+        });
     }
     judge_found(alloc, site, &found)
 }

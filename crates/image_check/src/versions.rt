@@ -1,5 +1,5 @@
 // The versions of the pages.
-ghost use Rattle.std.specs.Prelude.{◌≡◌, ◌↔◌, ◌<◌, ◌≤◌, List, IsTrue, IfOk};
+ghost use Rattle.std.specs.Prelude.{◌≡◌, ◌↔◌, ◌<◌, ◌≤◌, List, is_none, IsTrue, IfOk};
 ghost use Rattle.site.specs.declared.geometry.Geometry.{Geometry};
 ghost use Rattle.site.specs.Work.{OnlyReads};
 ghost use Rattle.sealed_ring.specs.Ring.{IsLive};
@@ -12,6 +12,7 @@ ghost use Rattle.image_check.specs.Octets.{AreGroups, AreVersions};
 ghost use Rattle.image_check.specs.Framing.{has_frame, IsNamedFrom};
 ghost use Rattle.image_check.specs.Findings.{MayRead, AreFound};
 
+use crate::place::Place;
 use crate::rings::Rings;
 use byte_fields::FrameHead;
 use disk_pages::read_page;
@@ -91,18 +92,18 @@ fn is_sound_page<S: Site>(site: &mut S, page: u32) -> Result<bool, Stop>
     Ok(Page::from_bytes(&octets).sound())
 }
 
-/// Whether the version of each page is a sound page, where the live groups are of the form. It reads each page of the
-/// disk once, and for one that isn't sound the heads of the live groups.
+/// The first page whose version isn't a sound page, where the live groups are of the form; `None` exactly where there is
+/// none. It reads each page of the disk once, and for one that isn't sound the heads of the live groups.
 pub fn rule_versions<S: Site>(
     site: &mut S,
     geometry: &Geometry,
     rings: &Rings,
-) -> Result<bool, Stop>
+) -> Result<Option<Place>, Stop>
     requires { MayRead geometry.now rings.now (S.state site.old) }
 
     ensures versions { IsTrue (S.state site.old).honest → AreFound rings.now (S.state site.old)
         → AreGroups geometry.now (S.state site.old).image
-        → IfOk result (λ stand. IsTrue stand ↔ AreVersions geometry.now (S.state site.old).image) }
+        → IfOk result (λ failing. IsTrue (is_none failing) ↔ AreVersions geometry.now (S.state site.old).image) }
     ensures reads { OnlyReads result (S.state site.old) (S.state site.new) }
 {
     for page in 0..geometry.pages {
@@ -111,14 +112,14 @@ pub fn rule_versions<S: Site>(
             Err(stop) => return Err(stop),
         };
         if !stands {
-            return Ok(false);
+            return Ok(Some(Place::Page(page)));
         }
     }
-    Ok(true)
+    Ok(None)
 }
 
-/// Whether the version of a page is a sound page: the page of the disk is, or a live group has a frame of it.
-pub fn is_sound_version<S: Site>(
+// Whether the version of a page is a sound page: the page of the disk is, or a live group has a frame of it.
+fn is_sound_version<S: Site>(
     site: &mut S,
     geometry: &Geometry,
     rings: &Rings,

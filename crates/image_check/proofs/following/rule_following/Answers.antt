@@ -1,5 +1,5 @@
 use Rattle.std.proofs.Common.{◌≡◌, inl, inr, ℕ, true, false, sym, ap, refl, ◌∙◌, subst, true≢false, arith}
-use Rattle.std.specs.Prelude.{Ok}
+use Rattle.std.specs.Prelude.{Ok, Some}
 use Rattle.std.proofs.lemmas.Bool.{cases_eq}
 use Rattle.site.specs.State.{State, Image}
 use Rattle.site.specs.Laws.{stays_honest}
@@ -8,6 +8,7 @@ use Rattle.sealed_ring.specs.Ring.{IsLive, hi_of}
 use Rattle.sealed_ring.specs.Ready.{region}
 use Rattle.image_changes.specs.Rings.{group_shape, segment_shape}
 use Rattle.site.proofs.Working.{looks_then, looks_answered}
+use Rattle.image_check.specs.declared.place.Place.TheVariants as place
 use Rattle.image_check.specs.Findings.{AreHeadsSaved}
 use Rattle.image_check.proofs.Lasting.{found_later, may_read_later}
 use Rattle.image_check.proofs.SavedHeads.{follows, saved}
@@ -49,7 +50,8 @@ returns-then-not-same-clause-reads g c =
     let old : State = g.S.Site.state c.args.site.now in
     let now : State = g.S.Site.state c.loop-group.site in
     let new : State = g.S.Site.state c.are_saved.new.site in
-    looks_answered c.in-Ok.same false old new (looks_then tt (Ok c.in-Ok.same) old now new c.loop-group.invariant.reads c.in-Ok.ensures.reads)
+    let group : ℕ = c.loop-group.group in
+    looks_answered c.in-Ok.same (Some (place.Group group)) old new (looks_then tt (Ok c.in-Ok.same) old now new c.loop-group.invariant.reads c.in-Ok.ensures.reads)
 
 -- src/following.rt:68:5
 pub loop-group-preserved : goal.loop-group-preserved

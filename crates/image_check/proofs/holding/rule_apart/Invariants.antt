@@ -4,8 +4,9 @@ use Rattle.log_records.specs.declared.log_record.LogRecord.{LogRecord}
 use Rattle.log_records.specs.Log.{log_from}
 use Rattle.log_store.specs.Held.{MayGoOn, Finds, HasBlocks}
 use Rattle.site.specs.Work.{OnlyReads}
+use Rattle.image_check.specs.Unended.{AreLeft}
 use Rattle.image_check.specs.Walking.{MayWalk, to_go}
-use Rattle.image_check.specs.Verdict.{Rule3, Rule4, picture_of}
+use Rattle.image_check.specs.Verdict.{Rule4, picture_of}
 use Rattle.image_check.proofs.Walks.{Walked}
 use Rattle.image_check.proofs.HeldOnes.{Apart}
 use Rattle.image_check.proofs.holding.rule_apart.Given as goal
@@ -18,8 +19,8 @@ invariant-loop-held g l =
       going : MayGoOn l.log now;
       walks : MayWalk l.log l.walk;
       heard : (blocks : List (List LogRecord)) → Finds l.log old → HasBlocks l.log.geometry l.master.kept blocks old.image →
-          Rule3 (picture_of (record { g = l.log.geometry; master = l.master; blocks = blocks }) old.image) → Rule4 (picture_of (record { g = l.log.geometry; master = l.master; blocks = blocks }) old.image) →
-          (w : Walked l.walk l.log old.image (log_from l.master.kept blocks)) × Apart (log_from l.master.kept blocks) l.held.held.items w.done;
+          Rule4 (picture_of (record { g = l.log.geometry; master = l.master; blocks = blocks }) old.image) → AreLeft (log_from l.master.kept blocks) l.left.left.items →
+          (w : Walked l.walk l.log old.image (log_from l.master.kept blocks)) × Apart (log_from l.master.kept blocks) l.held.held w.done;
       reads : OnlyReads {T = Unit {0}} (Ok tt) old now;
     }
 

@@ -1,5 +1,5 @@
 use Rattle.std.proofs.Common.{◌≡◌, IsTrue, sym, ◌∙◌, subst}
-use Rattle.std.specs.Prelude.{Ok, Err, Some}
+use Rattle.std.specs.Prelude.{Ok, Err}
 use Rattle.site.specs.State.{State, Image}
 use Rattle.site.specs.Laws.{stays_honest, goes_in_sequence}
 use Rattle.site.specs.Calls.{Goes}
@@ -89,7 +89,7 @@ returns-clause-reads g c =
     let s3 : State = g.S.Site.state c.judge-3.new.site in
     let s4 : State = g.S.Site.state c.judge-4.new.site in
     let answer : Rings = record { masters = c.in-Ok-Some.ring; blocks = c.in-Ok-Some-judge.ring; groups = c.in-Ok-Some-judge-2.ring; segments = c.in-Ok-Some-judge-3.ring } in
-    looks_then c.in-Ok-Some.field-0 (Ok (Some answer)) s0 s1 s4 c.in-Ok-Some.ensures.reads
-    (looks_then c.in-Ok-Some-judge.field-0 (Ok (Some answer)) s1 s2 s4 c.in-Ok-Some-judge.ensures.reads
-    (looks_then c.in-Ok-Some-judge-2.field-0 (Ok (Some answer)) s2 s3 s4 c.in-Ok-Some-judge-2.ensures.reads
-    (looks_answered c.in-Ok-Some-judge-3.field-0 (Some answer) s3 s4 c.in-Ok-Some-judge-3.ensures.reads)))
+    looks_then c.in-Ok-Some.field-0 (Ok (Ok answer)) s0 s1 s4 c.in-Ok-Some.ensures.reads
+    (looks_then c.in-Ok-Some-judge.field-0 (Ok (Ok answer)) s1 s2 s4 c.in-Ok-Some-judge.ensures.reads
+    (looks_then c.in-Ok-Some-judge-2.field-0 (Ok (Ok answer)) s2 s3 s4 c.in-Ok-Some-judge-2.ensures.reads
+    (looks_answered c.in-Ok-Some-judge-3.field-0 (Ok answer) s3 s4 c.in-Ok-Some-judge-3.ensures.reads)))
