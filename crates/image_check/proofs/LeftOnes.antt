@@ -222,37 +222,39 @@ pair_of x = record { begin = x.txn; last = x.last }
 
 -- The records before a block.
 
--- what was heard: these are left by the records so far, which stand before a block and are fewer than what was to be read
-pub record LeftSoFar (end most : ℕ) (items : List Left) (records : List Entry) : Type 0 where
-  pub left : AreLeft records items
-  pub early : AllByRecursion (λ x. x.lsn < 512 * end) records
-  pub few : length records + most ≤ 2 ^ 60
+-- The records before another one, and those before a block.
 
 pub in_order_front : (from : ℕ) (front : List Entry) (e : Entry) (back : List Entry) (to : ℕ) → IsInOrder from (front ++ e ∷ back) to → IsInOrder from front e.lsn
 in_order_front from [] e back to order = order.0
 in_order_front from (x ∷ front) e back to order = (order.0, in_order_front (x.lsn + 1) front e back to order.1)
 
-in_order_behind : (from : ℕ) (front : List Entry) (e : Entry) (back : List Entry) (to : ℕ) → IsInOrder from (front ++ e ∷ back) to → IsInOrder e.lsn (e ∷ back) to
-in_order_behind from [] e back to order = (omega arith, order.1)
-in_order_behind from (x ∷ front) e back to order = in_order_behind (x.lsn + 1) front e back to order.1
+in_order_from : (from mid to : ℕ) (records : List Entry) → from ≤ mid → IsInOrder mid records to → IsInOrder from records to
+in_order_from from mid to [] less order = omega (arith, less, order)
+in_order_from from mid to (x ∷ records) less order = (let first = order.0 in omega (arith, less, first), order.1)
 
-all_before_block : (end : ℕ) (records : List Entry) → AllByRecursion (λ x. x.lsn < 512 * end) records → before_block end records ≡ records
-all_before_block end records early =
-    filter_all (λ x. nat_lt x.lsn (512 * end)) records (all_weaker (λ x. x.lsn < 512 * end) (λ x. nat_lt x.lsn (512 * end) ≡ true) (λ x less. lt-ltb x.lsn (512 * end) less) records early)
+pub early_in_order : (redo from : ℕ) (records : List Entry) (to : ℕ) → IsInOrder from records to → IsInOrder from (before_block redo records) to
+early_in_order redo from [] to order = order
+early_in_order redo from (x ∷ records) to order = by (nat_lt x.lsn (512 * redo)) (early_in_order redo (x.lsn + 1) records to order.1)
+  where
+    by : (b : Bool) → IsInOrder (x.lsn + 1) (before_block redo records) to → IsInOrder from (cond b (x ∷ before_block redo records) (before_block redo records)) to
+    by true later = (order.0, later)
+    by false later = in_order_from from (x.lsn + 1) to (before_block redo records) (let first = order.0 in omega (arith, first)) later
 
--- where a record comes that stands behind the block's begin, those before it are all
-pub front_before_block : (end from : ℕ) (front : List Entry) (e : Entry) (back : List Entry) (to : ℕ) → IsInOrder from (front ++ e ∷ back) to → AllByRecursion (λ x. x.lsn < 512 * end) front → 512 * end ≤ e.lsn →
-    before_block end (front ++ e ∷ back) ≡ front
-front_before_block end from front e back to order early late =
-    let behind = all_from e.lsn (e ∷ back) to (in_order_behind from front e back to order) in
-    filter-append (λ x. nat_lt x.lsn (512 * end)) front (e ∷ back)
-    ∙ ap (λ (l : List Entry). before_block end front ++ l)
-    (filter_none (λ x. nat_lt x.lsn (512 * end)) (e ∷ back) (all_weaker (λ x. e.lsn ≤ x.lsn) (λ x. nat_lt x.lsn (512 * end) ≡ false) (λ x after. le-ltb x.lsn (512 * end) (omega (arith, after, late))) (e ∷ back) behind))
-    ∙ append-nil (before_block end front)
-    ∙ all_before_block end front early
+pub early_fresh : (redo lsn : ℕ) (records : List Entry) → IsFresh lsn records → IsFresh lsn (before_block redo records)
+early_fresh redo lsn [] fresh = tt
+early_fresh redo lsn (x ∷ records) fresh = by (nat_lt x.lsn (512 * redo)) (early_fresh redo lsn records fresh.1)
+  where
+    by : (b : Bool) → IsFresh lsn (before_block redo records) → IsFresh lsn (cond b (x ∷ before_block redo records) (before_block redo records))
+    by true later = (fresh.0, later)
+    by false later = later
 
-pub whole_before_block : (end : ℕ) (records : List Entry) → AllByRecursion (λ x. x.lsn < 512 * end) records → before_block end records ≡ records
-whole_before_block end records early = all_before_block end records early
+pub early_least : (redo : ℕ) (records : List Entry) → length (before_block redo records) ≤ length records
+early_least redo records = passed_few (λ x. nat_lt x.lsn (512 * redo)) records
+
+pub early_more : (redo : ℕ) (records : List Entry) (e : Entry) → e.lsn < 512 * redo → before_block redo (records ++ e ∷ []) ≡ before_block redo records ++ e ∷ []
+early_more redo records e less =
+    filter-append (λ x. nat_lt x.lsn (512 * redo)) records (e ∷ [])
+    ∙ ap (λ (b : Bool). before_block redo records ++ cond b (e ∷ []) []) (lt-ltb e.lsn (512 * redo) less)
 
 -- What undoing makes, and what a master names.
 
@@ -285,10 +287,3 @@ active_are_named records items pairs is same =
     sym (back_again (map pair_of items))
     ∙ ap (map pair_back) (ap (λ (l : List Left). map active_of (map pair_of l)) is.are ∙ actives records (losers records) ∙ sym same)
     ∙ back_again pairs
-
--- what is left before the end of the blocks is left by all records
-pub left_of_all : (kept hi : ℕ) (blocks : List (List LogRecord)) (items : List Left) → AllByRecursion AreBlock blocks → kept + length blocks ≡ hi → AreLeft (before_block hi (log_from kept blocks)) items → AreLeft (log_from kept blocks) items
-left_of_all kept hi blocks items are end left =
-    let records : List Entry = log_from kept blocks in
-    let early = all_below (512 * kept) records (512 * hi) (log_in_order kept blocks (512 * hi) are (omega (arith, end))) in
-    subst (λ (l : List Entry). AreLeft l items) (whole_before_block hi records early) left

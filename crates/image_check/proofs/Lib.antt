@@ -20,6 +20,7 @@ pub mod HeldOnes
 pub mod ShownOnes
 pub mod ChainOnes
 pub mod StrayOnes
+pub mod Surveyed
 pub mod NewestRead
 pub mod WrittenOnes
 pub mod ValuesCounted

@@ -1,7 +1,7 @@
 -- The numbers of the commits, record by record.
-use Rattle.std.proofs.Common.{◌≡◌, ◌⊎◌, inl, inr, ℕ, zero, suc, ◌+◌, ◌-◌, ◌*◌, Bool, true, false, true≢false, List, [], ◌∷◌, ◌++◌, length, filter, get_or, refl, sym, ap, ◌∙◌, arith}
+use Rattle.std.proofs.Common.{◌≡◌, ◌⊎◌, inl, inr, ℕ, zero, suc, ◌+◌, ◌-◌, ◌*◌, ◌≤◌, Bool, true, false, true≢false, List, [], ◌∷◌, ◌++◌, length, filter, get_or, refl, sym, ap, ◌∙◌, arith}
 use Rattle.std.specs.Prelude.{Option, Some, None, nat_lt, nat_le, not, if◌then◌else◌}
-use Rattle.std.specs.List.{range_with_len}
+use Rattle.std.specs.List.{range_with_len, cons_option}
 use Rattle.std.proofs.lemmas.Bool.{cases_lt, cases_eq}
 use Rattle.std.proofs.lemmas.Bool.Decides.{nat_tests}
 use Rattle.std.proofs.lemmas.List.{length-append, append-nil}
@@ -14,7 +14,7 @@ use Rattle.log_records.specs.declared.log_record.LogRecord.TheVariants.{Begin, U
 use Rattle.log_records.specs.Log.{Entry}
 use Rattle.log_records.specs.Sound.{Picture, AreNumbered, commit_count, commit_number, commit_number_by, commit_numbers, before_block, from_block}
 use Rattle.image_check.specs.declared.commits.Numbers.{Numbers}
-use Rattle.image_check.specs.Counting.{Heard, Counts, Fit, CommitsAre}
+use Rattle.image_check.specs.Counting.{Heard, Counts, Fit}
 
 -- a Commit's number, or none
 abbrev listed : Option ℕ → List ℕ
@@ -52,6 +52,24 @@ still : (p : Entry → Bool) (records : List Entry) (lsn : ℕ) (rec : LogRecord
 still p records lsn rec none =
     let b : Bool = p (record { lsn = lsn; rec = rec }) in
     passed p records lsn rec b refl ∙ ap (λ (l : List ℕ). commit_numbers (filter p records) ++ l) (nothing b (commit_number_by rec) none) ∙ append-nil (commit_numbers (filter p records))
+
+-- there are no more numbers than records
+pub heard_few : (redo : ℕ) (n : Numbers) (records : List Entry) → Heard redo n records → n.early + n.late ≤ length records
+heard_few redo n records heard =
+    let all : length (commit_numbers records) ≡ n.early + n.late = ap length heard.run_on ∙ length-range_with_len n.first (n.early + n.late) in
+    let few = numbers_few records in
+    omega (arith, all, few)
+  where
+    with_one : (o : Option ℕ) (numbers : List ℕ) → length (cons_option o numbers) ≤ length numbers + 1
+    with_one None numbers = omega arith
+    with_one (Some number) numbers = omega arith
+
+    numbers_few : (entries : List Entry) → length (commit_numbers entries) ≤ length entries
+    numbers_few [] = omega arith
+    numbers_few (e ∷ entries) =
+        let rest = numbers_few entries in
+        let one = with_one (commit_number e) (commit_numbers entries) in
+        omega (arith, rest, one)
 
 -- a record that is no Commit
 pub heard_other : (redo : ℕ) (n : Numbers) (records : List Entry) (lsn : ℕ) (rec : LogRecord) → commit_number_by rec ≡ None → Heard redo n records → Heard redo n (records ++ record { lsn = lsn; rec = rec } ∷ [])
@@ -214,8 +232,3 @@ fits p n heard are =
 -- and so many were made
 pub counted_all : (p : Picture) (n : Numbers) → Heard p.master.redo n p.log → p.master.commits + n.late ≡ commit_count p
 counted_all p n heard = ap (λ (k : ℕ). p.master.commits + k) heard.late
-
--- or they aren't numbered so
-pub no_commits : (o : Option ℕ) (p : Picture) → ((count : ℕ) → o ≡ Some count → ⊥) → CommitsAre o p → AreNumbered p → ⊥
-no_commits None p none are = are
-no_commits (Some count) p none are = absurd (none count refl)

@@ -3,7 +3,6 @@ use Rattle.std.proofs.Common.{◌≡◌, ℕ, suc, ◌+◌, ◌*◌, ◌/◌, �
 use Rattle.std.specs.Prelude.{slice_get}
 use Rattle.std.specs.List.{AllByRecursion, list_all, range_with_len}
 use Rattle.std.specs.Option.{option_or}
-use Rattle.std.specs.Map.{lookup}
 use Rattle.std.proofs.lemmas.Bool.{and_from, cases_Bool, cases_eq, eqb-true, ne_eqb}
 use Rattle.std.proofs.lemmas.Bool.Decides.{nat_tests}
 use Rattle.std.proofs.lemmas.Option.{slice_get-map, slice_get-get_or, slice_get_within, none-some, same_Some}
@@ -60,13 +59,6 @@ written_now records e number known here =
     let test : Entry → Bool = λ x. is_on number x && nat_le x.lsn known in
     ap (option_map (λ (x : Entry). after_of x.rec)) (last_where-append test records (e ∷ [])
     ∙ ap (λ (b : Bool). option_or (cond b (Some e) None) (last_where test records)) here)
-
-pub expected_none : {S : Type 0} (lsns : List ℕ) (contents : IndexMap ℕ Content S) → contents.entries ≡ [] → AreExpected lsns [] contents
-expected_none lsns contents empty = record { each = λ number. ap (lookup (nat_eq number)) empty ∙ sym (nothing number (slice_get lsns (number / 32))) }
-  where
-    nothing : (number : ℕ) (o : Option ℕ) → written_by [] number o ≡ None
-    nothing number None = refl
-    nothing number (Some known) = refl
 
 pub expected_same : {S : Type 0} (lsns : List ℕ) (records : List Entry) (e : Entry) (contents : IndexMap ℕ Content S) →
     ((number : ℕ) → (is_on number e && is_known (slice_get lsns (number / 32)) e.lsn) ≡ false) → AreExpected lsns records contents → AreExpected lsns (records ++ e ∷ []) contents
@@ -231,13 +223,6 @@ module _ (p : Picture) (g : Geometry) (image : Image) (pages_are : p.pages ≡ v
         last_as (content_at v.slots slot) (last_known p.log v.lsn (32 * page + slot)) (subst (IsAs (content_at v.slots slot)) (expected_at p.pages lsns lsns_are p.log contents expected page slot less low) shown);
     knows = early_on p.master.redo p.pages lsns lsns_are page less p.log early;
   }
-
--- Record by record.
-
--- what was heard: each record so far that stands early is known, and this is expected of the versions
-pub record Knows {S : Type 0} (redo : ℕ) (lsns : List ℕ) (contents : IndexMap ℕ Content S) (records : List Entry) : Type 0 where
-  pub early : AllByRecursion (IsKnownEarly redo lsns) records
-  pub expected : AreExpected lsns records contents
 
 -- Page by page.
 

@@ -1,18 +1,20 @@
 -- Values counted page by page.
 use Rattle.std.proofs.Common.{◌≡◌, ℕ, zero, suc, ◌+◌, ◌*◌, ◌<◌, Bool, true, false, cond, ◌≤◌, option_map, List, [], ◌∷◌, ◌++◌, map, count_by, is_some, refl, sym, ap, subst, ◌∙◌, arith}
 use Rattle.std.specs.Prelude.{Option, Some, None, IfSome, IfNone}
-use Rattle.std.specs.List.{range_with_len}
+use Rattle.std.specs.List.{AllByRecursion, range_with_len}
 use Rattle.std.proofs.lemmas.List.FromFn.{sum_by-map-range_with_len_more}
 use Rattle.site.specs.declared.geometry.Geometry.{Geometry}
 use Rattle.site.specs.State.{Image}
 use Rattle.record_model.specs.State.{Content, content_at}
 use Rattle.log_records.specs.Log.{Entry, Version, version_at, slot_at, value_of, table_of}
-use Rattle.log_records.specs.Sound.{Pairwise}
+use Rattle.log_records.specs.Sound.{Pairwise, HoldsOff}
 use Rattle.slotted_page.specs.Layout.{slots_of}
 use Rattle.log_laws.proofs.Parts.{all_left}
 use Rattle.second_chance.specs.Queue.{Queue}
-use Rattle.image_check.specs.declared.rings.Rings.{Rings}
-use Rattle.image_check.specs.Newest.{AreLive, ShowsFrames}
+use Rattle.image_check.specs.declared.values.Logged.{Logged}
+use Rattle.image_check.specs.Newest.{ShowsFrames}
+use Rattle.image_check.specs.Showing.{AreExpected, IsKnownEarly}
+use Rattle.image_check.specs.Writing.{AreWritten}
 use Rattle.image_meaning.specs.Meaning.{version_in, versions_on}
 use Rattle.image_meaning.proofs.Redos.{slot_of_page}
 use Rattle.image_meaning.proofs.Versions.{length-versions}
@@ -71,13 +73,19 @@ pub some_mapped : {A B : Type 0} (f : A → B) (o : Option A) → is_some o ≡ 
 some_mapped f None = refl
 some_mapped f (Some x) = refl
 
+-- Record by record.
+
+-- What was heard of a log whose redo block and whose versions' LSNs are these: each record so far that stands early is known, this is
+-- expected of the versions, and this was written last where the log's records are apart.
+pub record Hears (redo : ℕ) (lsns : List ℕ) (log : List Entry) (logged : Logged) (records : List Entry) : Type 0 where
+  pub early : AllByRecursion (IsKnownEarly redo lsns) records
+  pub expected : AreExpected lsns records logged.expected.contents
+  pub written : Pairwise (HoldsOff log) log → AreWritten log records logged.written
+
 -- what was found
 
 pub shows_some : (g : Geometry) (image : Image) (o : Option Queue) (frames : Queue) → o ≡ Some frames → IfSome o (λ found. ShowsFrames g image found) → ShowsFrames g image frames
 shows_some g image o frames is shown = subst (λ (x : Option Queue). IfSome x (λ found. ShowsFrames g image found)) is shown
-
-pub live_some : (rings : Rings) (o : Option Queue) (frames : Queue) → o ≡ Some frames → IfSome o (λ found. AreLive rings found) → AreLive rings frames
-live_some rings o frames is live = subst (λ (x : Option Queue). IfSome x (λ found. AreLive rings found)) is live
 
 pub none_found : (o : Option Queue) → o ≡ None → IfNone o ⊥ → ⊥
 none_found o is none = subst (λ (x : Option Queue). IfNone x ⊥) is none

@@ -77,6 +77,7 @@ impl Numbers {
 
     // Whether they run on from the master's count, and are no more than the blocks.
     fn fit(&self, commits: u64, hi: u64) -> bool
+        requires { hi ≤ 2 ^ 40 }
         ensures fit { self.now.early + self.now.late < 2 ^ 62
             → IsTrue result ↔ Fit self.now.first self.now.early self.now.late commits hi }
         ensures room { IsTrue result → commits + self.now.late ≤ hi }
@@ -86,8 +87,8 @@ impl Numbers {
         }
         let count = self.early.saturating_add(self.late);
         count == 0
-            || (self.first <= commits.saturating_add(1)
-                && self.first.saturating_add(self.early) == commits.saturating_add(1))
+            || (self.first <= commits + 1
+                && self.first.saturating_add(self.early) == commits + 1)
     }
 }
 

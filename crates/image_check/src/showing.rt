@@ -1,5 +1,5 @@
 // What versions have to show of the log.
-ghost use Rattle.std.specs.Prelude.{◌≡◌, ◌↔◌, ◌*◌, ◌/◌, ◌^◌, ◌<◌, ◌≤◌, ◌++◌, ◌∷◌, [], ℕ, nat_eq, List, map, slice_get, option_copied, is_none, IsTrue, IfOk, IfErr, OnOk};
+ghost use Rattle.std.specs.Prelude.{◌≡◌, ◌↔◌, ◌*◌, ◌/◌, ◌^◌, ◌<◌, ◌≤◌, ◌++◌, ◌∷◌, [], ℕ, nat_eq, List, length, map, slice_get, option_copied, is_none, IsTrue, IfOk, IfErr, OnOk};
 ghost use Rattle.std.specs.List.{list_all};
 ghost use Rattle.site.specs.declared.outside.Stop.{Stop};
 ghost use Rattle.site.specs.Work.{OnlyReads};
@@ -63,6 +63,7 @@ pub fn version_lsns<S: Site>(
 
     ensures lsns { FindsVersions geometry.now rings.now frames.now (S.state site.old)
         → IfOk result (λ lsns. lsns.items ≡ map (λ v. v.lsn) (versions_on geometry.now (S.state site.old).image)) }
+    ensures many { IfOk result (λ lsns. length lsns.items ≡ geometry.now.pages) }
     ensures reads { OnlyReads result (S.state site.old) (S.state site.new) }
 {
     let mut lsns = Vec::new(alloc);
@@ -85,9 +86,10 @@ fn is_logged(lsn: u64, end: u64) -> bool
     lsn == 0 || lsn < end
 }
 
-/// The first page whose version knows of a record that isn't sealed, `None` exactly where each has the LSN 0 or one below
-/// the end.
+/// The first page whose version knows of a record that isn't sealed, `None` exactly where each has the LSN 0 or one
+/// below the end.
 pub fn find_unlogged(lsns: &[u64], end: u64) -> Option<Place>
+    requires { length lsns.now ≤ 2 ^ 32 }
     ensures { IsTrue (is_none result) ↔ IsTrue (list_all (is_logged end) lsns.now) }
 {
     for (page, lsn) in lsns.iter().enumerate() {

@@ -1,5 +1,5 @@
 // What versions show of the log, and the numbers that have a value.
-ghost use Rattle.std.specs.Prelude.{◌≡◌, ◌↔◌, ◌*◌, ◌-◌, ◌+◌, ◌^◌, ◌<◌, ◌≤◌, ◌++◌, ◌∷◌, [], ℕ, List, map, count_by, is_some, is_ok, IsTrue, IfOk, IfErr, IfSome, OnOk, if◌then◌else◌};
+ghost use Rattle.std.specs.Prelude.{◌≡◌, ◌↔◌, ◌*◌, ◌-◌, ◌+◌, ◌<◌, ◌≤◌, ◌++◌, ◌∷◌, [], ℕ, List, map, count_by, is_some, is_ok, IsTrue, IfOk, IfErr, IfSome, OnOk, if◌then◌else◌};
 ghost use Rattle.std.specs.List.{AllByRecursion, range_with_len};
 ghost use Rattle.site.specs.declared.outside.Stop.{Stop};
 ghost use Rattle.site.specs.Work.{OnlyReads};
@@ -17,7 +17,6 @@ ghost use Rattle.image_check.specs.Showing.{FindsVersions, AreExpected, IsKnownE
 ghost use Rattle.image_check.specs.Verdict.{Rule1, Rule5, Rule6, picture_of, values_of};
 ghost use Rattle.image_check.specs.Writing.{AreWritten};
 
-use crate::holding::number_of;
 use crate::newest::find_frames;
 use crate::place::Place;
 use crate::rings::Rings;
@@ -59,9 +58,10 @@ fn count_on(written: &Writings, page: u32, version: &Page) -> u64
 
 // The page of a record.
 fn page_of(rec: &LogRecord) -> Place {
-    match number_of(rec) {
-        Some(number) => Place::Page((number / 32) as u32),
-        None => Place::Blocks,
+    match rec {
+        LogRecord::Update { page, .. } => Place::Page(*page),
+        LogRecord::Clr { page, .. } => Place::Page(*page),
+        _ => Place::Blocks,
     }
 }
 
@@ -139,7 +139,8 @@ impl Logged {
         Ok(Ok(logged))
     }
 
-    // How many numbers of a page have a value, `None` exactly where its version hasn't what is expected there: reads it.
+    // How many numbers of a page have a value, `None` exactly where its version hasn't what is expected there: reads
+    // it.
     fn count_page<S: Site>(
         &self,
         site: &mut S,
@@ -176,8 +177,8 @@ impl Logged {
         Ok(Some(count_on(&self.written, page, &version)))
     }
 
-    // How many numbers of all pages have a value, or the first page whose version hasn't what is expected there, exactly
-    // where there is one: reads each version once.
+    // How many numbers of all pages have a value, or the first page whose version hasn't what is expected there,
+    // exactly where there is one: reads each version once.
     fn count_pages<S: Site>(
         &self,
         site: &mut S,
@@ -262,12 +263,12 @@ fn show_log<S: Site>(
     }
 }
 
-/// The sixth rule, of devices that meet the first one: how many numbers have a value, an unfinished transaction counting as
-/// undone, where each version shows the records that it knows of, knows of all before the redo block, and of none that
-/// isn't sealed; or the first page of which that isn't so. The number is that of the table that devices stand for which
+/// The sixth rule, of devices that meet the first one: how many numbers have a value, an unfinished transaction counting
+/// as undone, where each version shows the records that it knows of, knows of all before the redo block, and of none
+/// that isn't sealed; or a page of which that isn't so. The number is that of the table that devices stand for which
 /// meet the fifth rule, too. It reads the heads of the live groups and each kept block once, and each version twice; it
-/// holds an LSN for each page, where the newest frames stand, what the kept blocks have written last on each number, and
-/// which transactions they close.
+/// holds an LSN for each page, where the newest frames stand, what the kept blocks have written last on each number,
+/// and which transactions they close.
 pub fn rule_shown<S: Site>(
     alloc: Global,
     site: &mut S,

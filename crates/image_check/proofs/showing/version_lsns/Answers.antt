@@ -1,4 +1,4 @@
-use Rattle.std.proofs.Common.{◌≡◌, ℕ, ap, ◌∙◌, arith}
+use Rattle.std.proofs.Common.{◌≡◌, ℕ, length, ap, ◌∙◌, arith, length-append}
 use Rattle.site.specs.State.{State, Image}
 use Rattle.site.proofs.Working.{looks_then, looks_answered}
 use Rattle.slotted_page.specs.Layout.{lsn_of}
@@ -16,6 +16,7 @@ loop-page-preserved g c =
     let page : ℕ = c.loop-page.page in
     record {
       may_read = may_read_later geometry c.args.rings.now now (g.S.Site.state c.version_of.new.site) c.in-Ok.ensures.reads.goes c.loop-page.invariant.may_read;
+      many = let before = c.loop-page.invariant.many in let more = simp length-append at (ap length c.in-Ok-push.ensures.items) in omega (arith, before, more);
       lsns = λ finds.
           let same : now.image ≡ old.image = (reads.same finds.honest).image in
           let version = c.in-Ok.ensures.version (versions_later geometry c.args.rings.now c.args.frames.now old now reads.goes same finds) in
@@ -30,3 +31,6 @@ returns-clause-lsns g c finds =
     let old : State = g.S.Site.state c.args.site.now in
     let end : c.loop-page.page ≡ geometry.pages = omega (arith, c.loop-page.auto.page-end, c.loop-page-test.false) in
     c.loop-page.invariant.lsns finds ∙ ap (first_lsns geometry old.image) end
+
+pub returns-clause-many : goal.returns-clause-many
+returns-clause-many g c = let so_far = c.loop-page.invariant.many in omega (arith, so_far, c.loop-page.auto.page-end, c.loop-page-test.false)

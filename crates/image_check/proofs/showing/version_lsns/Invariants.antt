@@ -1,4 +1,4 @@
-use Rattle.std.proofs.Common.{◌≡◌}
+use Rattle.std.proofs.Common.{◌≡◌, length}
 use Rattle.std.specs.Prelude.{Ok}
 use Rattle.site.specs.Work.{OnlyReads}
 use Rattle.image_check.specs.Findings.{MayRead}
@@ -12,6 +12,7 @@ invariant-loop-page g l =
     let now = g.S.Site.state l.site in
     record {
       may_read : MayRead l.geometry l.rings now;
+      many : length l.lsns.items ≡ l.page;
       lsns : FindsVersions l.geometry l.rings l.frames old → l.lsns.items ≡ first_lsns l.geometry old.image l.page;
       reads : OnlyReads {T = Unit {0}} (Ok tt) old now;
     }

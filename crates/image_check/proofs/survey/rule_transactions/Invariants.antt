@@ -1,19 +1,26 @@
-use Rattle.std.proofs.Common.{◌≡◌, ◌↔◌, ◌^◌, ◌+◌, ◌-◌, ◌<◌, ◌≤◌, ◌++◌, ◌∷◌, [], ℕ, List, length, is_ok, IsTrue, IfOk, IfErr, OnOk, ◌*◌}
-use Rattle.site.specs.declared.outside.Stop.{Stop}
-use Rattle.site.specs.Work.{OnlyReads}
+use Rattle.std.proofs.Common.{◌+◌, ◌^◌, ◌≤◌, List, length}
+use Rattle.std.specs.Prelude.{Ok}
 use Rattle.log_records.specs.declared.log_record.LogRecord.{LogRecord}
-use Rattle.log_records.specs.Log.{Entry, log_from}
-use Rattle.log_records.specs.Sound.{IsInOrder, before_block}
-use Rattle.log_laws.specs.Follow.{IsFresh}
+use Rattle.log_records.specs.Log.{log_from}
 use Rattle.log_store.specs.Held.{MayGoOn, Finds, HasBlocks}
-use Rattle.image_check.specs.Counting.{NumbersAre}
-use Rattle.image_check.specs.Surveying.{Surveys}
-use Rattle.image_check.specs.Unended.{AreLeft}
-use Rattle.image_check.specs.Verdict.{Rule3, picture_of}
+use Rattle.checkpoint.specs.Newest.{seen}
+use Rattle.site.specs.Work.{OnlyReads}
+use Rattle.image_check.specs.Walking.{MayWalk, to_go}
+use Rattle.image_check.proofs.Walks.{Walked}
+use Rattle.image_check.proofs.Surveyed.{SurveyedSoFar}
 use Rattle.image_check.proofs.survey.rule_transactions.Given as goal
 
 abbrev pub invariant-loop-survey : goal.invariant-loop-survey
-invariant-loop-survey g l = ?
+invariant-loop-survey g l =
+    let old = g.S.Site.state l.fn.site in
+    let now = g.S.Site.state l.site in
+    record {
+      going : MayGoOn l.log now;
+      walks : MayWalk l.log l.walk;
+      heard : (blocks : List (List LogRecord)) → Finds l.log old → HasBlocks l.log.geometry l.master.kept blocks old.image →
+          (w : Walked l.walk l.log old.image (log_from l.master.kept blocks)) × SurveyedSoFar (seen l.master) (to_go l.log l.walk) l.transactions.txns.items l.survey w.done;
+      reads : OnlyReads {T = Unit {0}} (Ok tt) old now;
+    }
 
 abbrev pub decreases-loop-survey : goal.decreases-loop-survey
-decreases-loop-survey g l = ?
+decreases-loop-survey g l = to_go l.log l.walk

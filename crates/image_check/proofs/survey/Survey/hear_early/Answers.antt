@@ -1,17 +1,14 @@
-use Rattle.std.proofs.Common.{rules, ◌≡◌, ◌↔◌, ◌^◌, ◌+◌, ◌-◌, ◌<◌, ◌≤◌, ◌++◌, ◌∷◌, [], ℕ, List, length, is_ok, IsTrue, IfOk, IfErr, OnOk, ◌*◌, ◌/◌, ◌%◌, Bool, true, false, nat_eq, nat_lt, slice_index_or, slice_set, bit_and, bit_or, Fits, w8, w32, w64, Bor, MutBor}
-use Rattle.site.specs.declared.outside.Stop.{Stop}
-use Rattle.site.specs.Work.{OnlyReads}
-use Rattle.log_records.specs.declared.log_record.LogRecord.{LogRecord}
-use Rattle.log_records.specs.Log.{Entry, log_from}
-use Rattle.log_records.specs.Sound.{IsInOrder, before_block}
-use Rattle.log_laws.specs.Follow.{IsFresh}
-use Rattle.log_store.specs.Held.{MayGoOn, Finds, HasBlocks}
-use Rattle.image_check.specs.Counting.{NumbersAre}
-use Rattle.image_check.specs.Surveying.{Surveys}
+use Rattle.std.proofs.Common.{ℕ, ◌++◌, ◌∷◌, [], ◌<◌, ◌^◌, List, sym, ap, subst, arith}
+use Rattle.std.specs.Prelude.{OnOk, length}
+use Rattle.log_records.specs.Log.{Entry}
+use Rattle.log_records.specs.Sound.{before_block}
 use Rattle.image_check.specs.Unended.{AreLeft}
-use Rattle.image_check.specs.Verdict.{Rule3, picture_of}
+use Rattle.image_check.proofs.LeftOnes.{early_more, early_least, early_in_order, early_fresh}
 use Rattle.image_check.proofs.survey.Survey.hear_early.Goals as goal
 
--- src/survey.rt:65:5
 pub returns-clause-early : goal.returns-clause-early
-returns-clause-early c = ?
+returns-clause-early c records from order few fresh left =
+    let e : Entry = record { lsn = c.args.lsn; rec = c.args.rec.now } in
+    let less = early_least c.args.redo records in
+    subst (λ (l : List Entry). OnOk c.hear.result (AreLeft l c.hear.new.self.left.items)) (sym (early_more c.args.redo records e c.if-lsn-redo.false))
+    (c.hear.ensures.heard (before_block c.args.redo records) from (early_in_order c.args.redo from records c.args.lsn order) (omega (arith, less, few)) (early_fresh c.args.redo c.args.lsn records fresh) left)

@@ -1,0 +1,50 @@
+-- What one walk over the kept blocks has found so far.
+use Rattle.std.proofs.Common.{◌≡◌, ℕ, ◌+◌, ◌*◌, ◌^◌, ◌≤◌, ◌<◌, List, [], ◌∷◌, ◌++◌, length, refl, arith}
+use Rattle.std.specs.List.{AllByRecursion}
+use Rattle.std.proofs.lemmas.List.{length-append}
+use Rattle.log_records.specs.Log.{Entry, txn_of}
+use Rattle.log_records.specs.Sound.{Master, InTurn, IsInOrder}
+use Rattle.log_laws.specs.Follow.{IsFresh}
+use Rattle.log_laws.proofs.Orders.{InTurn-append, InTurn-all}
+use Rattle.image_check.specs.declared.survey.Survey.{Survey}
+use Rattle.image_check.specs.Opening.{AreOpen, MayStand}
+use Rattle.image_check.specs.Surveying.{Surveys}
+use Rattle.image_check.proofs.LeftOnes.{in_order_front}
+use Rattle.image_check.proofs.OpenOnes.{all_before, none_of_later}
+
+-- the records so far follow the third rule and are fewer than what was to be read; the open transactions are known, and what they leave
+pub record SurveyedSoFar (m : Master) (most : ℕ) (txns : List ℕ) (survey : Survey) (records : List Entry) : Type 0 where
+  pub are_open : AreOpen m records txns
+  pub stand : InTurn (MayStand m) [] records
+  pub surveys : Surveys m.redo records survey
+  pub few : length records + most ≤ 2 ^ 60
+
+-- what the next record asks of those before it
+pub record Comes (from : ℕ) (records : List Entry) (e : Entry) : Type 0 where
+  pub in_order : IsInOrder from records e.lsn
+  pub fresh : IsFresh e.lsn records
+  pub few : length records < 2 ^ 62
+
+pub comes : {m : Master} {most : ℕ} {txns : List ℕ} {survey : Survey} (from : ℕ) (front : List Entry) (e : Entry) (back : List Entry) (to : ℕ) → SurveyedSoFar m most txns survey front → IsInOrder from (front ++ e ∷ back) to →
+    Comes from front e
+comes {m} from front e back to so_far order =
+    let begun : AllByRecursion (λ x. txn_of x ≤ x.lsn) front = InTurn-all (MayStand m) (λ x. txn_of x ≤ x.lsn) (λ earlier x may. may.begun) [] front so_far.stand in
+    let few = so_far.few in
+    record {
+      in_order = in_order_front from front e back to order;
+      fresh = none_of_later e.lsn front (all_before from front e back to order) begun;
+      few = omega (arith, few);
+    }
+
+-- and with it
+pub one_more : {m : Master} {most now : ℕ} {txns heard : List ℕ} {survey after : Survey} (front : List Entry) (e : Entry) → SurveyedSoFar m most txns survey front → now < most → MayStand m front e →
+    AreOpen m (front ++ e ∷ []) heard → Surveys m.redo (front ++ e ∷ []) after → SurveyedSoFar m now heard after (front ++ e ∷ [])
+one_more {m} front e so_far shorter may opens surveys =
+    let few = so_far.few in
+    let longer : length (front ++ e ∷ []) ≡ length front + 1 = length-append front (e ∷ []) in
+    record {
+      are_open = opens;
+      stand = InTurn-append (MayStand m) [] front e so_far.stand may;
+      surveys = surveys;
+      few = omega (arith, few, shorter, longer);
+    }
