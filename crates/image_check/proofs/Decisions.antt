@@ -1,6 +1,6 @@
 -- The rules one after the other.
 use Rattle.std.proofs.Common.{◌≡◌, ◌↔◌, inl, inr, ℕ, zero, suc, ◌+◌, ◌≤◌, true, false, true≢false, Bool, IsTrue, List, refl, sym, ap, ◌∙◌, subst, arith}
-use Rattle.std.specs.Prelude.{Option, Some, None, is_none, Result, Ok, Err, IfOk, ⊤}
+use Rattle.std.specs.Prelude.{Option, Some, None, is_none, Result, Ok, Err, is_ok, IfOk, ⊤}
 use Rattle.std.proofs.lemmas.Bool.{cases_eq}
 use Rattle.site.specs.declared.geometry.Geometry.{Geometry}
 use Rattle.site.specs.declared.outside.Stop.{Stop}
@@ -156,6 +156,13 @@ pub holds_so : {T : Type 0} (x : T) (i : ℕ) (found : Found) (blocks : List (Li
     OnlyReads {T = T} (Ok x) a b → stand ≡ true → Past (i + 1) found blocks old b
 holds_so x i found blocks old a b stand past says reads is = goes_past x i found blocks old a b reads past (says.0 is)
 
+-- where nothing was called meanwhile
+pub holds_here : (i : ℕ) (found : Found) (blocks : List (List LogRecord)) (old a : State) → Past i found blocks old a → Numbered i (reading_of found blocks) a.image → Past (i + 1) found blocks old a
+holds_here i found blocks old a past holds = record {
+  meets = record { there = past.meets.there; reads = past.meets.reads; rules = one_more i (reading_of found blocks) a.image past.meets.rules holds };
+  same = past.same;
+}
+
 -- a rule that fails
 pub fails_by : (i : ℕ) (place : Place) (found : Found) (blocks : List (List LogRecord)) (old a : State) (end : ℕ) → 3 ≤ i → Past i found blocks old a → (Numbered i (reading_of found blocks) a.image → ⊥) →
     HoldOr end (Some (i, place)) (reading_of found blocks) old.image
@@ -173,6 +180,13 @@ placed failing place is = ap is_none is
 
 pub unplaced : (failing : Option Place) → failing ≡ None → is_none failing ≡ true
 unplaced failing is = ap is_none is
+
+-- and of an answer in place of which a place may be told
+pub told_place : {T : Type 0} (found : Result T Place) (place : Place) → found ≡ Err place → is_ok found ≡ false
+told_place found place is = ap is_ok is
+
+pub told_none : {T : Type 0} (found : Result T Place) (x : T) → found ≡ Ok x → is_ok found ≡ true
+told_none found x is = ap is_ok is
 
 -- what is answered, said otherwise
 pub answers_as : {T : Type 0} (r : Result T Stop) (P Q : T → Type 0) → ((x : T) → P x → Q x) → IfOk r P → IfOk r Q

@@ -87,8 +87,7 @@ impl Numbers {
         }
         let count = self.early.saturating_add(self.late);
         count == 0
-            || (self.first <= commits + 1
-                && self.first.saturating_add(self.early) == commits + 1)
+            || (self.first <= commits + 1 && self.first.saturating_add(self.early) == commits + 1)
     }
 }
 

@@ -63,10 +63,7 @@ fn segments_of(geometry: &Geometry) -> Shape
 }
 
 /// The four rings, or the first of them that isn't of the form, exactly where one isn't.
-pub fn rule_rings<S: Site>(
-    site: &mut S,
-    geometry: &Geometry,
-) -> Result<Result<Rings, Place>, Stop>
+pub fn rule_rings<S: Site>(site: &mut S, geometry: &Geometry) -> Result<Result<Rings, Place>, Stop>
     requires { HasSizes geometry.now (S.state site.old).image }
 
     ensures rings { IsTrue (S.state site.old).honest

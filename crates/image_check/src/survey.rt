@@ -33,12 +33,7 @@ pub struct Survey {
 }
 
 // The numbers of the commits with one record more.
-fn numbers_after(
-    numbers: Option<Numbers>,
-    lsn: u64,
-    rec: &LogRecord,
-    redo: u64,
-) -> Option<Numbers>
+fn numbers_after(numbers: Option<Numbers>, lsn: u64, rec: &LogRecord, redo: u64) -> Option<Numbers>
     requires { redo ≤ 2 ^ 40 }
     ensures { (records : List Entry) → length records < 2 ^ 62 → NumbersAre redo records numbers
         → NumbersAre redo (records ++ record { lsn = lsn; rec = rec.now } ∷ []) result }

@@ -3,10 +3,9 @@ ghost use Rattle.std.specs.Prelude.{◌<◌, ◌≤◌, length, IfOk};
 ghost use Rattle.site.specs.MemState.{state_of};
 
 use crate::{
-    Place, Verdict, check_image, count_values, find_place, rule_apart, rule_blocks, rule_clean,
-    rule_commits, rule_following, rule_groups, rule_kept, rule_lengths, rule_master, rule_named,
-    rule_rings, rule_room, rule_segments, rule_shown, rule_transactions, rule_undoable,
-    rule_versions,
+    Place, Verdict, check_image, rule_apart, rule_blocks, rule_clean, rule_commits, rule_following,
+    rule_groups, rule_kept, rule_lengths, rule_master, rule_named, rule_rings, rule_room,
+    rule_segments, rule_shown, rule_transactions, rule_undoable, rule_versions,
 };
 use checkpoint::{Master, Pairs};
 use log_store::LogStore;
@@ -92,11 +91,10 @@ fn with_block(alloc: Global, block: &[u8]) -> Result<MemSite, Fail>
     Ok(site)
 }
 
-// The rules on the log.
+// The rules on the log, the first and the third as one.
 #[derive(Clone, Copy, Drop)]
 enum LogRule {
-    Blocks,
-    Transactions,
+    Formed,
     Undoable,
     Apart,
     Room,
@@ -104,7 +102,8 @@ enum LogRule {
     OneCommit,
 }
 
-// Whether a rule on the log holds, where the lengths are those of sizes and the kept blocks are live.
+// Whether a rule on the log holds with the first and the third, where the lengths are those of sizes and the kept blocks are
+// live.
 fn holds_of_log(
     alloc: Global,
     site: &mut MemSite,
@@ -118,14 +117,19 @@ fn holds_of_log(
     if !rule_kept(&log, master) {
         return Ok(None);
     }
+    if rule_blocks(site, &log, 0)?.is_some() {
+        return Ok(Some(false));
+    }
+    let Ok(survey) = rule_transactions(alloc, site, &log, master)? else {
+        return Ok(Some(false));
+    };
     let holds = match rule {
-        LogRule::Blocks => rule_blocks(site, &log, 0)?,
-        LogRule::Transactions => rule_transactions(alloc, site, &log, master)?,
-        LogRule::Undoable => rule_undoable(alloc, site, &log, master)?,
-        LogRule::Apart => rule_apart(alloc, site, &log, master)?,
-        LogRule::Room => rule_room(alloc, site, &log, master)?,
-        LogRule::Named => rule_named(alloc, site, &log, master)?,
-        LogRule::OneCommit => rule_commits(site, &log, master)? == Some(1),
+        LogRule::Formed => true,
+        LogRule::Undoable => { rule_undoable(alloc, site, &log, master, &survey.left)?.is_none() }
+        LogRule::Apart => rule_apart(alloc, site, &log, master, &survey.left)?.is_none(),
+        LogRule::Room => rule_room(&log, master, &survey.left),
+        LogRule::Named => rule_named(master, &survey.early),
+        LogRule::OneCommit => rule_commits(&log, master, &survey.numbers) == Some(1),
     };
     Ok(Some(holds))
 }
@@ -155,11 +159,10 @@ fn first_wrong(
 #[test]
 fn a_finished_transaction(rt: HostRuntime) -> Result<(), Fail> {
     let rows = [
-        (GATE_AT, 0xa5, LogRule::Blocks, true),
-        (GATE_AT, 0xa5, LogRule::Transactions, true),
+        (GATE_AT, 0xa5, LogRule::Formed, true),
         (GATE_AT, 0xa5, LogRule::OneCommit, true),
-        (PAGE_AT, 1, LogRule::Blocks, false),
-        (TXN_AT, 3, LogRule::Transactions, false),
+        (PAGE_AT, 1, LogRule::Formed, false),
+        (TXN_AT, 3, LogRule::Formed, false),
         (COMMIT_AT, 2, LogRule::OneCommit, false),
     ];
     let wrong = first_wrong(rt.alloc(), &BLOCK, &Master::blank(), &rows)?;
@@ -243,17 +246,17 @@ fn holds_of_pages(site: &mut MemSite, rule: PageRule) -> Result<Option<bool>, St
     let Some(geometry) = rule_lengths(site) else {
         return Ok(None);
     };
-    let Some(rings) = rule_rings(site, &geometry)? else {
+    let Ok(rings) = rule_rings(site, &geometry)? else {
         return Ok(None);
     };
-    let holds = match rule {
+    let failing = match rule {
         PageRule::Groups => rule_groups(site, &geometry, &rings)?,
         PageRule::Segments => rule_segments(site, &geometry, &rings)?,
         PageRule::Versions => rule_versions(site, &geometry, &rings)?,
         PageRule::Clean => rule_clean(site, &geometry, &rings)?,
         PageRule::Following => rule_following(site, &geometry, &rings)?,
     };
-    Ok(Some(holds))
+    Ok(Some(failing.is_none()))
 }
 
 #[test]
@@ -421,8 +424,8 @@ fn with_page(alloc: Global, lsn: [u8; 2], value: u8, gate: u8) -> Result<MemSite
     Ok(site)
 }
 
-// Whether versions show what the log has, where lengths, rings and kept blocks are so.
-fn are_shown(alloc: Global, site: &mut MemSite, redo: u64) -> Result<Option<bool>, Stop> {
+// How many numbers have a value, where lengths, rings and kept blocks are so and versions show what the log has.
+fn values_after(alloc: Global, site: &mut MemSite, redo: u64) -> Result<Option<u64>, Stop> {
     let master = Master {
         redo,
         kept: 0,
@@ -432,21 +435,21 @@ fn are_shown(alloc: Global, site: &mut MemSite, redo: u64) -> Result<Option<bool
     let Some(geometry) = rule_lengths(site) else {
         return Ok(None);
     };
-    let Some(rings) = rule_rings(site, &geometry)? else {
+    let Ok(rings) = rule_rings(site, &geometry)? else {
         return Ok(None);
     };
     let log = LogStore::start(site, &geometry)?;
     if !rule_kept(&log, &master) {
         return Ok(None);
     }
-    Ok(Some(rule_shown(alloc, site, &log, &rings, &master)?))
+    Ok(rule_shown(alloc, site, &log, &rings, &master)?.ok())
 }
 
 // The first row that isn't so.
 fn first_not_shown(alloc: Global, rows: &[ShownRow]) -> Result<Option<usize>, Fail> {
     for (index, &(redo, lsn, value, gate, shown)) in rows.iter().enumerate() {
         let mut site = with_page(alloc, lsn, value, gate)?;
-        if are_shown(alloc, &mut site, redo)? != Some(shown) {
+        if values_after(alloc, &mut site, redo)?.is_some() != shown {
             return Ok(Some(index));
         }
     }
@@ -471,28 +474,12 @@ fn a_page_of_the_first_commit(rt: HostRuntime) -> Result<(), Fail> {
 // The entry of a slot with the empty value.
 const ENTRY: [u8; 4] = [0x10, 0x00, 0x00, 0x01];
 
-// How many numbers have a value, where the rings are of the form.
-fn values_on(alloc: Global, site: &mut MemSite) -> Result<Option<u64>, Stop> {
-    let Some(geometry) = rule_lengths(site) else {
-        return Ok(None);
-    };
-    let log = LogStore::start(site, &geometry)?;
-    if !rule_kept(&log, &Master::blank()) {
-        return Ok(None);
-    }
-    let Some(rings) = rule_rings(site, &geometry)? else {
-        return Ok(None);
-    };
-    let count = count_values(alloc, site, &log, &rings, &Master::blank())?;
-    Ok(Some(count))
-}
-
 #[test]
 fn values_of_one_transaction(rt: HostRuntime) -> Result<(), Fail> {
     let mut finished = with_block(rt.alloc(), &BLOCK)?;
-    assert_eq!(rt; values_on(rt.alloc(), &mut finished)?, Some(1));
+    assert_eq!(rt; values_after(rt.alloc(), &mut finished, 0)?, Some(1));
     let mut left = with_block(rt.alloc(), &unfinished())?;
-    assert_eq!(rt; values_on(rt.alloc(), &mut left)?, Some(0));
+    assert_eq!(rt; values_after(rt.alloc(), &mut left, 0)?, Some(0));
     Ok(())
 }
 
@@ -501,11 +488,11 @@ fn values_of_one_transaction(rt: HostRuntime) -> Result<(), Fail> {
 fn values_of_the_newest_frame(rt: HostRuntime) -> Result<(), Fail> {
     let mut shown = with_groups(rt.alloc())?;
     shown.write_at(Dev::Flash, 99_993, &ENTRY)?;
-    assert_eq!(rt; values_on(rt.alloc(), &mut shown)?, Some(1));
+    assert_eq!(rt; values_after(rt.alloc(), &mut shown, 0)?, Some(1));
     let mut hidden = with_groups(rt.alloc())?;
     hidden.write_at(Dev::Disk, 16, &ENTRY)?;
     hidden.write_at(Dev::Flash, 66_713, &ENTRY)?;
-    assert_eq!(rt; values_on(rt.alloc(), &mut hidden)?, Some(0));
+    assert_eq!(rt; values_after(rt.alloc(), &mut hidden, 0)?, Some(0));
     Ok(())
 }
 
@@ -529,11 +516,17 @@ fn verdicts_on_the_first_commit(rt: HostRuntime) -> Result<(), Fail> {
     );
     assert_eq!(rt;
         verdict_on(rt.alloc(), &BLOCK, TXN_AT, 3)?,
-        Verdict::Unsound { rule: 3 }
+        Verdict::Unsound {
+            rule: 3,
+            place: Place::Block(0)
+        }
     );
     assert_eq!(rt;
         verdict_on(rt.alloc(), &BLOCK, COMMIT_AT, 2)?,
-        Verdict::Unsound { rule: 11 }
+        Verdict::Unsound {
+            rule: 11,
+            place: Place::Blocks
+        }
     );
     Ok(())
 }
@@ -556,16 +549,19 @@ fn verdicts_on_blank_devices(rt: HostRuntime) -> Result<(), Fail> {
     );
     assert_eq!(rt;
         verdict_with_page(rt.alloc(), 1)?,
-        Verdict::Unsound { rule: 1 }
+        Verdict::Unsound {
+            rule: 1,
+            place: Place::Page(0)
+        }
     );
     Ok(())
 }
 
-// The place where devices fail the rule that they are judged to fail, if they do.
+// The place where devices fail the first rule that fails, if one does.
 fn place_on(alloc: Global, site: &mut MemSite) -> Result<Option<Place>, Stop> {
     match check_image(alloc, site)? {
         Verdict::Sound { .. } => Ok(None),
-        Verdict::Unsound { rule } => find_place(alloc, site, rule),
+        Verdict::Unsound { place, .. } => Ok(Some(place)),
     }
 }
 

@@ -1,16 +1,27 @@
-use Rattle.std.proofs.Common.{rules, ◌≡◌, List, IsTrue, IfOk, ℕ, ◌+◌, ◌-◌, ◌*◌, ◌<◌, ◌≤◌, length, ◌/◌, ◌%◌, Bool, true, false, nat_eq, nat_lt, [], ◌∷◌, ◌++◌, slice_index_or, slice_set, bit_and, bit_or, Fits, w8, w32, w64, Bor, MutBor}
-use Rattle.site.specs.State.{State}
-use Rattle.site.specs.Work.{OnlyReads}
-use Rattle.log_records.specs.declared.log_record.LogRecord.{LogRecord}
-use Rattle.image_check.specs.Deciding.{MayBeJudged, MeetsBefore, HoldOr, IsSurveyOf, reading_of}
+use Rattle.std.proofs.Common.{◌≡◌, subst}
+use Rattle.std.specs.Prelude.{Result, Ok, IfOk}
+use Rattle.site.specs.State.{State, Image}
 use Rattle.image_check.specs.Judgement.{IsVerdictOn}
-use Rattle.image_check.specs.Verdict.{picture_of, values_of}
+use Rattle.image_check.specs.declared.formed.Found.{Found}
+use Rattle.image_check.specs.declared.place.Place.{Place}
+use Rattle.image_check.specs.Deciding.{IsFormedOr}
+use Rattle.image_check.specs.Verdict.{FailsFirst}
+use Rattle.image_check.proofs.Decisions.{fails_kept, meets_both}
 use Rattle.image_check.proofs.verdict.check_image.Goals as goal
 
--- src/verdict.rt:157:9
 pub returns-then-not-rule_kept-clause-verdict : goal.returns-then-not-rule_kept-clause-verdict
-returns-then-not-rule_kept-clause-verdict g c = ?
+returns-then-not-rule_kept-clause-verdict g c honest =
+    let s0 : State = g.S.Site.state c.args.site.now in
+    let s1 : State = g.S.Site.state c.find_formed.new.site in
+    let same : s1.image ≡ s0.image = (c.in_ok-found.ensures.reads.same honest).image in
+    let is : IsFormedOr (Ok c.in-Ok.found) s1 = subst (λ (o : Result Found Place). IsFormedOr o s1) c.in-Ok.is (c.in_ok-found.ensures.formed honest) in
+    subst (FailsFirst 2) same (fails_kept c.in-Ok.found s1 c.rule_kept.result is.1 (c.rule_kept.ensures.kept s1 is.0.log) c.if-not-rule_kept.true)
 
--- src/verdict.rt:147:1
 pub returns-clause-verdict : goal.returns-clause-verdict
-returns-clause-verdict g c = ?
+returns-clause-verdict g c honest =
+    let s0 : State = g.S.Site.state c.args.site.now in
+    let s1 : State = g.S.Site.state c.find_formed.new.site in
+    let same : s1.image ≡ s0.image = (c.in_ok-found.ensures.reads.same honest).image in
+    let is : IsFormedOr (Ok c.in-Ok.found) s1 = subst (λ (o : Result Found Place). IsFormedOr o s1) c.in-Ok.is (c.in_ok-found.ensures.formed honest) in
+    let both = meets_both c.in-Ok.found s1 is.0 is.1 ((c.rule_kept.ensures.kept s1 is.0.log).0 c.if-not-rule_kept.false) in
+    subst (λ (image : Image). IfOk c.judge_found.result (λ verdict. IsVerdictOn image verdict)) same (c.judge_found.ensures.verdict both.0 both.1)
