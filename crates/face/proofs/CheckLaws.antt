@@ -12,6 +12,7 @@ use Rattle.site.specs.Laws.{stays_honest, unchanged_devices, devices_in_sequence
 use Rattle.site.specs.Work.{IsOutside}
 use Rattle.log_records.specs.Log.{table_of}
 use Rattle.image_check.specs.declared.verdict.Verdict.{Verdict}
+use Rattle.image_check.specs.declared.place.Place.TheVariants.{Lengths}
 use Rattle.image_check.specs.declared.verdict.Verdict.TheVariants.{Sound, Unsound}
 use Rattle.image_check.specs.Judgement.{IsVerdictOn}
 use Rattle.image_check.specs.Verdict.{FailsFirst, Reading, Rule, picture_of}
@@ -19,7 +20,7 @@ use Rattle.image_check.specs.Laws.{SoundFailsNone, SoundStands, StandingIsSound}
 use Rattle.engine.specs.Leaves.{HasNoSizes}
 use Rattle.face.specs.declared.halt.Halt.TheVariants as halt
 use Rattle.face.specs.Causes.{FirstDecides, NoFaultRose, SameFaults}
-use Rattle.face.specs.Check.{AreSound, Check, CheckContract, FailsUnread, IsAnswer, OpeningIsSound, SaysSound, SaysUnsound, SoundOpens, verdict_line, verdict_status}
+use Rattle.face.specs.Check.{AreSound, Check, CheckContract, FailsUnread, IsAnswer, OpeningIsSound, SaysSound, SaysUnsound, SoundOpens, unsound_line, verdict_line, verdict_status}
 use Rattle.face.specs.Tells.{Tells}
 use Rattle.face.specs.Texts.{fault_line, status_of}
 use Rattle.face.specs.Words.{LacksMemory, OnlyTells, memory_fault}
@@ -70,7 +71,7 @@ numbered (suc (suc (suc i))) image fails =
 
 says : (v : Verdict) (site : State) → (IsTrue site.honest → IsVerdictOn site.image v) → SaysSound (verdict_line v) site ⊎ SaysUnsound (verdict_line v) site
 says (Sound records commits) site theirs = inl (record { records = records; commits = commits; line_is = refl; sound = theirs })
-says (Unsound rule) site theirs = inr (record { rule = rule; line_is = refl; fails = theirs; numbered = λ honest. numbered rule site.image (theirs honest) })
+says (Unsound rule place) site theirs = inr (record { rule = rule; line_is = refl; fails = theirs; numbered = λ honest. numbered rule site.image (theirs honest) })
 
 -- it is told
 pub answer_told : (v : Verdict) (status : ℕ) (old new : State) → status ≡ verdict_status v → (IsTrue old.honest → IsVerdictOn old.image v) → IsAnswer status (verdict_line v) old new
@@ -81,7 +82,7 @@ answer_told (Sound records commits) status old new is theirs = record {
   memory = λ e. absurd (omega (arith, is, e));
   output = λ e. absurd (omega (arith, is, e));
 }
-answer_told (Unsound rule) status old new is theirs = record {
+answer_told (Unsound rule place) status old new is theirs = record {
   sound = λ e. absurd (omega (arith, is, e));
   unsound = λ e. record { rule = rule; line_is = refl; fails = theirs; numbered = λ honest. numbered rule old.image (theirs honest) };
   device = λ e. absurd (omega (arith, is, e));
@@ -125,7 +126,7 @@ Others status = status ≡ 0 ⊎ (status ≡ 3 ⊎ (status ≡ 4 ⊎ (status ≡
 
 pub told_others : (v : Verdict) (status : ℕ) → status ≡ verdict_status v → Others status
 told_others (Sound records commits) status is = inl is
-told_others (Unsound rule) status is = inr (inr (inr (inr is)))
+told_others (Unsound rule place) status is = inr (inr (inr (inr is)))
 
 pub stopped_others : (stop : Stop) (status : ℕ) → status ≡ status_of (halt.Stop stop) → IsOutside stop → Others status
 stopped_others (Device dev) status is outside = inr (inl is)
@@ -186,18 +187,18 @@ pub no_verdict : (judged : Result Verdict Stop) (stop : Stop) (v : Verdict) → 
 no_verdict judged stop v first second = cc
 
 -- devices without sizes: nothing was done before their line is told
-pub fails_unread : {T : Type 0} (judged : Result Verdict Stop) (v : Verdict) (old mid new : State) (status : ℕ) (result : Result T CallFailed) → judged ≡ Ok v → (judged ≡ Ok (Unsound 1)) × (mid ≡ old) → (status ≡ verdict_status v) ⊎ (status ≡ 6) → Tells (verdict_line v) mid new result → FailsUnread old new status
+pub fails_unread : {T : Type 0} (judged : Result Verdict Stop) (v : Verdict) (old mid new : State) (status : ℕ) (result : Result T CallFailed) → judged ≡ Ok v → (judged ≡ Ok (Unsound 1 Lengths)) × (mid ≡ old) → (status ≡ verdict_status v) ⊎ (status ≡ 6) → Tells (verdict_line v) mid new result → FailsUnread old new status
 fails_unread judged v old mid new status result found unread is tells =
-    let first : v ≡ Unsound 1 = same_verdict judged v (Unsound 1) found unread.0 in
+    let first : v ≡ Unsound 1 Lengths = same_verdict judged v (Unsound 1 Lengths) found unread.0 in
     record {
       is = ⊎_elim (λ e. inl (e ∙ ap verdict_status first)) (λ e. inr e) is;
-      tells = subst (λ (m : State). OnlyTells (verdict_line (Unsound 1)) m new) unread.1 (subst (λ (w : Verdict). OnlyTells (verdict_line w) mid new) first (only_tells (verdict_line v) mid new result tells));
+      tells = subst (λ (m : State). OnlyTells (unsound_line 1) m new) unread.1 (subst (λ (w : Verdict). OnlyTells (verdict_line w) mid new) first (only_tells (verdict_line v) mid new result tells));
     }
 
 -- the first event is that the verdict is told
 pub first_verdict : (v : Verdict) (status : ℕ) (old new : State) → status ≡ verdict_status v → SameFaults old new → FirstDecides status old new
 first_verdict (Sound records commits) status old new is same = first_done status old new (λ e. omega (arith, is, e), λ e. omega (arith, is, e), λ e. omega (arith, is, e)) same
-first_verdict (Unsound rule) status old new is same = first_done status old new (λ e. omega (arith, is, e), λ e. omega (arith, is, e), λ e. omega (arith, is, e)) same
+first_verdict (Unsound rule place) status old new is same = first_done status old new (λ e. omega (arith, is, e), λ e. omega (arith, is, e), λ e. omega (arith, is, e)) same
 
 -- memory was wanted before anything was done
 pub lacked_check : (status : ℕ) (old new : State) → LacksMemory status old new → CheckContract old new status

@@ -19,15 +19,19 @@ use Rattle.face.specs.Tells.{EndsWith}
 use Rattle.face.specs.Texts.{fault_line}
 use Rattle.face.specs.Words.{OnlyTells, LacksMemory}
 
+-- the line that names a rule that fails
+abbrev pub unsound_line : ℕ → List ℕ
+unsound_line rule = codes "unsound S" ++ decimal rule ++ codes "\n"
+
 -- the line of a verdict, and its status
 abbrev pub verdict_line : Verdict → List ℕ
 verdict_line (Sound records commits) =
     codes "sound records " ++ decimal records ++ codes " commits " ++ decimal commits ++ codes "\n"
-verdict_line (Unsound rule) = codes "unsound S" ++ decimal rule ++ codes "\n"
+verdict_line (Unsound rule place) = unsound_line rule
 
 abbrev pub verdict_status : Verdict → ℕ
 verdict_status (Sound records commits) = 0
-verdict_status (Unsound rule) = 11
+verdict_status (Unsound rule place) = 11
 
 -- The line says that the devices are sound, with so many records after so many commits; of an honest site they are.
 pub record SaysSound (line : List ℕ) (site : State) : Type 0 where
@@ -39,7 +43,7 @@ pub record SaysSound (line : List ℕ) (site : State) : Type 0 where
 -- The line says which is the first rule that fails; of an honest site it is this one, and one of the eleven.
 pub record SaysUnsound (line : List ℕ) (site : State) : Type 0 where
   pub rule : ℕ
-  pub line_is : line ≡ verdict_line (Unsound rule)
+  pub line_is : line ≡ unsound_line rule
   pub fails : IsTrue site.honest → FailsFirst rule site.image
   pub numbered : IsTrue site.honest → (1 ≤ rule) × (rule ≤ 11)
 
@@ -72,7 +76,7 @@ AreSound image = (records : ℕ) × (commits : ℕ) × IsSoundWith image records
 -- the first rule fails, whatever the devices hold: nothing is read, and its line is told
 pub record FailsUnread (old new : State) (status : ℕ) : Type 0 where
   pub is : (status ≡ 11) ⊎ (status ≡ 6)
-  pub tells : OnlyTells (verdict_line (Unsound 1)) old new
+  pub tells : OnlyTells (unsound_line 1) old new
 
 -- When each status of `check` comes.
 pub record CheckCauses (old new : State) (status : ℕ) : Type 0 where

@@ -3,6 +3,7 @@ ghost use Rattle.std.specs.Prelude.{◌≡◌, IsTrue, IfOk, Ok};
 ghost use Rattle.site.specs.Calls.{Goes};
 ghost use Rattle.site.specs.Work.{OnlyReads};
 ghost use Rattle.image_check.specs.Judgement.{IsVerdictOn};
+ghost use Rattle.image_check.specs.declared.place.Place.{Place};
 ghost use Rattle.image_check.specs.declared.verdict.Verdict.{Verdict};
 ghost use Rattle.engine.specs.Leaves.{HasNoSizes};
 ghost use Rattle.face.specs.Causes.{FirstDecides, SameFaults};
@@ -10,7 +11,7 @@ ghost use Rattle.face.specs.Check.{CheckContract, verdict_status};
 
 use crate::fault_lines::{tell_halt, tell_verdict};
 use crate::halt::Halt;
-use image_check::{Verdict, check_image, one_reading, rule_lengths};
+use image_check::{Place, Verdict, check_image, one_reading, rule_lengths};
 use site::{Site, Stop};
 use std::alloc::Global;
 
@@ -30,10 +31,13 @@ fn judge<S: Site>(alloc: Global, site: &mut S) -> Result<Verdict, Stop>
         → IfOk result (λ verdict. IsVerdictOn (S.state site.old).image verdict) }
     ensures reads { OnlyReads result (S.state site.old) (S.state site.new) }
     ensures sizes { HasNoSizes (S.state site.old)
-        → (result ≡ Ok (Verdict.Unsound 1)) × (S.state site.new ≡ S.state site.old) }
+        → (result ≡ Ok (Verdict.Unsound 1 Place.Lengths)) × (S.state site.new ≡ S.state site.old) }
 {
     if rule_lengths(site).is_none() {
-        return Ok(Verdict::Unsound { rule: 1 });
+        return Ok(Verdict::Unsound {
+            rule: 1,
+            place: Place::Lengths,
+        });
     }
     check_image(alloc, site)
 }

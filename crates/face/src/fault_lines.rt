@@ -2,7 +2,7 @@
 ghost use Rattle.std.specs.Prelude.{◌≡◌, ◌≤◌, length, codes};
 ghost use Rattle.face.specs.Texts.{dev_name, fault_line};
 ghost use Rattle.image_check.specs.declared.verdict.Verdict.{Verdict};
-ghost use Rattle.face.specs.Check.{verdict_line};
+ghost use Rattle.face.specs.Check.{unsound_line, verdict_line};
 ghost use Rattle.face.specs.New.{ready_line, unfit_line};
 ghost use Rattle.face.specs.declared.new_database.Unfit.{Unfit};
 ghost use Rattle.face.specs.Tells.{Tells};
@@ -63,7 +63,7 @@ fn sound_line(records: u64, commits: u64) -> Line
 }
 
 fn unsound_line(rule: u8) -> Line
-    ensures { result ≡ verdict_line (Verdict.Unsound rule) }
+    ensures { result ≡ unsound_line rule }
 {
     let mut line = Line::new();
     line.push(b"unsound S");
@@ -77,7 +77,7 @@ fn line_of(verdict: Verdict) -> Line
 {
     match verdict {
         Verdict::Sound { records, commits } => sound_line(records, commits),
-        Verdict::Unsound { rule } => unsound_line(rule),
+        Verdict::Unsound { rule, .. } => unsound_line(rule),
     }
 }
 

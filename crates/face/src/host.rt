@@ -10,7 +10,7 @@ use crate::request::{Request, Unread, read_words};
 use crate::top::face;
 use crate::words::sizes;
 use file_site::{FileSite, LockFile, tell_line};
-use image_check::{Place, find_place};
+use image_check::{Place, Verdict, check_image};
 use site::Stop;
 use std::alloc::{AllocError, Global};
 use std::env;
@@ -56,16 +56,16 @@ where
     }
 }
 
-// Where the rule fails that was told to fail, as far as it is known.
+// Where the rule fails that was told to fail: the devices are judged again.
 fn find_failing<R>(alloc: Global, site: &mut FileSite<R>) -> Option<Place>
 where
     R: Files + Input + Print + Eprint + Clock + Drop,
     R::File: FileExt + LockFile,
 {
-    let rule = site.watch().rule()?;
-    match find_place(alloc, site, rule) {
-        Ok(place) => place,
-        Err(_) => None,
+    site.watch().rule()?;
+    match check_image(alloc, site) {
+        Ok(Verdict::Unsound { place, .. }) => Some(place),
+        _ => None,
     }
 }
 

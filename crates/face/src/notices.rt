@@ -369,6 +369,31 @@ fn broken(rule: u8) -> &'static str {
     }
 }
 
+// Says which rule fails where, and what is so.
+fn say_place<R: Eprint>(rt: &R, rule: u8, place: Place, what: &str) {
+    let _ = match place {
+        Place::Lengths => eprintln!(rt; "face: rule {rule} fails at the lengths: {what}"),
+        Place::Masters => eprintln!(rt; "face: rule {rule} fails in the ring of masters: {what}"),
+        Place::Blocks => eprintln!(rt; "face: rule {rule} fails in the log: {what}"),
+        Place::Groups => eprintln!(rt; "face: rule {rule} fails in the ring of groups: {what}"),
+        Place::Segments => {
+            eprintln!(rt; "face: rule {rule} fails in the ring of segments: {what}")
+        }
+        Place::Master => eprintln!(rt; "face: rule {rule} fails at the newest master: {what}"),
+        Place::Block(block) => {
+            eprintln!(rt; "face: rule {rule} fails at block {block} of the log: {what}")
+        }
+        Place::Group(group) => eprintln!(rt; "face: rule {rule} fails at group {group}: {what}"),
+        Place::Segment(segment) => {
+            eprintln!(rt; "face: rule {rule} fails at segment {segment}: {what}")
+        }
+        Place::Page(page) => eprintln!(rt; "face: rule {rule} fails at page {page}: {what}"),
+        Place::Transaction(txn) => {
+            eprintln!(rt; "face: rule {rule} fails at transaction {txn}: {what}")
+        }
+    };
+}
+
 // Says why the devices aren't sound and where, as far as it is known, and what to do.
 fn say_unsound<R: Eprint>(rt: &R, seen: &Seen, place: Option<Place>) {
     if say_no_files(rt, seen) {
@@ -378,22 +403,12 @@ fn say_unsound<R: Eprint>(rt: &R, seen: &Seen, place: Option<Place>) {
         return;
     };
     let what = broken(rule);
-    let _ = match place {
-        None => eprintln!(rt; "face: rule {rule} fails: {what}"),
-        Some(Place::Master) => {
-            eprintln!(rt; "face: rule {rule} fails at the newest master: {what}")
+    match place {
+        Some(place) => say_place(rt, rule, place, what),
+        None => {
+            let _ = eprintln!(rt; "face: rule {rule} fails: {what}");
         }
-        Some(Place::Block(block)) => {
-            eprintln!(rt; "face: rule {rule} fails at block {block} of the log: {what}")
-        }
-        Some(Place::Group(group)) => {
-            eprintln!(rt; "face: rule {rule} fails at group {group}: {what}")
-        }
-        Some(Place::Segment(segment)) => {
-            eprintln!(rt; "face: rule {rule} fails at segment {segment}: {what}")
-        }
-        Some(Place::Page(page)) => eprintln!(rt; "face: rule {rule} fails at page {page}: {what}"),
-    };
+    }
     let _ = rt.eprintln("face: bring back all three files of one copy");
 }
 
