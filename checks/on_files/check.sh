@@ -47,7 +47,7 @@ told 'a commit' 0 'open 0/committed 1' 'set 5 0a0b/' run 1
 checks 'a commit is sound' 0 'sound records 1 commits 1' ''
 cp face.log kept
 poke face.log 1590 002
-checks 'another number of a commit' 11 'unsound S11' 'face: rule 11 fails: .*'
+checks 'another number of a commit' 11 'unsound S11' 'face: rule 11 fails in the log: .*'
 mv kept face.log
 told 'another commit' 0 'open 1/committed 2/committed 3' 'set 5 -/set 6 0c/' run 1
 checks 'three commits on two numbers' 0 'sound records 2 commits 3' ''

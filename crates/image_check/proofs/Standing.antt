@@ -29,7 +29,7 @@ use Rattle.image_meaning.specs.Meaning.{IsNewest, HasNewest, IsFrameOf, AreOctet
 use Rattle.image_meaning.specs.Meaning as meaning
 use Rattle.image_check.specs.Octets.{IsGroupOn, AreBlocks, SegmentsAreFormed, IsFormed, IsOnPage, IsSegmentOn}
 use Rattle.image_check.specs.Verdict.{Reading, Reads, HoldBefore, picture_of}
-use Rattle.image_check.specs.Laws.{SoundStands, StandingIsSound, SoundOpens, OpenIsSound}
+use Rattle.image_check.specs.Laws.{SoundStands, StandingIsSound, JudgedStands, StandingIsJudged}
 use Rattle.image_check.proofs.LiveUnits.{all_live, each_live}
 use Rattle.image_check.proofs.BlockLists.{one_block, log_in_table, blocks_on_pages, log_in_order}
 
@@ -284,8 +284,8 @@ standing_is_sound g image table commits stands =
 
 -- Judged sound.
 
-pub sound_opens : SoundOpens
-sound_opens image records commits sound =
+pub judged_stands : JudgedStands
+judged_stands image records commits sound =
     let r = sound.reading in
     let p : Picture = picture_of r image in
     record {
@@ -295,8 +295,8 @@ sound_opens image records commits sound =
       values = sound.values;
     }
 
-pub open_is_sound : OpenIsSound
-open_is_sound image records commits opens =
+pub standing_is_judged : StandingIsJudged
+standing_is_judged image records commits opens =
     let read = standing_is_sound opens.sizes image opens.table commits opens.stands in
     record {
       reading = read.reading;

@@ -39,16 +39,16 @@ abbrev pub SoundFailsNone : Type 0
 SoundFailsNone = (image : Image) (records commits i : ℕ) → IsSoundWith image records commits → FailsFirst i image → ⊥
 
 -- sizes and a table with so many values, for which devices stand after so many commits
-pub record Opens (image : Image) (records commits : ℕ) : Type 0 where
+pub record StandsWith (image : Image) (records commits : ℕ) : Type 0 where
   pub sizes : Geometry
   pub table : List Content
   pub stands : StandsFor sizes image table commits
   pub values : records ≡ count_by is_some table
 
 -- Devices that are judged sound stand for a table with as many values and commits as they are judged to have,
-abbrev pub SoundOpens : Type 0
-SoundOpens = (image : Image) (records commits : ℕ) → IsSoundWith image records commits → Opens image records commits
+abbrev pub JudgedStands : Type 0
+JudgedStands = (image : Image) (records commits : ℕ) → IsSoundWith image records commits → StandsWith image records commits
 
 -- and all that stand for a table are judged so.
-abbrev pub OpenIsSound : Type 0
-OpenIsSound = (image : Image) (records commits : ℕ) → Opens image records commits → IsSoundWith image records commits
+abbrev pub StandingIsJudged : Type 0
+StandingIsJudged = (image : Image) (records commits : ℕ) → StandsWith image records commits → IsSoundWith image records commits

@@ -1,5 +1,5 @@
 // Laws on the rules, for the proofs of code above. They do nothing when called.
-ghost use Rattle.image_check.specs.Laws.{SoundStands, StandingIsSound, OneReading, AReading, SoundFailsNone, SoundOpens, OpenIsSound};
+ghost use Rattle.image_check.specs.Laws.{SoundStands, StandingIsSound, OneReading, AReading, SoundFailsNone, JudgedStands, StandingIsJudged};
 
 use checkpoint::one_master;
 
@@ -21,7 +21,7 @@ pub fn one_reading()
 
 /// Devices are judged sound exactly where they stand for a table, with as many values and commits as they are judged to
 /// have: a run opens them.
-pub fn sound_opens()
-    ensures opens { SoundOpens }
-    ensures sound { OpenIsSound }
+pub fn judged_stands()
+    ensures stands { JudgedStands }
+    ensures judged { StandingIsJudged }
 {}
