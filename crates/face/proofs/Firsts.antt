@@ -10,6 +10,7 @@ use Rattle.face.specs.declared.halt.Halt.{Halt}
 use Rattle.face.specs.declared.halt.Halt.TheVariants as halt
 use Rattle.face.specs.declared.new_database.Unfit.{Unfit}
 use Rattle.face.specs.declared.new_database.Unfit.TheVariants as unfit
+use Rattle.trace_report.specs.Contract.{FirstFails}
 use Rattle.face.specs.Texts.{status_of}
 use Rattle.face.specs.Causes.{AfterFirst, FirstDecides, SameFaults, after_halt}
 use Rattle.face.specs.New.{TestFaults, unfit_status}
@@ -46,6 +47,17 @@ work_halts T Foreign f = refl
 -- a run halts, and its line is told
 pub first_halted : {T : Type 0} (h : Halt) (status : ℕ) (old mid new : State) (result : Result T Failed) → status ≡ status_of h → faults_in mid ≡ after_halt h (faults_in old) → TellFaults result mid new → FirstDecides status old new
 first_halted h status old mid new result is same tells = record { after = faults_in mid; first = halt_first h status (faults_in old) (faults_in mid) is same; line = line_told result mid new tells }
+
+-- a simulation
+pub first_simulated : (status : ℕ) (old new : State) → FirstFails status old new → (status ≡ 0) ⊎ ((status ≡ 4) ⊎ ((status ≡ 5) ⊎ ((status ≡ 6) ⊎ (status ≡ 16)))) → FirstDecides status old new
+first_simulated status old new fails others = record { after = fails.after; first = by others; line = fails.line }
+  where
+    by : (status ≡ 0) ⊎ ((status ≡ 4) ⊎ ((status ≡ 5) ⊎ ((status ≡ 6) ⊎ (status ≡ 16)))) → AfterFirst status (faults_in old) fails.after
+    by (inl is) = inr (inr (inr (λ e. omega (arith, is, e), λ e. omega (arith, is, e), λ e. omega (arith, is, e), fails.none (inl is))))
+    by (inr (inl is)) = inr (inr (inr (λ e. omega (arith, is, e), λ e. omega (arith, is, e), λ e. omega (arith, is, e), fails.none (inr (inl is)))))
+    by (inr (inr (inl is))) = inr (inl (is, fails.input is))
+    by (inr (inr (inr (inl is)))) = inr (inr (inl (is, fails.output is)))
+    by (inr (inr (inr (inr is)))) = inr (inr (inr (λ e. omega (arith, is, e), λ e. omega (arith, is, e), λ e. omega (arith, is, e), fails.none (inr (inr is)))))
 
 -- nothing is done but that a line is told
 pub first_line : {T : Type 0} (status : ℕ) (old new : State) (result : Result T Failed) → (status ≢ 3) × (status ≢ 5) × (status ≢ 6) → TellFaults result old new → FirstDecides status old new

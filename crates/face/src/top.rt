@@ -189,8 +189,7 @@ pub fn face<S: Site>(alloc: Global, words: &[String], site: &mut S) -> u8
     // Words of which one begins with a dash want no memory.
     ensures dashed { HasDash (words_of words.now) → result ≡ 2 }
     // The first failed call decides the status.
-    ensures first { ((s : Simulation) × IsSimulate (words_of words.now) s)
-        ⊎ FirstDecides result (S.state site.old) (S.state site.new) }
+    ensures first { FirstDecides result (S.state site.old) (S.state site.new) }
     ensures goes { Goes (S.state site.old) (S.state site.new) }
     ensures faults { result ≡ 0 → SameFaults (S.state site.old) (S.state site.new) }
 {

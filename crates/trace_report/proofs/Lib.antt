@@ -3,3 +3,4 @@ mod Heard
 mod Cut
 pub mod Told
 pub mod Lacking
+pub mod Firsts

@@ -1,7 +1,8 @@
 -- What `simulate` does with a site.
-use Rattle.std.specs.Prelude.{◌≡◌, ◌⊎◌, ℕ, List, ◌++◌, codes, IsTrue, ⊤}
+use Rattle.std.specs.Prelude.{◌≡◌, ◌⊎◌, ℕ, List, ◌++◌, codes, Result, Ok, Err, IsTrue, ⊤}
 use Rattle.site.specs.State.{State}
 use Rattle.site.specs.Calls.{Rose, SameReads}
+use Rattle.site.specs.Faults.{Faults, faults_in, with_input_fault, with_output_fault}
 use Rattle.site.specs.Moments.{EachMoment}
 use Rattle.site.specs.Telling.{TellsPart}
 use Rattle.trace_report.specs.declared.halt.Halt.{Halt}
@@ -53,3 +54,23 @@ abbrev pub HasCause : Halt → State → State → Type 0
 HasCause halt.Memory old new = ⊤
 HasCause halt.Input old new = Rose old.input_faults new.input_faults
 HasCause (halt.Trace number) old new = IsTrue old.honest → IsFirstWrong old.input.left number
+
+-- the counts of faults after it: one failed take more, or as they were
+abbrev pub after_halt : Halt → Faults → Faults
+after_halt halt.Memory f = f
+after_halt halt.Input f = with_input_fault f
+after_halt (halt.Trace number) f = f
+
+-- hearing, which a first failed take ends
+abbrev pub HearFaults : {T : Type 0} → Result T Halt → State → State → Type 0
+HearFaults (Ok x) old new = faults_in new ≡ faults_in old
+HearFaults (Err h) old new = faults_in new ≡ after_halt h (faults_in old)
+
+-- The first failed call decides the status: with 5 one take has failed, with 6 the telling of the report, and with any other status
+-- nothing; behind it the telling of a fault line may fail.
+pub record FirstFails (status : ℕ) (old new : State) : Type 0 where
+  pub after : Faults
+  pub input : status ≡ 5 → after ≡ with_input_fault (faults_in old)
+  pub output : status ≡ 6 → after ≡ with_output_fault (faults_in old)
+  pub none : (status ≡ 0) ⊎ ((status ≡ 4) ⊎ (status ≡ 16)) → after ≡ faults_in old
+  pub line : (faults_in new ≡ after) ⊎ (faults_in new ≡ with_output_fault after)

@@ -1,11 +1,11 @@
 // The work of `simulate`.
-ghost use Rattle.std.specs.Prelude.{◌≡◌, ◌≤◌, List, IsTrue, IfOk, IfErr, OnOk};
+ghost use Rattle.std.specs.Prelude.{◌≡◌, ◌≤◌, List, IsTrue, IfOk, IfErr};
 ghost use Rattle.site.specs.Calls.{Goes, SameReads};
 ghost use Rattle.site.specs.Faults.{faults_in};
 ghost use Rattle.trace_report.specs.Traces.{Touch, IsTrace};
 ghost use Rattle.trace_report.specs.Reports.{report};
 ghost use Rattle.trace_report.specs.Hearing.{HearsOnly};
-ghost use Rattle.trace_report.specs.Contract.{HasCause, SimulateContract};
+ghost use Rattle.trace_report.specs.Contract.{FirstFails, HasCause, HearFaults, SimulateContract};
 
 use crate::halt::Halt;
 use crate::machines::Machines;
@@ -30,7 +30,7 @@ fn work<S: Site>(alloc: Global, groups: u32, pool: u32, site: &mut S) -> Result<
     ensures same { IsTrue (S.state site.old).honest → HearsOnly (S.state site.old) (S.state site.new) }
     ensures goes { Goes (S.state site.old) (S.state site.new) }
     ensures reads { SameReads (S.state site.old) (S.state site.new) }
-    ensures faults { OnOk result (faults_in (S.state site.new) ≡ faults_in (S.state site.old)) }
+    ensures faults { HearFaults result (S.state site.old) (S.state site.new) }
 {
     let Ok(mut machines) = Machines::new(alloc, groups, pool) else {
         return Err(Halt::Memory);
@@ -70,6 +70,7 @@ pub fn simulate<S: Site>(alloc: Global, groups: u32, pool: u32, site: &mut S) ->
     ensures simulate { SimulateContract groups pool (S.state site.old) (S.state site.new) result }
     ensures goes { Goes (S.state site.old) (S.state site.new) }
     ensures faults { result ≡ 0 → faults_in (S.state site.new) ≡ faults_in (S.state site.old) }
+    ensures first { FirstFails result (S.state site.old) (S.state site.new) }
 {
     match work(alloc, groups, pool, site) {
         Ok(text) => match tell_all(site, text.as_slice()) {

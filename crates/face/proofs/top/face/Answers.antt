@@ -9,7 +9,7 @@ use Rattle.trace_report.specs.Contract.{SimulateContract}
 use Rattle.face.specs.Words.{IsLoad, IsNew, IsRight, IsSimulate, IsTrial, words_of, IsRun}
 use Rattle.face.proofs.Endings.{only_tells}
 use Rattle.face.proofs.WordLaws.{one_geometry, one_load, one_pool, one_simulation, one_trial}
-use Rattle.face.proofs.Firsts.{first_line}
+use Rattle.face.proofs.Firsts.{first_line, first_simulated}
 use Rattle.face.proofs.top.face.Goals as goal
 
 pub returns-in-Ok-Run-clause-run : goal.returns-in-Ok-Run-clause-run
@@ -67,29 +67,10 @@ returns-in-Err-Words-clause-run g c pool is_run =
     let never : IsRight (words_of c.args.words.now) → ⊥ = search rules in
     absurd (never (inl (pool, is_run)))
 
-pub returns-in-Ok-Run-clause-first : goal.returns-in-Ok-Run-clause-first
-returns-in-Ok-Run-clause-first g c = inr c.serve.ensures.first
-
-pub returns-in-Ok-New-clause-first : goal.returns-in-Ok-New-clause-first
-returns-in-Ok-New-clause-first g c = inr c.make_new.ensures.first
-
-pub returns-in-Ok-Load-clause-first : goal.returns-in-Ok-Load-clause-first
-returns-in-Ok-Load-clause-first g c = inr c.serve_load.ensures.first
-
 pub returns-in-Ok-Simulate-clause-first : goal.returns-in-Ok-Simulate-clause-first
 returns-in-Ok-Simulate-clause-first g c =
-    let found : IsSimulate (words_of c.args.words.now) c.in-Ok-Simulate.caches = search rules in
-    inl (c.in-Ok-Simulate.caches, found)
-
-pub returns-in-Ok-Trial-clause-first : goal.returns-in-Ok-Trial-clause-first
-returns-in-Ok-Trial-clause-first g c = inr c.serve_trial.ensures.first
-
-pub returns-in-Ok-Check-clause-first : goal.returns-in-Ok-Check-clause-first
-returns-in-Ok-Check-clause-first g c = inr c.check.ensures.first
+    first_simulated c.simulate.result (g.S.Site.state c.args.site.now) (g.S.Site.state c.simulate.new.site) c.simulate.ensures.first c.simulate.ensures.simulate.others
 
 pub returns-in-Err-Words-clause-first : goal.returns-in-Err-Words-clause-first
 returns-in-Err-Words-clause-first g c =
-    inr (first_line 2 (g.S.Site.state c.args.site.now) (g.S.Site.state c.tell_words.new.site) c.tell_words.result (λ e. omega (arith, e), λ e. omega (arith, e), λ e. omega (arith, e)) c.tell_words.ensures.faults)
-
-pub returns-in-Err-Memory-clause-first : goal.returns-in-Err-Memory-clause-first
-returns-in-Err-Memory-clause-first g c = inr c.lack_memory.ensures.first
+    first_line 2 (g.S.Site.state c.args.site.now) (g.S.Site.state c.tell_words.new.site) c.tell_words.result (λ e. omega (arith, e), λ e. omega (arith, e), λ e. omega (arith, e)) c.tell_words.ensures.faults

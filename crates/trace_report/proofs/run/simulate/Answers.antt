@@ -1,6 +1,7 @@
 use Rattle.std.proofs.Common.{◌∙◌, ℕ, List, subst, sym}
-use Rattle.trace_report.specs.Contract.{SimulateContract}
+use Rattle.trace_report.specs.Contract.{FirstFails, SimulateContract}
 use Rattle.trace_report.proofs.Told.{Tells, told_report, untold_report, told_halt}
+use Rattle.trace_report.proofs.Firsts.{first_told, first_untold, first_halted}
 use Rattle.trace_report.proofs.run.simulate.Goals as goal
 
 pub returns-in-Ok-tell_all-clause-simulate : goal.returns-in-Ok-tell_all-clause-simulate
@@ -34,3 +35,18 @@ returns-in-Err-clause-simulate g c =
     subst (λ (n : ℕ). SimulateContract c.args.groups c.args.pool old new n) (sym c.status.ensures)
     (told_halt c.args.groups c.args.pool c.in-Err.halt old mid new c.tell_all-in-Err.result c.work.ensures.goes c.work.ensures.same c.work.ensures.reads
     (subst (λ (l : List ℕ). Tells l mid new c.tell_all-in-Err.result) (c.as_slice-in-Err.ensures.value ∙ c.line.ensures) told) c.in-Err.ensures.cause)
+
+pub returns-in-Ok-tell_all-clause-first : goal.returns-in-Ok-tell_all-clause-first
+returns-in-Ok-tell_all-clause-first g c =
+    first_told (g.S.Site.state c.args.site.now) (g.S.Site.state c.work.new.site) (g.S.Site.state c.tell_all.new.site) c.in-Ok.ensures.faults c.in-Ok-tell_all.ensures.faults
+
+pub returns-in-Err-tell_all-clause-first : goal.returns-in-Err-tell_all-clause-first
+returns-in-Err-tell_all-clause-first g c =
+    first_untold (g.S.Site.state c.args.site.now) (g.S.Site.state c.work.new.site) (g.S.Site.state c.tell_all.new.site) c.in-Ok.ensures.faults c.in-Err-tell_all.ensures.faults
+
+pub returns-in-Err-clause-first : goal.returns-in-Err-clause-first
+returns-in-Err-clause-first g c =
+    let old = g.S.Site.state c.args.site.now in
+    let mid = g.S.Site.state c.work.new.site in
+    let new = g.S.Site.state c.tell_all-in-Err.new.site in
+    subst (λ (n : ℕ). FirstFails n old new) (sym c.status.ensures) (first_halted c.in-Err.halt old mid new c.tell_all-in-Err.result c.in-Err.ensures.faults c.tell_all-in-Err.ensures.faults)

@@ -1,0 +1,68 @@
+-- The first failed call decides the status.
+use Rattle.std.proofs.Common.{◌≡◌, ◌⊎◌, inl, inr, ℕ, refl, sym, ap, ◌∙◌, arith}
+use Rattle.std.specs.Prelude.{Result, Ok, Err}
+use Rattle.site.specs.State.{State}
+use Rattle.site.specs.Faults.{faults_in, with_output_fault, TellFaults}
+use Rattle.site.specs.declared.outside.Failed.{Failed}
+use Rattle.trace_report.specs.declared.halt.Halt.{Halt}
+use Rattle.trace_report.specs.declared.halt.Halt.TheVariants as halt
+use Rattle.trace_report.specs.Contract.{FirstFails, after_halt, halt_status}
+
+-- the report is told
+pub first_told : (old mid new : State) → faults_in mid ≡ faults_in old → faults_in new ≡ faults_in mid → FirstFails 0 old new
+first_told old mid new same told = record {
+  after = faults_in old;
+  input = λ e. absurd (omega (arith, e));
+  output = λ e. absurd (omega (arith, e));
+  none = λ other. refl;
+  line = inl (told ∙ same);
+}
+
+abbrev AnswersOtherwise : ℕ → Type 0
+AnswersOtherwise status = (status ≡ 0) ⊎ ((status ≡ 4) ⊎ (status ≡ 16))
+
+otherwise : (status : ℕ) → (status ≡ 5) ⊎ (status ≡ 6) → AnswersOtherwise status → ⊥
+otherwise status (inl is) (inl e) = omega (arith, is, e)
+otherwise status (inl is) (inr (inl e)) = omega (arith, is, e)
+otherwise status (inl is) (inr (inr e)) = omega (arith, is, e)
+otherwise status (inr is) (inl e) = omega (arith, is, e)
+otherwise status (inr is) (inr (inl e)) = omega (arith, is, e)
+otherwise status (inr is) (inr (inr e)) = omega (arith, is, e)
+
+-- or can't be
+pub first_untold : (old mid new : State) → faults_in mid ≡ faults_in old → faults_in new ≡ with_output_fault (faults_in mid) → FirstFails 6 old new
+first_untold old mid new same told = record {
+  after = with_output_fault (faults_in old);
+  input = λ e. absurd (omega (arith, e));
+  output = λ e. refl;
+  none = λ other. absurd (otherwise 6 (inr refl) other);
+  line = inl (told ∙ ap with_output_fault same);
+}
+
+line_told : {T : Type 0} (result : Result T Failed) (mid new : State) → TellFaults result mid new → (faults_in new ≡ faults_in mid) ⊎ (faults_in new ≡ with_output_fault (faults_in mid))
+line_told (Ok x) mid new tells = inl tells
+line_told (Err e) mid new tells = inr tells
+
+-- the line of a halt is told
+pub first_halted : {T : Type 0} (h : Halt) (old mid new : State) (result : Result T Failed) → faults_in mid ≡ after_halt h (faults_in old) → TellFaults result mid new → FirstFails (halt_status h) old new
+first_halted halt.Memory old mid new result same tells = record {
+  after = faults_in mid;
+  input = λ e. absurd (omega (arith, e));
+  output = λ e. absurd (omega (arith, e));
+  none = λ other. same;
+  line = line_told result mid new tells;
+}
+first_halted halt.Input old mid new result same tells = record {
+  after = faults_in mid;
+  input = λ e. same;
+  output = λ e. absurd (omega (arith, e));
+  none = λ other. absurd (otherwise 5 (inl refl) other);
+  line = line_told result mid new tells;
+}
+first_halted (halt.Trace number) old mid new result same tells = record {
+  after = faults_in mid;
+  input = λ e. absurd (omega (arith, e));
+  output = λ e. absurd (omega (arith, e));
+  none = λ other. same;
+  line = line_told result mid new tells;
+}
