@@ -23,3 +23,4 @@ pub mod Stats
 pub mod Writes
 pub mod Asking
 pub mod RingCounts
+pub mod SeenVersions

@@ -10,3 +10,4 @@ pub mod Paging
 pub mod Permits
 pub mod Restarting
 pub mod Scans
+pub mod SeenVersions

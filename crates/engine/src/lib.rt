@@ -17,4 +17,4 @@ mod values;
 mod writing;
 
 pub use engine::Engine;
-pub use laws::{queue_is_on_flash, rest_counts_nothing};
+pub use laws::{queue_is_on_flash, rest_counts_nothing, versions_are_seen};
