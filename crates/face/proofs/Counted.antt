@@ -1,5 +1,5 @@
 -- How many numbers a run gives to the rings on the log's device, line by line.
-use Rattle.std.proofs.Common.{◌≡◌, ℕ, zero, suc, ◌+◌, ◌≤◌, Bool, true, false, List, [], ◌∷◌, ◌++◌, take, drop, refl, sym, ◌∙◌, ap, subst, arith}
+use Rattle.std.proofs.Common.{◌≡◌, ℕ, suc, ◌+◌, ◌≤◌, Bool, true, false, List, [], ◌∷◌, ◌++◌, take, drop, refl, sym, ◌∙◌, ap, subst, arith}
 use Rattle.std.specs.Prelude.{Result, Ok, Err, OnOk, Some, None, if◌then◌else◌}
 use Rattle.site.specs.declared.geometry.Geometry.{Geometry}
 use Rattle.site.specs.declared.outside.Stop.{Stop}
@@ -22,14 +22,15 @@ use Rattle.engine.specs.Image.{log_under}
 use Rattle.engine.specs.Numbers.{CountsOn, RestartsWithin}
 use Rattle.face.specs.Going.{IsCounted}
 use Rattle.face.specs.Lines.{up_to_quit}
-use Rattle.face.specs.Range.{GivesNumbers, SkipsNoNumber, made_by, turns_of}
-use Rattle.face.specs.Run.{CountsUpTo, Run, SkipsNoneUpTo, after_lines, answered, checkpoints_of, line_checkpoints, listing_at, state_at, step}
+use Rattle.face.specs.Range.{GivesNumbers, SkipsNoNumber, made_by}
+use Rattle.face.specs.Run.{Run, after_lines, answered, checkpoints_of, first_lines, line_checkpoints, listing_at, state_at, step, turns_of}
 use Rattle.face.specs.Workload.{checkpoints_in, makes_one}
 use Rattle.engine.specs.Numbers.{RestCountsNothing}
 use Rattle.face.proofs.Pagings.{after_same, same_after}
-use Rattle.face.proofs.Runs.{state_next}
+use Rattle.face.proofs.Runs.{state_next, turn_at, turns_next}
 use Rattle.face.proofs.Stated.{after_cons, count_join, count_one}
-use Rattle.face.proofs.Turns.{first_answered, first_turns, states_are}
+use Rattle.face.proofs.Fronts.{lines_first}
+use Rattle.face.proofs.Turns.{left_are}
 
 -- Calls.
 
@@ -95,93 +96,14 @@ checkpoints_join s (line ∷ first) later =
     let same = ap (λ (x : State). checkpoints_of x later) (after_cons s line first) in
     omega (arith, rest, same)
 
-checkpoints_more : (s : State) (lines : List Line) (i : ℕ) (line : Line) (rest : List Line) → drop i lines ≡ line ∷ rest → checkpoints_of s (take (suc i) lines) ≡ checkpoints_of s (take i lines) + line_checkpoints (after_lines s (take i lines) []) line
-checkpoints_more s [] zero line rest is = cc
-checkpoints_more s [] (suc i) line rest is = cc
-checkpoints_more s (x ∷ lines) zero line rest is =
-    let same : x ≡ line = cc in
-    let one = ap (line_checkpoints s) same in
-    omega (arith, one)
-checkpoints_more s (x ∷ lines) (suc i) line rest is =
-    let so_far = checkpoints_more (step s x []).after lines i line rest is in
-    let same = ap (λ (b : State). line_checkpoints b line) (after_cons s x (take i lines)) in
-    omega (arith, so_far, same)
+-- What the turns of a run make.
 
--- A run, line by line.
+-- their records
+pub made_all : (run : Run) → made_by run ≡ (after_lines run.opening (answered run) run.listings).made
+made_all run = ap (λ (s : State). s.made) (left_are run.opening run.lines run.listings)
 
-module _ (run : Run) (records : List Entry) (entry : Site) where
-  -- where the restart fails
-  pub restart_fails : {T : Type 0} (result : Result T Stop) (log_of : T → LogStore) (mid now : Site) → now.image ≡ mid.image → RestartsWithin result log_of run.geometry records entry mid → CountsUpTo run records 0 entry.image now.image
-  restart_fails result log_of mid now same within =
-      let blocks : hi_of (log_shape run.geometry) now.image.log ≡ hi_of (log_shape run.geometry) mid.image.log = ap (λ (i : Image). hi_of (log_shape run.geometry) i.log) same in
-      let masters : hi_of master_shape now.image.log ≡ hi_of master_shape mid.image.log = ap (λ (i : Image). hi_of master_shape i.log) same in
-      record {
-        blocks = let few = within.blocks in omega (arith, few, blocks);
-        masters = let few = within.masters in omega (arith, few, masters);
-      }
-
-  -- and where it doesn't
-  pub first_counted : (engine : Engine) (mid now : Site) → now.image ≡ mid.image → RestartsWithin {T = Engine} (Ok engine) (λ e. e.store.log) run.geometry records entry mid → IsCounted run records entry.image now.image engine 0
-  first_counted engine mid now same within = record {
-    log = let few = within.log in omega (arith, few);
-    numbers = restart_fails (Ok engine) (λ e. e.store.log) mid now same within;
-  }
-
-  -- while the image stays as it is
-  pub counts_still : (mid now : Site) (i : ℕ) → now.image ≡ mid.image → CountsUpTo run records i entry.image mid.image → CountsUpTo run records i entry.image now.image
-  counts_still mid now i same counts = subst (λ (x : Image). CountsUpTo run records i entry.image x) (sym same) counts
-
-  module _ (mid next new : Site) (engine engine' : Engine) (i : ℕ) (line : Line) (rest : List Line) (is : drop i (answered run) ≡ line ∷ rest) (same : next.image ≡ mid.image) (sizes : sizes_of engine.store ≡ run.geometry)
-      (counted : IsCounted run records entry.image mid.image engine i) where
-    made_next : (state_at run (suc i)).made ≡ (step (state_at run i) line []).after.made
-    made_next = ap (λ (s : State). s.made) (state_next run i line rest is ∙ after_same (state_at run i) line (listing_at run i) [])
-
-    checkpoints_next : checkpoints_of run.opening (take (suc i) (answered run)) ≡ checkpoints_of run.opening (take i (answered run)) + line_checkpoints (state_at run i) line
-    checkpoints_next =
-        checkpoints_more run.opening (answered run) i line rest is
-        ∙ ap (λ (s : State). checkpoints_of run.opening (take i (answered run)) + line_checkpoints s line) (same_after run.opening (take i (answered run)) [] run.listings)
-
-    -- a line was heard, however its answer ends
-    pub counts_next : {T E : Type 0} (result : Result T E) → CountsOn result engine engine' next new (state_at run i) (step (state_at run i) line []).after (line_checkpoints (state_at run i) line) → CountsUpTo run records (suc i) entry.image new.image
-    counts_next result c =
-        let shape : hi_of (log_shape (sizes_of engine.store)) new.image.log ≡ hi_of (log_shape run.geometry) new.image.log = ap (λ (g : Geometry). hi_of (log_shape g) new.image.log) sizes in
-        let stays : hi_of master_shape next.image.log ≡ hi_of master_shape mid.image.log = ap (λ (x : Image). hi_of master_shape x.log) same in
-        let made = made_next in
-        let checkpoints = checkpoints_next in
-        let log = counted.log in
-        let masters = counted.numbers.masters in
-        record {
-          blocks = let few = c.blocks in omega (arith, few, log, shape, made);
-          masters = let few = c.masters in omega (arith, few, masters, stays, checkpoints);
-        }
-
-    -- it was answered
-    pub next_counted : {T E : Type 0} (x : T) → CountsOn {T = T} {E = E} (Ok x) engine engine' next new (state_at run i) (step (state_at run i) line []).after (line_checkpoints (state_at run i) line) → IsCounted run records entry.image new.image engine' (suc i)
-    next_counted {T} {E} x c =
-        let made = made_next in
-        let log = counted.log in
-        record {
-          log = let few = c.log in omega (arith, few, log, made);
-          numbers = counts_next (Ok x) c;
-        }
-
--- it doesn't depend on what the cache lists
-pub counted_on : (run : Run) (listings : List (List CacheLine)) (records : List Entry) (old now : Image) (engine : Engine) (i : ℕ) → IsCounted (record run { listings = listings }) records old now engine i → IsCounted run records old now engine i
-counted_on run listings records old now engine i counted =
-    let made = ap (λ (s : State). s.made) (same_after run.opening (take i (answered run)) listings run.listings) in
-    record {
-      log = let log = counted.log in omega (arith, log, made);
-      numbers = record {
-        blocks = let blocks = counted.numbers.blocks in omega (arith, blocks, made);
-        masters = counted.numbers.masters;
-      };
-    }
-
--- Whole runs.
-
--- the records of the first turns
-pub made_are : (run : Run) (lines : ℕ) → made_by run lines ≡ (state_at run lines).made
-made_are run lines = ap (λ (s : State). s.made) (states_are run.opening run.lines run.listings lines)
+pub made_are : (run : Run) (lines : ℕ) → made_by (first_lines run lines) ≡ (state_at run lines).made
+made_are run lines = made_all (first_lines run lines) ∙ ap (λ (l : List Line). (after_lines run.opening l run.listings).made) (lines_first run lines)
 
 one_makes : (s : State) (line : Line) → (if makes_one s line then 1 else 0) ≡ line_checkpoints s line
 one_makes s None = refl
@@ -202,43 +124,97 @@ turns_make s (line ∷ lines) listings =
     by false later = later
 
 -- and their checkpoints
-pub checkpoints_are : (run : Run) (lines : ℕ) → checkpoints_in (take lines (turns_of run)) ≡ checkpoints_of run.opening (take lines (answered run))
-checkpoints_are run lines =
-    ap checkpoints_in (first_turns lines run.opening run.lines run.listings)
-    ∙ turns_make run.opening (take lines (answered run)) run.listings ∙ ap (checkpoints_of run.opening) (first_answered lines run.lines)
+pub checkpoints_are : (run : Run) (lines : ℕ) → checkpoints_in (turns_of (first_lines run lines)) ≡ checkpoints_of run.opening (take lines (answered run))
+checkpoints_are run lines = turns_make run.opening (take lines run.lines) run.listings ∙ ap (checkpoints_of run.opening) (lines_first run lines)
 
--- The first lines of all give what those give that were taken, of which they are the first.
-module _ (g : Geometry) (opening : State) (listings : List (List CacheLine)) (lines own : List Line) (heard : ℕ) (front : take heard (up_to_quit own) ≡ take heard (up_to_quit lines)) where
-  abbrev all : Run
-  all = record { geometry = g; opening = opening; lines = lines; listings = listings }
+-- A run, line by line.
 
-  abbrev taken : Run
-  taken = record { geometry = g; opening = opening; lines = own; listings = listings }
-
-  pub skips_no_number : (old now : Image) → SkipsNoneUpTo all heard old now → SkipsNoNumber taken heard old now
-  skips_no_number old now skips newest blocks sound =
-      let counts = skips newest blocks sound in
-      let made = made_are taken heard in
-      let checkpoints = checkpoints_are taken heard in
-      let same_made = ap (λ (l : List Line). (after_lines opening l listings).made) front in
-      let same_checkpoints = ap (checkpoints_of opening) front in
+module _ (run : Run) (records : List Entry) (entry : Site) where
+  -- where the restart fails
+  pub restart_fails : {T : Type 0} (result : Result T Stop) (log_of : T → LogStore) (mid now : Site) → now.image ≡ mid.image → RestartsWithin result log_of run.geometry records entry mid → GivesNumbers (first_lines run 0) records entry.image now.image
+  restart_fails result log_of mid now same within =
+      let blocks : hi_of (log_shape run.geometry) now.image.log ≡ hi_of (log_shape run.geometry) mid.image.log = ap (λ (i : Image). hi_of (log_shape run.geometry) i.log) same in
+      let masters : hi_of master_shape now.image.log ≡ hi_of master_shape mid.image.log = ap (λ (i : Image). hi_of master_shape i.log) same in
       record {
-        blocks = let few = counts.blocks in omega (arith, few, made, same_made);
-        masters = let few = counts.masters in omega (arith, few, checkpoints, same_checkpoints);
+        blocks = let few = within.blocks in omega (arith, few, blocks);
+        masters = let few = within.masters in omega (arith, few, masters);
       }
 
+  -- and where it doesn't
+  pub first_counted : (engine : Engine) (mid now : Site) → now.image ≡ mid.image → RestartsWithin {T = Engine} (Ok engine) (λ e. e.store.log) run.geometry records entry mid → IsCounted run records entry.image now.image engine 0
+  first_counted engine mid now same within = record {
+    log = let few = within.log in omega (arith, few);
+    numbers = restart_fails (Ok engine) (λ e. e.store.log) mid now same within;
+  }
+
+  -- while the image stays as it is
+  pub counts_still : (mid now : Site) (i : ℕ) → now.image ≡ mid.image → GivesNumbers (first_lines run i) records entry.image mid.image → GivesNumbers (first_lines run i) records entry.image now.image
+  counts_still mid now i same counts = subst (λ (x : Image). GivesNumbers (first_lines run i) records entry.image x) (sym same) counts
+
+  module _ (mid next new : Site) (engine engine' : Engine) (i : ℕ) (line : Line) (rest : List Line) (is : drop i (answered run) ≡ line ∷ rest) (same : next.image ≡ mid.image) (sizes : sizes_of engine.store ≡ run.geometry)
+      (counted : IsCounted run records entry.image mid.image engine i) where
+    made_next : made_by (first_lines run (suc i)) ≡ (step (state_at run i) line []).after.made
+    made_next = made_are run (suc i) ∙ ap (λ (s : State). s.made) (state_next run i line rest is ∙ after_same (state_at run i) line (listing_at run i) [])
+
+    checkpoints_next : checkpoints_in (turns_of (first_lines run (suc i))) ≡ checkpoints_in (turns_of (first_lines run i)) + line_checkpoints (state_at run i) line
+    checkpoints_next =
+        let own = turn_at run i line rest is in
+        ap checkpoints_in (turns_next run i line rest is)
+        ∙ count_join (λ t. makes_one t.before t.line) (turns_of (first_lines run i)) (own ∷ [])
+        ∙ ap (λ (n : ℕ). checkpoints_in (turns_of (first_lines run i)) + n) (count_one (λ t. makes_one t.before t.line) own ∙ one_makes (state_at run i) line)
+
+    -- a line was heard, however its answer ends
+    pub counts_next : {T E : Type 0} (result : Result T E) → CountsOn result engine engine' next new (state_at run i) (step (state_at run i) line []).after (line_checkpoints (state_at run i) line) → GivesNumbers (first_lines run (suc i)) records entry.image new.image
+    counts_next result c =
+        let shape : hi_of (log_shape (sizes_of engine.store)) new.image.log ≡ hi_of (log_shape run.geometry) new.image.log = ap (λ (g : Geometry). hi_of (log_shape g) new.image.log) sizes in
+        let stays : hi_of master_shape next.image.log ≡ hi_of master_shape mid.image.log = ap (λ (x : Image). hi_of master_shape x.log) same in
+        let before = made_are run i in
+        let made = made_next in
+        let checkpoints = checkpoints_next in
+        let log = counted.log in
+        let masters = counted.numbers.masters in
+        record {
+          blocks = let few = c.blocks in omega (arith, few, log, shape, before, made);
+          masters = let few = c.masters in omega (arith, few, masters, stays, checkpoints);
+        }
+
+    -- it was answered
+    pub next_counted : {T E : Type 0} (x : T) → CountsOn {T = T} {E = E} (Ok x) engine engine' next new (state_at run i) (step (state_at run i) line []).after (line_checkpoints (state_at run i) line) → IsCounted run records entry.image new.image engine' (suc i)
+    next_counted {T} {E} x c =
+        let before = made_are run i in
+        let made = made_next in
+        let log = counted.log in
+        record {
+          log = let few = c.log in omega (arith, few, log, before, made);
+          numbers = counts_next (Ok x) c;
+        }
+
+-- it doesn't depend on what the cache lists
+pub counted_on : (run : Run) (listings : List (List CacheLine)) (records : List Entry) (old now : Image) (engine : Engine) (i : ℕ) → IsCounted (record run { listings = listings }) records old now engine i → IsCounted run records old now engine i
+counted_on run listings records old now engine i counted =
+    let own : Run = record run { listings = listings } in
+    let made = made_are own i ∙ ap (λ (s : State). s.made) (same_after run.opening (take i (answered run)) listings run.listings) ∙ sym (made_are run i) in
+    let checkpoints = checkpoints_are own i ∙ sym (checkpoints_are run i) in
+    record {
+      log = let log = counted.log in omega (arith, log, made);
+      numbers = record {
+        blocks = let blocks = counted.numbers.blocks in omega (arith, blocks, made);
+        masters = let masters = counted.numbers.masters in omega (arith, masters, checkpoints);
+      };
+    }
+
 -- what nothing was done to
-pub counts_nothing : (run : Run) (old : Image) → SkipsNoneUpTo run 0 old old
+pub counts_nothing : (run : Run) (old : Image) → SkipsNoNumber (first_lines run 0) old old
 counts_nothing run old newest blocks sound = record { blocks = omega arith; masters = omega arith }
 
 -- the devices stay as they are
-pub skips_still : (run : Run) (lines : ℕ) (old mid now : Image) → now ≡ mid → SkipsNoNumber run lines old mid → SkipsNoNumber run lines old now
-skips_still run lines old mid now same skips newest blocks sound = subst (λ (x : Image). GivesNumbers run lines (log_under newest blocks) old x) (sym same) (skips newest blocks sound)
+pub skips_still : (run : Run) (old mid now : Image) → now ≡ mid → SkipsNoNumber run old mid → SkipsNoNumber run old now
+skips_still run old mid now same skips newest blocks sound = subst (λ (x : Image). GivesNumbers run (log_under newest blocks) old x) (sym same) (skips newest blocks sound)
 
 -- a run that opens, and then carries its first lines out or stops within them
 pub skips_course : {T E : Type 0} (result : Result T E) (run : Run) (lines : ℕ) (records : List Entry) (a b : Engine) (old : Image) (mid now : Site) → sizes_of a.store ≡ run.geometry →
     blocks_to a.store.log ≤ hi_of (log_shape run.geometry) old.log + owed records + run.opening.made → hi_of master_shape mid.image.log ≤ hi_of master_shape old.log + 1 →
-    CountsOn result a b mid now run.opening (state_at run lines) (checkpoints_of run.opening (take lines (answered run))) → GivesNumbers run lines records old now.image
+    CountsOn result a b mid now run.opening (state_at run lines) (checkpoints_of run.opening (take lines (answered run))) → GivesNumbers (first_lines run lines) records old now.image
 skips_course result run lines records a b old mid now sizes log masters c =
     let shape : hi_of (log_shape (sizes_of a.store)) now.image.log ≡ hi_of (log_shape run.geometry) now.image.log = ap (λ (g : Geometry). hi_of (log_shape g) now.image.log) sizes in
     let made = made_are run lines in

@@ -8,7 +8,7 @@ use Rattle.record_model.specs.Run.{Line, is_quit}
 use Rattle.face.specs.declared.source.Source.{Source}
 use Rattle.shell_text.specs.Reading.{line_of}
 use Rattle.face.specs.Lines.{commands_of, up_to_quit, answered_of, limit, pending, to_hear, IsSource, HasEnded, total, AreLines, HearsLine}
-use Rattle.face.specs.Run.{HasHeard}
+use Rattle.face.specs.Working.{HasHeard}
 use Rattle.shell_text.proofs.Lines.{lines_of-waits}
 use Rattle.face.proofs.Fronts.{up_append, none_quit, some_quit}
 
@@ -71,15 +71,15 @@ module _ (entry : List ℕ) (source : Source) (now : Site) (i : ℕ) (cut : Cut 
   rest_is : drop i (answered_of true entry) ≡ up_to_quit (commands_of true (to_hear source now))
   rest_is = ap (drop i) all_answered ∙ drop_at cut.lines (up_to_quit (commands_of true (to_hear source now))) i cut.count
 
-  first_lines : take i (answered_of true entry) ≡ cut.lines
-  first_lines = ap (take i) all_answered ∙ take_at cut.lines (up_to_quit (commands_of true (to_hear source now))) i cut.count
+  first_of_all : take i (commands_of true entry) ≡ cut.lines
+  first_of_all = ap (take i) all_lines ∙ take_at cut.lines (commands_of true (to_hear source now)) i cut.count
 
   -- where these octets were taken and so many of their lines were heard
-  heard_by : (octets : List ℕ) (ended : Bool) (behind : List Line) → commands_of ended octets ≡ cut.lines ++ behind → (i ≤ length (answered_of ended octets)) × (take i (answered_of ended octets) ≡ take i (answered_of true entry))
+  heard_by : (octets : List ℕ) (ended : Bool) (behind : List Line) → commands_of ended octets ≡ cut.lines ++ behind → (i ≤ length (answered_of ended octets)) × (take i (commands_of ended octets) ≡ take i (commands_of true entry))
   heard_by octets ended behind is =
       let same = answered_by ended octets behind is in
       let long = ap length same ∙ length-append cut.lines (up_to_quit behind) in
-      let count = cut.count in (omega (arith, long, count), ap (take i) same ∙ take_at cut.lines (up_to_quit behind) i cut.count ∙ sym first_lines)
+      let count = cut.count in (omega (arith, long, count), ap (take i) is ∙ take_at cut.lines behind i cut.count ∙ sym first_of_all)
 
   -- between two lines, or within the answer to one
   pub has_heard : (old new : Site) → old.input.left ≡ entry → new.input ≡ now.input → HasHeard i (cut.octets ++ pending source) source.ended old new
@@ -90,7 +90,7 @@ module _ (entry : List ℕ) (source : Source) (now : Site) (i : ℕ) (cut : Cut 
         taken = at ∙ cut.all ∙ sym (append_assoc cut.octets (pending source) now.input.left) ∙ ap (λ (input : Input). (cut.octets ++ pending source) ++ input.left) (sym same);
         end = λ e. ap (λ (input : Input). input.left) same ∙ cut.ended e;
         enough = both.0;
-        same = both.1 ∙ ap (λ (l : List ℕ). take i (answered_of true l)) (sym at);
+        same = both.1 ∙ ap (λ (l : List ℕ). take i (commands_of true l)) (sym at);
       }
 
   -- as many octets were taken as lines were cut, at least
@@ -151,7 +151,7 @@ module _ (entry : List ℕ) (source : Source) (now : Site) (i : ℕ) (cut : Cut 
           let rest : List Line = if is_quit line then [] else up_to_quit (commands_of source'.ended (pending source')) in
           let long = ap length own_answered ∙ length-append cut.lines (line ∷ rest) in
           let count = cut.count in omega (arith, long, count);
-      same = ap (take (suc i)) own_answered ∙ with_line _ ∙ sym (ap (take (suc i)) (ap (answered_of true) at ∙ all_answered ∙ ap (λ (l : List Line). cut.lines ++ up_to_quit l) next_is) ∙ with_line behind);
+      same = ap (take (suc i)) own ∙ with_line _ ∙ sym (ap (take (suc i)) (ap (commands_of true) at ∙ all_lines ∙ ap (λ (l : List Line). cut.lines ++ l) next_is) ∙ with_line (commands_of true (to_hear source' new)));
     }
 
     -- and where it is a quit
@@ -170,7 +170,7 @@ module _ (entry : List ℕ) (source : Source) (now : Site) (i : ℕ) (cut : Cut 
           taken = at ∙ cut.all ∙ ap (λ (l : List ℕ). cut.octets ++ l) (none ∙ sym left);
           end = λ e. left;
           enough = both.0;
-          same = both.1 ∙ ap (λ (l : List ℕ). take i (answered_of true l)) (sym at);
+          same = both.1 ∙ ap (λ (l : List ℕ). take i (commands_of true l)) (sym at);
         },
         ap length (answered_by true cut.octets [] is ∙ append-nil cut.lines) ∙ cut.count,
       )
@@ -215,7 +215,7 @@ module _ (entry : List ℕ) (source : Source) (now : Site) (i : ℕ) (cut : Cut 
             taken = at ∙ entry_is ∙ ap (λ (l : List ℕ). (cut.octets ++ octets) ++ l) (is ∙ sym new_left);
             end = λ no. cc;
             enough = both.0;
-            same = both.1 ∙ ap (λ (l : List ℕ). take i (answered_of true l)) (sym at);
+            same = both.1 ∙ ap (λ (l : List ℕ). take i (commands_of true l)) (sym at);
           },
           takes_all (cut.octets ++ octets) (take_all limit (cut.octets ++ octets) short),
         )
@@ -236,7 +236,7 @@ module _ (entry : List ℕ) (source : Source) (now : Site) (i : ℕ) (cut : Cut 
               taken = at ∙ entry_is ∙ ap (λ (l : List ℕ). (cut.octets ++ octets) ++ l) is ∙ sym (append_assoc (cut.octets ++ octets) (extra ∷ []) left) ∙ ap (λ (l : List ℕ). too_many ++ l) (sym new_left);
               end = λ no. cc;
               enough = both.0;
-              same = both.1 ∙ ap (λ (l : List ℕ). take i (answered_of true l)) (sym at);
+              same = both.1 ∙ ap (λ (l : List ℕ). take i (commands_of true l)) (sym at);
             },
             takes_all too_many (take_at (cut.octets ++ octets) (extra ∷ []) limit exactly),
             length-append (cut.octets ++ octets) (extra ∷ []) ∙ ap (λ (n : ℕ). n + 1) exactly,

@@ -1,7 +1,7 @@
 -- How a run comes to its end.
-use Rattle.std.proofs.Common.{◌≡◌, ◌≢◌, ◌⊎◌, inl, inr, ⊎_elim, IsTrue, ℕ, ◌≤◌, List, [], ◌∷◌, ◌++◌, length, take, zero, suc, refl, sym, ◌∙◌, ap, subst, arith}
-use Rattle.std.specs.Prelude.{Ok, Err, IsErrOf, true, false, Bool}
-use Rattle.std.proofs.lemmas.List.{append-nil, take_all}
+use Rattle.std.proofs.Common.{◌≡◌, ◌≢◌, ◌⊎◌, inl, inr, ⊎_elim, IsTrue, ℕ, ◌≤◌, List, [], ◌∷◌, ◌++◌, length, suc, refl, sym, ◌∙◌, ap, subst, arith}
+use Rattle.std.specs.Prelude.{Ok, Err, true, false, Bool}
+use Rattle.std.proofs.lemmas.List.{append-nil}
 use Rattle.site.specs.State.{Input, State as Site, Image, faults_of}
 use Rattle.site.specs.declared.geometry.Geometry.{Geometry}
 use Rattle.site.specs.Calls.{Goes, Rose}
@@ -23,12 +23,15 @@ use Rattle.engine.specs.declared.engine.Engine.{Engine}
 use Rattle.face.specs.Causes.{HasCause, AnswerFailsBy}
 use Rattle.face.specs.Lines.{HasEnded, to_hear, total, IsSource, HearsLine, Hears, IsCutOff}
 use Rattle.site.specs.declared.outside.Dev.TheVariants.{Log, Flash, Disk}
-use Rattle.face.specs.Run.{Run, HasHeard, HasToldUpTo, IsAccounted, IsFront, IsPart, StopsTaking, Stops, SkipsNoneUpTo, text_at, told_after}
-use Rattle.face.specs.Working.{AnswersFirst, ListsUpTo, Works, HasGroupsFor, HasQueueAt}
-use Rattle.face.specs.Range.{AsksNoMore, WearsOut}
+use Rattle.face.specs.Range.{AsksNoMore, HasBegun, IsLeft, LeavesItsQueue, ListsTheMachine, NeverWears, SkipsNoNumber, WearsOut}
+use Rattle.face.specs.Run.{Run, first_lines}
+use Rattle.face.specs.Working.{AnswersFirst, HasHeard, Stops, StopsTaking, Works}
 use Rattle.face.specs.Going.{Going}
 use Rattle.face.proofs.Cuts.{Cut, has_heard_all, input_failed, over_limit, taken_by, heard_line, quit_is_last}
 use Rattle.face.proofs.Works.{begun_before, stopped, ended}
+use Rattle.face.proofs.Demanded.{demands_err, demands_ok}
+use Rattle.face.proofs.Lefts.{left_first}
+use Rattle.face.proofs.Listed.{no_turn}
 use Rattle.face.proofs.Waits.{answers_none}
 
 -- taking wasn't what failed
@@ -38,50 +41,38 @@ not_taking halt.Input run i octets old new ne = absurd (ne.0 refl)
 not_taking halt.Output run i octets old new ne = tt
 not_taking halt.Limit run i octets old new ne = absurd (ne.1 refl)
 
--- the halt that is answered
-same_halt : {T : Type 0} (h is : Halt) → IsErrOf {T = T} (Err h) is → h ≡ is
-same_halt h is same = cc
-
 -- no line asks for a listing where there is none
-pub lists_nothing : (pool : ℕ) (run : Run) (image : Image) → ListsUpTo pool run 0 image
-lists_nothing pool run image newest blocks sound i less = absurd (omega (arith, less))
-
--- no more than the opening was told
-opening_part : (run : Run) (whole : ℕ) (rest : List ℕ) → whole ≤ 1 → ((whole ≤ 0) × IsPart rest (text_at run whole)) ⊎ IsFront rest [] → (part : ℕ) × (told_after run whole ++ rest ≡ told_after run 0 ++ take part (text_at run 0))
-opening_part run zero rest few (inl p) = (p.1.0, p.1.2)
-opening_part run zero rest few (inr f) = (0, f.1 ∙ take_all f.0 [] (omega arith))
-opening_part run (suc zero) rest few (inl p) = absurd (let low = p.0 in omega (arith, low))
-opening_part run (suc zero) rest few (inr f) = (
-  length (text_at run 0),
-  ap (λ (l : List ℕ). told_after run 1 ++ l) (f.1 ∙ take_all f.0 [] (omega arith)) ∙ append-nil (told_after run 1) ∙ append-nil (text_at run 0) ∙ sym (take_all (length (text_at run 0)) (text_at run 0) (omega arith)),
-)
-opening_part run (suc (suc n)) rest few p = absurd (omega (arith, few))
+pub lists_nothing : (pool : ℕ) (run : Run) (image : Image) → ListsTheMachine pool (first_lines run 0) image
+lists_nothing pool run image newest blocks sound before later t is = absurd (no_turn before later t is)
 
 -- before the first line
-pub never_opened : {T : Type 0} (pool : ℕ) (run : Run) (old new : Site) (h : Halt) → Stops run 0 old new h → (h ≢ halt.Input) × (h ≢ halt.Limit) → new.input ≡ old.input → (h ≡ halt.Stop (Worn Flash) → WearsOut pool run 0 old.image) → SkipsNoneUpTo run 0 old.image new.image → AsksNoMore pool run 0 old new →
+pub never_opened : {T : Type 0} (pool : ℕ) (run : Run) (old new : Site) (h : Halt) → Stops run 0 old new h → (h ≢ halt.Input) × (h ≢ halt.Limit) → new.input ≡ old.input → (h ≡ halt.Stop (Worn Flash) → WearsOut pool (first_lines run 0) old.image) → SkipsNoNumber (first_lines run 0) old.image new.image → AsksNoMore pool (first_lines run 0) old new →
     Works {T = T} pool run old new (Err h)
-never_opened {T} pool run old new h stops ne left worn numbers reads = record {
+never_opened pool run old new h stops ne left worn numbers reads = record {
   heard = 0;
   octets = [];
   ended = false;
   has_heard = record { taken = sym (ap (λ (input : Input). input.left) left); end = λ no. cc; enough = omega arith; same = refl };
   stops = (stops, not_taking h run 0 [] old new ne);
-  begun = let a = holds_now old new (IsAccounted run 0 old.told []) stops.any_moment in
-      let begun = a.begun in
-      let part = opening_part run a.whole a.rest (omega (arith, begun)) a.part in (part.0, a.told ∙ ap (λ (l : List ℕ). old.told ++ l) part.1);
+  begun = let a = holds_now old new (IsLeft (first_lines run 0) old.told []) stops.any_moment in
+      let front = left_first run a.told a.is_told in
+      record {
+        few = omega arith;
+        reply = a.told;
+        part = front;
+        rest = [];
+        front = (0, refl);
+        told = a.told_is ∙ ap (λ (l : List ℕ). old.told ++ l) (sym (append-nil a.told));
+      };
   done = tt;
-  worn = λ is. worn (same_halt {T = T} h (halt.Stop (Worn Flash)) is);
-  room = tt;
-  queue = tt;
-  numbers = numbers;
+  demands = demands_err pool (first_lines run 0) old new h worn numbers reads;
   listed = lists_nothing pool run old.image;
-  reads = reads;
   answers = answers_none run old new left;
 }
 
-module _ (pool : ℕ) (run : Run) (old mid new : Site) (engine : Engine) (source : Source) (i : ℕ) (cut : Cut old.input.left source mid i) (is_source : IsSource source) (going : Going run old new engine i) (listed : ListsUpTo pool run i old.image) (reads : AsksNoMore pool run i old new) (answers : AnswersFirst run i old new) where
+module _ (pool : ℕ) (run : Run) (old mid new : Site) (engine : Engine) (source : Source) (i : ℕ) (cut : Cut old.input.left source mid i) (is_source : IsSource source) (going : Going run old new engine i) (listed : ListsTheMachine pool (first_lines run i) old.image) (reads : AsksNoMore pool (first_lines run i) old new) (answers : AnswersFirst run i old new) where
   -- taking failed within a line
-  pub taking_failed : {T : Type 0} (h : Halt) → (h ≡ halt.Input) ⊎ (h ≡ halt.Limit) → IsCutOff h source.ended (total source mid) (to_hear source mid) new.input.left → SkipsNoneUpTo run i old.image new.image → Works {T = T} pool run old new (Err h)
+  pub taking_failed : {T : Type 0} (h : Halt) → (h ≡ halt.Input) ⊎ (h ≡ halt.Limit) → IsCutOff h source.ended (total source mid) (to_hear source mid) new.input.left → SkipsNoNumber (first_lines run i) old.image new.image → Works {T = T} pool run old new (Err h)
   taking_failed (halt.Stop stop) which off numbers = ⊎_elim (λ e. absurd cc) (λ e. absurd cc) which
   taking_failed halt.Output which off numbers = ⊎_elim (λ e. absurd cc) (λ e. absurd cc) which
   taking_failed halt.Input which off numbers =
@@ -94,12 +85,8 @@ module _ (pool : ℕ) (run : Run) (old mid new : Site) (engine : Engine) (source
         stops = (stopped run old new engine i going halt.Input, record { count = f.1.0; no_quit = f.1.1; told = going.told });
         begun = begun_before run old new engine i going;
         done = tt;
-        worn = λ is. cc;
-        room = tt;
-        queue = tt;
-        numbers = numbers;
+        demands = demands_err pool (first_lines run i) old new halt.Input (λ e. cc) numbers reads;
         listed = listed;
-        reads = reads;
         answers = answers;
       }
   taking_failed halt.Limit which off numbers =
@@ -112,17 +99,13 @@ module _ (pool : ℕ) (run : Run) (old mid new : Site) (engine : Engine) (source
         stops = (stopped run old new engine i going halt.Limit, (record { count = f.1.0; no_quit = f.1.1; told = going.told }, f.2));
         begun = begun_before run old new engine i going;
         done = tt;
-        worn = λ is. cc;
-        room = tt;
-        queue = tt;
-        numbers = numbers;
+        demands = demands_err pool (first_lines run i) old new halt.Limit (λ e. cc) numbers reads;
         listed = listed;
-        reads = reads;
         answers = answers;
       }
 
   -- there are no more lines
-  pub finished : {T : Type 0} (x : T) → to_hear source mid ≡ [] → new.input.left ≡ [] → HasGroupsFor pool run old.image i → HasQueueAt pool run i old.image new.image → SkipsNoneUpTo run i old.image new.image → Works pool run old new (Ok x)
+  pub finished : {T : Type 0} (x : T) → to_hear source mid ≡ [] → new.input.left ≡ [] → NeverWears pool (first_lines run i) old.image → LeavesItsQueue pool (first_lines run i) old.image new.image → SkipsNoNumber (first_lines run i) old.image new.image → Works pool run old new (Ok x)
   finished x none left room queue numbers =
       let f = has_heard_all old.input.left source mid i cut is_source old new refl none left in
       record {
@@ -132,24 +115,20 @@ module _ (pool : ℕ) (run : Run) (old mid new : Site) (engine : Engine) (source
         has_heard = f.0;
         stops = tt;
         begun = begun_before run old new engine i going;
-        done = (inl refl, f.1, going.moments, ended run old new engine i going);
-        worn = λ is. cc;
-        room = room;
-        queue = queue;
-        numbers = numbers;
+        done = (inl refl, f.1, going.moments, ended run old new engine i going, going.quiet);
+        demands = demands_ok pool (first_lines run i) old new x room queue numbers reads;
         listed = listed;
-        reads = reads;
         answers = answers;
       }
 
 module _ (pool : ℕ) (run : Run) (old mid next new : Site) (source source' : Source) (i : ℕ) (cut : Cut old.input.left source mid i) (is_source : IsSource source) (line : Line) (h : HearsLine line source.ended source'.ended (to_hear source mid) (to_hear source' next))
-    (last : HasEnded source' next) (is' : IsSource source') (left : new.input ≡ next.input) (listed : ListsUpTo pool run (suc i) old.image) (reads : AsksNoMore pool run (suc i) old new) (answers : AnswersFirst run (suc i) old new) where
+    (last : HasEnded source' next) (is' : IsSource source') (left : new.input ≡ next.input) (listed : ListsTheMachine pool (first_lines run (suc i)) old.image) (reads : AsksNoMore pool (first_lines run (suc i)) old new) (answers : AnswersFirst run (suc i) old new) where
   has_heard_it : HasHeard (suc i) (taken_by old.input.left source mid i cut is_source source' next line h last is') source'.ended old new
   has_heard_it = heard_line old.input.left source mid i cut is_source source' next line h last is' old new refl left
 
   -- a line's answer failed
-  pub answer_failed : {T : Type 0} (fault : Halt) → Stops run (suc i) old new fault → HasToldUpTo run (suc i) old new → (fault ≢ halt.Input) × (fault ≢ halt.Limit) → (fault ≡ halt.Stop (Worn Flash) → WearsOut pool run (suc i) old.image) → SkipsNoneUpTo run (suc i) old.image new.image → Works {T = T} pool run old new (Err fault)
-  answer_failed {T} fault stops begun ne worn numbers = record {
+  pub answer_failed : {T : Type 0} (fault : Halt) → Stops run (suc i) old new fault → HasBegun run (suc i) [] old new → (fault ≢ halt.Input) × (fault ≢ halt.Limit) → (fault ≡ halt.Stop (Worn Flash) → WearsOut pool (first_lines run (suc i)) old.image) → SkipsNoNumber (first_lines run (suc i)) old.image new.image → Works {T = T} pool run old new (Err fault)
+  answer_failed fault stops begun ne worn numbers = record {
     heard = suc i;
     octets = taken_by old.input.left source mid i cut is_source source' next line h last is';
     ended = source'.ended;
@@ -157,17 +136,13 @@ module _ (pool : ℕ) (run : Run) (old mid next new : Site) (source source' : So
     stops = (stops, not_taking fault run (suc i) _ old new ne);
     begun = begun;
     done = tt;
-    worn = λ is. worn (same_halt {T = T} fault (halt.Stop (Worn Flash)) is);
-    room = tt;
-    queue = tt;
-    numbers = numbers;
+    demands = demands_err pool (first_lines run (suc i)) old new fault worn numbers reads;
     listed = listed;
-    reads = reads;
     answers = answers;
   }
 
   -- a quit was answered
-  pub quitted : {T : Type 0} (x : T) (engine : Engine) → is_quit line ≡ true → Going run old new engine (suc i) → HasGroupsFor pool run old.image (suc i) → HasQueueAt pool run (suc i) old.image new.image → SkipsNoneUpTo run (suc i) old.image new.image → Works pool run old new (Ok x)
+  pub quitted : {T : Type 0} (x : T) (engine : Engine) → is_quit line ≡ true → Going run old new engine (suc i) → NeverWears pool (first_lines run (suc i)) old.image → LeavesItsQueue pool (first_lines run (suc i)) old.image new.image → SkipsNoNumber (first_lines run (suc i)) old.image new.image → Works pool run old new (Ok x)
   quitted x engine quits going room queue numbers =
       let all = quit_is_last old.input.left source mid i cut is_source source' next line h last is' quits in
       record {
@@ -177,13 +152,9 @@ module _ (pool : ℕ) (run : Run) (old mid next new : Site) (source source' : So
         has_heard = has_heard_it;
         stops = tt;
         begun = begun_before run old new engine (suc i) going;
-        done = (inr all.1, all.0, going.moments, ended run old new engine (suc i) going);
-        worn = λ is. cc;
-        room = room;
-        queue = queue;
-        numbers = numbers;
+        done = (inr all.1, all.0, going.moments, ended run old new engine (suc i) going, going.quiet);
+        demands = demands_ok pool (first_lines run (suc i)) old new x room queue numbers reads;
         listed = listed;
-        reads = reads;
         answers = answers;
       }
 

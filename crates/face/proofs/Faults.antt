@@ -1,7 +1,7 @@
 -- A run that halts, and its fault line.
-use Rattle.std.proofs.Common.{◌≡◌, ◌≢◌, ◌⊎◌, inl, inr, ⊎_elim, ℕ, ◌+◌, ◌≤◌, Bool, true, false, List, [], ◌++◌, length, take, drop, refl, sym, ◌∙◌, ap, subst, arith, append_assoc, length-append, take-append-drop}
-use Rattle.std.specs.Prelude.{Err, Ok, Result, IsErrOf, IsTrue, flat_map}
-use Rattle.std.proofs.lemmas.List.{append-nil, take_all, take_at}
+use Rattle.std.proofs.Common.{◌≡◌, ◌≢◌, ◌⊎◌, inl, inr, ⊎_elim, ℕ, suc, ◌+◌, ◌≤◌, Bool, true, false, List, [], ◌∷◌, ◌++◌, length, take, drop, refl, sym, ◌∙◌, ap, subst, arith, append_assoc, length-append, take-append-drop}
+use Rattle.std.specs.Prelude.{Err, Ok, Result, IsErrOf, IsTrue, count_by, flat_map, map}
+use Rattle.std.proofs.lemmas.List.{append-nil, length-take, take_all, take_at}
 use Rattle.site.specs.State.{Input, State as Site, Snapshot}
 use Rattle.site.specs.Calls.{Goes}
 use Rattle.site.specs.Moments.{Leaves, LeavesOnly, EachMoment}
@@ -12,12 +12,13 @@ use Rattle.site.specs.declared.geometry.Geometry.{Geometry}
 use Rattle.site.specs.declared.outside.Stop.TheVariants.{Device, Memory, Worn, Foreign}
 use Rattle.record_model.specs.declared.words.CacheLine.{CacheLine}
 use Rattle.record_model.specs.State.{State}
-use Rattle.record_model.specs.Run.{Line, is_quit}
+use Rattle.record_model.specs.Run.{Line, Turn, after_commits, commit_marks, is_quit, replies}
 use Rattle.record_model.specs.Serial.{Serial}
 use Rattle.std.specs.List.{AllByRecursion, list_any}
 use Rattle.face.specs.declared.halt.Halt.{Halt}
 use Rattle.face.specs.declared.halt.Halt.TheVariants as halt
 use Rattle.face.specs.Texts.{fault_line, status_of}
+use Rattle.shell_text.specs.Texts.{open_text, reply_text}
 use Rattle.engine.specs.Image.{Stands}
 use Rattle.site.specs.declared.outside.Dev.TheVariants.{Log, Flash, Disk}
 use Rattle.redo_undo.specs.Holding.{IsLogWorn}
@@ -25,24 +26,23 @@ use Rattle.redo_undo.specs.Works.{OverflowsWithMore}
 use Rattle.face.specs.Causes.{HasCause, HasCauses, NoFaultRose, EndsInTime}
 use Rattle.face.proofs.LogRoom.{never_at_end}
 use Rattle.face.specs.Lines.{commands_of, up_to_quit, answered_of, limit}
-use Rattle.face.specs.Run.{Run, told_after, StandsFor, StandsAt, StandsNear, IsAccounted, IsBetween, Begins, HasHeard, HasTakenAll, Stops, StopsTaking}
-use Rattle.face.specs.Working.{AnswersFirst, IsToldBefore, Works}
-use Rattle.face.specs.Waiting.{IsAnswered, NobodyWaits}
-use Rattle.site.specs.declared.outside.Take.{Take}
-use Rattle.log_laws.proofs.Lists.{all_weaker}
+use Rattle.face.specs.Run.{Run, answered, first_lines, Begins}
+use Rattle.face.specs.Working.{Demands, HasHeard, HasTakenAll, IsBetween, StandsNear, StopsTaking, Works}
 use Rattle.face.proofs.Waits.{answers_still}
-use Rattle.face.specs.Range.{HasLogRoom, run_of, run_text, texts, first_texts, StandsAfter, IsLeft, WearsOut, NeverWears}
+use Rattle.face.specs.Range.{HasLogRoom, IsLeft, IsWhole, ListsTheMachine, NeverWears, WearsOut}
+use Rattle.face.specs.Range.{first_texts, run_of, run_text, texts}
 use Rattle.face.specs.Tells.{EndsBehind, Tells}
 use Rattle.face.proofs.Endings.{ends_whole, ends_with}
-use Rattle.face.proofs.Begun.{has_begun, lists_the_machine}
-use Rattle.face.proofs.Counted.{skips_no_number, skips_still}
-use Rattle.face.proofs.Pagings.{leaves_its_queue, reads_no_more, few_told, wears_out, never_wears, wears_out_all}
+use Rattle.face.proofs.Demanded.{asked_done, asked_halted, demands_failed}
+use Rattle.face.proofs.Pagings.{wears_out_all}
 use Rattle.face.specs.TopCall.{RunContract}
 use Rattle.face.specs.Headline.{Durability, IsGood, IsToldWhole, Headline, TellsFault}
-use Rattle.face.proofs.Fronts.{accounted, told_same, state_same, take_within, up_append, no_quits, first_commands}
+use Rattle.face.proofs.Fronts.{begun_same, first_commands, first_same, lines_first, no_quits, take_within, told_first, told_same, up_append, waits_same, whole_turns}
+use Rattle.face.proofs.Lefts.{left_whole}
+use Rattle.face.proofs.Runs.{texts_count}
 use Rattle.face.proofs.Meanings.{stands_by}
 use Rattle.face.proofs.SerialRuns.{run_is_serial, told_is_serial}
-use Rattle.face.proofs.Ranges.{IsFault, is_left, stands_after, all_among, all_text, texts_same}
+use Rattle.face.proofs.Ranges.{IsFault, is_left, all_text}
 
 output_or_not : (h : Halt) → (h ≡ halt.Output) ⊎ (h ≢ halt.Output)
 output_or_not (halt.Stop stop) = inr (λ e. cc)
@@ -51,47 +51,43 @@ output_or_not halt.Output = inl refl
 output_or_not halt.Limit = inr (λ e. cc)
 
 -- no part of a fault line is a part of any
-no_fault : (run : Run) (heard : ℕ) (so_far fault : List ℕ) (s : Snapshot) → IsAccounted run heard so_far [] s → IsAccounted run heard so_far fault s
-no_fault run heard so_far fault s a = record {
-  whole = a.whole;
-  begun = a.begun;
-  rest = a.rest;
-  told = a.told;
-  part = ⊎_elim (λ p. inl p) (λ f. inr (0, f.1 ∙ take_all f.0 [] (omega arith))) a.part;
-  stands = a.stands;
+no_fault : (run : Run) (so_far fault : List ℕ) (s : Snapshot) → IsLeft run so_far [] s → IsLeft run so_far fault s
+no_fault run so_far fault s l = record {
+  told = l.told;
+  told_is = l.told_is;
+  is_told = ⊎_elim (λ front. inl front) (λ behind. inr (behind.0, behind.1, behind.2, behind.3, (0, behind.4.1 ∙ take_all behind.4.0 [] (omega arith)))) l.is_told;
+  k = l.k;
+  in_range = l.in_range;
+  stands = l.stands;
 }
 
-module _ (run : Run) (heard : ℕ) (old mid new : Site) where
-  told_whole : (fault : List ℕ) → LeavesOnly old mid (IsAccounted run heard old.told []) → IsBetween run heard old mid → EachMoment mid new (TellsPart fault mid) → LeavesOnly old new (IsAccounted run heard old.told fault)
-  told_whole fault so_far b tells =
-      in_sequence old mid new (Leaves (IsAccounted run heard old.told fault)) (leaves_weaker old mid (IsAccounted run heard old.told []) (IsAccounted run heard old.told fault) (no_fault run heard old.told fault) so_far)
-      (leaves_weaker mid new (λ s. ((k : ℕ) × (s.told ≡ mid.told ++ take k fault)) × StandsNear run heard b.whole s.image) (IsAccounted run heard old.told fault) (λ s p. record {
-        whole = b.whole;
-        begun = b.begun;
-        rest = take p.0.0 fault;
-        told = p.0.1 ∙ ap (λ (l : List ℕ). l ++ take p.0.0 fault) b.told ∙ append_assoc old.told (told_after run b.whole) (take p.0.0 fault);
-        part = inr (p.0.0, refl);
-        stands = p.1;
-      }) (tell_leaves (StandsNear run heard b.whole) fault mid new b.stands tells))
+module _ (run : Run) (old mid new : Site) where
+  told_whole : (fault : List ℕ) → IsFault fault → LeavesOnly old mid (IsLeft run old.told []) → IsBetween run old mid → EachMoment mid new (TellsPart fault mid) → LeavesOnly old new (IsLeft run old.told fault)
+  told_whole fault is_fault so_far b tells =
+      in_sequence old mid new (Leaves (IsLeft run old.told fault)) (leaves_weaker old mid (IsLeft run old.told []) (IsLeft run old.told fault) (no_fault run old.told fault) so_far)
+      (leaves_weaker mid new (λ s. ((k : ℕ) × (s.told ≡ mid.told ++ take k fault)) × StandsNear run b.whole s.image) (IsLeft run old.told fault) (λ s p.
+      is_left run old.told fault s is_fault b.whole b.few (take p.0.0 fault) (inr (p.0.0, refl))
+      (p.0.1 ∙ ap (λ (l : List ℕ). l ++ take p.0.0 fault) b.told ∙ append_assoc old.told (first_texts run b.whole) (take p.0.0 fault)) p.1)
+      (tell_leaves (StandsNear run b.whole) fault mid new b.stands tells))
 
   -- where the output failed nothing more is told
-  told_none : LeavesOnly old mid (IsAccounted run heard old.told []) → EachMoment mid new (TellsPart [] mid) → LeavesOnly old new (IsAccounted run heard old.told [])
+  told_none : LeavesOnly old mid (IsLeft run old.told []) → EachMoment mid new (TellsPart [] mid) → LeavesOnly old new (IsLeft run old.told [])
   told_none so_far tells =
-      in_sequence old mid new (Leaves (IsAccounted run heard old.told [])) so_far
-      (leaves_weaker mid new (λ s. ((k : ℕ) × (s.told ≡ mid.told ++ take k [])) × IsAccounted run heard old.told [] (record { told = mid.told; image = s.image })) (IsAccounted run heard old.told []) (λ s p. record {
-        whole = p.1.whole;
-        begun = p.1.begun;
-        rest = p.1.rest;
-        told = p.0.1 ∙ ap (λ (l : List ℕ). mid.told ++ l) (take_all p.0.0 [] (omega arith)) ∙ append-nil mid.told ∙ p.1.told;
-        part = p.1.part;
+      in_sequence old mid new (Leaves (IsLeft run old.told [])) so_far
+      (leaves_weaker mid new (λ s. ((k : ℕ) × (s.told ≡ mid.told ++ take k [])) × IsLeft run old.told [] (record { told = mid.told; image = s.image })) (IsLeft run old.told []) (λ s p. record {
+        told = p.1.told;
+        told_is = p.0.1 ∙ ap (λ (l : List ℕ). mid.told ++ l) (take_all p.0.0 [] (omega arith)) ∙ append-nil mid.told ∙ p.1.told_is;
+        is_told = p.1.is_told;
+        k = p.1.k;
+        in_range = p.1.in_range;
         stands = p.1.stands;
-      }) (tell_leaves (λ image. IsAccounted run heard old.told [] (record { told = mid.told; image = image })) [] mid new (λ s left. subst (λ (t : List ℕ). IsAccounted run heard old.told [] (record { told = t; image = s.image })) (told_is mid s left) (so_far.now s left)) tells))
+      }) (tell_leaves (λ image. IsLeft run old.told [] (record { told = mid.told; image = image })) [] mid new (λ s left. subst (λ (t : List ℕ). IsLeft run old.told [] (record { told = t; image = s.image })) (told_is mid s left) (so_far.now s left)) tells))
 
-  with_fault : (h : Halt) → Stops run heard old mid h → EachMoment mid new (TellsPart (fault_line h) mid) → LeavesOnly old new (IsAccounted run heard old.told (fault_line h))
-  with_fault h stops tells = ⊎_elim
+  with_fault : (h : Halt) → LeavesOnly old mid (IsLeft run old.told []) → (h ≢ halt.Output → IsBetween run old mid) → EachMoment mid new (TellsPart (fault_line h) mid) → LeavesOnly old new (IsLeft run old.told (fault_line h))
+  with_fault h so_far between tells = ⊎_elim
       (λ output. let none : fault_line h ≡ [] = ap fault_line output in
-      subst (λ (l : List ℕ). LeavesOnly old new (IsAccounted run heard old.told l)) (sym none) (told_none stops.any_moment (subst (λ (l : List ℕ). EachMoment mid new (TellsPart l mid)) none tells)))
-      (λ ne. told_whole (fault_line h) stops.any_moment (stops.between ne) tells) (output_or_not h)
+      subst (λ (l : List ℕ). LeavesOnly old new (IsLeft run old.told l)) (sym none) (told_none so_far (subst (λ (l : List ℕ). EachMoment mid new (TellsPart l mid)) none tells)))
+      (λ ne. told_whole (fault_line h) (inr (h, refl)) so_far (between ne) tells) (output_or_not h)
 
 -- The run over all octets that are left is the one over those that were taken, as far as its lines were heard.
 all_of : (ls : List Line) → AllByRecursion (λ l. is_quit l ≡ false) ls → up_to_quit ls ≡ ls
@@ -104,29 +100,26 @@ module _ (g : Geometry) (opening : State) (listings : List (List CacheLine)) (ol
   abbrev taken : Run
   taken = run_of g opening ended octets listings
 
-  pub left_by : (new : Site) (fault : List ℕ) → IsFault fault → LeavesOnly old new (IsAccounted all heard old.told fault) → LeavesOnly old new (IsLeft taken old.told fault)
+  pub left_by : (new : Site) (fault : List ℕ) → IsFault fault → LeavesOnly old new (IsLeft (first_lines all heard) old.told fault) → LeavesOnly old new (IsLeft taken old.told fault)
   left_by new fault is_fault moments =
-      leaves_weaker old new (IsAccounted all heard old.told fault) (IsLeft taken old.told fault) (λ s a. is_left taken heard old.told fault s h.enough is_fault
-      (accounted all (commands_of ended octets) heard h.same old.told fault s a)) moments
+      leaves_weaker old new (IsLeft (first_lines all heard) old.told fault) (IsLeft taken old.told fault)
+      (λ s l. left_whole g opening listings (commands_of ended octets) heard old.told fault s is_fault (subst (λ (r : Run). IsLeft r old.told fault s) (sym (first_same all (commands_of ended octets) heard h.same)) l)) moments
 
   -- all lines that stand whole in the first octets were heard
-  whole_lines : length (answered_of false (take limit octets)) ≡ heard → list_any is_quit (commands_of false (take limit octets)) ≡ false → answered_of false (take limit octets) ≡ take heard (answered_of true old.input.left)
+  whole_lines : length (answered_of false (take limit octets)) ≡ heard → list_any is_quit (commands_of false (take limit octets)) ≡ false → take heard (commands_of false (take limit octets)) ≡ take heard (commands_of true old.input.left)
   whole_lines count none =
+      let lines = commands_of false (take limit octets) in
       let first = first_commands ended (take limit octets) (drop limit octets) in
-      let is : commands_of ended octets ≡ commands_of false (take limit octets) ++ first.0 = ap (commands_of ended) (sym (take-append-drop limit octets)) ∙ first.1 in
-      let quiet = no_quits (commands_of false (take limit octets)) none in
-      let own : answered_of false (take limit octets) ≡ commands_of false (take limit octets) = all_of (commands_of false (take limit octets)) quiet in
-      let all : answered_of ended octets ≡ answered_of false (take limit octets) ++ up_to_quit first.0 = ap up_to_quit is ∙ up_append (commands_of false (take limit octets)) first.0 quiet ∙ ap (λ (l : List Line). l ++ up_to_quit first.0) (sym own) in
-      sym (ap (take heard) all ∙ take_at (answered_of false (take limit octets)) (up_to_quit first.0) heard count) ∙ h.same
+      let is : commands_of ended octets ≡ lines ++ first.0 = ap (commands_of ended) (sym (take-append-drop limit octets)) ∙ first.1 in
+      let long : length lines ≡ heard = sym (ap (λ (l : List Line). length l) (all_of lines (no_quits lines none))) ∙ count in
+      take_all heard lines (omega (arith, long)) ∙ sym (ap (take heard) is ∙ take_at lines first.0 heard long) ∙ h.same
 
   pub told_whole_lines : (new : Site) (fault : List ℕ) → HasTakenAll all heard octets old mid → ((k : ℕ) × (new.told ≡ mid.told ++ take k fault)) → IsToldWhole (run_of g opening false (take limit octets) listings) fault old new
   told_whole_lines new fault t more =
-      let lines = commands_of false (take limit octets) in
       let own = run_of g opening false (take limit octets) listings in
-      let same : take heard (up_to_quit lines) ≡ take heard (answered_of true old.input.left) = take_all heard (up_to_quit lines) (let count = t.count in omega (arith, count)) ∙ whole_lines t.count t.no_quit in
-      let text : told_after all (heard + 1) ≡ run_text own =
-      sym (told_same all lines heard same (heard + 1) (omega arith))
-      ∙ ap (λ (n : ℕ). told_after own (n + 1)) (sym t.count)
+      let text : first_texts all (heard + 1) ≡ run_text own =
+      sym (told_same all (commands_of false (take limit octets)) heard (whole_lines t.count t.no_quit) (heard + 1) (omega arith))
+      ∙ ap (λ (n : ℕ). first_texts own (n + 1)) (sym t.count)
       ∙ all_text own in
       record {
         rest = take more.0 fault;
@@ -134,32 +127,12 @@ module _ (g : Geometry) (opening : State) (listings : List (List CacheLine)) (ol
         front = (more.0, refl);
       }
 
--- what was told before input was asked for, by the lines of the octets that were taken
-answered_first : (g : Geometry) (opening : State) (listings : List (List CacheLine)) (old new : Site) (heard : ℕ) (octets : List ℕ) (ended : Bool) → take heard (answered_of ended octets) ≡ take heard (answered_of true old.input.left)
-    → AnswersFirst (run_of g opening true old.input.left listings) heard old new → NobodyWaits (run_of g opening ended octets listings) old new
-answered_first g opening listings old new heard octets ended same answers = record {
-  takes = answers.takes;
-  are = answers.are;
-  answered = all_weaker (IsToldBefore all heard old) (IsAnswered own old) before answers.takes answers.told;
+-- where all of a run's lines are among the first ones, all of it is told and done with them
+is_whole : (run : Run) (n : ℕ) → length (answered run) ≤ n → (old new : Site) → IsWhole (first_lines run n) old new → IsWhole run old new
+is_whole run n few old new w = record {
+  told = w.told ∙ ap (λ (l : List Turn). old.told ++ flat_map (λ (x : List ℕ). x) (open_text run.opening.commits ∷ map reply_text (replies l))) (whole_turns run n few);
+  stands = subst (λ (l : List Turn). Stands run.geometry new.image (after_commits run.opening.table l (count_by (λ (mark : Bool). mark) (commit_marks l))) (run.opening.commits + count_by (λ (mark : Bool). mark) (commit_marks l))) (whole_turns run n few) w.stands;
 }
-  where
-    all : Run
-    all = run_of g opening true old.input.left listings
-
-    own : Run
-    own = run_of g opening ended octets listings
-
-    before : (t : Take) → IsToldBefore all heard old t → IsAnswered own old t
-    before t told =
-        let n = length (answered_of false (take told.heard old.input.left)) in
-        let few = told.few in
-        let first : told_after all (1 + n) ≡ first_texts own (1 + n) =
-        sym (told_same all (commands_of ended octets) heard same (1 + n) (omega (arith, few))) ∙ ap (λ (l : List (List ℕ)). flat_map (λ (x : List ℕ). x) (take (1 + n) l)) (sym (texts_same own)) in
-        record {
-          heard = told.heard;
-          here = told.here;
-          told = subst (λ (l : List ℕ). length (old.told ++ l) ≤ t.told) first told.told;
-        }
 
 -- what a run begins with
 pub begins : (g : Geometry) (opening : State) (listings : List (List CacheLine)) (old : Site) → IsGood g opening old → Begins (run_of g opening true old.input.left listings) old
@@ -217,20 +190,24 @@ module _ (pool : ℕ) (g : Geometry) (opening : State) (listings : List (List Ca
       let heard = works.has_heard in
       let lines = commands_of works.ended works.octets in
       let own = run_of g opening works.ended works.octets listings in
-      let first : told_after run b.whole ≡ flat_map (λ (x : List ℕ). x) (take b.whole (texts own)) =
-      sym (told_same run lines works.heard heard.same b.whole b.begun) ∙ ap (λ (l : List (List ℕ)). flat_map (λ (x : List ℕ). x) (take b.whole l)) (sym (texts_same own)) in
-      (b.whole, ends_with (old.told ++ flat_map (λ (x : List ℕ). x) (take b.whole (texts own))) (fault_line h) old mid new result goes honest (b.told ∙ ap (λ (l : List ℕ). old.told ++ l) first) tells)
+      let few : b.whole ≤ works.heard + 1 =
+      let some = b.few in
+      let long = texts_count (first_lines run works.heard) ∙ ap (λ (l : List Line). suc (length l)) (lines_first run works.heard) in
+      let less = length-take works.heard (answered run) in
+      omega (arith, some, long, less) in
+      let first : first_texts (first_lines run works.heard) b.whole ≡ first_texts own b.whole = told_first run works.heard b.whole few ∙ sym (told_same run lines works.heard heard.same b.whole few) in
+      (b.whole, ends_with (old.told ++ first_texts own b.whole) (fault_line h) old mid new result goes honest (b.told ∙ ap (λ (l : List ℕ). old.told ++ l) first) tells)
 
   pub halted : {T U : Type 0} → Serial → (mid new : Site) (h : Halt) → IsGood g opening old → Works {T = T} pool run old mid (Err h) → Goes old mid → (result : Result U Failed) → Tells (fault_line h) mid new result → HasCause h old new → (status : ℕ) → status ≡ status_of h → Headline pool g opening old new status
-  halted law mid new h good works goes result told cause status is =
+  halted {T} law mid new h good works goes result told cause status is =
       let honest = stays_honest old mid goes good.honest in
       let tells = told.any_moment honest in
       let same_devices = told.devices honest in
-      let same_reads = told.reads in
       let heard = works.has_heard in
       let now = tells.now.told 0 in
       let lines = commands_of works.ended works.octets in
       let own = run_of g opening works.ended works.octets listings in
+      let front : first_lines own works.heard ≡ first_lines run works.heard = first_same run lines works.heard heard.same in
       record {
         durability = record {
           octets = works.octets;
@@ -241,11 +218,11 @@ module _ (pool : ℕ) (g : Geometry) (opening : State) (listings : List (List Ca
           fault = fault_line h;
           of_status = inr (h, is, refl);
           ends = λ ne. ends_behind mid new h result works goes honest told (λ output. ne (is ∙ ap status_of output));
-          any_moment = left_by g opening listings old mid works.heard works.octets works.ended heard new (fault_line h) (inr (h, refl)) (with_fault run works.heard old mid new h works.stops.0 tells);
+          any_moment = left_by g opening listings old mid works.heard works.octets works.ended heard new (fault_line h) (inr (h, refl)) (with_fault (first_lines run works.heard) old mid new h works.stops.0.any_moment works.stops.0.between tells);
           quiet = λ ne. same_devices.loose ∙ works.stops.0.quiet (λ e. ne (is ∙ e));
           heard = λ zero. absurd (not_zero h (sym is ∙ zero));
           done = λ zero. absurd (not_zero h (sym is ∙ zero));
-          answered = answered_first g opening listings old new works.heard works.octets works.ended heard.same (answers_still run works.heard old mid new same_devices.left works.answers);
+          answered = waits_same run lines works.heard heard.same old new (answers_still run works.heard old mid new same_devices.left works.answers);
           taking = λ which. told_whole_lines g opening listings old mid works.heard works.octets works.ended heard new (fault_line h)
               (taken_by h works.heard works.octets mid works.stops.1 (⊎_elim (λ e. inl (sym is ∙ e)) (λ e. inr (sym is ∙ e)) which))
               (now.0, sym (append-nil new.told) ∙ now.1);
@@ -254,17 +231,10 @@ module _ (pool : ℕ) (g : Geometry) (opening : State) (listings : List (List Ca
         caused = inr (h, is, refl, cause);
         resources = record {
           begun = works.heard;
-          has_begun = has_begun pool g opening listings (commands_of true old.input.left) lines works.heard heard.same old mid new (fault_line h) now.0 (sym (append-nil new.told) ∙ now.1) heard.enough works.begun;
-          asked = record {
-            worn = λ eight. ⊎_elim (λ flash. inl (wears_out pool g opening listings old.image works.ended works.octets run refl refl works.heard heard.same (works.worn flash))) (λ log. inr log)
-                (worn_by g opening h old new good cause (sym is ∙ eight));
-            room = λ zero. absurd (not_zero h (sym is ∙ zero));
-            frames = λ zero. absurd (not_zero h (sym is ∙ zero));
-            numbers = skips_still own works.heard old.image mid.image new.image same_devices.image
-                (skips_no_number g opening listings (commands_of true old.input.left) lines works.heard heard.same old.image mid.image works.numbers);
-            reads = λ newest blocks sound. few_told _ _ _ _ old mid new same_reads tells (reads_no_more pool g opening listings old.image works.ended works.octets run refl refl works.heard heard.same old mid refl works.reads newest blocks sound);
-          };
-          listed = lists_the_machine pool g opening listings (commands_of true old.input.left) lines works.heard heard.same old.image works.listed;
+          has_begun = begun_same run lines works.heard heard.same old mid new (fault_line h) now.0 (sym (append-nil new.told) ∙ now.1) heard.enough works.begun;
+          asked = asked_halted pool own works.heard old new {T = T} h status (λ zero. not_zero h (sym is ∙ zero)) (λ eight. worn_by g opening h old new good cause (sym is ∙ eight))
+              (demands_failed pool (first_lines own works.heard) old mid new same_devices.image told.reads tells h (subst (λ (r : Run). Demands {T = T} pool r old mid (Err h)) (sym front) works.demands));
+          listed = subst (λ (r : Run). ListsTheMachine pool r old.image) (sym front) works.listed;
         };
         order = record {
           serial = run_is_serial law g opening old good works.ended works.octets listings;
@@ -279,8 +249,9 @@ module _ (pool : ℕ) (g : Geometry) (opening : State) (listings : List (List Ca
       let count = works.done.1 in
       let same = heard.same in
       let own = run_of g opening works.ended works.octets listings in
-      let all_told : new.told ≡ old.told ++ run_text own = works.done.3.told ∙ ap (λ (l : List ℕ). old.told ++ l)
-      (sym (told_same run lines works.heard same (works.heard + 1) (omega arith)) ∙ ap (λ (n : ℕ). told_after own (n + 1)) (sym count) ∙ all_text own) in
+      let front : first_lines own works.heard ≡ first_lines run works.heard = first_same run lines works.heard same in
+      let whole : length (answered own) ≤ works.heard = omega (arith, count) in
+      let done = is_whole own works.heard whole old new (subst (λ (r : Run). IsWhole r old new) (sym front) works.done.3) in
       record {
         durability = record {
           octets = works.octets;
@@ -290,31 +261,21 @@ module _ (pool : ℕ) (g : Geometry) (opening : State) (listings : List (List Ca
           end = heard.end;
           fault = [];
           of_status = inl (refl, refl);
-          ends = λ ne. ends_whole (texts own) old new all_told;
+          ends = λ ne. ends_whole (texts own) old new done.told;
           any_moment = left_by g opening listings old new works.heard works.octets works.ended heard new [] (inl refl) works.done.2;
-          quiet = λ ne. works.done.3.quiet;
+          quiet = λ ne. works.done.4;
           heard = λ zero. works.done.0;
-          done = λ zero. record {
-            told = all_told;
-            stands = subst (λ (n : ℕ). StandsAfter own n new.image) (all_among own) (stands_after own (length (up_to_quit lines)) new.image
-                (subst (λ (n : ℕ). StandsAt own n new.image) (sym count) (subst (λ (s : State). StandsFor g new.image s) (sym (state_same run lines works.heard same works.heard (omega arith))) works.done.3.stands)));
-          };
-          answered = answered_first g opening listings old new works.heard works.octets works.ended same works.answers;
+          done = λ zero. done;
+          answered = waits_same run lines works.heard same old new works.answers;
           taking = λ which. ⊎_elim (λ e. absurd (omega (arith, e))) (λ e. absurd (omega (arith, e))) which;
           over = λ e. absurd (omega (arith, e));
         };
         caused = inl (refl, refl);
         resources = record {
           begun = works.heard;
-          has_begun = has_begun pool g opening listings (commands_of true old.input.left) lines works.heard same old new new [] 0 (sym (append-nil new.told)) heard.enough works.begun;
-          asked = record {
-            worn = λ e. absurd (omega (arith, e));
-            room = λ zero. never_wears pool g opening listings old.image works.ended works.octets run refl refl works.heard same count works.room;
-            frames = λ zero. leaves_its_queue pool g opening listings old.image works.ended works.octets run refl refl works.heard same count new.image works.queue;
-            numbers = skips_no_number g opening listings (commands_of true old.input.left) lines works.heard same old.image new.image works.numbers;
-            reads = reads_no_more pool g opening listings old.image works.ended works.octets run refl refl works.heard same old new refl works.reads;
-          };
-          listed = lists_the_machine pool g opening listings (commands_of true old.input.left) lines works.heard same old.image works.listed;
+          has_begun = begun_same run lines works.heard same old new new [] 0 (sym (append-nil new.told)) heard.enough works.begun;
+          asked = asked_done pool own works.heard old new x whole (subst (λ (r : Run). Demands pool r old new (Ok x)) (sym front) works.demands);
+          listed = subst (λ (r : Run). ListsTheMachine pool r old.image) (sym front) works.listed;
         };
         order = record {
           serial = run_is_serial law g opening old good works.ended works.octets listings;
@@ -356,12 +317,12 @@ complete more pool g opening old new status good none room log_room ends causes 
     at_end : IsLogWorn g new.image → ⊥
     at_end = never_at_end g opening d.listings d.ended old.input.left d.octets new.input.left d.taken d.end h.resources.begun old.image new.image good.opens.newest good.opens.blocks good.opens.sound h.resources.asked.numbers log_room
 
-    never : WearsOut pool (run_of g opening d.ended d.octets d.listings) h.resources.begun old.image → ⊥
+    never : WearsOut pool (first_lines (run_of g opening d.ended d.octets d.listings) h.resources.begun) old.image → ⊥
     never over =
         let newest = good.opens.newest in
         let blocks = good.opens.blocks in
         let sound = good.opens.sound in
-        let all = wears_out_all pool g opening d.listings old.image d.ended d.octets more old.input.left new.input.left d.taken d.end h.resources.begun over newest blocks sound in
+        let all = wears_out_all more pool g opening d.listings old.image d.ended d.octets old.input.left new.input.left d.taken d.end h.resources.begun over newest blocks sound in
         let few = room newest blocks sound in
         omega (arith, all, few)
 

@@ -1,22 +1,21 @@
 -- Two runs whose first lines are the same.
-use Rattle.std.proofs.Common.{◌≡◌, inl, inr, ⊎_elim, ℕ, zero, suc, ◌+◌, ◌-◌, ◌≤◌, ◌<◌, Bool, true, false, List, [], ◌∷◌, ◌++◌, take, get_or, refl, sym, ◌∙◌, ap, subst, arith}
+use Rattle.std.proofs.Common.{◌≡◌, ℕ, zero, suc, ◌+◌, ◌≤◌, ◌<◌, Bool, true, false, List, [], ◌∷◌, ◌++◌, length, take, get_or, refl, sym, ◌∙◌, ap, subst, arith, append_assoc}
 use Rattle.std.specs.Prelude.{flat_map, map, if◌then◌else◌, ◌||◌, ◌==◌}
 use Rattle.std.specs.List.{AllByRecursion, list_any}
 use Rattle.std.proofs.lemmas.Bool.{or_right}
-use Rattle.site.specs.State.{Snapshot}
-use Rattle.record_model.specs.declared.words.CacheLine.{CacheLine}
-use Rattle.record_model.specs.State.{State}
-use Rattle.record_model.specs.Run.{Line, is_quit, next_listing, later_listings}
+use Rattle.std.proofs.lemmas.List.{append-nil, take-map, take_all}
+use Rattle.site.specs.State.{State as Site}
+use Rattle.site.specs.declared.outside.Take.{Take}
+use Rattle.record_model.specs.Run.{Line, Turn, is_quit, replies}
 use Rattle.shell_text.specs.Runs.{lines_of, in_front}
 use Rattle.shell_text.specs.Reading.{line_of}
-use Rattle.face.specs.Lines.{commands_of, up_to_quit}
 use Rattle.shell_text.specs.Texts.{open_text, reply_text}
-use Rattle.face.specs.Run.{Run, answered, step, after_lines, reply_texts, line_texts, text_at, told_after, state_at, StandsFor, IsPart, IsAccounted}
-
-take_texts : (s : State) (xs : List Line) (ls : List (List CacheLine)) (n : ℕ) → take n (reply_texts s xs ls) ≡ reply_texts s (take n xs) ls
-take_texts s xs ls zero = refl
-take_texts s [] ls (suc n) = refl
-take_texts s (x ∷ xs) ls (suc n) = ap (λ (l : List (List ℕ)). reply_text (step s x (next_listing ls)).reply ∷ l) (take_texts (step s x (next_listing ls)).after xs (later_listings x ls) n)
+use Rattle.face.specs.Lines.{answered_of, commands_of, up_to_quit}
+use Rattle.face.specs.Range.{HasBegun, first_texts, text_at, texts}
+use Rattle.face.specs.Run.{Run, answered, after_lines, first_lines, state_at, turns_of}
+use Rattle.face.specs.Waiting.{IsAnswered, NobodyWaits}
+use Rattle.face.specs.Working.{AnswersFirst, IsEarly}
+use Rattle.face.proofs.Turns.{first_answered, first_turns, turns_count}
 
 pub take_within : {X : Type 0} (w n : ℕ) (xs : List X) → w ≤ n → take w (take n xs) ≡ take w xs
 take_within zero n xs le = refl
@@ -30,37 +29,89 @@ get_within i (suc n) [] d less = refl
 get_within zero (suc n) (x ∷ xs) d less = refl
 get_within (suc i) (suc n) (x ∷ xs) d less = get_within i n xs d (omega (arith, less))
 
-module _ (run : Run) (lines : List Line) (n : ℕ) (same : take n (up_to_quit lines) ≡ take n (answered run)) where
+-- A run, and the run over its first lines.
+module _ (run : Run) (n : ℕ) where
+  pub turns_first : turns_of (first_lines run n) ≡ take n (turns_of run)
+  turns_first = first_turns n run.opening run.lines run.listings
+
+  pub lines_first : answered (first_lines run n) ≡ take n (answered run)
+  lines_first = first_answered n run.lines
+
+  texts_first : texts (first_lines run n) ≡ take (suc n) (texts run)
+  texts_first =
+      ap (λ (l : List Turn). open_text run.opening.commits ∷ map reply_text (replies l)) turns_first
+      ∙ ap (λ (l : List (List ℕ)). open_text run.opening.commits ∷ l) (sym (take-map reply_text n (replies (turns_of run)) ∙ ap (map reply_text) (take-map (λ (t : Turn). t.reply) n (turns_of run))))
+
+  pub told_first : (w : ℕ) → w ≤ n + 1 → first_texts (first_lines run n) w ≡ first_texts run w
+  told_first w le = ap (flat_map (λ (x : List ℕ). x)) (ap (take w) texts_first ∙ take_within w (suc n) (texts run) (omega (arith, le)))
+
+  pub text_first : (w : ℕ) → w ≤ n → text_at (first_lines run n) w ≡ text_at run w
+  text_first w le = ap (λ (l : List (List ℕ)). get_or l w []) texts_first ∙ get_within w (suc n) (texts run) [] (omega (arith, le))
+
+  pub state_first : (w : ℕ) → w ≤ n → state_at (first_lines run n) w ≡ state_at run w
+  state_first w le = ap (λ (l : List Line). after_lines run.opening l run.listings) (ap (take w) lines_first ∙ take_within w n (answered run) le)
+
+  -- where these are all of its lines its turns are theirs
+  pub whole_turns : length (answered run) ≤ n → turns_of (first_lines run n) ≡ turns_of run
+  whole_turns few = let long = turns_count run.opening run.lines run.listings in turns_first ∙ take_all n (turns_of run) (omega (arith, long, few))
+
+-- Two runs with the same first lines.
+
+abbrev with_lines : Run → List Line → Run
+with_lines run lines = record { geometry = run.geometry; opening = run.opening; lines = lines; listings = run.listings }
+
+module _ (run : Run) (lines : List Line) (n : ℕ) (same : take n lines ≡ take n run.lines) where
   abbrev pub other : Run
   other = record { geometry = run.geometry; opening = run.opening; lines = lines; listings = run.listings }
 
-  texts_same : take (suc n) (line_texts other) ≡ take (suc n) (line_texts run)
-  texts_same = ap (λ (l : List (List ℕ)). open_text run.opening.commits ∷ l) (take_texts run.opening (up_to_quit lines) run.listings n ∙ ap (λ (l : List Line). reply_texts run.opening l run.listings) same ∙ sym (take_texts run.opening (answered run) run.listings n))
+  pub first_same : first_lines other n ≡ first_lines run n
+  first_same = ap (with_lines run) same
 
-  pub told_same : (w : ℕ) → w ≤ n + 1 → told_after other w ≡ told_after run w
-  told_same w le =
-      ap (flat_map (λ (x : List ℕ). x)) (sym (take_within w (suc n) (line_texts other) (omega (arith, le))) ∙ ap (take w) texts_same ∙ take_within w (suc n) (line_texts run) (omega (arith, le)))
+  pub told_same : (w : ℕ) → w ≤ n + 1 → first_texts other w ≡ first_texts run w
+  told_same w le = sym (told_first other n w le) ∙ ap (λ (r : Run). first_texts r w) first_same ∙ told_first run n w le
 
   pub text_same : (w : ℕ) → w ≤ n → text_at other w ≡ text_at run w
-  text_same w le = sym (get_within w (suc n) (line_texts other) [] (omega (arith, le))) ∙ ap (λ (l : List (List ℕ)). get_or l w []) texts_same ∙ get_within w (suc n) (line_texts run) [] (omega (arith, le))
+  text_same w le = sym (text_first other n w le) ∙ ap (λ (r : Run). text_at r w) first_same ∙ text_first run n w le
 
-  pub state_same : (w : ℕ) → w ≤ n → state_at other w ≡ state_at run w
-  state_same w le = ap (λ (l : List Line). after_lines run.opening l run.listings) (sym (take_within w n (up_to_quit lines) le) ∙ ap (take w) same ∙ take_within w n (answered run) le)
-
-  -- what is accounted for by the one is by the other
-  pub accounted : (so_far fault : List ℕ) (s : Snapshot) → IsAccounted run n so_far fault s → IsAccounted other n so_far fault s
-  accounted so_far fault s a =
-      let begun = a.begun in
+  -- what was begun of the one was begun of the other, and a front of a fault line is told behind it
+  pub begun_same : (old mid now : Site) (fault : List ℕ) (k : ℕ) → now.told ≡ mid.told ++ take k fault → n ≤ length (answered other) → HasBegun run n [] old mid → HasBegun other n fault old now
+  begun_same old mid now fault k more enough b =
+      let first : first_texts run n ≡ first_texts other n = sym (told_same n (omega arith)) in
+      let text : text_at run n ≡ text_at other n = sym (text_same n (omega arith)) in
+      let none : b.rest ≡ [] = b.front.1 ∙ take_all b.front.0 [] (omega arith) in
       record {
-        whole = a.whole;
-        begun = begun;
-        rest = a.rest;
-        told = a.told ∙ ap (λ (l : List ℕ). so_far ++ (l ++ a.rest)) (sym (told_same a.whole begun));
-        part = ⊎_elim (λ p. inl (p.0, subst (IsPart a.rest) (sym (text_same a.whole p.0)) p.1)) (λ f. inr f) a.part;
-        stands = ⊎_elim
-            (λ before. inl (subst (λ (x : State). StandsFor run.geometry s.image x) (sym (state_same (a.whole - 1) (omega (arith, begun)))) before))
-            (λ after. inr (after.0, subst (λ (x : State). StandsFor run.geometry s.image x) (sym (state_same a.whole after.0)) after.1)) a.stands;
+        few = let count = turns_count run.opening lines run.listings in omega (arith, count, enough);
+        reply = b.reply;
+        part = (b.part.0, b.part.1 ∙ ap (take b.part.0) text);
+        rest = take k fault;
+        front = (k, refl);
+        told = more ∙ ap (λ (l : List ℕ). l ++ take k fault) b.told
+            ∙ append_assoc old.told (first_texts run n ++ (b.reply ++ b.rest)) (take k fault)
+            ∙ ap (λ (l : List ℕ). old.told ++ l) (append_assoc (first_texts run n) (b.reply ++ b.rest) (take k fault)
+            ∙ (λ i. first i ++ ((b.reply ++ none i) ++ take k fault)) ∙ ap (λ (l : List ℕ). first_texts other n ++ (l ++ take k fault)) (append-nil b.reply));
       }
+
+  -- nobody waits in the other where no more lines stood whole than these
+  pub waits_same : (old new : Site) → AnswersFirst run n old new → NobodyWaits other old new
+  waits_same old new answers = record {
+    takes = answers.waits.takes;
+    are = answers.waits.are;
+    answered = both answers.waits.takes answers.waits.answered answers.early;
+  }
+    where
+      own : (t : Take) → IsAnswered run old t → IsEarly n old t → IsAnswered other old t
+      own t a early =
+          let whole = length (answered_of false (take a.heard old.input.left)) in
+          let few = early a.heard a.here in
+          record {
+            heard = a.heard;
+            here = a.here;
+            told = subst (λ (l : List ℕ). length (old.told ++ l) ≤ t.told) (sym (told_same (1 + whole) (omega (arith, few)))) a.told;
+          }
+
+      both : (takes : List Take) → AllByRecursion (IsAnswered run old) takes → AllByRecursion (IsEarly n old) takes → AllByRecursion (IsAnswered other old) takes
+      both [] a early = tt
+      both (t ∷ takes) a early = (own t a.0 early.0, both takes a.1 early.1)
 
 -- Lines that are answered.
 
@@ -95,13 +146,13 @@ chosen_lines : (b : Bool) (e : Bool) (x : ℕ) (ls rest all : List (List ℕ)) �
 chosen_lines true e x ls rest all is = (rest, ap (λ (l : List (List ℕ)). [] ∷ l) is)
 chosen_lines false e x ls rest all is = front_lines e x ls rest all is
 
-first_lines : (e : Bool) (a b : List ℕ) → (more : List (List ℕ)) × (lines_of e (a ++ b) ≡ lines_of false a ++ more)
-first_lines e [] b = (lines_of e b, refl)
-first_lines e (x ∷ a) b = let rest = first_lines e a b in chosen_lines (x == 10) e x (lines_of false a) rest.0 (lines_of e (a ++ b)) rest.1
+cut_first : (e : Bool) (a b : List ℕ) → (more : List (List ℕ)) × (lines_of e (a ++ b) ≡ lines_of false a ++ more)
+cut_first e [] b = (lines_of e b, refl)
+cut_first e (x ∷ a) b = let rest = cut_first e a b in chosen_lines (x == 10) e x (lines_of false a) rest.0 (lines_of e (a ++ b)) rest.1
 
 map_append : (xs ys : List (List ℕ)) → map line_of (xs ++ ys) ≡ map line_of xs ++ map line_of ys
 map_append [] ys = refl
 map_append (x ∷ xs) ys = ap (λ (l : List Line). line_of x ∷ l) (map_append xs ys)
 
 pub first_commands : (e : Bool) (a b : List ℕ) → (more : List Line) × (commands_of e (a ++ b) ≡ commands_of false a ++ more)
-first_commands e a b = let lines = first_lines e a b in (map line_of lines.0, ap (map line_of) lines.1 ∙ map_append (lines_of false a) lines.0)
+first_commands e a b = let lines = cut_first e a b in (map line_of lines.0, ap (map line_of) lines.1 ∙ map_append (lines_of false a) lines.0)

@@ -1,4 +1,3 @@
-mod Begun
 mod CauseLaws
 mod CheckLaws
 mod ClapInverse
@@ -7,12 +6,14 @@ mod CommandLaws
 mod Counted
 mod Courses
 mod Cuts
+mod Demanded
 mod Endings
 mod Ends
 mod Faults
 mod Firsts
 mod Fronts
 mod Heard
+mod Lefts
 mod Listed
 mod Lives
 mod Livings

@@ -1,29 +1,29 @@
 -- Lines that ask for the listing of the cache, and lines that don't.
-use Rattle.std.proofs.Common.{◌≡◌, ⊎_elim, ℕ, zero, suc, Bool, true, false, true≢false, List, [], ◌∷◌, ◌++◌, drop, get_or, arith, Option, None, Some, refl, sym, ap, subst, ◌∙◌, append_assoc}
+use Rattle.std.proofs.Common.{◌≡◌, ◌⊎◌, inl, inr, ⊎_elim, ℕ, suc, Bool, true, false, true≢false, List, [], ◌∷◌, ◌++◌, drop, Option, None, Some, refl, sym, ap, subst, ◌∙◌, append_assoc}
 use Rattle.std.specs.Prelude.{Result, Ok, Err, IfErr, OnOk, if◌then◌else◌}
-use Rattle.std.proofs.lemmas.Bool.{cases_lt}
 use Rattle.site.specs.declared.outside.Stop.{Stop}
 use Rattle.site.specs.declared.outside.Stop.TheVariants.{Memory}
 use Rattle.site.specs.State.{State as Site}
 use Rattle.record_model.specs.declared.words.Command.{Command}
 use Rattle.record_model.specs.declared.words.Command.TheVariants.{Cache}
 use Rattle.record_model.specs.declared.words.Reply.{Reply}
+use Rattle.record_model.specs.declared.words.Reply.TheVariants.{Listing}
 use Rattle.record_model.specs.declared.words.CacheLine.{CacheLine}
 use Rattle.record_model.specs.State.{State}
 use Rattle.record_model.specs.Step.{refusal, outcome}
-use Rattle.record_model.specs.Run.{Line, is_cache, next_listing, later_listings}
+use Rattle.record_model.specs.Run.{Line, Turn, is_cache, next_listing, later_listings}
 use Rattle.engine.specs.declared.engine.Engine.{Engine}
 use Rattle.engine.specs.Image.{IsSound}
 use Rattle.engine.specs.Listings.{listing_of}
-use Rattle.engine.specs.Paging.{cache_on}
 use Rattle.checkpoint.specs.declared.master.Master.{Master}
 use Rattle.log_records.specs.declared.log_record.LogRecord.{LogRecord}
-use Rattle.second_chance.specs.Machine.{after_works, listing, rules_of}
+use Rattle.second_chance.specs.Machine.{listing}
 use Rattle.face.specs.Causes.{FailsBy}
-use Rattle.face.specs.Run.{Run, Begins, IsAsked, step, answered, listings_left, listing_at}
-use Rattle.face.specs.Working.{AnswersFirst, ListsUpTo, asked_after}
+use Rattle.face.specs.Range.{ListsTheMachine, cache_by}
+use Rattle.face.specs.Run.{Run, Begins, IsAsked, step, answered, first_lines, listings_left, listing_at, state_at, turns_of}
+use Rattle.face.specs.Working.{AnswersFirst}
 use Rattle.face.specs.Going.{Going, IsPaged, IsUnderWay}
-use Rattle.face.proofs.Runs.{left_next}
+use Rattle.face.proofs.Runs.{left_next, turn_at, turns_next}
 
 -- Which lines ask for it.
 
@@ -31,6 +31,10 @@ pub cache_line : (line : Line) → is_cache line ≡ true → line ≡ Some Cach
 cache_line None is = absurd (true≢false (sym is))
 cache_line (Some Cache) is = refl
 cache_line (Some other) is = absurd (true≢false (sym is))
+
+-- it is replied what the cache lists
+cache_reply : (s : State) (line : Line) (listing : List CacheLine) → is_cache line ≡ true → (step s line listing).reply ≡ Listing listing
+cache_reply s line listing asks = ap (λ (x : Line). (step s x listing).reply) (cache_line line asks)
 
 -- a command that doesn't is another one
 pub never_cache : (line : Line) (command : Command) → is_cache line ≡ false → line ≡ Some command → command ≡ Cache → ⊥
@@ -71,11 +75,20 @@ rest_asked line listing later = by (is_cache line)
     by true = refl
     by false = refl
 
-at_place : {X : Type 0} (xs : List X) (i : ℕ) (x : X) (rest : List X) (d : X) → drop i xs ≡ x ∷ rest → get_or xs i d ≡ x
-at_place [] zero x rest d is = cc
-at_place [] (suc i) x rest d is = cc
-at_place (y ∷ xs) zero x rest d is = cc
-at_place (y ∷ xs) (suc i) x rest d is = at_place xs i x rest d is
+-- no turn is one of none
+pub no_turn : (before later : List Turn) (t : Turn) → [] ≡ before ++ t ∷ later → ⊥
+no_turn [] later t is = cc
+no_turn (b ∷ before) later t is = cc
+
+-- one of some turns and a last one
+last_or_earlier : (xs : List Turn) (last : Turn) (before later : List Turn) (t : Turn) → xs ++ last ∷ [] ≡ before ++ t ∷ later → ((rest : List Turn) × (xs ≡ before ++ t ∷ rest)) ⊎ ((before ≡ xs) × (t ≡ last))
+last_or_earlier [] last [] later t is = inr (refl, cc)
+last_or_earlier [] last (b ∷ before) later t is = absurd (no_turn before later t cc)
+last_or_earlier (x ∷ xs) last [] later t is = let same : x ≡ t = cc in inl (xs, ap (λ (y : Turn). y ∷ xs) same)
+last_or_earlier (x ∷ xs) last (b ∷ before) later t is =
+    let same : x ≡ b = cc in
+    let rest : xs ++ last ∷ [] ≡ before ++ t ∷ later = cc in
+    ⊎_elim (λ earlier. inl (earlier.0, λ i. same i ∷ earlier.1 i)) (λ own. inr (λ i. sym same i ∷ own.0 i, own.1)) (last_or_earlier xs last before later t rest)
 
 module _ (pool : ℕ) (entry mid : Site) (engine : Engine) (i : ℕ) (so_far : IsUnderWay pool entry mid engine i) (line : Line) where
   -- the listings with the line's own
@@ -96,13 +109,17 @@ module _ (pool : ℕ) (entry mid : Site) (engine : Engine) (i : ℕ) (so_far : I
     is_asked = λ asks. ap next_listing (so_far.left run (asked line (listing_of engine) ++ later) begins before) ∙ first_asked line (listing_of engine) later asks
 
     -- where the cache has done what was asked so far, the line's own is the machine's too
-    pub listed_next : (rest : List Line) → drop i (answered run) ≡ line ∷ rest → ((newest : Option Master) (blocks : List (List LogRecord)) → IsSound newest run.geometry entry.image blocks → IsPaged pool run newest entry.image blocks engine i) → ListsUpTo pool run (suc i) entry.image
-    listed_next rest at paged newest blocks sound j less asks = ⊎_elim
-        (λ earlier. so_far.listed run (asked line (listing_of engine) ++ later) begins before newest blocks sound j earlier asks)
-        (λ most. let same : i ≡ j = omega (arith, less, most) in
-        subst (λ (n : ℕ). is_cache (get_or (answered run) n None) ≡ true → listing_at run n ≡ listing (after_works (rules_of pool run.geometry.groups) (asked_after run newest entry.image blocks n) (cache_on run.geometry entry.image))) same
-        (λ own. is_asked (sym (ap is_cache (at_place (answered run) i line rest None at)) ∙ own) ∙ ap listing (paged newest blocks sound).machine) asks)
-        (cases_lt j i)
+    pub listed_next : (rest : List Line) → drop i (answered run) ≡ line ∷ rest → ((newest : Option Master) (blocks : List (List LogRecord)) → IsSound newest run.geometry entry.image blocks → IsPaged pool run newest entry.image blocks engine i) →
+        ListsTheMachine pool (first_lines run (suc i)) entry.image
+    listed_next rest at paged newest blocks sound first others t split asks = ⊎_elim
+        (λ earlier. so_far.listed run (asked line (listing_of engine) ++ later) begins before newest blocks sound first earlier.0 t earlier.1 asks)
+        (λ own.
+        let its : is_cache line ≡ true = ap (λ (u : Turn). is_cache u.line) (sym own.1) ∙ asks in
+        ap (λ (u : Turn). u.reply) own.1
+        ∙ cache_reply (state_at run i) line (listing_at run i) its
+        ∙ ap Listing (is_asked its ∙ ap listing (paged newest blocks sound).machine)
+        ∙ ap (λ (l : List Turn). Listing (listing (cache_by pool run l newest entry.image blocks))) (sym own.0))
+        (last_or_earlier (turns_of (first_lines run i)) (turn_at run i line rest at) first others t (sym (turns_next run i line rest at) ∙ split))
 
     pub left_after : (rest : List Line) → drop i (answered run) ≡ line ∷ rest → listings_left run (suc i) ≡ later
     left_after rest at =

@@ -7,8 +7,8 @@ use Rattle.engine.specs.Image.{Opens}
 use Rattle.face.specs.Headline.{ran}
 use Rattle.face.specs.Lives.{LawOfLives, LawOfLoads, LoadOpensAgain, OpensAfter, OpensAgain}
 use Rattle.face.specs.Loads.{IsLeftOf}
-use Rattle.face.specs.Range.{IsLeft, StandsAfter, turns_of}
-use Rattle.face.specs.Run.{Run}
+use Rattle.face.specs.Range.{IsLeft, StandsAfter}
+use Rattle.face.specs.Run.{Run, turns_of}
 use Rattle.face.specs.Workload.{load_run, summary_text}
 use Rattle.face.proofs.Meanings.{opens_where_it_stands}
 

@@ -1,23 +1,18 @@
 -- A load that halts with its fault line, and one that is summed up.
-use Rattle.std.proofs.Common.{◌≡◌, ◌≢◌, ◌⊎◌, inl, inr, ⊎_elim, ℕ, ◌-◌, ◌≤◌, true, List, [], ◌∷◌, ◌++◌, take, drop, refl, sym, ◌∙◌, ap, subst, arith, append_assoc, take-append-drop}
-use Rattle.std.specs.Prelude.{Ok, Err, Result, IsErrOf, IsTrue}
+use Rattle.std.proofs.Common.{◌≡◌, ◌≢◌, ◌⊎◌, inl, inr, ⊎_elim, ℕ, ◌-◌, ◌≤◌, List, [], ◌++◌, take, refl, sym, ◌∙◌, ap, subst, arith, append_assoc}
+use Rattle.std.specs.Prelude.{Ok, Err, Result, IsTrue}
 use Rattle.std.proofs.lemmas.List.{append-nil, take_all}
 use Rattle.site.specs.declared.geometry.Geometry.{Geometry}
-use Rattle.site.specs.declared.outside.Dev.TheVariants.{Flash}
 use Rattle.site.specs.declared.outside.Stop.TheVariants.{Device, Memory, Worn, Foreign}
-use Rattle.site.specs.State.{State as Site, Image, Snapshot, now_of}
+use Rattle.site.specs.State.{State as Site, Snapshot, now_of}
 use Rattle.site.specs.Calls.{Goes, SameReads}
 use Rattle.site.specs.Moments.{EachMoment, Leaves, LeavesOnly}
 use Rattle.site.specs.Laws.{image_is, in_sequence, leaves_weaker, stays_honest, tell_leaves, told_is}
 use Rattle.site.specs.Telling.{SameDevices, TellsPart}
 use Rattle.site.specs.declared.outside.Failed.{Failed}
 use Rattle.record_model.specs.State.{State}
-use Rattle.record_model.specs.Run.{Turn, commit_marks, commits_among}
-use Rattle.record_model.specs.Touches.{CacheWork, line_touches, run_touches}
-use Rattle.image_meaning.specs.Meaning.{picture_under}
-use Rattle.second_chance.specs.Machine.{rules_of}
-use Rattle.redo_undo.specs.Works.{Overflows, OverflowsWithMore}
-use Rattle.engine.specs.Paging.{cache_on, restart_works}
+use Rattle.record_model.specs.Run.{commit_marks, commits_among}
+use Rattle.redo_undo.specs.Works.{OverflowsWithMore}
 use Rattle.face.specs.declared.halt.Halt.{Halt}
 use Rattle.face.specs.declared.halt.Halt.TheVariants as halt
 use Rattle.face.specs.declared.request.Load.{Load}
@@ -27,15 +22,15 @@ use Rattle.face.specs.TopCall.{LoadContract}
 use Rattle.face.specs.Headline.{IsGood, TellsFault}
 use Rattle.face.specs.Loads.{Allows, HasBegunLoad, IsLeftOf, IsOpened, IsUntold, LoadHeadline, LoadStops, LoadWorks}
 use Rattle.redo_undo.specs.Holding.{IsLogWorn}
-use Rattle.face.specs.Range.{HasLogRoom, NeverWears, StandsAfter, WearsOut, all_commits, turns_of, works_by}
-use Rattle.face.specs.Run.{IsFront, Run}
+use Rattle.face.specs.Range.{HasLogRoom, NeverWears, StandsAfter, WearsOut, all_commits}
+use Rattle.face.specs.Run.{IsFront, Run, first_lines, turns_of}
 use Rattle.face.specs.Texts.{fault_line, status_of}
 use Rattle.face.specs.Tells.{EndsBehind, Tells}
 use Rattle.face.specs.Workload.{load_run, load_texts, opening_text, summary_text}
 use Rattle.face.proofs.Endings.{ends_whole, ends_with}
-use Rattle.face.proofs.Counted.{skips_still}
+use Rattle.face.proofs.Demanded.{asked_done, asked_halted, demands_done, demands_err, demands_failed, demands_lost}
 use Rattle.face.proofs.Faults.{not_zero, worn_by}
-use Rattle.face.proofs.Pagings.{few_told}
+use Rattle.face.proofs.Pagings.{wears_out_later}
 use Rattle.face.proofs.Meanings.{stands_by}
 
 no_text : (rest text : List ℕ) → IsFront rest [] → IsFront rest text
@@ -73,16 +68,10 @@ still_begun run begun text old mid new tells b =
       stands = λ s left. ((tell_leaves (λ image. (k : ℕ) × (commits_among (begun - 1) (commit_marks (turns_of run)) ≤ k) × StandsAfter run k image) text mid new b.stands tells).now s left).1;
     }
 
-no_error : {T : Type 0} (x : T) (h : Halt) → IsErrOf {T = T} (Ok x) h → ⊥
-no_error x h is = cc
-
-same_halt : {T : Type 0} (h is : Halt) → IsErrOf {T = T} (Err h) is → h ≡ is
-same_halt h is same = cc
-
 module _ (pool : ℕ) (run : Run) (summary : List ℕ) (old : Site) where
   -- it stops before its summary
   pub stopped_before : {T U : Type 0} (new : Site) (h : Halt) → LoadWorks {T = T} pool run [] old new (Err h) → LoadWorks {T = U} pool run summary old new (Err h)
-  stopped_before {T} {U} new h works = record {
+  stopped_before new h works = record {
     stops = record {
       any_moment = leaves_weaker old new (IsLeftOf run [] [] old.told) (IsLeftOf run summary [] old.told) (λ s l. more_left run summary [] old.told s l) works.stops.any_moment;
       between = works.stops.between;
@@ -91,11 +80,8 @@ module _ (pool : ℕ) (run : Run) (summary : List ℕ) (old : Site) where
     done = tt;
     begun = works.begun;
     has_begun = works.has_begun;
-    worn = λ is. works.worn (ap Err (same_halt {T = U} h (halt.Stop (Worn Flash)) is));
-    room = tt;
-    frames = tt;
-    numbers = works.numbers;
-    reads = works.reads;
+    all = tt;
+    demands = demands_err pool (first_lines run works.begun) old new h (λ e. works.demands.worn (ap Err e)) works.demands.numbers works.demands.reads;
     left = works.left;
   }
 
@@ -128,11 +114,8 @@ module _ (pool : ℕ) (run : Run) (summary : List ℕ) (old : Site) where
       };
       begun = works.begun;
       has_begun = still_begun run works.begun summary old mid new tells works.has_begun;
-      worn = λ is. absurd (no_error y (halt.Stop (Worn Flash)) is);
-      room = works.room;
-      frames = λ newest blocks sound. ap (λ (x : Image). cache_on run.geometry x) same.image ∙ works.frames newest blocks sound;
-      numbers = skips_still run works.begun old.image mid.image new.image same.image works.numbers;
-      reads = λ newest blocks sound. few_told _ _ _ _ old mid new read tells (works.reads newest blocks sound);
+      all = works.all;
+      demands = demands_done pool (first_lines run works.begun) old mid new same.image read tells x y works.demands;
       left = same.left ∙ works.left;
     }
 
@@ -143,16 +126,10 @@ module _ (pool : ℕ) (run : Run) (summary : List ℕ) (old : Site) where
       done = tt;
       begun = works.begun;
       has_begun = still_begun run works.begun summary old mid new tells works.has_begun;
-      worn = λ is. absurd (other (same_halt {T = U} halt.Output (halt.Stop (Worn Flash)) is));
-      room = tt;
-      frames = tt;
-      numbers = skips_still run works.begun old.image mid.image new.image same.image works.numbers;
-      reads = λ newest blocks sound. few_told _ _ _ _ old mid new read tells (works.reads newest blocks sound);
+      all = tt;
+      demands = demands_lost pool (first_lines run works.begun) old mid new same.image read tells x works.demands;
       left = same.left ∙ works.left;
     }
-      where
-        other : halt.Output ≡ halt.Stop (Worn Flash) → ⊥
-        other is = cc
 
 -- A fault line.
 module _ (run : Run) (summary : List ℕ) (old mid new : Site) (h : Halt) (stops : LoadStops run summary old mid h) (tells : EachMoment mid new (TellsPart (fault_line h) mid)) where
@@ -199,12 +176,6 @@ module _ (run : Run) (summary : List ℕ) (old mid new : Site) (h : Halt) (stops
   with_fault = in_sequence old mid new (Leaves (IsLeftOf run summary (fault_line h) old.told)) before
       (⊎_elim fault_none (λ ne. ⊎_elim fault_untold fault_opened (stops.between ne)) (output_or_not h))
 
--- the work of some turns and of those behind them
-touches_join : (first later : List Turn) → run_touches true (first ++ later) ≡ run_touches true first ++ run_touches true later
-touches_join [] later = refl
-touches_join (t ∷ first) later =
-    ap (λ (w : List CacheWork). line_touches true t.before t.line ++ w) (touches_join first later) ∙ sym (append_assoc (line_touches true t.before t.line) (run_touches true first) (run_touches true later))
-
 -- The headline.
 module _ (load : Load) (g : Geometry) (opening : State) (old : Site) (good : IsGood g opening old) where
   abbrev run' : Run
@@ -240,13 +211,8 @@ module _ (load : Load) (g : Geometry) (opening : State) (old : Site) (good : IsG
         resources = record {
           begun = works.begun;
           has_begun = still_begun run' works.begun (fault_line h) old mid new tells works.has_begun;
-          asked = record {
-            worn = λ eight. ⊎_elim (λ flash. inl (works.worn flash)) (λ log. inr log) (worn_by {T = T} g opening h old new good cause (sym is ∙ eight));
-            room = λ zero. absurd (not_zero h (sym is ∙ zero));
-            frames = λ zero. absurd (not_zero h (sym is ∙ zero));
-            numbers = skips_still run' works.begun old.image mid.image new.image same.image works.numbers;
-            reads = λ newest blocks sound. few_told _ _ _ _ old mid new read tells (works.reads newest blocks sound);
-          };
+          asked = asked_halted load.pool run' works.begun old new {T = T} h status (λ zero. not_zero h (sym is ∙ zero)) (λ eight. worn_by {T = T} g opening h old new good cause (sym is ∙ eight))
+              (demands_failed load.pool (first_lines run' works.begun) old mid new same.image read tells h works.demands);
         };
       }
 
@@ -266,13 +232,7 @@ module _ (load : Load) (g : Geometry) (opening : State) (old : Site) (good : IsG
     resources = record {
       begun = works.begun;
       has_begun = works.has_begun;
-      asked = record {
-        worn = λ eight. absurd (omega (arith, eight));
-        room = λ zero. works.room;
-        frames = λ zero. works.frames;
-        numbers = works.numbers;
-        reads = works.reads;
-      };
+      asked = asked_done load.pool run' works.begun old new x works.all works.demands;
     };
   }
 
@@ -286,20 +246,10 @@ module _ (load : Load) (g : Geometry) (opening : State) (old : Site) (good : IsG
       at_end : IsLogWorn g new.image → ⊥
       at_end = never_at_end_within run' h.resources.begun old.image new.image good.opens.newest good.opens.blocks good.opens.sound h.resources.asked.numbers log_room
 
-      never : WearsOut load.pool run' h.resources.begun old.image → ⊥
+      never : WearsOut load.pool (first_lines run' h.resources.begun) old.image → ⊥
       never over =
-          let newest = good.opens.newest in
-          let blocks = good.opens.blocks in
-          let sound = good.opens.sound in
-          let least = sound.octets.limits.groups in
-          let front = take h.resources.begun (turns_of run') in
-          let later = drop h.resources.begun (turns_of run') in
-          let all : works_by run' front newest old.image blocks ++ run_touches true later ≡ works_by run' (turns_of run') newest old.image blocks =
-          append_assoc (restart_works (picture_under newest g old.image blocks)) (run_touches true front) (run_touches true later)
-          ∙ ap (λ (w : List CacheWork). restart_works (picture_under newest g old.image blocks) ++ w) (sym (touches_join front later) ∙ ap (run_touches true) (take-append-drop h.resources.begun (turns_of run'))) in
-          let many = subst (λ (w : List CacheWork). Overflows (rules_of load.pool g.groups) w (cache_on g old.image)) all
-          (more (rules_of load.pool g.groups) (works_by run' front newest old.image blocks) (run_touches true later) (cache_on g old.image) (omega (arith, least)) (over newest blocks sound)) in
-          let few = room newest blocks sound in
+          let many = wears_out_later more load.pool run' h.resources.begun old.image over good.opens.newest good.opens.blocks good.opens.sound in
+          let few = room good.opens.newest good.opens.blocks good.opens.sound in
           omega (arith, many, few)
 
 -- a status of none that speaks of input

@@ -11,7 +11,7 @@ use Rattle.site.specs.State.{State as Site, Image, Snapshot, MayLeave, now_of}
 use Rattle.site.specs.Moments.{Leaves, LeavesOnly}
 use Rattle.site.specs.Laws.{holds_now, in_sequence, leaves_weaker}
 use Rattle.record_model.specs.State.{State}
-use Rattle.record_model.specs.Run.{Line, Turn, commit_marks, commits_among}
+use Rattle.record_model.specs.Run.{Line, commit_marks, commits_among}
 use Rattle.record_model.specs.Touches.{CacheWork}
 use Rattle.checkpoint.specs.declared.master.Master.{Master}
 use Rattle.log_records.specs.declared.log_record.LogRecord.{LogRecord}
@@ -20,7 +20,7 @@ use Rattle.second_chance.specs.Machine.{Cache, Rules, after_works, opened, rules
 use Rattle.page_store.specs.Caching.{cache_of, rules}
 use Rattle.engine.specs.Paging.{WritesFrom}
 use Rattle.face.proofs.Writings.{engine_queue, writes_then}
-use Rattle.redo_undo.specs.Works.{next_group, Overflows, ReadsAddUp, ReadsFor, WorksAddUp}
+use Rattle.redo_undo.specs.Works.{next_group, ReadsAddUp, ReadsFor, WorksAddUp}
 use Rattle.engine.specs.declared.engine.Engine.{Engine}
 use Rattle.engine.specs.Going.{MayGoOn, sizes_of}
 use Rattle.engine.specs.Image.{IsSound, log_under}
@@ -31,17 +31,18 @@ use Rattle.face.specs.declared.halt.Halt.{Halt}
 use Rattle.face.specs.declared.halt.Halt.TheVariants as halt
 use Rattle.face.specs.declared.request.Load.{Load}
 use Rattle.face.specs.Going.{Going, IsCounted, IsPaged}
-use Rattle.face.specs.Lines.{commands_of}
 use Rattle.face.specs.Loads.{CarriesFirst, CarriesOut, HasBegunLoad, IsLeftOf, IsOpened, IsUntold, LeavesSome, LoadStops, LoadWorks}
-use Rattle.face.specs.Range.{AsksNoMore, SkipsNoNumber, StandsAfter, WearsOut, all_commits, cache_by, run_of, turns_of, works_by}
-use Rattle.face.specs.Run.{IsAccounted, IsFront, IsPart, AsksFew, Run, SkipsNoneUpTo, StandsFor, StandsNear, Stops, after_lines, answered, checkpoints_of, text_at, told_after, works_of}
-use Rattle.face.specs.Working.{asked_after}
+use Rattle.face.specs.Range.{AsksNoMore, IsLeft, SkipsNoNumber, StandsAfter, WearsOut, all_commits, cache_by, first_texts, run_of, texts}
+use Rattle.face.specs.Run.{AsksFew, Run, StandsFor, after_lines, answered, checkpoints_of, first_lines, works_of, turns_of}
+use Rattle.face.specs.Working.{StandsNear, Stops, asked_after}
 use Rattle.face.specs.Texts.{status_of}
 use Rattle.face.specs.Workload.{get_line, load_run, numbers_of, opening_text, set_line, set_lines, get_lines}
-use Rattle.face.proofs.Counted.{skips_course, skips_no_number}
+use Rattle.face.proofs.Counted.{skips_course}
 use Rattle.face.proofs.Logs.{fits_stands}
 use Rattle.face.proofs.Courses.{carries_all, leaves_first}
 use Rattle.face.proofs.Fronts.{take_within}
+use Rattle.face.proofs.Lefts.{left_first, left_none, none_among}
+use Rattle.face.proofs.Demanded.{demands_err, demands_ok}
 use Rattle.face.proofs.Pagings.{first_ask}
 use Rattle.face.proofs.Ranges.{all_among, stands_after}
 use Rattle.face.proofs.Stated.{NoneQuits, all_answered, count_join, none_quits_join, none_quits_map}
@@ -74,10 +75,6 @@ module _ (g : Geometry) (opening : State) (load : Load) where
   abbrev marks : List Bool
   marks = commit_marks (turns_of run)
 
-  -- the table of the opening is that after no commit
-  pub stands_first : (image : Image) → StandsFor g image opening → StandsAfter run 0 image
-  stands_first image stands = stands_after run 0 image stands
-
   some_lines : (i : ℕ) (image : Image) → StandsFor g image (after_lines opening (take i run.lines) []) → StandsAfter run (commits_among i marks) image
   some_lines i image stands = stands_after run i image (subst (λ (l : List Line). StandsFor g image (after_lines opening (take i l) [])) (sym all_lines) stands)
 
@@ -93,53 +90,40 @@ module _ (g : Geometry) (opening : State) (load : Load) where
     abbrev opening_run : Run
     opening_run = run_of g opening true old.input.left []
 
-    opens_at : (whole : ℕ) (image : Image) → whole ≤ 1 → StandsNear opening_run 0 whole image → StandsFor g image opening
-    opens_at zero image few near = ⊎_elim (λ stands. stands) (λ stands. stands.1) near
-    opens_at (suc zero) image few near = ⊎_elim (λ stands. stands) (λ later. absurd (let bad = later.0 in omega (arith, bad))) near
-    opens_at (suc (suc n)) image few near = absurd (omega (arith, few))
+    -- no commit of it was made, so none of the load
+    stands_none : (k : ℕ) (image : Image) → k ≡ 0 → StandsAfter (first_lines opening_run 0) k image → StandsAfter run 0 image
+    stands_none k image none stands = subst (λ (n : ℕ). StandsAfter (first_lines opening_run 0) n image) none stands
 
-    opening_leaves : (whole : ℕ) (rest : List ℕ) (s : Snapshot) → whole ≤ 1 → s.told ≡ old.told ++ (told_after opening_run whole ++ rest) → ((whole ≤ 0) × IsPart rest (text_at opening_run whole)) ⊎ IsFront rest [] → StandsNear opening_run 0 whole s.image →
-        IsLeftOf run [] [] old.told s
-    opening_leaves zero rest s few told part near = record {
-      told = rest;
-      told_is = told;
+    opening_left : (s : Snapshot) → IsLeft (first_lines opening_run 0) old.told [] s → IsLeftOf run [] [] old.told s
+    opening_left s l = record {
+      told = l.told;
+      told_is = l.told_is;
       k = 0;
-      allowed = inl (⊎_elim (λ p. inl (p.1.0, p.1.2)) (λ f. inr f) part, refl);
-      stands = stands_first s.image (opens_at 0 s.image few near);
+      allowed = inl (inl (left_first opening_run l.told l.is_told), refl);
+      stands = stands_none l.k s.image (left_none opening_run old.told [] s l) l.stands;
     }
-    opening_leaves (suc zero) rest s few told part near = record {
-      told = opening_text run ++ rest;
-      told_is = told ∙ ap (λ (l : List ℕ). old.told ++ (l ++ rest)) (append-nil (opening_text run));
-      k = 0;
-      allowed = inr (inl (rest, refl, ⊎_elim (λ p. absurd (let bad = p.0 in omega (arith, bad))) (λ f. f) part, omega arith));
-      stands = stands_first s.image (opens_at 1 s.image few near);
-    }
-    opening_leaves (suc (suc n)) rest s few told part near = absurd (omega (arith, few))
 
-    opening_left : (s : Snapshot) → IsAccounted opening_run 0 old.told [] s → IsLeftOf run [] [] old.told s
-    opening_left s a = let begun = a.begun in opening_leaves a.whole a.rest s (omega (arith, begun)) a.told a.part a.stands
+    near_none : (whole : ℕ) (image : Image) → StandsNear (first_lines opening_run 0) whole image → StandsAfter run 0 image
+    near_none whole image near = stands_none near.0 image (none_among whole near.0 near.2) near.3
 
-    opening_between : (whole : ℕ) (new : Site) → whole ≤ 1 → new.told ≡ old.told ++ told_after opening_run whole → ((s : Snapshot) → MayLeave (now_of new) s → StandsNear opening_run 0 whole s.image) → IsUntold run old new ⊎ IsOpened run old new
-    opening_between zero new few told stands = inl (record { told = told ∙ append-nil old.told; stands = λ s left. stands_first s.image (opens_at 0 s.image few (stands s left)) })
+    opening_between : (whole : ℕ) (new : Site) → whole ≤ length (texts (first_lines opening_run 0)) → new.told ≡ old.told ++ first_texts (first_lines opening_run 0) whole → ((s : Snapshot) → MayLeave (now_of new) s → StandsNear (first_lines opening_run 0) whole s.image) → IsUntold run old new ⊎ IsOpened run old new
+    opening_between zero new few told stands = inl (record { told = told ∙ append-nil old.told; stands = λ s left. near_none 0 s.image (stands s left) })
     opening_between (suc zero) new few told stands = inr (record {
       told = told ∙ ap (λ (l : List ℕ). old.told ++ l) (append-nil (opening_text run));
-      stands = λ s left. (0, omega arith, stands_first s.image (opens_at 1 s.image few (stands s left)));
+      stands = λ s left. (0, omega arith, near_none 1 s.image (stands s left));
     })
-    opening_between (suc (suc n)) new few told stands = absurd (omega (arith, few))
+    opening_between (suc (suc n)) new few told stands = let one : length (texts (first_lines opening_run 0)) ≡ 1 = refl in absurd (omega (arith, few, one))
 
     -- it stops there
     never_opened : (new : Site) (h : Halt) → Stops opening_run 0 old new h → LoadStops run [] old new h
     never_opened new h stops = record {
-      any_moment = leaves_weaker old new (IsAccounted opening_run 0 old.told []) (IsLeftOf run [] [] old.told) opening_left stops.any_moment;
-      between = λ ne. let b = stops.between ne in let begun = b.begun in opening_between b.whole new (omega (arith, begun)) b.told b.stands;
+      any_moment = leaves_weaker old new (IsLeft (first_lines opening_run 0) old.told []) (IsLeftOf run [] [] old.told) opening_left stops.any_moment;
+      between = λ ne. let b = stops.between ne in opening_between b.whole new b.few b.told b.stands;
       quiet = stops.quiet;
     }
 
-    same_halt : {T : Type 0} (h is : Halt) → IsErrOf {T = T} (Err h) is → h ≡ is
-    same_halt h is same = cc
-
     -- what its first lines ask, behind what the restart has asked
-    first_asked : (n : ℕ) (newest : Option Master) (image : Image) (blocks : List (List LogRecord)) → works_by run (take n (turns_of run)) newest image blocks ≡ asked_after opening_run newest image blocks 0 ++ works_of opening (take n run.lines)
+    first_asked : (n : ℕ) (newest : Option Master) (image : Image) (blocks : List (List LogRecord)) → asked_after run newest image blocks n ≡ asked_after opening_run newest image blocks 0 ++ works_of opening (take n run.lines)
     first_asked n newest image blocks =
         let restart = restart_works (picture_under newest g image blocks) in
         ap (λ (w : List CacheWork). restart ++ w) (first_ask n opening run.lines [] ∙ ap (λ (l : List Line). works_of opening (take n l)) all_lines)
@@ -150,24 +134,18 @@ module _ (g : Geometry) (opening : State) (load : Load) where
     none_begun new h stops = record {
       few = omega arith;
       opened = λ some. absurd (omega (arith, some));
-      stands = λ s left. let a = stops.any_moment.now s left in let begun = a.begun in (0, omega arith, stands_first s.image (opens_at a.whole s.image (omega (arith, begun)) a.stands));
+      stands = λ s left. let l = stops.any_moment.now s left in (0, omega arith, stands_none l.k s.image (left_none opening_run old.told [] s l) l.stands);
     }
 
-    pub load_never_opened : {T : Type 0} (new : Site) (h : Halt) → Stops opening_run 0 old new h → (h ≡ halt.Stop (Worn Flash) → WearsOut load.pool opening_run 0 old.image) → SkipsNoneUpTo opening_run 0 old.image new.image → AsksNoMore load.pool opening_run 0 old new → new.input ≡ old.input →
+    pub load_never_opened : {T : Type 0} (new : Site) (h : Halt) → Stops opening_run 0 old new h → (h ≡ halt.Stop (Worn Flash) → WearsOut load.pool (first_lines opening_run 0) old.image) → SkipsNoNumber (first_lines opening_run 0) old.image new.image → AsksNoMore load.pool (first_lines opening_run 0) old new → new.input ≡ old.input →
         LoadWorks {T = T} load.pool run [] old new (Err h)
     load_never_opened {T} new h stops worn numbers reads left = record {
       stops = never_opened new h stops;
       done = tt;
       begun = 0;
       has_begun = none_begun new h stops;
-      frames = tt;
-      worn = λ is newest blocks sound.
-          subst (λ (w : List CacheWork). Overflows (rules_of load.pool g.groups) w (cache_on g old.image)) (sym (first_asked 0 newest old.image blocks ∙ append-nil (asked_after opening_run newest old.image blocks 0)))
-          (worn (same_halt {T = T} h (halt.Stop (Worn Flash)) is) newest blocks sound);
-      room = tt;
-      numbers = skips_no_number g opening [] (commands_of true old.input.left) run.lines 0 refl old.image new.image numbers;
-      reads = λ newest blocks sound.
-          subst (λ (w : List CacheWork). AsksFew load.pool g w old new) (sym (first_asked 0 newest old.image blocks ∙ append-nil (asked_after opening_run newest old.image blocks 0))) (reads newest blocks sound);
+      all = tt;
+      demands = demands_err load.pool (first_lines run 0) old new h worn numbers reads;
       left = left;
     }
 
@@ -175,7 +153,7 @@ module _ (g : Geometry) (opening : State) (load : Load) where
     module _ (add : WorksAddUp) (reads_add : ReadsAddUp) (mid new : Site) (before after : Engine) (going : Going opening_run old mid before 0)
         (paged : (newest : Option Master) (blocks : List (List LogRecord)) → IsSound newest g old.image blocks → IsPaged load.pool opening_run newest old.image blocks before 0)
         (counted : (newest : Option Master) (blocks : List (List LogRecord)) → IsSound newest g old.image blocks → IsCounted opening_run (log_under newest blocks) old.image mid.image before 0)
-        (read : AsksNoMore load.pool opening_run 0 old mid) (goes_on : MayGoOn before mid)
+        (read : AsksNoMore load.pool (first_lines opening_run 0) old mid) (goes_on : MayGoOn before mid)
         (left : mid.input ≡ old.input) where
       told_mid : mid.told ≡ old.told ++ opening_text run
       told_mid = going.told ∙ ap (λ (l : List ℕ). old.told ++ l) (append-nil (opening_text run))
@@ -202,7 +180,7 @@ module _ (g : Geometry) (opening : State) (load : Load) where
 
         moments : LeavesOnly old new (IsLeftOf run [] [] old.told)
         moments = in_sequence old mid new (Leaves (IsLeftOf run [] [] old.told))
-            (leaves_weaker old mid (IsAccounted opening_run 0 old.told []) (IsLeftOf run [] [] old.told) opening_left going.moments)
+            (leaves_weaker old mid (IsLeft (first_lines opening_run 0) old.told []) (IsLeftOf run [] [] old.told) opening_left going.moments)
             (leaves_weaker mid new (LeavesSome (sizes_of before.store) opening run.lines mid.told) (IsLeftOf run [] [] old.told) some_left meanwhile)
 
         told_new : new.told ≡ old.told ++ opening_text run
@@ -233,23 +211,23 @@ module _ (g : Geometry) (opening : State) (load : Load) where
         }
 
         next_is : (newest : Option Master) (blocks : List (List LogRecord)) → IsSound newest g old.image blocks →
-            after_works (rules before.store.pages) (works_of opening first) (cache_of before.store.pages) ≡ cache_by load.pool run (take some.begun (turns_of run)) newest old.image blocks
+            after_works (rules before.store.pages) (works_of opening first) (cache_of before.store.pages) ≡ cache_by load.pool run (turns_of (first_lines run some.begun)) newest old.image blocks
         next_is newest blocks sound =
             let p = paged newest blocks sound in
             (λ j. after_works (p.rules_are j) (works_of opening first) (p.machine j))
             ∙ sym (add (rules_of load.pool g.groups) (asked_after opening_run newest old.image blocks 0) (works_of opening first) (cache_on g old.image))
             ∙ ap (λ (w : List CacheWork). after_works (rules_of load.pool g.groups) w (cache_on g old.image)) (sym (first_asked some.begun newest old.image blocks))
 
-        worn_out : IsErrOf result (halt.Stop (Worn Flash)) → WearsOut load.pool run some.begun old.image
+        worn_out : IsErrOf result (halt.Stop (Worn Flash)) → WearsOut load.pool (first_lines run some.begun) old.image
         worn_out is newest blocks sound = subst (λ (c : Cache). 2 ^ 40 < next_group c) (next_is newest blocks sound) ((some.course.serves opening going.fits).worn is)
 
-        numbers_are : SkipsNoNumber run some.begun old.image new.image
+        numbers_are : SkipsNoNumber (first_lines run some.begun) old.image new.image
         numbers_are newest blocks sound =
             let so_far = counted newest blocks sound in
             skips_course result run some.begun (log_under newest blocks) before after old.image mid new going.geometry so_far.log (let masters = so_far.numbers.masters in omega (arith, masters))
             (subst (λ (l : List Line). CountsOn result before after mid new opening (after_lines opening (take some.begun l) []) (checkpoints_of opening (take some.begun l))) (sym all_lines) (some.course.numbers opening going.fits going.quiet))
 
-        reads_are : AsksNoMore load.pool run some.begun old new
+        reads_are : AsksNoMore load.pool (first_lines run some.begun) old new
         reads_are newest blocks sound =
             let p = paged newest blocks sound in
             let r = rules_of load.pool g.groups in
@@ -283,18 +261,14 @@ module _ (g : Geometry) (opening : State) (load : Load) where
         done = tt;
         begun = some.begun;
         has_begun = has_begun (Err h) some;
-        worn = λ is. worn_out (Err h) some (ap Err (same_halt {T = T} h (halt.Stop (Worn Flash)) is));
-        room = tt;
-        frames = tt;
-        numbers = numbers_are (Err h) some;
-        reads = reads_are (Err h) some;
+        all = tt;
+        demands = demands_err load.pool (first_lines run some.begun) old new h (λ e. worn_out (Err h) some (ap Err e)) (numbers_are (Err h) some) (reads_are (Err h) some);
         left = left_new (Err h) some;
       }
 
       pub load_finished : {T : Type 0} → QueueIsOnFlash → (x : T) → CarriesOut (Ok x) run.lines before after mid new → LoadWorks {T = T} load.pool run [] old new (Ok x)
       load_finished {T} law x course =
           let some = carries_all x run.lines before after mid new course in
-          let whole : take some.begun (turns_of run) ≡ turns_of run = take_all some.begun (turns_of run) (let count = turns_count opening run.lines [] in let same = ap length all_lines in omega (arith, count, same)) in
           record {
             stops = tt;
             done = record {
@@ -307,15 +281,15 @@ module _ (g : Geometry) (opening : State) (load : Load) where
             };
             begun = some.begun;
             has_begun = has_begun (Ok x) some;
-            worn = worn_out (Ok x) some;
-            room = λ newest blocks sound.
+            all = let same = ap length all_lines in omega (arith, same);
+            demands = demands_ok load.pool (first_lines run some.begun) old new x
+                (λ newest blocks sound.
                 let next = course.going.store.both.pages_going.flash.next in
                 let bounded = course.going.store.both.pages_going.flash.rings.groups_usable.bounded in
-                subst (λ (c : Cache). next_group c ≤ 2 ^ 40) ((some.course.serves opening going.fits).machine ∙ next_is (Ok x) some newest blocks sound ∙ ap (λ (l : List Turn). cache_by load.pool run l newest old.image blocks) whole) (omega (arith, next, bounded));
-            frames = λ newest blocks sound.
+                subst (λ (c : Cache). next_group c ≤ 2 ^ 40) ((some.course.serves opening going.fits).machine ∙ next_is (Ok x) some newest blocks sound) (omega (arith, next, bounded)))
+                (λ newest blocks sound.
                 ap (λ (y : Geometry). cache_on y new.image) (sym (course.sizes ∙ going.geometry)) ∙ law after new (after_lines opening run.lines []) (course.fits opening going.fits)
-                ∙ ap (λ (c : Cache). opened c.queue) ((some.course.serves opening going.fits).machine ∙ next_is (Ok x) some newest blocks sound ∙ ap (λ (l : List Turn). cache_by load.pool run l newest old.image blocks) whole);
-            numbers = numbers_are (Ok x) some;
-            reads = reads_are (Ok x) some;
+                ∙ ap (λ (c : Cache). opened c.queue) ((some.course.serves opening going.fits).machine ∙ next_is (Ok x) some newest blocks sound))
+                (numbers_are (Ok x) some) (reads_are (Ok x) some);
             left = left_new (Ok x) some;
           }

@@ -1,7 +1,6 @@
 -- Where the rings on the log's device have numbers for all that a run appends, its first lines bring none to its end.
-use Rattle.std.proofs.Common.{◌≡◌, ⊎_elim, ℕ, ◌≤◌, Bool, true, false, List, [], ◌∷◌, ◌++◌, length, take, drop, Option, Some, None, sym, ◌∙◌, ap, arith, append_assoc, take-append-drop}
+use Rattle.std.proofs.Common.{◌≡◌, ⊎_elim, ℕ, ◌≤◌, Bool, true, false, List, [], ◌∷◌, ◌++◌, take, drop, Option, Some, None, sym, ◌∙◌, ap, arith, append_assoc, take-append-drop}
 use Rattle.std.specs.Prelude.{if◌then◌else◌}
-use Rattle.std.proofs.lemmas.List.{take_all}
 use Rattle.site.specs.State.{Image}
 use Rattle.site.specs.declared.geometry.Geometry.{Geometry}
 use Rattle.record_model.specs.declared.words.CacheLine.{CacheLine}
@@ -16,13 +15,12 @@ use Rattle.checkpoint.specs.declared.master.Master.{Master}
 use Rattle.log_records.specs.declared.log_record.LogRecord.{LogRecord}
 use Rattle.engine.specs.Image.{IsSound}
 use Rattle.face.specs.Lines.{commands_of, up_to_quit}
-use Rattle.face.specs.Range.{HasLogRoom, SkipsNoNumber, made_by, run_of, turns_of}
-use Rattle.face.specs.Run.{Run, after_lines, answered, checkpoints_of, step}
+use Rattle.face.specs.Range.{HasLogRoom, SkipsNoNumber, made_by, run_of}
+use Rattle.face.specs.Run.{Run, after_lines, answered, checkpoints_of, first_lines, step, turns_of}
 use Rattle.face.specs.Workload.{checkpoints_in}
-use Rattle.face.proofs.Counted.{checkpoints_are, checkpoints_join, made_are, turns_make}
+use Rattle.face.proofs.Counted.{checkpoints_are, checkpoints_join, made_all, made_are, turns_make}
 use Rattle.face.proofs.Pagings.{same_after, taken_first}
 use Rattle.face.proofs.Stated.{after_join}
-use Rattle.face.proofs.Turns.{turns_count}
 
 -- No line takes a log record back.
 
@@ -75,23 +73,21 @@ module _ (g : Geometry) (opening : State) (own lines : List Line) (own_listings 
   abbrev front : List Line
   front = take n (up_to_quit own)
 
-  made_few : made_by part n ≤ made_by all (length (turns_of all))
+  made_few : made_by (first_lines part n) ≤ made_by all
   made_few =
       let first = made_are part n ∙ ap (λ (s : State). s.made) (same_after opening front own_listings []) in
-      let long = turns_count opening lines listings in
-      let whole : take (length (turns_of all)) (up_to_quit lines) ≡ front ++ later = take_all (length (turns_of all)) (up_to_quit lines) (omega (arith, long)) ∙ split in
-      let last = made_are all (length (turns_of all)) ∙ ap (λ (l : List Line). (after_lines opening l listings).made) whole
+      let last = made_all all ∙ ap (λ (l : List Line). (after_lines opening l listings).made) split
       ∙ ap (λ (s : State). s.made) (same_after opening (front ++ later) listings [] ∙ after_join opening front later) in
       let more = lines_make (after_lines opening front []) later [] in
       omega (arith, first, last, more)
 
-  checkpoints_few : checkpoints_in (take n (turns_of part)) ≤ checkpoints_in (turns_of all)
+  checkpoints_few : checkpoints_in (turns_of (first_lines part n)) ≤ checkpoints_in (turns_of all)
   checkpoints_few =
       let first = checkpoints_are part n in
       let last = turns_make opening lines listings ∙ ap (checkpoints_of opening) split ∙ checkpoints_join opening front later in
       omega (arith, first, last)
 
-  pub stays_below : (old now : Image) (newest : Option Master) (blocks : List (List LogRecord)) → IsSound newest g old blocks → SkipsNoNumber part n old now → HasLogRoom all old → IsLogWorn g now → ⊥
+  pub stays_below : (old now : Image) (newest : Option Master) (blocks : List (List LogRecord)) → IsSound newest g old blocks → SkipsNoNumber (first_lines part n) old now → HasLogRoom all old → IsLogWorn g now → ⊥
   stays_below old now newest blocks sound numbers room =
       let gives = numbers newest blocks sound in
       let has = room newest blocks sound in
@@ -102,7 +98,7 @@ module _ (g : Geometry) (opening : State) (own lines : List Line) (own_listings 
 
 -- the lines of the octets that were taken are the first ones of all that are left
 pub never_at_end : (g : Geometry) (opening : State) (listings : List (List CacheLine)) (ended : Bool) (left octets rest : List ℕ) → left ≡ octets ++ rest → (ended ≡ true → rest ≡ []) → (begun : ℕ) (old now : Image) (newest : Option Master) (blocks : List (List LogRecord)) → IsSound newest g old blocks
-    → SkipsNoNumber (run_of g opening ended octets listings) begun old now → HasLogRoom (run_of g opening true left []) old → IsLogWorn g now → ⊥
+    → SkipsNoNumber (first_lines (run_of g opening ended octets listings) begun) old now → HasLogRoom (run_of g opening true left []) old → IsLogWorn g now → ⊥
 never_at_end g opening listings ended left octets rest is none begun old now newest blocks sound =
     let first = taken_first ended left octets rest is none in
     let own = up_to_quit (commands_of ended octets) in
@@ -110,6 +106,6 @@ never_at_end g opening listings ended left octets rest is none begun old now new
     (first.1 ∙ ap (λ (l : List Line). l ++ first.0) (sym (take-append-drop begun own)) ∙ append_assoc (take begun own) (drop begun own) first.0) old now newest blocks sound
 
 -- the same of the first lines of a run
-pub never_at_end_within : (run : Run) (begun : ℕ) (old now : Image) (newest : Option Master) (blocks : List (List LogRecord)) → IsSound newest run.geometry old blocks → SkipsNoNumber run begun old now → HasLogRoom run old → IsLogWorn run.geometry now → ⊥
+pub never_at_end_within : (run : Run) (begun : ℕ) (old now : Image) (newest : Option Master) (blocks : List (List LogRecord)) → IsSound newest run.geometry old blocks → SkipsNoNumber (first_lines run begun) old now → HasLogRoom run old → IsLogWorn run.geometry now → ⊥
 never_at_end_within run begun old now newest blocks sound =
     stays_below run.geometry run.opening run.lines run.lines run.listings run.listings begun (drop begun (answered run)) (sym (take-append-drop begun (answered run))) old now newest blocks sound

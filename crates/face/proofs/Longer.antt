@@ -6,16 +6,18 @@ use Rattle.std.proofs.lemmas.List.{append-nil, get_or_append_left, get_or-append
 use Rattle.std.proofs.lemmas.List.Elements.{filter-append}
 use Rattle.std.proofs.lemmas.List.Sums.{length-filter}
 use Rattle.std.proofs.lemmas.Grind.{flat_map-append}
+use Rattle.site.specs.State.{Snapshot}
 use Rattle.site.specs.declared.geometry.Geometry.{Geometry}
 use Rattle.record_model.specs.declared.words.CacheLine.{CacheLine}
 use Rattle.record_model.specs.State.{Content, State}
 use Rattle.record_model.specs.Run.{IsInRange, Line, Turn, after_commits, commit_marks, commits_among, committed_tables, is_committed, is_quit, later_listings, next_listing, replies, turn, turns, whole_texts}
+use Rattle.engine.specs.Image.{Stands}
 use Rattle.shell_text.specs.Texts.{open_text, reply_text}
 use Rattle.face.specs.Lines.{HeardAll, commands_of}
-use Rattle.face.specs.Range.{IsToldOf, first_texts, run_of, run_text, texts, turns_of}
-use Rattle.face.specs.Run.{IsFront, IsPart, Run}
+use Rattle.face.specs.Range.{IsLeft, IsToldOf, first_texts, run_of, run_text, texts}
+use Rattle.face.specs.Run.{IsFront, Run, turns_of}
 use Rattle.face.proofs.Fronts.{first_commands, take_within}
-use Rattle.face.proofs.Ranges.{IsFault, Plain, begins_not, counts, not_in_fault, plain_opening, plain_text}
+use Rattle.face.proofs.Ranges.{IsFault, IsPart, Plain, begins_not, counts, not_in_fault, plain_replies, plain_texts}
 
 -- Turns.
 
@@ -144,15 +146,6 @@ nothing_begins text more p e = never p.first p.second (p.more ++ more) (e ∙ ap
     never : (a b : ℕ) (more : List ℕ) → [] ≡ a ∷ b ∷ more → ⊥
     never a b more e = cc
 
-plain_replies : (ts : List Turn) (i : ℕ) → i < length (map reply_text (replies ts)) → Plain (get_or (map reply_text (replies ts)) i [])
-plain_replies [] i less = absurd (omega (arith, less))
-plain_replies (t ∷ ts) zero less = plain_text t.reply
-plain_replies (t ∷ ts) (suc i) less = plain_replies ts i (omega (arith, less))
-
-plain_texts : (run : Run) (i : ℕ) → i < length (texts run) → Plain (get_or (texts run) i [])
-plain_texts run zero less = plain_opening run.opening.commits
-plain_texts run (suc i) less = plain_replies (turns_of run) i (omega (arith, less))
-
 -- what was told of a run has such parts
 parts : (run : Run) (fault told : List ℕ) → IsFault fault → IsToldOf run fault told → Parts (texts run) told
 parts run fault told is_fault (inl front) =
@@ -277,6 +270,17 @@ module _ (g : Geometry) (opening : State) (listings : List (List CacheLine)) (xs
         let tables = length-map (filter (λ (t : Turn). is_committed t.reply) (turns_of first)) (λ (t : Turn). t.after.table) in
         sym (ap (λ (l : List (List Content)). slice_index_or (opening.table ∷ l) k opening.table) tables_split
         ∙ get_or_append_left (opening.table ∷ committed_tables (turns_of first)) (committed_tables later) opening.table k (omega (arith, high, among, few, count, tables)))
+
+  -- what is left of the first lines is left of all
+  pub left_all : (so_far fault : List ℕ) (s : Snapshot) → IsFault fault → IsLeft first so_far fault s → IsLeft all so_far fault s
+  left_all so_far fault s is_fault l = record {
+    told = l.told;
+    told_is = l.told_is;
+    is_told = told_all fault l.told l.is_told;
+    k = l.k;
+    in_range = range_all fault l.told is_fault l.is_told l.k l.in_range;
+    stands = subst (λ (t : List Content). Stands g s.image t (opening.commits + l.k)) (table_all fault l.told is_fault l.is_told l.k l.in_range) l.stands;
+  }
 
   -- behind a quit no line counts
   pub text_quit : list_any is_quit xs ≡ true → run_text all ≡ run_text first

@@ -13,7 +13,7 @@ use Rattle.face.specs.declared.halt.Halt.TheVariants as halt
 use Rattle.face.specs.TopCall.{LoadContract, NewContract, RunContract}
 use Rattle.face.specs.Headline.{IsGood, Headline}
 use Rattle.face.specs.Tells.{Tells}
-use Rattle.face.specs.Run.{Run}
+use Rattle.face.specs.Run.{Run, first_lines}
 use Rattle.face.specs.Working.{Works}
 use Rattle.face.proofs.Pagings.{none_read}
 use Rattle.redo_undo.specs.Works.{NumbersRise, OverflowsWithMore}
@@ -49,7 +49,7 @@ still g opening old good =
     })
 
 -- nothing was read
-reads_nothing : NumbersRise → (pool : ℕ) (run : Run) (site : Site) → IsQuiet site → AsksNoMore pool run 0 site site
+reads_nothing : NumbersRise → (pool : ℕ) (run : Run) (site : Site) → IsQuiet site → AsksNoMore pool (first_lines run 0) site site
 reads_nothing rise pool run site quiet newest blocks sound = none_read pool run.geometry _ site rise (let least = sound.octets.limits.groups in omega (arith, least)) quiet
 
 pub lacked_headline : Serial → NumbersRise → (pool : ℕ) (g : Geometry) (opening : State) (old new : Site) → {T : Type 0} (result : Result T Failed) → IsGood g opening old → Tells memory_fault old new result → Headline pool g opening old new 4

@@ -1,8 +1,8 @@
 -- What a run asks of the page cache, line by line.
 use Rattle.flash_cache.specs.Held.{start_reads}
-use Rattle.std.proofs.Common.{◌≡◌, ℕ, zero, suc, ◌+◌, ◌^◌, ◌<◌, ◌≤◌, Bool, true, false, List, [], ◌∷◌, ◌++◌, length, take, drop, arith, refl, sym, ap, subst, ◌∙◌, append_assoc, take-append-drop, ◌-◌, IsTrue}
+use Rattle.std.proofs.Common.{◌≡◌, ℕ, suc, ◌+◌, ◌^◌, ◌<◌, ◌≤◌, Bool, true, false, List, [], ◌∷◌, ◌++◌, length, take, drop, arith, refl, sym, ap, subst, ◌∙◌, append_assoc, take-append-drop, ◌-◌, IsTrue}
 use Rattle.std.specs.Prelude.{Result, Ok, Err, Option, Some, None, IfErr, IsErrOf, if◌then◌else◌}
-use Rattle.std.proofs.lemmas.List.{append-nil, take_all}
+use Rattle.std.proofs.lemmas.List.{append-nil}
 use Rattle.site.specs.Calls.{SameReads}
 use Rattle.site.specs.declared.outside.Dev.TheVariants.{Flash, Disk}
 use Rattle.site.specs.declared.outside.Stop.{Stop}
@@ -38,13 +38,15 @@ use Rattle.engine.specs.Image.{IsSound}
 use Rattle.engine.specs.Paging.{WritesFrom, AsksFrom, restart_works, cache_on}
 use Rattle.face.specs.declared.halt.Halt.TheVariants as halt
 use Rattle.face.specs.Lines.{commands_of, up_to_quit}
-use Rattle.face.proofs.Fronts.{first_commands}
-use Rattle.face.proofs.Turns.{first_answered, first_turns, turns_count}
+use Rattle.face.proofs.Fronts.{first_commands, turns_first, whole_turns}
+use Rattle.face.proofs.Runs.{turn_at, turns_next}
+use Rattle.face.proofs.Stated.{works_join}
+use Rattle.face.proofs.Turns.{first_answered}
 use Rattle.site.specs.declared.geometry.Geometry.{Geometry}
 use Rattle.face.specs.Going.{IsPaged, Serves}
-use Rattle.face.specs.Range.{run_of, turns_of, works_by, cache_by, LeavesItsQueue, AsksNoMore, WearsOut, NeverWears}
-use Rattle.face.specs.Run.{Run, answered, step, after_lines, state_at, works_of, AsksFew}
-use Rattle.face.specs.Working.{asked_after, HasGroupsFor, HasQueueAt}
+use Rattle.face.specs.Range.{run_of, works_by, cache_by, LeavesItsQueue, WearsOut, NeverWears}
+use Rattle.face.specs.Run.{Run, answered, first_lines, step, after_lines, state_at, works_of, AsksFew, turns_of}
+use Rattle.face.specs.Working.{asked_after}
 
 -- Lines. What they ask doesn't depend on what the cache lists.
 
@@ -77,22 +79,11 @@ plain_is s (line ∷ lines) listings =
 pub same_after : (s : State) (lines : List Line) (listings other : List (List CacheLine)) → after_lines s lines listings ≡ after_lines s lines other
 same_after s lines listings other = sym (plain_is s lines listings) ∙ plain_is s lines other
 
-works_more : (s : State) (lines : List Line) (i : ℕ) (line : Line) (rest : List Line) → drop i lines ≡ line ∷ rest → works_of s (take (suc i) lines) ≡ works_of s (take i lines) ++ line_touches true (plain_after s (take i lines)) line
-unfolding plain_after
-works_more s [] zero line rest is = cc
-works_more s [] (suc i) line rest is = cc
-works_more s (x ∷ lines) zero line rest is = let same : x ≡ line = cc in append-nil (line_touches true s x) ∙ ap (line_touches true s) same
-works_more s (x ∷ lines) (suc i) line rest is =
-    ap (λ (w : List CacheWork). line_touches true s x ++ w) (works_more (step s x []).after lines i line rest is)
-    ∙ sym (append_assoc (line_touches true s x) (works_of (step s x []).after (take i lines)) (line_touches true (plain_after (step s x []).after (take i lines)) line))
-
--- the work of more lines goes on from that of the first ones
-works_join : (s : State) (first later : List Line) → works_of s (first ++ later) ≡ works_of s first ++ works_of (plain_after s first) later
-unfolding plain_after
-works_join s [] later = refl
-works_join s (x ∷ first) later =
-    ap (λ (w : List CacheWork). line_touches true s x ++ w) (works_join (step s x []).after first later)
-    ∙ sym (append_assoc (line_touches true s x) (works_of (step s x []).after first) (works_of (plain_after (step s x []).after first) later))
+-- the work of some turns and of those behind them
+touches_join : (first later : List Turn) → run_touches true (first ++ later) ≡ run_touches true first ++ run_touches true later
+touches_join [] later = refl
+touches_join (t ∷ first) later =
+    ap (λ (w : List CacheWork). line_touches true t.before t.line ++ w) (touches_join first later) ∙ sym (append_assoc (line_touches true t.before t.line) (run_touches true first) (run_touches true later))
 
 -- the turns of a run ask for what its lines do
 pub turns_ask : (s : State) (lines : List Line) (listings : List (List CacheLine)) → run_touches true (turns true s lines listings) ≡ works_of s (up_to_quit lines)
@@ -106,8 +97,8 @@ turns_ask s (line ∷ lines) listings =
     by false later = ap (λ (w : List CacheWork). line_touches true s line ++ w) later
 
 -- and its first turns for what its first lines do
-pub first_ask : (n : ℕ) (s : State) (lines : List Line) (listings : List (List CacheLine)) → run_touches true (take n (turns true s lines listings)) ≡ works_of s (take n (up_to_quit lines))
-first_ask n s lines listings = ap (run_touches true) (first_turns n s lines listings) ∙ turns_ask s (take n (up_to_quit lines)) listings ∙ ap (works_of s) (first_answered n lines)
+pub first_ask : (n : ℕ) (s : State) (lines : List Line) (listings : List (List CacheLine)) → run_touches true (turns true s (take n lines) listings) ≡ works_of s (take n (up_to_quit lines))
+first_ask n s lines listings = turns_ask s (take n lines) listings ∙ ap (works_of s) (first_answered n lines)
 
 -- by lines
 pub asked_is : (run : Run) (newest : Option Master) (image : Image) (blocks : List (List LogRecord)) (n : ℕ) → asked_after run newest image blocks n ≡ restart_works (picture_under newest run.geometry image blocks) ++ works_of run.opening (take n (answered run))
@@ -117,14 +108,16 @@ asked_is run newest image blocks n = ap (λ (w : List CacheWork). restart_works 
 pub asked_with : (run : Run) (listings : List (List CacheLine)) (newest : Option Master) (image : Image) (blocks : List (List LogRecord)) (n : ℕ) → asked_after (record run { listings = listings }) newest image blocks n ≡ asked_after run newest image blocks n
 asked_with run listings newest image blocks n = asked_is (record run { listings = listings }) newest image blocks n ∙ sym (asked_is run newest image blocks n)
 
+-- a line more asks for its own work behind that of the others
 pub asked_next : (run : Run) (newest : Option Master) (image : Image) (blocks : List (List LogRecord)) (i : ℕ) (line : Line) (rest : List Line) → drop i (answered run) ≡ line ∷ rest →
     asked_after run newest image blocks (suc i) ≡ asked_after run newest image blocks i ++ line_touches true (state_at run i) line
 asked_next run newest image blocks i line rest is =
     let restart = restart_works (picture_under newest run.geometry image blocks) in
-    asked_is run newest image blocks (suc i)
-    ∙ ap (λ (w : List CacheWork). restart ++ w) (works_more run.opening (answered run) i line rest is ∙ ap (λ (s : State). works_of run.opening (take i (answered run)) ++ line_touches true s line) (plain_is run.opening (take i (answered run)) run.listings))
-    ∙ sym (append_assoc restart (works_of run.opening (take i (answered run))) (line_touches true (state_at run i) line))
-    ∙ ap (λ (w : List CacheWork). w ++ line_touches true (state_at run i) line) (sym (asked_is run newest image blocks i))
+    let first = turns_of (first_lines run i) in
+    let own = line_touches true (state_at run i) line in
+    ap (λ (l : List Turn). restart ++ run_touches true l) (turns_next run i line rest is)
+    ∙ ap (λ (w : List CacheWork). restart ++ w) (touches_join first (turn_at run i line rest is ∷ []) ∙ ap (λ (w : List CacheWork). run_touches true first ++ w) (append-nil own))
+    ∙ sym (append_assoc restart (run_touches true first) own)
 
 -- Reads.
 
@@ -302,72 +295,43 @@ taken_first false left octets rest is none =
     let front = up_front (commands_of false octets) first.0 in
     (front.0, ap (λ (l : List ℕ). up_to_quit (commands_of true l)) is ∙ ap up_to_quit first.1 ∙ front.1)
 
-module _ (pool : ℕ) (g : Geometry) (opening : State) (listings : List (List CacheLine)) (image : Image) (ended : Bool) (octets : List ℕ) where
-  abbrev taken : Run
-  taken = run_of g opening ended octets listings
+-- Where all of a run's lines are among the first ones, what holds of these holds of it.
+module _ (pool : ℕ) (run : Run) (n : ℕ) (few : length (answered run) ≤ n) (image : Image) where
+  pub leaves_its_queue : (now : Image) → LeavesItsQueue pool (first_lines run n) image now → LeavesItsQueue pool run image now
+  leaves_its_queue now queue newest blocks sound = queue newest blocks sound ∙ ap (λ (l : List Turn). opened (cache_by pool run l newest image blocks).queue) (whole_turns run n few)
 
-  abbrev restart : Option Master → List (List LogRecord) → List CacheWork
-  restart newest blocks = restart_works (picture_under newest g image blocks)
+  pub never_wears : NeverWears pool (first_lines run n) image → NeverWears pool run image
+  never_wears room newest blocks sound = subst (λ (l : List Turn). next_group (cache_by pool run l newest image blocks) ≤ 2 ^ 40) (whole_turns run n few) (room newest blocks sound)
 
-  has_one : (newest : Option Master) (blocks : List (List LogRecord)) → IsSound newest g image blocks → 1 ≤ (rules_of pool g.groups).groups
-  has_one newest blocks sound = let least = sound.octets.limits.groups in omega (arith, least)
+has_one : (pool : ℕ) (g : Geometry) (newest : Option Master) (image : Image) (blocks : List (List LogRecord)) → IsSound newest g image blocks → 1 ≤ (rules_of pool g.groups).groups
+has_one pool g newest image blocks sound = let least = sound.octets.limits.groups in omega (arith, least)
 
-  -- what its first lines ask for
-  asked_first : (heard : ℕ) (newest : Option Master) (blocks : List (List LogRecord)) → works_by taken (take heard (turns_of taken)) newest image blocks ≡ restart newest blocks ++ works_of opening (take heard (answered taken))
-  asked_first heard newest blocks = ap (λ (w : List CacheWork). restart newest blocks ++ w) (first_ask heard opening (commands_of ended octets) listings)
+-- where the first lines of a run wear out, so does all of it
+pub wears_out_later : OverflowsWithMore → (pool : ℕ) (run : Run) (n : ℕ) (image : Image) → WearsOut pool (first_lines run n) image → WearsOut pool run image
+wears_out_later more pool run n image over newest blocks sound =
+    let front = turns_of (first_lines run n) in
+    let later = drop n (turns_of run) in
+    let all : works_by run front newest image blocks ++ run_touches true later ≡ works_by run (turns_of run) newest image blocks =
+    append_assoc (restart_works (picture_under newest run.geometry image blocks)) (run_touches true front) (run_touches true later)
+    ∙ ap (λ (w : List CacheWork). restart_works (picture_under newest run.geometry image blocks) ++ w)
+    (sym (touches_join front later) ∙ ap (run_touches true) (ap (λ (l : List Turn). l ++ later) (turns_first run n) ∙ take-append-drop n (turns_of run))) in
+    subst (λ (w : List CacheWork). Overflows (rules_of pool run.geometry.groups) w (cache_on run.geometry image)) all
+    (more (rules_of pool run.geometry.groups) (works_by run front newest image blocks) (run_touches true later) (cache_on run.geometry image) (has_one pool run.geometry newest image blocks sound) (over newest blocks sound))
 
-  module _ (all : Run) (same_sizes : all.geometry ≡ g) (same_opening : all.opening ≡ opening) (heard : ℕ) (same : take heard (answered taken) ≡ take heard (answered all)) where
-    -- the first lines of all ask for the same
-    same_asked : (newest : Option Master) (blocks : List (List LogRecord)) → asked_after all newest image blocks heard ≡ works_by taken (take heard (turns_of taken)) newest image blocks
-    same_asked newest blocks =
-        asked_is all newest image blocks heard
-        ∙ (λ i. restart_works (picture_under newest (same_sizes i) image blocks) ++ works_of (same_opening i) (sym same i)) ∙ sym (asked_first heard newest blocks)
-
-    same_sound : (newest : Option Master) (blocks : List (List LogRecord)) → IsSound newest g image blocks → IsSound newest all.geometry image blocks
-    same_sound newest blocks sound = subst (λ (x : Geometry). IsSound newest x image blocks) (sym same_sizes) sound
-
-    -- where all that was taken was heard its queue is left
-    pub leaves_its_queue : length (answered taken) ≡ heard → (now : Image) → HasQueueAt pool all heard image now → LeavesItsQueue pool taken image now
-    leaves_its_queue count now queue newest blocks sound =
-        let long = turns_count opening (commands_of ended octets) listings in
-        let whole : take heard (turns_of taken) ≡ turns_of taken = take_all heard (turns_of taken) (omega (arith, long, count)) in
-        subst (λ (w : List CacheWork). cache_on g now ≡ opened (after_works (rules_of pool g.groups) w (cache_on g image)).queue) (same_asked newest blocks ∙ ap (λ (l : List Turn). works_by taken l newest image blocks) whole)
-        (subst (λ (x : Geometry). cache_on x now ≡ opened (after_works (rules_of pool x.groups) (asked_after all newest image blocks heard) (cache_on x image)).queue) same_sizes (queue newest blocks (same_sound newest blocks sound)))
-
-    -- no more is read than they ask for
-    pub reads_no_more : (old new : Site) → old.image ≡ image → AsksNoMore pool all heard old new → AsksNoMore pool taken heard old new
-    reads_no_more old new at few newest blocks sound =
-        let own = subst (λ (x : Image). IsSound newest g x blocks) at sound in
-        subst (λ (x : Image). AsksFew pool g (works_by taken (take heard (turns_of taken)) newest x blocks) old new) (sym at)
-        (subst (λ (w : List CacheWork). AsksFew pool g w old new) (same_asked newest blocks)
-        (subst (λ (x : Geometry). AsksFew pool x (asked_after all newest image blocks heard) old new) same_sizes
-        (subst (λ (x : Image). AsksFew pool all.geometry (asked_after all newest x blocks heard) old new) at
-        (few newest blocks (subst (λ (x : Image). IsSound newest all.geometry x blocks) (sym at) (same_sound newest blocks own))))))
-
-    pub wears_out : WearsOut pool all heard image → WearsOut pool taken heard image
-    wears_out over newest blocks sound =
-        subst (λ (w : List CacheWork). Overflows (rules_of pool g.groups) w (cache_on g image)) (same_asked newest blocks)
-        (subst (λ (x : Geometry). Overflows (rules_of pool x.groups) (asked_after all newest image blocks heard) (cache_on x image)) same_sizes (over newest blocks (same_sound newest blocks sound)))
-
-    -- where all that was taken was heard there was room for it
-    pub never_wears : length (answered taken) ≡ heard → HasGroupsFor pool all image heard → NeverWears pool taken image
-    never_wears count room newest blocks sound =
-        let long = turns_count opening (commands_of ended octets) listings in
-        let whole : take heard (turns_of taken) ≡ turns_of taken = take_all heard (turns_of taken) (omega (arith, long, count)) in
-        subst (λ (w : List CacheWork). next_group (after_works (rules_of pool g.groups) w (cache_on g image)) ≤ 2 ^ 40) (same_asked newest blocks ∙ ap (λ (l : List Turn). works_by taken l newest image blocks) whole)
-        (subst (λ (x : Geometry). next_group (after_works (rules_of pool x.groups) (asked_after all newest image blocks heard) (cache_on x image)) ≤ 2 ^ 40) same_sizes (room newest blocks (same_sound newest blocks sound)))
-
-  -- where the first lines of what was taken wear out, so does all that is left
-  pub wears_out_all : OverflowsWithMore → (left rest : List ℕ) → left ≡ octets ++ rest → (ended ≡ true → rest ≡ []) → (heard : ℕ) → WearsOut pool taken heard image →
-      (newest : Option Master) (blocks : List (List LogRecord)) → IsSound newest g image blocks → 2 ^ 40 < next_group (cache_by pool (run_of g opening true left []) (turns_of (run_of g opening true left [])) newest image blocks)
-  wears_out_all more left rest is none heard over newest blocks sound =
-      let first = taken_first ended left octets rest is none in
-      let front = take heard (answered taken) in
-      let later = drop heard (answered taken) ++ first.0 in
-      let lines : up_to_quit (commands_of true left) ≡ front ++ later = first.1 ∙ ap (λ (l : List Line). l ++ first.0) (sym (take-append-drop heard (answered taken))) ∙ append_assoc front (drop heard (answered taken)) first.0 in
-      let all : works_by (run_of g opening true left []) (turns_of (run_of g opening true left [])) newest image blocks ≡ works_by taken (take heard (turns_of taken)) newest image blocks ++ works_of (plain_after opening front) later =
-      ap (λ (w : List CacheWork). restart newest blocks ++ w) (turns_ask opening (commands_of true left) [] ∙ ap (works_of opening) lines ∙ works_join opening front later)
-      ∙ sym (append_assoc (restart newest blocks) (works_of opening front) (works_of (plain_after opening front) later))
-      ∙ ap (λ (w : List CacheWork). w ++ works_of (plain_after opening front) later) (sym (asked_first heard newest blocks)) in
-      subst (λ (w : List CacheWork). Overflows (rules_of pool g.groups) w (cache_on g image)) (sym all)
-      (more (rules_of pool g.groups) (works_by taken (take heard (turns_of taken)) newest image blocks) (works_of (plain_after opening front) later) (cache_on g image) (has_one newest blocks sound) (over newest blocks sound))
+-- where the first lines of what was taken wear out, so does all that is left, whatever the cache lists
+pub wears_out_all : OverflowsWithMore → (pool : ℕ) (g : Geometry) (opening : State) (listings : List (List CacheLine)) (image : Image) (ended : Bool) (octets left rest : List ℕ) → left ≡ octets ++ rest → (ended ≡ true → rest ≡ []) → (heard : ℕ) →
+    WearsOut pool (first_lines (run_of g opening ended octets listings) heard) image → WearsOut pool (run_of g opening true left []) image
+wears_out_all more pool g opening listings image ended octets left rest is none heard over newest blocks sound =
+    let taken = run_of g opening ended octets listings in
+    let whole = run_of g opening true left [] in
+    let restart = restart_works (picture_under newest g image blocks) in
+    let first = taken_first ended left octets rest is none in
+    let front = take heard (answered taken) in
+    let later = drop heard (answered taken) ++ first.0 in
+    let lines : up_to_quit (commands_of true left) ≡ front ++ later = first.1 ∙ ap (λ (l : List Line). l ++ first.0) (sym (take-append-drop heard (answered taken))) ∙ append_assoc front (drop heard (answered taken)) first.0 in
+    let all : works_by whole (turns_of whole) newest image blocks ≡ asked_after taken newest image blocks heard ++ works_of (after_lines opening front []) later =
+    ap (λ (w : List CacheWork). restart ++ w) (turns_ask opening (commands_of true left) [] ∙ ap (works_of opening) lines ∙ works_join opening front later)
+    ∙ sym (append_assoc restart (works_of opening front) (works_of (after_lines opening front []) later))
+    ∙ ap (λ (w : List CacheWork). w ++ works_of (after_lines opening front []) later) (sym (asked_is taken newest image blocks heard)) in
+    subst (λ (w : List CacheWork). Overflows (rules_of pool g.groups) w (cache_on g image)) (sym all)
+    (more (rules_of pool g.groups) (asked_after taken newest image blocks heard) (works_of (after_lines opening front []) later) (cache_on g image) (has_one pool g newest image blocks sound) (over newest blocks sound))

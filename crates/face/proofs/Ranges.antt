@@ -1,6 +1,6 @@
 -- What was told whole, counted; and the commits that it allows.
 use Rattle.std.proofs.Common.{◌≡◌, ◌⊎◌, inl, inr, ⊎_elim, ℕ, zero, suc, ◌+◌, ◌-◌, ◌≤◌, ◌<◌, Bool, true, false, List, [], ◌∷◌, ◌++◌, length, take, drop, get_or, refl, sym, ◌∙◌, ap, subst, arith, append_assoc, length-append, take-append-drop}
-use Rattle.std.specs.Prelude.{flat_map, count_by, nat_eq, if◌then◌else◌}
+use Rattle.std.specs.Prelude.{flat_map, map, count_by, nat_eq, if◌then◌else◌}
 use Rattle.std.specs.List.{starts_with}
 use Rattle.std.proofs.lemmas.List.{drop_at, length-take-le, take_all, take_at}
 use Rattle.std.proofs.lemmas.Slice.Eq.{starts_is}
@@ -9,7 +9,7 @@ use Rattle.site.specs.State.{Snapshot, Image}
 use Rattle.site.specs.declared.outside.Stop.TheVariants.{Device, Memory, Worn, Foreign}
 use Rattle.record_model.specs.State.{Content, State}
 use Rattle.record_model.specs.Step.{Outcome}
-use Rattle.record_model.specs.Run.{Line, Turn, next_listing, later_listings, whole_texts, is_committed, commit_marks, commits_among, after_commits}
+use Rattle.record_model.specs.Run.{Line, Turn, replies, next_listing, later_listings, whole_texts, is_committed, commit_marks, commits_among, after_commits}
 use Rattle.record_model.specs.Laws.{IsCountedIn, IsCountedAt}
 use Rattle.record_model.proofs.StepLaws.{commits_once}
 use Rattle.record_model.proofs.RunLaws.{commits_make_the_table}
@@ -22,10 +22,15 @@ use Rattle.face.specs.declared.halt.Halt.TheVariants as halt
 use Rattle.engine.specs.Image.{Stands}
 use Rattle.shell_text.specs.Texts.{open_text, reply_text}
 use Rattle.face.specs.Texts.{fault_line}
-use Rattle.face.specs.Run.{Run, answered, step, after_lines, reply_texts, line_texts, text_at, told_after, state_at, StandsAt, IsPart, IsFront, IsAccounted}
-use Rattle.face.specs.Range.{turns_of, texts, run_text, all_commits, StandsAfter, IsToldOf, IsLeft}
-use Rattle.face.proofs.Turns.{texts_are, states_are, turns_count}
-use Rattle.face.proofs.Runs.{length-reply_texts}
+use Rattle.face.specs.Run.{Run, answered, step, after_lines, state_at, StandsAt, IsFront, turns_of}
+use Rattle.face.specs.Range.{texts, text_at, first_texts, run_text, all_commits, StandsAfter, IsToldOf, IsLeft}
+use Rattle.face.specs.Working.{StandsNear}
+use Rattle.face.proofs.Turns.{states_are, turns_count}
+use Rattle.face.proofs.Runs.{texts_count}
+
+-- not all of a text
+abbrev pub IsPart : List ℕ → List ℕ → Type 0
+IsPart rest text = (k : ℕ) × (k < length text) × (rest ≡ take k text)
 
 -- a fault line, or none
 abbrev pub IsFault : List ℕ → Type 0
@@ -86,14 +91,14 @@ pub plain_opening : (n : ℕ) → Plain (open_text n)
 plain_opening n = record { first = 111; second = 112; more = _; is = refl; other = λ a b. omega (arith, a) }
 
 -- a text of the run
-plain_reply : (b : State) (lines : List Line) (ls : List (List CacheLine)) (i : ℕ) → i < length (reply_texts b lines ls) → Plain (get_or (reply_texts b lines ls) i [])
-plain_reply b [] ls i less = absurd (omega (arith, less))
-plain_reply b (line ∷ lines) ls zero less = plain_text (step b line (next_listing ls)).reply
-plain_reply b (line ∷ lines) ls (suc i) less = plain_reply (step b line (next_listing ls)).after lines (later_listings line ls) i (omega (arith, less))
+pub plain_replies : (ts : List Turn) (i : ℕ) → i < length (map reply_text (replies ts)) → Plain (get_or (map reply_text (replies ts)) i [])
+plain_replies [] i less = absurd (omega (arith, less))
+plain_replies (t ∷ ts) zero less = plain_text t.reply
+plain_replies (t ∷ ts) (suc i) less = plain_replies ts i (omega (arith, less))
 
-plain_at : (run : Run) (i : ℕ) → i < length (line_texts run) → Plain (text_at run i)
-plain_at run zero less = plain_opening run.opening.commits
-plain_at run (suc i) less = plain_reply run.opening (answered run) run.listings i (omega (arith, less))
+pub plain_texts : (run : Run) (i : ℕ) → i < length (texts run) → Plain (text_at run i)
+plain_texts run zero less = plain_opening run.opening.commits
+plain_texts run (suc i) less = plain_replies (turns_of run) i (omega (arith, less))
 
 -- a fault line is none, or begins with fa
 fault_begins : (h : Halt) → (fault_line h ≡ []) ⊎ ((more : List ℕ) × (fault_line h ≡ 102 ∷ 97 ∷ more))
@@ -137,10 +142,6 @@ one_up s (line ∷ lines) ls zero = step_up s line (next_listing ls)
 one_up s (line ∷ lines) ls (suc i) = one_up (step s line (next_listing ls)).after lines (later_listings line ls) i
 
 module _ (run : Run) where
-  -- the texts of the turns are those of the lines
-  pub texts_same : texts run ≡ line_texts run
-  texts_same = ap (λ (l : List (List ℕ)). open_text run.opening.commits ∷ l) (texts_are run.opening run.lines run.listings)
-
   abbrev marks : List Bool
   marks = commit_marks (turns_of run)
 
@@ -177,10 +178,10 @@ module _ (run : Run) where
   pub all_among : commits_among (length (answered run)) marks ≡ all_commits run
   all_among = ap (count_by (λ (mark : Bool). mark)) (take_all (length (answered run)) marks (let same = length-marks in omega (arith, same)))
 
-  pub all_text : told_after run (length (answered run) + 1) ≡ run_text run
+  pub all_text : first_texts run (length (answered run) + 1) ≡ run_text run
   all_text =
-      let long = length-reply_texts run.opening (answered run) run.listings in
-      ap (flat_map (λ (x : List ℕ). x)) (take_all (length (answered run) + 1) (line_texts run) (omega (arith, long)) ∙ sym texts_same)
+      let long = texts_count run in
+      ap (flat_map (λ (x : List ℕ). x)) (take_all (length (answered run) + 1) (texts run) (omega (arith, long)))
 
   -- what is told of the texts, as a front of all of them
   text_split : (xs : List (List ℕ)) (w : ℕ) → w < length xs → flat_map (λ (x : List ℕ). x) xs ≡ flat_map (λ (x : List ℕ). x) (take w xs) ++ (get_or xs w [] ++ flat_map (λ (x : List ℕ). x) (drop (suc w) xs))
@@ -188,18 +189,25 @@ module _ (run : Run) where
   text_split (x ∷ xs) zero less = refl
   text_split (x ∷ xs) (suc w) less = ap (λ (l : List ℕ). x ++ l) (text_split xs w (omega (arith, less))) ∙ sym (append_assoc x (flat_map (λ (x : List ℕ). x) (take w xs)) _)
 
-  module _ (heard : ℕ) (so_far fault : List ℕ) (s : Snapshot) (few : heard ≤ length (answered run)) (is_fault : IsFault fault) (a : IsAccounted run heard so_far fault s) where
-    long : length (line_texts run) ≡ suc (length (answered run))
-    long = ap suc (length-reply_texts run.opening (answered run) run.listings)
+  -- the devices stand near the texts that were told whole: for the table after the lines of all but the last of them
+  pub near_before : (i : ℕ) (image : Image) → StandsAt run i image → StandsNear run (suc i) image
+  near_before i image stands =
+      let same : suc i - 1 ≡ i = omega arith in
+      (commits_among i marks, (let low = ap (λ (n : ℕ). commits_among n marks) same in omega (arith, low)), among_up i, stands_after i image stands)
 
+  -- or for that after the next line too
+  pub near_after : (i : ℕ) (image : Image) → StandsAt run i image → StandsNear run i image
+  near_after i image stands = (commits_among i marks, near_up i, omega arith, stands_after i image stands)
+
+  -- So many texts are told whole, and behind them a part of the next one, or of a fault line.
+  module _ (so_far fault : List ℕ) (s : Snapshot) (is_fault : IsFault fault) (whole : ℕ) (few : whole ≤ length (texts run)) (rest : List ℕ) (part : ((whole < length (texts run)) × IsPart rest (text_at run whole)) ⊎ IsFront rest fault) where
     abbrev told : List ℕ
-    told = told_after run a.whole ++ a.rest
+    told = first_texts run whole ++ rest
 
-    whole_is : whole_texts told (line_texts run) ≡ a.whole
+    whole_is : whole_texts told (texts run) ≡ whole
     whole_is =
-        let begun = a.begun in
-        counts (line_texts run) a.whole a.rest (omega (arith, long, begun, few)) (λ less. begins_not a.rest (text_at run a.whole) (λ more e.
-        ⊎_elim (λ p. short a.rest (text_at run a.whole) more p.1 e) (λ front. not_in_fault (text_at run a.whole) fault a.rest (plain_at run a.whole less) is_fault front more e) a.part))
+        counts (texts run) whole rest few (λ less. begins_not rest (text_at run whole) (λ more e.
+        ⊎_elim (λ p. short rest (text_at run whole) more p.1 e) (λ front. not_in_fault (text_at run whole) fault rest (plain_texts run whole less) is_fault front more e) part))
       where
         short : (rest text more : List ℕ) → IsPart rest text → rest ≡ text ++ more → ⊥
         short rest text more part e =
@@ -210,36 +218,29 @@ module _ (run : Run) where
     is_told : IsToldOf run fault told
     is_told = ⊎_elim
         (λ p.
-        let less : a.whole < length (line_texts run) = let low = p.0 in omega (arith, low, few, long) in
-        let text = text_at run a.whole in
-        let more = flat_map (λ (x : List ℕ). x) (drop (suc a.whole) (line_texts run)) in
+        let text = text_at run whole in
+        let more = flat_map (λ (x : List ℕ). x) (drop (suc whole) (texts run)) in
         let k = p.1.0 in
-        let parted : text ≡ a.rest ++ drop k text = sym (take-append-drop k text) ∙ ap (λ (l : List ℕ). l ++ drop k text) (sym p.1.2) in
+        let parted : text ≡ rest ++ drop k text = sym (take-append-drop k text) ∙ ap (λ (l : List ℕ). l ++ drop k text) (sym p.1.2) in
         let all : run_text run ≡ told ++ (drop k text ++ more) =
-        ap (flat_map (λ (x : List ℕ). x)) texts_same ∙ text_split (line_texts run) a.whole less
-        ∙ ap (λ (l : List ℕ). told_after run a.whole ++ (l ++ more)) parted
-        ∙ ap (λ (l : List ℕ). told_after run a.whole ++ l) (append_assoc a.rest (drop k text) more)
-        ∙ sym (append_assoc (told_after run a.whole) a.rest (drop k text ++ more)) in
+        text_split (texts run) whole p.0
+        ∙ ap (λ (l : List ℕ). first_texts run whole ++ (l ++ more)) parted
+        ∙ ap (λ (l : List ℕ). first_texts run whole ++ l) (append_assoc rest (drop k text) more)
+        ∙ sym (append_assoc (first_texts run whole) rest (drop k text ++ more)) in
         inl (length told, sym (ap (take (length told)) all ∙ take_at told (drop k text ++ more) (length told) refl)))
-        (λ front. inr (a.whole, (let same = ap length texts_same in let begun = a.begun in omega (arith, same, begun, few, long)), a.rest, ap (λ (l : List (List ℕ)). flat_map (λ (x : List ℕ). x) (take a.whole l) ++ a.rest) (sym texts_same), front))
-        a.part
+        (λ front. inr (whole, few, rest, refl, front))
+        part
 
-    left_at : (lines : ℕ) → commits_among (a.whole - 1) marks ≤ commits_among lines marks → commits_among lines marks ≤ commits_among a.whole marks → StandsAt run lines s.image → IsLeft run so_far fault s
-    left_at lines low high stands = record {
+    -- what is left then is in the range of what was told
+    pub is_left : s.told ≡ so_far ++ (first_texts run whole ++ rest) → StandsNear run whole s.image → IsLeft run so_far fault s
+    is_left is stands = record {
       told = told;
-      told_is = a.told;
+      told_is = is;
       is_told = is_told;
-      k = commits_among lines marks;
+      k = stands.0;
       in_range = record {
-        at_least = subst (λ (w : ℕ). commits_among (w - 1) marks ≤ commits_among lines marks) (sym counted_texts) low;
-        at_most = subst (λ (w : ℕ). commits_among lines marks ≤ commits_among w marks) (sym counted_texts) high;
+        at_least = subst (λ (w : ℕ). commits_among (w - 1) marks ≤ stands.0) (sym whole_is) stands.1;
+        at_most = subst (λ (w : ℕ). stands.0 ≤ commits_among w marks) (sym whole_is) stands.2;
       };
-      stands = stands_after lines s.image stands;
+      stands = stands.3;
     }
-      where
-        counted_texts : whole_texts told (texts run) ≡ a.whole
-        counted_texts = ap (whole_texts told) texts_same ∙ whole_is
-
-    -- what is accounted for is left in the range of what was told
-    pub is_left : IsLeft run so_far fault s
-    is_left = ⊎_elim (λ before. left_at (a.whole - 1) (omega arith) (near_up a.whole) before) (λ after. left_at a.whole (near_up a.whole) (omega arith) after.1) a.stands

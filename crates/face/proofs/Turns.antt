@@ -1,24 +1,15 @@
 -- What the record model makes of lines.
-use Rattle.std.proofs.Common.{◌≡◌, ℕ, zero, suc, Bool, true, false, List, [], ◌∷◌, length, take, refl, sym, ap, arith}
-use Rattle.std.specs.Prelude.{map, Some, None, if◌then◌else◌}
+use Rattle.std.proofs.Common.{◌≡◌, ℕ, zero, suc, Bool, true, false, List, [], ◌∷◌, ◌++◌, length, take, drop, refl, sym, ◌∙◌, ap, arith}
+use Rattle.std.specs.Prelude.{Some, None, if◌then◌else◌}
 use Rattle.std.proofs.lemmas.List.{take_all}
 use Rattle.record_model.specs.declared.words.Command.TheVariants as command
 use Rattle.record_model.specs.declared.words.CacheLine.{CacheLine}
 use Rattle.record_model.specs.State.{State}
-use Rattle.record_model.specs.Run.{Line, Turn, turn, turns, is_quit, replies, next_listing, later_listings, state_at as model_state}
+use Rattle.record_model.specs.Run.{Line, Turn, turn, turns, is_quit, left_by, listings_after, next_listing, later_listings, state_at as model_state}
 use Rattle.face.specs.Lines.{up_to_quit}
-use Rattle.shell_text.specs.Texts.{reply_text}
-use Rattle.face.specs.Run.{step, after_lines, reply_texts}
+use Rattle.face.specs.Run.{step, after_lines}
 
--- the texts of the turns
-pub texts_are : (s : State) (lines : List Line) (listings : List (List CacheLine)) → map reply_text (replies (turns true s lines listings)) ≡ reply_texts s (up_to_quit lines) listings
-texts_are s [] listings = refl
-texts_are s (None ∷ lines) listings = ap (λ (l : List (List ℕ)). reply_text (step s None (next_listing listings)).reply ∷ l) (texts_are s lines listings)
-texts_are s (Some command.Quit ∷ lines) listings = refl
-texts_are s (Some other ∷ lines) listings =
-    ap (λ (l : List (List ℕ)). reply_text (step s (Some other) (next_listing listings)).reply ∷ l) (texts_are (step s (Some other) (next_listing listings)).after lines (later_listings (Some other) listings))
-
--- the states between them
+-- the states between the turns
 pub states_are : (s : State) (lines : List Line) (listings : List (List CacheLine)) (i : ℕ) → model_state (turns true s lines listings) s i ≡ after_lines s (take i (up_to_quit lines)) listings
 states_are s lines listings zero = refl
 states_are s [] listings (suc i) = refl
@@ -34,28 +25,61 @@ turns_count s (None ∷ lines) listings = ap suc (turns_count s lines listings)
 turns_count s (Some command.Quit ∷ lines) listings = refl
 turns_count s (Some other ∷ lines) listings = ap suc (turns_count (step s (Some other) (next_listing listings)).after lines (later_listings (Some other) listings))
 
--- The first turns are those of the first lines.
+-- the state that they leave
+pub left_are : (s : State) (lines : List Line) (listings : List (List CacheLine)) → left_by s (turns true s lines listings) ≡ after_lines s (up_to_quit lines) listings
+left_are s [] listings = refl
+left_are s (None ∷ lines) listings = left_are s lines listings
+left_are s (Some command.Quit ∷ lines) listings = refl
+left_are s (Some other ∷ lines) listings = left_are (step s (Some other) (next_listing listings)).after lines (later_listings (Some other) listings)
 
-pub none_of_none : {X : Type 0} (n : ℕ) → take {A = X} n [] ≡ []
+-- The first lines have the first turns, and are answered as far as they were.
+
+none_of_none : {X : Type 0} (n : ℕ) → take {A = X} n [] ≡ []
 none_of_none n = take_all n [] (omega arith)
 
-pub first_turns : (n : ℕ) (s : State) (lines : List Line) (listings : List (List CacheLine)) → take n (turns true s lines listings) ≡ turns true s (take n (up_to_quit lines)) listings
+pub first_turns : (n : ℕ) (s : State) (lines : List Line) (listings : List (List CacheLine)) → turns true s (take n lines) listings ≡ take n (turns true s lines listings)
 first_turns zero s lines listings = refl
 first_turns (suc n) s [] listings = refl
 first_turns (suc n) s (line ∷ lines) listings = by (is_quit line) (first_turns n (step s line (next_listing listings)).after lines (later_listings line listings))
   where
-    by : (b : Bool) → take n (turns true (step s line (next_listing listings)).after lines (later_listings line listings)) ≡ turns true (step s line (next_listing listings)).after (take n (up_to_quit lines)) (later_listings line listings) →
-        turn true s line (next_listing listings) ∷ take n (if b then [] else turns true (step s line (next_listing listings)).after lines (later_listings line listings))
-        ≡ turn true s line (next_listing listings) ∷ (if b then [] else turns true (step s line (next_listing listings)).after (take n (if b then [] else up_to_quit lines)) (later_listings line listings))
-    by true same = ap (λ (l : List Turn). turn true s line (next_listing listings) ∷ l) (none_of_none n)
+    by : (b : Bool) → turns true (step s line (next_listing listings)).after (take n lines) (later_listings line listings) ≡ take n (turns true (step s line (next_listing listings)).after lines (later_listings line listings)) →
+        turn true s line (next_listing listings) ∷ (if b then [] else turns true (step s line (next_listing listings)).after (take n lines) (later_listings line listings))
+        ≡ turn true s line (next_listing listings) ∷ take n (if b then [] else turns true (step s line (next_listing listings)).after lines (later_listings line listings))
+    by true same = ap (λ (l : List Turn). turn true s line (next_listing listings) ∷ l) (sym (none_of_none n))
     by false same = ap (λ (l : List Turn). turn true s line (next_listing listings) ∷ l) same
 
-pub first_answered : (n : ℕ) (lines : List Line) → up_to_quit (take n (up_to_quit lines)) ≡ take n (up_to_quit lines)
+pub first_answered : (n : ℕ) (lines : List Line) → up_to_quit (take n lines) ≡ take n (up_to_quit lines)
 first_answered zero lines = refl
 first_answered (suc n) [] = refl
 first_answered (suc n) (line ∷ lines) = by (is_quit line) (first_answered n lines)
   where
-    by : (b : Bool) → up_to_quit (take n (up_to_quit lines)) ≡ take n (up_to_quit lines) →
-        line ∷ (if b then [] else up_to_quit (take n (if b then [] else up_to_quit lines))) ≡ line ∷ take n (if b then [] else up_to_quit lines)
+    by : (b : Bool) → up_to_quit (take n lines) ≡ take n (up_to_quit lines) → line ∷ (if b then [] else up_to_quit (take n lines)) ≡ line ∷ take n (if b then [] else up_to_quit lines)
     by true same = ap (λ (l : List Line). line ∷ l) (sym (none_of_none n))
     by false same = ap (λ (l : List Line). line ∷ l) same
+
+-- One line more has one turn more.
+
+none_left : (i : ℕ) (line : Line) (rest : List Line) → drop i [] ≡ line ∷ rest → ⊥
+none_left zero line rest is = cc
+none_left (suc i) line rest is = cc
+
+either_way : (b : Bool) (t : Turn) → t ∷ (if b then [] else []) ≡ t ∷ []
+either_way true t = refl
+either_way false t = refl
+
+pub next_turn : (s : State) (lines : List Line) (listings : List (List CacheLine)) (i : ℕ) (line : Line) (rest : List Line) → drop i (up_to_quit lines) ≡ line ∷ rest →
+    turns true s (take (suc i) lines) listings
+    ≡ turns true s (take i lines) listings ++ turn true (after_lines s (take i (up_to_quit lines)) listings) line (next_listing (listings_after (take i (up_to_quit lines)) listings)) ∷ []
+next_turn s [] listings i line rest is = absurd (none_left i line rest is)
+next_turn s (x ∷ lines) listings zero line rest is = let same : x ≡ line = cc in either_way (is_quit x) (turn true s x (next_listing listings)) ∙ ap (λ (l : Line). turn true s l (next_listing listings) ∷ []) same
+next_turn s (x ∷ lines) listings (suc i) line rest is = by (is_quit x) is (next_turn (step s x (next_listing listings)).after lines (later_listings x listings) i line rest)
+  where
+    by : (b : Bool) → drop i (if b then [] else up_to_quit lines) ≡ line ∷ rest
+        → (drop i (up_to_quit lines) ≡ line ∷ rest → turns true (step s x (next_listing listings)).after (take (suc i) lines) (later_listings x listings)
+        ≡ turns true (step s x (next_listing listings)).after (take i lines) (later_listings x listings)
+        ++ turn true (after_lines (step s x (next_listing listings)).after (take i (up_to_quit lines)) (later_listings x listings)) line (next_listing (listings_after (take i (up_to_quit lines)) (later_listings x listings))) ∷ [])
+        → turn true s x (next_listing listings) ∷ (if b then [] else turns true (step s x (next_listing listings)).after (take (suc i) lines) (later_listings x listings))
+        ≡ (turn true s x (next_listing listings) ∷ (if b then [] else turns true (step s x (next_listing listings)).after (take i lines) (later_listings x listings)))
+        ++ turn true (after_lines (step s x (next_listing listings)).after (take i (if b then [] else up_to_quit lines)) (later_listings x listings)) line (next_listing (listings_after (take i (if b then [] else up_to_quit lines)) (later_listings x listings))) ∷ []
+    by true is so = absurd (none_left i line rest is)
+    by false is so = ap (λ (l : List Turn). turn true s x (next_listing listings) ∷ l) (so is)

@@ -1,5 +1,5 @@
 -- When input is asked for.
-use Rattle.std.proofs.Common.{◌≡◌, ◌≢◌, ℕ, ◌+◌, ◌≤◌, Bool, true, false, List, [], ◌∷◌, ◌++◌, length, take, refl, sym, ◌∙◌, ap, arith, append_assoc, length-append}
+use Rattle.std.proofs.Common.{◌≡◌, ◌≢◌, ℕ, ◌+◌, ◌≤◌, Bool, true, false, List, [], ◌∷◌, ◌++◌, length, take, refl, sym, ◌∙◌, ap, subst, arith, append_assoc, length-append}
 use Rattle.std.specs.Prelude.{Ok, if◌then◌else◌}
 use Rattle.std.proofs.lemmas.List.{append-nil, length-take}
 use Rattle.log_laws.proofs.Lists.{all_append, all_weaker}
@@ -8,8 +8,10 @@ use Rattle.site.specs.Calls.{Took}
 use Rattle.site.specs.declared.outside.Take.{Take}
 use Rattle.face.specs.declared.source.Source.{Source}
 use Rattle.face.specs.Lines.{answered_of, pending, to_hear, IsSource, TookWithin, TakesWithin}
-use Rattle.face.specs.Run.{Run, told_after}
-use Rattle.face.specs.Working.{AnswersFirst, IsToldBefore}
+use Rattle.face.specs.Range.{first_texts}
+use Rattle.face.specs.Run.{Run}
+use Rattle.face.specs.Waiting.{IsAnswered}
+use Rattle.face.specs.Working.{AnswersFirst, IsEarly}
 use Rattle.face.proofs.Cuts.{Cut, none_pending, whole_before}
 use Rattle.face.proofs.Heard.{HeardSoFar}
 
@@ -86,52 +88,65 @@ takes_then source source' old mid new line len n h told same first second = reco
 -- none yet
 pub answers_none : (run : Run) (old now : Site) → now.input ≡ old.input → AnswersFirst run 0 old now
 answers_none run old now same = record {
-  takes = [];
-  are = ap (λ (input : Input). input.takes) same ∙ sym (append-nil old.input.takes);
-  told = tt;
+  waits = record { takes = []; are = ap (λ (input : Input). input.takes) same ∙ sym (append-nil old.input.takes); answered = tt };
+  early = tt;
   count = ap (λ (input : Input). input.heard + length input.left) same;
 }
 
 -- where nothing more was heard
 pub answers_still : (run : Run) (lines : ℕ) (old now new : Site) → new.input ≡ now.input → AnswersFirst run lines old now → AnswersFirst run lines old new
 answers_still run lines old now new same answers = record {
-  takes = answers.takes;
-  are = ap (λ (input : Input). input.takes) same ∙ answers.are;
-  told = answers.told;
+  waits = record { takes = answers.waits.takes; are = ap (λ (input : Input). input.takes) same ∙ answers.waits.are; answered = answers.waits.answered };
+  early = answers.early;
   count = ap (λ (input : Input). input.heard + length input.left) same ∙ answers.count;
 }
 
 -- so many lines were answered, and the next one is heard
-pub answers_next : (run : Run) (old mid new : Site) (source : Source) (i lines : ℕ) (cut : Cut old.input.left source mid i) → IsSource source → mid.told ≡ old.told ++ told_after run (i + 1) → i ≤ lines
+pub answers_next : (run : Run) (old mid new : Site) (source : Source) (i lines : ℕ) (cut : Cut old.input.left source mid i) → IsSource source → mid.told ≡ old.told ++ first_texts run (i + 1) → i ≤ lines
     → AnswersFirst run i old mid → TakesWithin source mid new → AnswersFirst run lines old new
 answers_next run old mid new source i lines cut is_source told more answers takes = record {
-  takes = answers.takes ++ takes.takes;
-  are = takes.are ∙ ap (λ (l : List Take). l ++ takes.takes) answers.are ∙ append_assoc old.input.takes answers.takes takes.takes;
-  told = all_append (IsToldBefore run lines old) answers.takes takes.takes (all_weaker (IsToldBefore run i old) (IsToldBefore run lines old) few answers.takes answers.told)
-      (all_weaker (TookWithin source mid) (IsToldBefore run lines old) later takes.takes takes.within);
+  waits = record {
+    takes = answers.waits.takes ++ takes.takes;
+    are = takes.are ∙ ap (λ (l : List Take). l ++ takes.takes) answers.waits.are ∙ append_assoc old.input.takes answers.waits.takes takes.takes;
+    answered = all_append (IsAnswered run old) answers.waits.takes takes.takes answers.waits.answered (all_weaker (TookWithin source mid) (IsAnswered run old) is_answered takes.takes takes.within);
+  };
+  early = all_append (IsEarly lines old) answers.waits.takes takes.takes (all_weaker (IsEarly i old) (IsEarly lines old) still_early answers.waits.takes answers.early) (all_weaker (TookWithin source mid) (IsEarly lines old) is_early takes.takes takes.within);
   count = takes.count ∙ answers.count;
 }
   where
-    few : (t : Take) → IsToldBefore run i old t → IsToldBefore run lines old t
-    few t before = record { heard = before.heard; here = before.here; few = let few = before.few in omega (arith, few, more); told = before.told }
+    still_early : (t : Take) → IsEarly i old t → IsEarly lines old t
+    still_early t early heard here = let few = early heard here in omega (arith, few, more)
 
-    later : (t : Take) → TookWithin source mid t → IsToldBefore run lines old t
-    later t took =
+    here_is : (t : Take) (took : TookWithin source mid t) → t.heard ≡ old.input.heard + length (cut.octets ++ took.octets)
+    here_is t took =
+        let here = took.here in
+        let count = answers.count in
+        let all = ap length cut.all ∙ length-append cut.octets (to_hear source mid) in
+        let left = length-append (pending source) mid.input.left in
+        let both = length-append cut.octets took.octets in
+        omega (arith, here, count, all, left, both)
+
+    number : (t : Take) (took : TookWithin source mid t) → length (answered_of false (take (length (cut.octets ++ took.octets)) old.input.left)) ≡ i
+    number t took =
         let whole = whole_before old.input.left source mid i cut is_source took.octets took.rest took.none took.all took.going in
+        ap (λ (l : List ℕ). length (answered_of false l)) whole.0 ∙ whole.1
+
+    is_early : (t : Take) → TookWithin source mid t → IsEarly lines old t
+    is_early t took heard here =
+        let own = here_is t took in
+        let count = number t took in
+        let same : heard ≡ length (cut.octets ++ took.octets) = omega (arith, here, own) in
+        subst (λ (n : ℕ). length (answered_of false (take n old.input.left)) ≤ lines) (sym same) (omega (arith, count, more))
+
+    is_answered : (t : Take) → TookWithin source mid t → IsAnswered run old t
+    is_answered t took =
         let heard = length (cut.octets ++ took.octets) in
-        let number : length (answered_of false (take heard old.input.left)) ≡ i = ap (λ (l : List ℕ). length (answered_of false l)) whole.0 ∙ whole.1 in
+        let count = number t took in
         record {
           heard = heard;
-          here =
-              let here = took.here in
-              let count = answers.count in
-              let all = ap length cut.all ∙ length-append cut.octets (to_hear source mid) in
-              let left = length-append (pending source) mid.input.left in
-              let both = length-append cut.octets took.octets in
-              omega (arith, here, count, all, left, both);
-          few = omega (arith, number, more);
+          here = here_is t took;
           told =
-              let same : 1 + length (answered_of false (take heard old.input.left)) ≡ i + 1 = omega (arith, number) in
-              let is : length (old.told ++ told_after run (1 + length (answered_of false (take heard old.input.left)))) ≡ t.told = ap (λ (n : ℕ). length (old.told ++ told_after run n)) same ∙ ap length (sym told) ∙ sym took.told in
+              let same : 1 + length (answered_of false (take heard old.input.left)) ≡ i + 1 = omega (arith, count) in
+              let is : length (old.told ++ first_texts run (1 + length (answered_of false (take heard old.input.left)))) ≡ t.told = ap (λ (n : ℕ). length (old.told ++ first_texts run n)) same ∙ ap length (sym told) ∙ sym took.told in
               omega (arith, is);
         }

@@ -24,8 +24,9 @@ use Rattle.image_changes.specs.Rings.{log_shape}
 use Rattle.log_records.specs.Log.{Entry}
 use Rattle.log_records.specs.Unfinished.{owed}
 use Rattle.redo_undo.specs.Holding.{blocks_to}
-use Rattle.face.specs.Run.{CountsUpTo, Run, Begins, answered, told_after, state_at, listings_left, IsAccounted}
-use Rattle.face.specs.Working.{AnswersFirst, ListsUpTo, asked_after}
+use Rattle.face.specs.Range.{GivesNumbers, IsLeft, ListsTheMachine, first_texts, made_by}
+use Rattle.face.specs.Run.{Run, Begins, answered, first_lines, state_at, listings_left}
+use Rattle.face.specs.Working.{AnswersFirst, asked_after}
 
 -- so many lines of the run were answered
 pub record Going (run : Run) (entry now : Site) (engine : Engine) (lines : ℕ) : Type 0 where
@@ -34,9 +35,9 @@ pub record Going (run : Run) (entry now : Site) (engine : Engine) (lines : ℕ) 
   pub geometry : sizes_of engine.store ≡ run.geometry
   -- the log has the same sizes
   pub same : engine.store.log.geometry ≡ sizes_of engine.store
-  pub told : now.told ≡ entry.told ++ told_after run (lines + 1)
+  pub told : now.told ≡ entry.told ++ first_texts run (lines + 1)
   pub few : lines ≤ length (answered run)
-  pub moments : LeavesOnly entry now (IsAccounted run lines entry.told [])
+  pub moments : LeavesOnly entry now (IsLeft (first_lines run lines) entry.told [])
 
 -- So many lines were answered, and the cache has given these listings so far, where the pool has so many pages: this
 -- holds of each run whose listings begin with them, whatever comes behind.
@@ -47,7 +48,7 @@ pub record IsUnderWay (pool : ℕ) (entry now : Site) (engine : Engine) (lines :
   pub going : (run : Run) (later : List (List CacheLine)) → Begins run entry → run.listings ≡ listings ++ later →
       Going run entry now engine lines
   pub listed : (run : Run) (later : List (List CacheLine)) → Begins run entry → run.listings ≡ listings ++ later →
-      ListsUpTo pool run lines entry.image
+      ListsTheMachine pool (first_lines run lines) entry.image
   pub answers : (run : Run) (later : List (List CacheLine)) → Begins run entry → run.listings ≡ listings ++ later →
       AnswersFirst run lines entry now
 
@@ -63,8 +64,8 @@ pub record IsPaged (pool : ℕ) (run : Run) (newest : Option Master) (image : Im
 -- whose log has these records.
 pub record IsCounted (run : Run) (records : List Entry) (old now : Image) (engine : Engine) (lines : ℕ) : Type 0 where
   pub log : blocks_to engine.store.log ≤
-      hi_of (log_shape run.geometry) old.log + owed records + (state_at run lines).made
-  pub numbers : CountsUpTo run records lines old now
+      hi_of (log_shape run.geometry) old.log + owed records + made_by (first_lines run lines)
+  pub numbers : GivesNumbers (first_lines run lines) records old now
 
 -- A line asks for this work, and no more is read and written than it needs.
 pub record Serves {T : Type 0} (result : Result T Halt) (works : List CacheWork) (old new : PageStore)

@@ -16,8 +16,8 @@ use Rattle.record_model.specs.Run.{Turn, is_quit}
 use Rattle.record_model.specs.Serial.{IsSerial}
 use Rattle.shell_text.specs.Serial.{IsToldSerial}
 use Rattle.face.specs.Lines.{HeardAll, limit, commands_of}
-use Rattle.face.specs.Run.{Run, IsFront}
-use Rattle.face.specs.Range.{run_of, turns_of, texts, run_text, all_commits, StandsAfter, IsLeft, WearsOut, NeverWears}
+use Rattle.face.specs.Run.{Run, IsFront, first_lines, turns_of}
+use Rattle.face.specs.Range.{run_of, texts, run_text, IsLeft, IsWhole, WearsOut, NeverWears}
 use Rattle.face.specs.Waiting.{NobodyWaits}
 use Rattle.face.specs.Range.{LeavesItsQueue, SkipsNoNumber, AsksNoMore, ListsTheMachine, HasBegun}
 
@@ -37,11 +37,6 @@ IsFaultOf status fault old new =
 abbrev pub TellsFault : ℕ → Site → Site → Type 0
 TellsFault status old new =
     (fault : List ℕ) × IsFaultOf status fault old new × (before : List ℕ) × EndsWith before fault old new
-
--- all of the run is told, and the devices stand for the table after all its commits
-pub record IsWhole (run : Run) (old new : Site) : Type 0 where
-  pub told : new.told ≡ old.told ++ run_text run
-  pub stands : StandsAfter run (all_commits run) new.image
 
 -- all of the run is told, and then a front of the fault line
 pub record IsToldWhole (run : Run) (fault : List ℕ) (old new : Site) : Type 0 where
@@ -100,14 +95,14 @@ ran {g} {s} d = run_of g s d.ended d.octets d.listings
 pub record Resources (pool : ℕ) (run : Run) (begun : ℕ) (old new : Site) (status : ℕ) : Type 0 where
   -- with 8 these append to a ring of groups that stands at its end, or a ring on the log's device stands there; with 0
   -- no group is appended there
-  pub worn : status ≡ 8 → WearsOut pool run begun old.image ⊎ IsLogWorn run.geometry new.image
+  pub worn : status ≡ 8 → WearsOut pool (first_lines run begun) old.image ⊎ IsLogWorn run.geometry new.image
   pub room : status ≡ 0 → NeverWears pool run old.image
   -- with 0 the frames on flash are those that the cache machine has in its queue
   pub frames : status ≡ 0 → LeavesItsQueue pool run old.image new.image
   -- whatever the status, with these lines no ring number is skipped on the log's device
-  pub numbers : SkipsNoNumber run begun old.image new.image
+  pub numbers : SkipsNoNumber (first_lines run begun) old.image new.image
   -- no more is read and written than they ask for
-  pub reads : AsksNoMore pool run begun old new
+  pub reads : AsksNoMore pool (first_lines run begun) old new
 
 -- the same with the number of these lines, and with what they are told of the cache
 pub record RunResources (pool : ℕ) (run : Run) (fault : List ℕ) (old new : Site) (status : ℕ) : Type 0 where
@@ -116,7 +111,7 @@ pub record RunResources (pool : ℕ) (run : Run) (fault : List ℕ) (old new : S
   pub has_begun : HasBegun run begun fault old new
   pub asked : Resources pool run begun old new status
   -- what they are told of the cache is what the machine lists
-  pub listed : ListsTheMachine pool run begun old.image
+  pub listed : ListsTheMachine pool (first_lines run begun) old.image
 
 -- its transactions are in serial order, and so is what it tells of them
 pub record SerialOrder (run : Run) : Type 0 where

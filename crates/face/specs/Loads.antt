@@ -1,13 +1,12 @@
 -- What a load does, and what a crash at any moment leaves of it.
 use Rattle.std.specs.Prelude.{◌≡◌, ◌≢◌, ◌⊎◌, ℕ, ◌+◌, ◌-◌, ◌≤◌, List, [], ◌++◌, length, take, IsTrue, Result, IfErr}
-use Rattle.std.specs.Prelude.{OnOk, IsErrOf}
+use Rattle.std.specs.Prelude.{OnOk}
 use Rattle.site.specs.State.{State as Site, Snapshot, MayLeave, now_of, IsQuiet, no_loose}
 use Rattle.site.specs.Calls.{Goes}
 use Rattle.site.specs.Moments.{LeavesOnly}
 use Rattle.site.specs.declared.geometry.Geometry.{Geometry}
 use Rattle.site.specs.declared.outside.Dev.{Dev}
-use Rattle.site.specs.declared.outside.Dev.TheVariants.{Flash}
-use Rattle.site.specs.declared.outside.Stop.TheVariants.{Device, Worn}
+use Rattle.site.specs.declared.outside.Stop.TheVariants.{Device}
 use Rattle.record_model.specs.State.{State}
 use Rattle.record_model.specs.Run.{Line, Turn, commit_marks, commits_among}
 use Rattle.engine.specs.declared.engine.Engine.{Engine}
@@ -20,12 +19,12 @@ use Rattle.face.specs.Causes.{AnswerFailsBy}
 use Rattle.face.specs.Going.{Serves}
 use Rattle.face.specs.Headline.{IsFaultOf, Resources}
 use Rattle.face.specs.Tells.{EndsBehind}
-use Rattle.face.specs.Range.{turns_of, all_commits, StandsAfter, WearsOut, NeverWears, LeavesItsQueue, SkipsNoNumber}
-use Rattle.face.specs.Range.{AsksNoMore}
-use Rattle.face.specs.Run.{Run, IsFront, StandsFor, after_lines, works_of, checkpoints_of}
+use Rattle.face.specs.Range.{all_commits, StandsAfter}
+use Rattle.face.specs.Run.{Run, IsFront, StandsFor, after_lines, answered, first_lines, works_of, checkpoints_of, turns_of}
 use Rattle.engine.specs.Numbers.{CountsOn}
 use Rattle.face.specs.Texts.{IsLineOf, status_of}
-use Rattle.face.specs.Workload.{committed_in, checkpoints_in, found_in, load_run, load_texts, load_turns, opening_text}
+use Rattle.face.specs.Working.{Demands}
+use Rattle.face.specs.Workload.{committed_in, checkpoints_in, found_in, load_run, load_texts, opening_text}
 use Rattle.face.specs.Workload.{summary_text}
 
 -- What was told of a load, and how many of its commits the devices then have: none while the opening is told, or a
@@ -115,19 +114,16 @@ pub record LoadWorks {T : Type 0} (pool : ℕ) (run : Run) (summary : List ℕ) 
   pub done : OnOk result (LoadDone run summary old new)
   pub begun : ℕ
   pub has_begun : HasBegunLoad run begun old new
-  -- flash is worn only where the lines that were begun ask for more groups than the ring can have
-  pub worn : IsErrOf result (Stop (Worn Flash)) → WearsOut pool run begun old.image
-  pub room : OnOk result (NeverWears pool run old.image)
-  pub frames : OnOk result (LeavesItsQueue pool run old.image new.image)
-  pub numbers : SkipsNoNumber run begun old.image new.image
-  pub reads : AsksNoMore pool run begun old new
+  -- where it is Ok all lines were begun
+  pub all : OnOk result (length (answered run) ≤ begun)
+  pub demands : Demands pool (first_lines run begun) old new result
   pub left : new.input ≡ old.input
 
 -- what was counted is what the turns of the record model say
 pub record HasCounted (run : Run) (committed checkpoints found : ℕ) : Type 0 where
-  pub committed_is : committed ≡ committed_in (load_turns run)
-  pub checkpoints_are : checkpoints ≡ checkpoints_in (load_turns run)
-  pub found_is : found ≡ found_in (load_turns run)
+  pub committed_is : committed ≡ committed_in (turns_of run)
+  pub checkpoints_are : checkpoints ≡ checkpoints_in (turns_of run)
+  pub found_is : found ≡ found_in (turns_of run)
 
 -- the same of sets alone
 pub record HasMade (run : List Turn) (committed checkpoints : ℕ) : Type 0 where

@@ -6,13 +6,13 @@ use Rattle.site.specs.declared.geometry.Geometry.{Geometry}
 use Rattle.record_model.specs.declared.words.CacheLine.{CacheLine}
 use Rattle.record_model.specs.State.{State}
 use Rattle.record_model.specs.declared.words.Reply.TheVariants.{Listing}
-use Rattle.record_model.specs.Run.{Turn, turns, state_at, is_cache, commit_marks, after_commits, IsInRange}
+use Rattle.record_model.specs.Run.{Turn, left_by, is_cache, commit_marks, after_commits, IsInRange}
 use Rattle.record_model.specs.Touches.{CacheWork, run_touches}
 use Rattle.log_records.specs.declared.log_record.LogRecord.{LogRecord}
 use Rattle.checkpoint.specs.declared.master.Master.{Master}
 use Rattle.image_meaning.specs.Meaning.{picture_under}
 use Rattle.second_chance.specs.Machine.{Cache, rules_of, after_works, listing, opened}
-use Rattle.redo_undo.specs.Works.{next_group, Overflows}
+use Rattle.redo_undo.specs.Works.{next_group}
 use Rattle.engine.specs.Paging.{restart_works, cache_on}
 use Rattle.engine.specs.Image.{IsSound, Stands, log_under}
 use Rattle.sealed_ring.specs.Ring.{hi_of}
@@ -22,20 +22,19 @@ use Rattle.log_records.specs.Unfinished.{owed}
 use Rattle.face.specs.Workload.{checkpoints_in}
 use Rattle.shell_text.specs.Runs.{texts as run_texts}
 use Rattle.face.specs.Lines.{commands_of}
-use Rattle.face.specs.Run.{Run, IsFront, AsksFew}
+use Rattle.face.specs.Run.{Run, IsFront, AsksFew, turns_of}
 
 -- the run that opens with this state, over the lines of these octets, with these listings of the cache
 abbrev pub run_of : Geometry → State → Bool → List ℕ → List (List CacheLine) → Run
 run_of g opening ended octets listings =
     record { geometry = g; opening = opening; lines = commands_of ended octets; listings = listings }
 
--- its turns, by the record model
-abbrev pub turns_of : Run → List Turn
-turns_of run = turns true run.opening run.lines run.listings
-
 -- the opening's text, and one for each turn
 abbrev pub texts : Run → List (List ℕ)
 texts run = run_texts true run.opening run.lines run.listings
+
+abbrev pub text_at : Run → ℕ → List ℕ
+text_at run i = slice_index_or (texts run) i []
 
 -- the first of the texts, one after the other
 abbrev pub first_texts : Run → ℕ → List ℕ
@@ -69,28 +68,32 @@ pub record IsLeft (run : Run) (so_far fault : List ℕ) (snapshot : Snapshot) : 
   pub in_range : IsInRange told (texts run) (commit_marks (turns_of run)) k
   pub stands : StandsAfter run k snapshot.image
 
--- how many log records the first lines of the run make, by the record model
-abbrev pub made_by : Run → ℕ → ℕ
-made_by run lines = (state_at (turns_of run) run.opening lines).made
+-- all of the run is told, and the devices stand for the table after all its commits
+pub record IsWhole (run : Run) (old new : Site) : Type 0 where
+  pub told : new.told ≡ old.told ++ run_text run
+  pub stands : StandsAfter run (all_commits run) new.image
 
--- Over an image whose log has these records the run gives, with so many lines, the ring of the log's blocks at most one
--- number more for each record that the restart and the lines make, and the ring of the master units at most one for
--- each checkpoint, the restart's with them.
-pub record GivesNumbers (run : Run) (lines : ℕ) (records : List Entry) (old now : Image) : Type 0 where
-  pub blocks : hi_of (log_shape run.geometry) now.log ≤
-      hi_of (log_shape run.geometry) old.log + owed records + made_by run lines
-  pub masters : hi_of master_shape now.log ≤ hi_of master_shape old.log + 1 + checkpoints_in (take lines (turns_of run))
+-- how many log records the run makes, by the record model
+abbrev pub made_by : Run → ℕ
+made_by run = (left_by run.opening (turns_of run)).made
+
+-- Over an image whose log has these records the run gives the ring of the log's blocks at most one number more for each
+-- record that the restart and the run make, and the ring of the master units at most one for each checkpoint, the
+-- restart's with them.
+pub record GivesNumbers (run : Run) (records : List Entry) (old now : Image) : Type 0 where
+  pub blocks :
+      hi_of (log_shape run.geometry) now.log ≤ hi_of (log_shape run.geometry) old.log + owed records + made_by run
+  pub masters : hi_of master_shape now.log ≤ hi_of master_shape old.log + 1 + checkpoints_in (turns_of run)
 
 -- so it skips no number of the rings on the log's device
-abbrev pub SkipsNoNumber : Run → ℕ → Image → Image → Type 0
-SkipsNoNumber run lines old now = (newest : Option Master) (blocks : List (List LogRecord)) →
-    IsSound newest run.geometry old blocks → GivesNumbers run lines (log_under newest blocks) old now
+abbrev pub SkipsNoNumber : Run → Image → Image → Type 0
+SkipsNoNumber run old now = (newest : Option Master) (blocks : List (List LogRecord)) →
+    IsSound newest run.geometry old blocks → GivesNumbers run (log_under newest blocks) old now
 
 -- The rings on the log's device have numbers for all that the restart and the run append, over an image whose log has
 -- these records.
 pub record HasNumbersFor (run : Run) (records : List Entry) (image : Image) : Type 0 where
-  pub blocks :
-      hi_of (log_shape run.geometry) image.log + owed records + made_by run (length (turns_of run)) < 2 ^ 40
+  pub blocks : hi_of (log_shape run.geometry) image.log + owed records + made_by run < 2 ^ 40
   pub masters : hi_of master_shape image.log + 1 + checkpoints_in (turns_of run) < 2 ^ 40
 
 -- so neither comes to its end
@@ -109,49 +112,48 @@ cache_by pool run done newest image blocks =
     after_works (rules_of pool run.geometry.groups) (works_by run done newest image blocks)
     (cache_on run.geometry image)
 
--- with so many lines the run appends to a ring of groups that stands at its end
-abbrev pub WearsOut : ℕ → Run → ℕ → Image → Type 0
-WearsOut pool run lines image =
-    (newest : Option Master) (blocks : List (List LogRecord)) → IsSound newest run.geometry image blocks
-    → Overflows (rules_of pool run.geometry.groups) (works_by run (take lines (turns_of run)) newest image blocks)
-    (cache_on run.geometry image)
+-- the run appends to a ring of groups that stands at its end
+abbrev pub WearsOut : ℕ → Run → Image → Type 0
+WearsOut pool run image = (newest : Option Master) (blocks : List (List LogRecord)) →
+    IsSound newest run.geometry image blocks →
+    2 ^ 40 < next_group (cache_by pool run (turns_of run) newest image blocks)
 
--- no ring that all of the run appends to stands there
+-- no ring that it appends to stands there
 abbrev pub NeverWears : ℕ → Run → Image → Type 0
 NeverWears pool run image = (newest : Option Master) (blocks : List (List LogRecord)) →
     IsSound newest run.geometry image blocks →
     next_group (cache_by pool run (turns_of run) newest image blocks) ≤ 2 ^ 40
 
--- when all of the run is over the frames on flash are those of the machine's queue, in its groups and with its dirty
--- marks, as a restart would find it
+-- when it is over the frames on flash are those of the machine's queue, in its groups and with its dirty marks, as a
+-- restart would find it
 abbrev pub LeavesItsQueue : ℕ → Run → Image → Image → Type 0
 LeavesItsQueue pool run old now = (newest : Option Master) (blocks : List (List LogRecord)) →
     IsSound newest run.geometry old blocks → cache_on run.geometry now
     ≡ opened (cache_by pool run (turns_of run) newest old blocks).queue
 
--- each of the first lines that asks for the listing of the cache is replied what the cache machine lists after the
--- restart's work and that of the lines before it
-abbrev pub ListsTheMachine : ℕ → Run → ℕ → Image → Type 0
-ListsTheMachine pool run lines image =
+-- each line that asks for the listing of the cache is replied what the cache machine lists after the restart's work and
+-- that of the lines before it
+abbrev pub ListsTheMachine : ℕ → Run → Image → Type 0
+ListsTheMachine pool run image =
     (newest : Option Master) (blocks : List (List LogRecord)) → IsSound newest run.geometry image blocks
-    → (before later : List Turn) (t : Turn) → take lines (turns_of run) ≡ before ++ t ∷ later → is_cache t.line ≡ true
+    → (before later : List Turn) (t : Turn) → turns_of run ≡ before ++ t ∷ later → is_cache t.line ≡ true
     → t.reply ≡ Listing (listing (cache_by pool run before newest image blocks))
 
--- with so many lines no more is read and written than the run asks for. A crash at any moment leaves no more groups
--- than it appends, and each disk page that it doesn't stage as it was at entry. Pages are read, of flash at most one for each touch that finds its
--- page there, twelve for each group that is appended, and as many as a start may read; of the disk at most one for
--- each touch that misses its page on flash
-abbrev pub AsksNoMore : ℕ → Run → ℕ → Site → Site → Type 0
-AsksNoMore pool run lines old now =
+-- No more is read and written than the run asks for. A crash at any moment leaves no more groups than it appends, and
+-- each disk page that it doesn't stage as it was at entry. Pages are read, of flash at most one for each touch that
+-- finds its page there, twelve for each group that is appended, and as many as a start may read; of the disk at most
+-- one for each touch that misses its page on flash.
+abbrev pub AsksNoMore : ℕ → Run → Site → Site → Type 0
+AsksNoMore pool run old new =
     (newest : Option Master) (blocks : List (List LogRecord)) → IsSound newest run.geometry old.image blocks
-    → AsksFew pool run.geometry (works_by run (take lines (turns_of run)) newest old.image blocks) old now
+    → AsksFew pool run.geometry (works_by run (turns_of run) newest old.image blocks) old new
 
 -- So many lines were begun: what the run tells before the last of them is told, the opening's text and the replies of
 -- the others, then a front of the last one's reply, or all of it, and of a fault line a front.
 pub record HasBegun (run : Run) (begun : ℕ) (fault : List ℕ) (old now : Site) : Type 0 where
   pub few : begun ≤ length (turns_of run)
   pub reply : List ℕ
-  pub part : IsFront reply (slice_index_or (texts run) begun [])
+  pub part : IsFront reply (text_at run begun)
   pub rest : List ℕ
   pub front : IsFront rest fault
   pub told : now.told ≡ old.told ++ (first_texts run begun ++ (reply ++ rest))

@@ -16,8 +16,8 @@ use Rattle.workload.specs.declared.scripts.Life.{Life}
 use Rattle.workload.specs.Scripts.{lives_of as lives_in}
 use Rattle.face.specs.declared.halt.Halt.{Halt}
 use Rattle.face.specs.Image.{blank_table}
-use Rattle.face.specs.Range.{IsToldOf, run_of, run_text, texts, turns_of}
-use Rattle.face.specs.Run.{IsFront, Run}
+use Rattle.face.specs.Range.{IsToldOf, run_of, run_text, texts}
+use Rattle.face.specs.Run.{IsFront, Run, turns_of}
 use Rattle.face.specs.Tells.{EndsWith}
 use Rattle.face.specs.Texts.{IsLineOf, fault_line, status_of}
 

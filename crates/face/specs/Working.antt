@@ -1,68 +1,86 @@
 -- What comes of a run before its fault line, by the number of lines that were heard.
-use Rattle.std.specs.Prelude.{◌≡◌, ℕ, ◌+◌, ◌<◌, ◌≤◌, ◌^◌, ◌++◌, Bool, true, false, List, length, take, slice_index_or, Option, None, []}
-use Rattle.std.specs.Prelude.{Result, IfErr, IsErrOf, OnOk}
-use Rattle.site.specs.State.{State as Site, Image}
+use Rattle.std.specs.Prelude.{◌≡◌, ◌≢◌, ℕ, ◌+◌, ◌-◌, ◌≤◌, ◌++◌, Bool, true, false, List, [], length, take, Option}
+use Rattle.std.specs.Prelude.{Result, IfErr, IsErrOf, OnOk, ⊤}
+use Rattle.site.specs.State.{State as Site, Snapshot, Image, MayLeave, now_of, no_loose}
 use Rattle.site.specs.Moments.{LeavesOnly}
-use Rattle.std.specs.List.{AllByRecursion}
+use Rattle.std.specs.List.{AllByRecursion, list_any}
 use Rattle.site.specs.declared.outside.Take.{Take}
 use Rattle.site.specs.declared.outside.Dev.TheVariants.{Flash}
 use Rattle.site.specs.declared.outside.Stop.TheVariants.{Worn}
-use Rattle.record_model.specs.Run.{is_cache}
+use Rattle.record_model.specs.Run.{commit_marks, commits_among, is_quit}
 use Rattle.record_model.specs.Touches.{CacheWork}
 use Rattle.log_records.specs.declared.log_record.LogRecord.{LogRecord}
 use Rattle.checkpoint.specs.declared.master.Master.{Master}
-use Rattle.second_chance.specs.Machine.{rules_of, after_works, listing, opened}
-use Rattle.redo_undo.specs.Works.{next_group}
-use Rattle.engine.specs.Paging.{cache_on}
-use Rattle.engine.specs.Image.{IsSound}
 use Rattle.face.specs.declared.halt.Halt.{Halt}
-use Rattle.face.specs.declared.halt.Halt.TheVariants.{Stop}
-use Rattle.face.specs.Lines.{HeardAll, answered_of}
-use Rattle.face.specs.Range.{AsksNoMore, WearsOut, turns_of, works_by}
-use Rattle.face.specs.Run.{HasHeard, HasToldUpTo, IsAccounted, IsDone, Run, SkipsNoneUpTo, Stops, StopsTaking}
-use Rattle.face.specs.Run.{answered, listing_at, told_after}
+use Rattle.face.specs.declared.halt.Halt.TheVariants.{Stop, Output, Input, Limit}
+use Rattle.face.specs.Lines.{HeardAll, answered_of, commands_of, limit}
+use Rattle.face.specs.Range.{AsksNoMore, HasBegun, IsLeft, IsWhole, LeavesItsQueue, ListsTheMachine, NeverWears, SkipsNoNumber}
+use Rattle.face.specs.Range.{StandsAfter, WearsOut, first_texts, texts, works_by}
+use Rattle.face.specs.Run.{Run, first_lines, turns_of}
+use Rattle.face.specs.Texts.{status_of}
+use Rattle.face.specs.Waiting.{NobodyWaits}
 
 -- what a run over this image has asked once it has answered so many lines
 abbrev pub asked_after : Run → Option Master → Image → List (List LogRecord) → ℕ → List CacheWork
-asked_after run newest image blocks lines = works_by run (take lines (turns_of run)) newest image blocks
+asked_after run newest image blocks lines = works_by run (turns_of (first_lines run lines)) newest image blocks
 
--- with so many lines the run doesn't append to a ring of groups that stands at its end
-abbrev pub HasGroupsFor : ℕ → Run → Image → ℕ → Type 0
-HasGroupsFor pool run image lines =
-    (newest : Option Master) (blocks : List (List LogRecord)) → IsSound newest run.geometry image blocks →
-    next_group (after_works (rules_of pool run.geometry.groups) (asked_after run newest image blocks lines)
-    (cache_on run.geometry image)) ≤ 2 ^ 40
+-- where so many texts were told whole, the devices stand for the table after some number of commits that this allows
+abbrev pub StandsNear : Run → ℕ → Image → Type 0
+StandsNear run whole image = (k : ℕ) × (commits_among (whole - 1) (commit_marks (turns_of run)) ≤ k)
+    × (k ≤ commits_among whole (commit_marks (turns_of run))) × StandsAfter run k image
 
--- each of the first lines that asks for the listing of the cache is given the cache machine's
-abbrev pub ListsUpTo : ℕ → Run → ℕ → Image → Type 0
-ListsUpTo pool run lines image =
-    (newest : Option Master) (blocks : List (List LogRecord)) → IsSound newest run.geometry image blocks
-    → (i : ℕ) → i < lines → is_cache (slice_index_or (answered run) i None) ≡ true
-    → listing_at run i ≡ listing (after_works (rules_of pool run.geometry.groups)
-    (asked_after run newest image blocks i) (cache_on run.geometry image))
+-- so many texts were told, and the devices may be left as near to them
+pub record IsBetween (run : Run) (old now : Site) : Type 0 where
+  pub whole : ℕ
+  pub few : whole ≤ length (texts run)
+  pub told : now.told ≡ old.told ++ first_texts run whole
+  pub stands : (s : Snapshot) → MayLeave (now_of now) s → StandsNear run whole s.image
 
--- with so many lines the frames on flash are those of the cache machine's queue, as a restart would find it
-abbrev pub HasQueueAt : ℕ → Run → ℕ → Image → Image → Type 0
-HasQueueAt pool run lines old now =
-    (newest : Option Master) (blocks : List (List LogRecord)) → IsSound newest run.geometry old blocks
-    → cache_on run.geometry now ≡ opened (after_works (rules_of pool run.geometry.groups)
-    (asked_after run newest old blocks lines) (cache_on run.geometry old)).queue
+-- These octets were taken. `ended` is whether a take has answered that the input ended. So many of their lines were
+-- heard, which are the first ones of all lines.
+pub record HasHeard (heard : ℕ) (octets : List ℕ) (ended : Bool) (old now : Site) : Type 0 where
+  pub taken : old.input.left ≡ octets ++ now.input.left
+  pub end : ended ≡ true → now.input.left ≡ []
+  pub enough : heard ≤ length (answered_of ended octets)
+  pub same : take heard (commands_of ended octets) ≡ take heard (commands_of true old.input.left)
 
--- Input was asked for where so many octets of what was left at entry were heard. No more than these lines stand whole in
--- them, and by then they were answered.
-pub record IsToldBefore (run : Run) (lines : ℕ) (old : Site) (t : Take) : Type 0 where
-  pub heard : ℕ
-  pub here : t.heard ≡ old.input.heard + heard
-  pub few : length (answered_of false (take heard old.input.left)) ≤ lines
-  pub told :
-      length (old.told ++ told_after run (1 + length (answered_of false (take heard old.input.left)))) ≤ t.told
+-- all lines that stand whole in the first octets up to the limit were heard, and their replies told
+pub record HasTakenAll (run : Run) (heard : ℕ) (octets : List ℕ) (old now : Site) : Type 0 where
+  pub count : length (answered_of false (take limit octets)) ≡ heard
+  pub no_quit : list_any is_quit (commands_of false (take limit octets)) ≡ false
+  pub told : now.told ≡ old.told ++ first_texts run (heard + 1)
 
--- so it was wherever input was asked for, and each octet that isn't left any more was heard
+-- where taking was what failed
+abbrev pub StopsTaking : Halt → Run → ℕ → List ℕ → Site → Site → Type 0
+StopsTaking Input run heard octets old now = HasTakenAll run heard octets old now
+StopsTaking Limit run heard octets old now = HasTakenAll run heard octets old now × (length octets ≡ limit + 1)
+StopsTaking _ run heard octets old now = ⊤
+
+-- a run that stops, of which so many lines were heard, before its fault line
+pub record Stops (run : Run) (heard : ℕ) (old new : Site) (halt : Halt) : Type 0 where
+  pub any_moment : LeavesOnly old new (IsLeft (first_lines run heard) old.told [])
+  pub between : halt ≢ Output → IsBetween (first_lines run heard) old new
+  pub quiet : status_of halt ≢ 3 → new.loose ≡ no_loose
+
+-- When input was asked for no more lines than these stood whole in what was heard.
+abbrev pub IsEarly : ℕ → Site → Take → Type 0
+IsEarly lines old t = (heard : ℕ) → t.heard ≡ old.input.heard + heard →
+    length (answered_of false (take heard old.input.left)) ≤ lines
+
+-- nobody waits while so many lines are answered, and each octet that isn't left any more was heard
 pub record AnswersFirst (run : Run) (lines : ℕ) (old now : Site) : Type 0 where
-  pub takes : List Take
-  pub are : now.input.takes ≡ old.input.takes ++ takes
-  pub told : AllByRecursion (IsToldBefore run lines old) takes
+  pub waits : NobodyWaits run old now
+  pub early : AllByRecursion (IsEarly lines old) waits.takes
   pub count : now.input.heard + length now.input.left ≡ old.input.heard + length old.input.left
+
+-- What a run that ends so asks of the devices. Flash is worn only where it asks for more groups than the ring can have,
+-- and no ring number is skipped on the log's device.
+pub record Demands {T : Type 0} (pool : ℕ) (run : Run) (old new : Site) (result : Result T Halt) : Type 0 where
+  pub worn : IsErrOf result (Stop (Worn Flash)) → WearsOut pool run old.image
+  pub room : OnOk result (NeverWears pool run old.image)
+  pub queue : OnOk result (LeavesItsQueue pool run old.image new.image)
+  pub numbers : SkipsNoNumber run old.image new.image
+  pub reads : AsksNoMore pool run old new
 
 -- what comes of a run before its fault line
 pub record Works {T : Type 0} (pool : ℕ) (run : Run) (old new : Site) (result : Result T Halt) : Type 0 where
@@ -71,15 +89,10 @@ pub record Works {T : Type 0} (pool : ℕ) (run : Run) (old new : Site) (result 
   pub ended : Bool
   pub has_heard : HasHeard heard octets ended old new
   pub stops : IfErr result (λ halt. Stops run heard old new halt × StopsTaking halt run heard octets old new)
-  pub begun : HasToldUpTo run heard old new
+  pub begun : HasBegun run heard [] old new
   pub done : OnOk result (HeardAll ended octets × (length (answered_of ended octets) ≡ heard)
-      × LeavesOnly old new (IsAccounted run heard old.told []) × IsDone run heard old new)
-  -- flash is worn only where the lines that were heard ask for more groups than the ring can have
-  pub worn : IsErrOf result (Stop (Worn Flash)) → WearsOut pool run heard old.image
-  pub room : OnOk result (HasGroupsFor pool run old.image heard)
-  pub queue : OnOk result (HasQueueAt pool run heard old.image new.image)
-  -- no ring number is skipped on the log's device
-  pub numbers : SkipsNoneUpTo run heard old.image new.image
-  pub listed : ListsUpTo pool run heard old.image
-  pub reads : AsksNoMore pool run heard old new
+      × LeavesOnly old new (IsLeft (first_lines run heard) old.told []) × IsWhole (first_lines run heard) old new
+      × (new.loose ≡ no_loose))
+  pub demands : Demands pool (first_lines run heard) old new result
+  pub listed : ListsTheMachine pool (first_lines run heard) old.image
   pub answers : AnswersFirst run heard old new

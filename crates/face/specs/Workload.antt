@@ -7,11 +7,11 @@ use Rattle.record_model.specs.declared.words.Reply.{Reply}
 use Rattle.record_model.specs.declared.words.Reply.TheVariants.{Value}
 use Rattle.record_model.specs.State.{State}
 use Rattle.record_model.specs.Step.{makes_checkpoint}
-use Rattle.record_model.specs.Run.{Line, Turn, is_committed, turns}
+use Rattle.record_model.specs.Run.{Line, Turn, is_committed}
 use Rattle.shell_text.specs.Texts.{open_text}
 use Rattle.workload.specs.Generator.{generated, record_of, value_of}
 use Rattle.face.specs.declared.request.Load.{Load}
-use Rattle.face.specs.Run.{Run}
+use Rattle.face.specs.Run.{Run, turns_of}
 
 -- the first numbers that the generator makes of a seed
 abbrev pub numbers_of : ℕ → ℕ → List ℕ
@@ -70,17 +70,13 @@ summary_of count committed checkpoints found =
     codes "load " ++ decimal count ++ codes " committed " ++ decimal committed
     ++ codes " checkpoints " ++ decimal checkpoints ++ codes " found " ++ decimal found ++ codes "\n"
 
--- the turns of a load
-abbrev pub load_turns : Run → List Turn
-load_turns run = turns true run.opening run.lines run.listings
-
 -- what a load tells: the opening's text, and its summary
 abbrev pub opening_text : Run → List ℕ
 opening_text run = open_text run.opening.commits
 
 abbrev pub summary_text : Run → Load → List ℕ
-summary_text run load = summary_of load.count (committed_in (load_turns run)) (checkpoints_in (load_turns run))
-    (found_in (load_turns run))
+summary_text run load = summary_of load.count (committed_in (turns_of run)) (checkpoints_in (turns_of run))
+    (found_in (turns_of run))
 
 abbrev pub load_texts : Run → Load → List (List ℕ)
 load_texts run load = opening_text run ∷ summary_text run load ∷ []

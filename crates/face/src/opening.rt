@@ -14,8 +14,9 @@ ghost use Rattle.engine.specs.Fits.{Fits};
 ghost use Rattle.engine.specs.Going.{MayGoOn, sizes_of};
 ghost use Rattle.engine.specs.Leaves.{HasNoSizes};
 ghost use Rattle.face.specs.Causes.{HasCause, Halts};
-ghost use Rattle.face.specs.Range.{AsksNoMore, WearsOut};
-ghost use Rattle.face.specs.Run.{Run, Begins, Stops, SkipsNoneUpTo};
+ghost use Rattle.face.specs.Range.{AsksNoMore, SkipsNoNumber, WearsOut};
+ghost use Rattle.face.specs.Run.{Run, Begins, first_lines};
+ghost use Rattle.face.specs.Working.{Stops};
 ghost use Rattle.face.specs.Going.{Going, IsPaged, IsCounted};
 
 use crate::halt::Halt;
@@ -41,9 +42,9 @@ pub fn open<S: Site>(alloc: Global, pool: u32, site: &mut S) -> Result<Engine, H
         → IsSound newest run.geometry (S.state site.old).image blocks
         → IfOk result (λ engine. IsPaged pool run newest (S.state site.old).image blocks engine 0) }
     ensures worn { (run : Run) → Begins run (S.state site.old) → IsErrOf result (Halt.Stop (Stop.Worn Dev.Flash))
-        → WearsOut pool run 0 (S.state site.old).image }
+        → WearsOut pool (first_lines run 0) (S.state site.old).image }
     ensures reads { (run : Run) → Begins run (S.state site.old)
-        → AsksNoMore pool run 0 (S.state site.old) (S.state site.new) }
+        → AsksNoMore pool (first_lines run 0) (S.state site.old) (S.state site.new) }
     // No ring number is skipped.
     ensures counted { (run : Run) → Begins run (S.state site.old)
         → (newest : Option Master) (blocks : List (List LogRecord))
@@ -51,7 +52,7 @@ pub fn open<S: Site>(alloc: Global, pool: u32, site: &mut S) -> Result<Engine, H
         → IfOk result (λ engine. IsCounted run (log_under newest blocks) (S.state site.old).image
         (S.state site.new).image engine 0) }
     ensures numbers { (run : Run) → Begins run (S.state site.old)
-        → SkipsNoneUpTo run 0 (S.state site.old).image (S.state site.new).image }
+        → SkipsNoNumber (first_lines run 0) (S.state site.old).image (S.state site.new).image }
     ensures left { IsTrue (S.state site.old).honest → (S.state site.new).input ≡ (S.state site.old).input }
     ensures goes_on { IfOk result (λ engine. MayGoOn engine (S.state site.new)) }
     ensures halts { IfErr result (λ halt. (halt ≢ Halt.Input) × (halt ≢ Halt.Limit)) }

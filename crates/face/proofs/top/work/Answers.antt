@@ -14,8 +14,9 @@ use Rattle.face.proofs.Writings.{engine_queue}
 use Rattle.face.proofs.Pagings.{asked_with, next_paged, next_reads, next_worn, paged_queue, paged_room, few_heard}
 use Rattle.engine.specs.Listings.{listing_of}
 use Rattle.face.specs.Lines.{up_to_quit}
-use Rattle.face.specs.Run.{Run, Begins, AsksFew, state_at, listings_left, listing_at}
-use Rattle.face.specs.Working.{AnswersFirst, ListsUpTo, asked_after}
+use Rattle.face.specs.Range.{ListsTheMachine}
+use Rattle.face.specs.Run.{Run, Begins, AsksFew, first_lines, state_at, listings_left, listing_at}
+use Rattle.face.specs.Working.{AnswersFirst, asked_after}
 use Rattle.face.specs.Texts.{status_of}
 use Rattle.face.proofs.Cuts.{Cut, no_cut, cut_more, cut_stays, line_is, cut_few_octets}
 use Rattle.face.proofs.Ends.{lists_nothing, never_opened, taking_failed, finished, answer_failed, heard_end, line_heard, quitted, taking_cause, answer_takes_nothing, answer_cause}
@@ -176,7 +177,7 @@ loop-line-preserved g c =
                 let hears = line_heard c.in-Ok-next.heard c.in-Line.line _ _ _ _ (c.in-Ok-next.ensures.heard honest cut.ended) c.in-Line.is in
                 let ended = c.in-Ok-next.ensures.ended honest cut.ended in
                 let at = ap (λ (l : List Line). drop i (up_to_quit l)) begins.lines ∙ line_is entry.input.left c.loop-line.source mid i cut c.loop-line.invariant.source c.next.new.self next c.in-Line.line hears ended c.next.ensures.source in
-                subst (λ (n : ℕ). ListsUpTo c.args.pool run n entry.image) (sym (add-one i)) (listed_next c.args.pool entry mid c.loop-line.engine i under_way c.in-Line.line run later begins is _ at (c.loop-line.invariant.paged run begins));
+                subst (λ (n : ℕ). ListsTheMachine c.args.pool (first_lines run n) entry.image) (sym (add-one i)) (listed_next c.args.pool entry mid c.loop-line.engine i under_way c.in-Line.line run later begins is _ at (c.loop-line.invariant.paged run begins));
             answers = λ run later begins listed.
                 let cut = c.loop-line.invariant.cut begins.honest in
                 let so_far = going_before c.args.pool entry mid c.loop-line.engine i under_way c.in-Line.line run later begins listed in

@@ -6,7 +6,7 @@ use Rattle.engine.specs.Image.{IsSound, Stands, log_under}
 use Rattle.engine.specs.Fits.{Fits}
 use Rattle.site.specs.Calls.{Goes}
 use Rattle.face.specs.Going.{IsUnderWay, IsPaged, IsCounted}
-use Rattle.face.specs.Run.{Run, Begins}
+use Rattle.face.specs.Run.{Run, Begins, first_lines}
 use Rattle.face.specs.Range.{AsksNoMore}
 use Rattle.log_records.specs.declared.log_record.LogRecord.{LogRecord}
 use Rattle.engine.specs.Going.{MayGoOn, sizes_of}
@@ -28,6 +28,6 @@ invariant-loop-line g l =
       fits : IsTrue old.honest → (g : Geometry) (table : List Content) (commits : ℕ) → Stands g old.image table commits → ((s : State) × Fits l.engine now s) × (sizes_of l.engine.store ≡ g);
       under_way : IsUnderWay l.pool old now l.engine l._line;
       paged : (run : Run) → Begins run old → (newest : Option Master) (blocks : List (List LogRecord)) → IsSound newest run.geometry old.image blocks → IsPaged l.pool run newest old.image blocks l.engine l._line;
-      reads : (run : Run) → Begins run old → AsksNoMore l.pool run l._line old now;
+      reads : (run : Run) → Begins run old → AsksNoMore l.pool (first_lines run l._line) old now;
       counted : (run : Run) → Begins run old → (newest : Option Master) (blocks : List (List LogRecord)) → IsSound newest run.geometry old.image blocks → IsCounted run (log_under newest blocks) old.image now.image l.engine l._line;
     }

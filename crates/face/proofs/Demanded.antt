@@ -1,0 +1,66 @@
+-- What a run asks of the devices, by how it ends.
+use Rattle.std.proofs.Common.{◌≡◌, ◌⊎◌, inl, inr, ⊎_elim, ℕ, ◌≤◌, List, length, ◌∙◌, ap, arith}
+use Rattle.std.specs.Prelude.{Ok, Err, IsErrOf}
+use Rattle.site.specs.declared.outside.Dev.TheVariants.{Flash}
+use Rattle.site.specs.declared.outside.Stop.TheVariants.{Worn}
+use Rattle.site.specs.State.{State as Site, Image}
+use Rattle.site.specs.Calls.{SameReads}
+use Rattle.site.specs.Moments.{EachMoment}
+use Rattle.site.specs.Telling.{TellsPart}
+use Rattle.engine.specs.Paging.{cache_on}
+use Rattle.redo_undo.specs.Holding.{IsLogWorn}
+use Rattle.face.specs.declared.halt.Halt.{Halt}
+use Rattle.face.specs.declared.halt.Halt.TheVariants as halt
+use Rattle.face.specs.Headline.{Resources}
+use Rattle.face.specs.Range.{AsksNoMore, LeavesItsQueue, NeverWears, SkipsNoNumber, WearsOut}
+use Rattle.face.specs.Run.{Run, answered, first_lines}
+use Rattle.face.specs.Working.{Demands}
+use Rattle.face.proofs.Counted.{skips_still}
+use Rattle.face.proofs.Pagings.{few_told, leaves_its_queue, never_wears}
+
+no_error : {T : Type 0} (x : T) (h : Halt) → IsErrOf {T = T} (Ok x) h → ⊥
+no_error x h is = cc
+
+same_halt : {T : Type 0} (h is : Halt) → IsErrOf {T = T} (Err h) is → h ≡ is
+same_halt h is same = cc
+
+module _ (pool : ℕ) (run : Run) (old new : Site) where
+  pub demands_ok : {T : Type 0} (x : T) → NeverWears pool run old.image → LeavesItsQueue pool run old.image new.image → SkipsNoNumber run old.image new.image → AsksNoMore pool run old new → Demands pool run old new (Ok x)
+  demands_ok x room queue numbers reads = record { worn = λ is. absurd (no_error x (halt.Stop (Worn Flash)) is); room = room; queue = queue; numbers = numbers; reads = reads }
+
+  pub demands_err : {T : Type 0} (h : Halt) → (h ≡ halt.Stop (Worn Flash) → WearsOut pool run old.image) → SkipsNoNumber run old.image new.image → AsksNoMore pool run old new → Demands {T = T} pool run old new (Err h)
+  demands_err {T} h worn numbers reads = record { worn = λ is. worn (same_halt {T = T} h (halt.Stop (Worn Flash)) is); room = tt; queue = tt; numbers = numbers; reads = reads }
+
+-- where something more is told
+module _ (pool : ℕ) (run : Run) (old mid new : Site) (image : new.image ≡ mid.image) (reads : SameReads mid new) {piece : List ℕ} (tells : EachMoment mid new (TellsPart piece mid)) where
+  still_reads : AsksNoMore pool run old mid → AsksNoMore pool run old new
+  still_reads few newest blocks sound = few_told _ _ _ _ old mid new reads tells (few newest blocks sound)
+
+  pub demands_done : {T U : Type 0} (x : T) (y : U) → Demands pool run old mid (Ok x) → Demands pool run old new (Ok y)
+  demands_done x y d = demands_ok pool run old new y d.room (λ newest blocks sound. ap (λ (i : Image). cache_on run.geometry i) image ∙ d.queue newest blocks sound) (skips_still run old.image mid.image new.image image d.numbers) (still_reads d.reads)
+
+  pub demands_lost : {T U : Type 0} (x : T) → Demands pool run old mid (Ok x) → Demands {T = U} pool run old new (Err halt.Output)
+  demands_lost x d = demands_err pool run old new halt.Output (λ e. cc) (skips_still run old.image mid.image new.image image d.numbers) (still_reads d.reads)
+
+  pub demands_failed : {T : Type 0} (h : Halt) → Demands {T = T} pool run old mid (Err h) → Demands {T = T} pool run old new (Err h)
+  demands_failed h d = demands_err pool run old new h (λ e. d.worn (ap Err e)) (skips_still run old.image mid.image new.image image d.numbers) (still_reads d.reads)
+
+-- by the status, of a run of which so many lines were begun
+module _ (pool : ℕ) (run : Run) (n : ℕ) (old new : Site) where
+  pub asked_done : {T : Type 0} (x : T) → length (answered run) ≤ n → Demands pool (first_lines run n) old new (Ok x) → Resources pool run n old new 0
+  asked_done x all d = record {
+    worn = λ eight. absurd (omega (arith, eight));
+    room = λ zero. never_wears pool run n all old.image d.room;
+    frames = λ zero. leaves_its_queue pool run n all old.image new.image d.queue;
+    numbers = d.numbers;
+    reads = d.reads;
+  }
+
+  pub asked_halted : {T : Type 0} (h : Halt) (status : ℕ) → (status ≡ 0 → ⊥) → (status ≡ 8 → IsErrOf {T = T} (Err h) (halt.Stop (Worn Flash)) ⊎ IsLogWorn run.geometry new.image) → Demands {T = T} pool (first_lines run n) old new (Err h) → Resources pool run n old new status
+  asked_halted h status some worn d = record {
+    worn = λ eight. ⊎_elim (λ flash. inl (d.worn flash)) (λ log. inr log) (worn eight);
+    room = λ zero. absurd (some zero);
+    frames = λ zero. absurd (some zero);
+    numbers = d.numbers;
+    reads = d.reads;
+  }
