@@ -1,5 +1,5 @@
 -- What a run asks of the devices, by how it ends.
-use Rattle.std.proofs.Common.{◌≡◌, ◌⊎◌, inl, inr, ⊎_elim, ℕ, ◌≤◌, List, length, ◌∙◌, ap, arith}
+use Rattle.std.proofs.Common.{◌≡◌, ◌⊎◌, inl, inr, ⊎_elim, ℕ, ◌≤◌, List, length, sym, ◌∙◌, ap, subst, arith}
 use Rattle.std.specs.Prelude.{Ok, Err, IsErrOf}
 use Rattle.site.specs.declared.outside.Dev.TheVariants.{Flash}
 use Rattle.site.specs.declared.outside.Stop.TheVariants.{Worn}
@@ -7,16 +7,18 @@ use Rattle.site.specs.State.{State as Site, Image}
 use Rattle.site.specs.Calls.{SameReads}
 use Rattle.site.specs.Moments.{EachMoment}
 use Rattle.site.specs.Telling.{TellsPart}
+use Rattle.record_model.specs.Run.{left_by}
 use Rattle.engine.specs.Paging.{cache_on}
+use Rattle.engine.specs.SeenVersions.{VersionsAreSeen}
 use Rattle.redo_undo.specs.Holding.{IsLogWorn}
 use Rattle.face.specs.declared.halt.Halt.{Halt}
 use Rattle.face.specs.declared.halt.Halt.TheVariants as halt
 use Rattle.face.specs.Headline.{Resources}
-use Rattle.face.specs.Range.{AsksNoMore, LeavesItsQueue, NeverWears, SkipsNoNumber, WearsOut}
-use Rattle.face.specs.Run.{Run, answered, first_lines}
+use Rattle.face.specs.Range.{AsksNoMore, LeavesItsQueue, LeavesVersions, NeverWears, SkipsNoNumber, WearsOut, cache_by}
+use Rattle.face.specs.Run.{Run, answered, first_lines, turns_of}
 use Rattle.face.specs.Working.{Demands}
 use Rattle.face.proofs.Counted.{skips_still}
-use Rattle.face.proofs.Pagings.{few_told, leaves_its_queue, never_wears}
+use Rattle.face.proofs.Pagings.{few_told, leaves_its_queue, leaves_versions, never_wears}
 
 no_error : {T : Type 0} (x : T) (h : Halt) → IsErrOf {T = T} (Ok x) h → ⊥
 no_error x h is = cc
@@ -25,11 +27,12 @@ same_halt : {T : Type 0} (h is : Halt) → IsErrOf {T = T} (Err h) is → h ≡ 
 same_halt h is same = cc
 
 module _ (pool : ℕ) (run : Run) (old new : Site) where
-  pub demands_ok : {T : Type 0} (x : T) → NeverWears pool run old.image → LeavesItsQueue pool run old.image new.image → SkipsNoNumber run old.image new.image → AsksNoMore pool run old new → Demands pool run old new (Ok x)
-  demands_ok x room queue numbers reads = record { worn = λ is. absurd (no_error x (halt.Stop (Worn Flash)) is); room = room; queue = queue; numbers = numbers; reads = reads }
+  pub demands_ok : {T : Type 0} (x : T) → NeverWears pool run old.image → LeavesItsQueue pool run old.image new.image → LeavesVersions pool run old.image new.image → SkipsNoNumber run old.image new.image → AsksNoMore pool run old new →
+      Demands pool run old new (Ok x)
+  demands_ok x room queue versions numbers reads = record { worn = λ is. absurd (no_error x (halt.Stop (Worn Flash)) is); room = room; queue = queue; versions = versions; numbers = numbers; reads = reads }
 
   pub demands_err : {T : Type 0} (h : Halt) → (h ≡ halt.Stop (Worn Flash) → WearsOut pool run old.image) → SkipsNoNumber run old.image new.image → AsksNoMore pool run old new → Demands {T = T} pool run old new (Err h)
-  demands_err {T} h worn numbers reads = record { worn = λ is. worn (same_halt {T = T} h (halt.Stop (Worn Flash)) is); room = tt; queue = tt; numbers = numbers; reads = reads }
+  demands_err {T} h worn numbers reads = record { worn = λ is. worn (same_halt {T = T} h (halt.Stop (Worn Flash)) is); room = tt; queue = tt; versions = tt; numbers = numbers; reads = reads }
 
 -- where something more is told
 module _ (pool : ℕ) (run : Run) (old mid new : Site) (image : new.image ≡ mid.image) (reads : SameReads mid new) {piece : List ℕ} (tells : EachMoment mid new (TellsPart piece mid)) where
@@ -37,7 +40,9 @@ module _ (pool : ℕ) (run : Run) (old mid new : Site) (image : new.image ≡ mi
   still_reads few newest blocks sound = few_told _ _ _ _ old mid new reads tells (few newest blocks sound)
 
   pub demands_done : {T U : Type 0} (x : T) (y : U) → Demands pool run old mid (Ok x) → Demands pool run old new (Ok y)
-  demands_done x y d = demands_ok pool run old new y d.room (λ newest blocks sound. ap (λ (i : Image). cache_on run.geometry i) image ∙ d.queue newest blocks sound) (skips_still run old.image mid.image new.image image d.numbers) (still_reads d.reads)
+  demands_done x y d = demands_ok pool run old new y d.room (λ newest blocks sound. ap (λ (i : Image). cache_on run.geometry i) image ∙ d.queue newest blocks sound)
+      (λ newest blocks sound. subst (λ (i : Image). VersionsAreSeen run.geometry (cache_by pool run (turns_of run) newest old.image blocks).pool i (left_by run.opening (turns_of run))) (sym image) (d.versions newest blocks sound))
+      (skips_still run old.image mid.image new.image image d.numbers) (still_reads d.reads)
 
   pub demands_lost : {T U : Type 0} (x : T) → Demands pool run old mid (Ok x) → Demands {T = U} pool run old new (Err halt.Output)
   demands_lost x d = demands_err pool run old new halt.Output (λ e. cc) (skips_still run old.image mid.image new.image image d.numbers) (still_reads d.reads)
@@ -52,6 +57,7 @@ module _ (pool : ℕ) (run : Run) (n : ℕ) (old new : Site) where
     worn = λ eight. absurd (omega (arith, eight));
     room = λ zero. never_wears pool run n all old.image d.room;
     frames = λ zero. leaves_its_queue pool run n all old.image new.image d.queue;
+    versions = λ zero. leaves_versions pool run n all old.image new.image d.versions;
     numbers = d.numbers;
     reads = d.reads;
   }
@@ -61,6 +67,7 @@ module _ (pool : ℕ) (run : Run) (n : ℕ) (old new : Site) where
     worn = λ eight. ⊎_elim (λ flash. inl (d.worn flash)) (λ log. inr log) (worn eight);
     room = λ zero. absurd (some zero);
     frames = λ zero. absurd (some zero);
+    versions = λ zero. absurd (some zero);
     numbers = d.numbers;
     reads = d.reads;
   }

@@ -23,7 +23,7 @@ use Rattle.engine.specs.declared.engine.Engine.{Engine}
 use Rattle.face.specs.Causes.{HasCause, AnswerFailsBy}
 use Rattle.face.specs.Lines.{HasEnded, to_hear, total, IsSource, HearsLine, Hears, IsCutOff}
 use Rattle.site.specs.declared.outside.Dev.TheVariants.{Log, Flash, Disk}
-use Rattle.face.specs.Range.{AsksNoMore, HasBegun, IsLeft, LeavesItsQueue, ListsTheMachine, NeverWears, SkipsNoNumber, WearsOut}
+use Rattle.face.specs.Range.{AsksNoMore, HasBegun, IsLeft, LeavesItsQueue, LeavesVersions, ListsTheMachine, NeverWears, SkipsNoNumber, WearsOut}
 use Rattle.face.specs.Run.{Run, first_lines}
 use Rattle.face.specs.Working.{AnswersFirst, HasHeard, Stops, StopsTaking, Works}
 use Rattle.face.specs.Going.{Going}
@@ -105,8 +105,9 @@ module _ (pool : ℕ) (run : Run) (old mid new : Site) (engine : Engine) (source
       }
 
   -- there are no more lines
-  pub finished : {T : Type 0} (x : T) → to_hear source mid ≡ [] → new.input.left ≡ [] → NeverWears pool (first_lines run i) old.image → LeavesItsQueue pool (first_lines run i) old.image new.image → SkipsNoNumber (first_lines run i) old.image new.image → Works pool run old new (Ok x)
-  finished x none left room queue numbers =
+  pub finished : {T : Type 0} (x : T) → to_hear source mid ≡ [] → new.input.left ≡ [] → NeverWears pool (first_lines run i) old.image → LeavesItsQueue pool (first_lines run i) old.image new.image → LeavesVersions pool (first_lines run i) old.image new.image → SkipsNoNumber (first_lines run i) old.image new.image →
+      Works pool run old new (Ok x)
+  finished x none left room queue versions numbers =
       let f = has_heard_all old.input.left source mid i cut is_source old new refl none left in
       record {
         heard = i;
@@ -116,7 +117,7 @@ module _ (pool : ℕ) (run : Run) (old mid new : Site) (engine : Engine) (source
         stops = tt;
         begun = begun_before run old new engine i going;
         done = (inl refl, f.1, going.moments, ended run old new engine i going, going.quiet);
-        demands = demands_ok pool (first_lines run i) old new x room queue numbers reads;
+        demands = demands_ok pool (first_lines run i) old new x room queue versions numbers reads;
         listed = listed;
         answers = answers;
       }
@@ -142,8 +143,9 @@ module _ (pool : ℕ) (run : Run) (old mid next new : Site) (source source' : So
   }
 
   -- a quit was answered
-  pub quitted : {T : Type 0} (x : T) (engine : Engine) → is_quit line ≡ true → Going run old new engine (suc i) → NeverWears pool (first_lines run (suc i)) old.image → LeavesItsQueue pool (first_lines run (suc i)) old.image new.image → SkipsNoNumber (first_lines run (suc i)) old.image new.image → Works pool run old new (Ok x)
-  quitted x engine quits going room queue numbers =
+  pub quitted : {T : Type 0} (x : T) (engine : Engine) → is_quit line ≡ true → Going run old new engine (suc i) → NeverWears pool (first_lines run (suc i)) old.image → LeavesItsQueue pool (first_lines run (suc i)) old.image new.image → LeavesVersions pool (first_lines run (suc i)) old.image new.image → SkipsNoNumber (first_lines run (suc i)) old.image new.image →
+      Works pool run old new (Ok x)
+  quitted x engine quits going room queue versions numbers =
       let all = quit_is_last old.input.left source mid i cut is_source source' next line h last is' quits in
       record {
         heard = suc i;
@@ -153,7 +155,7 @@ module _ (pool : ℕ) (run : Run) (old mid next new : Site) (source source' : So
         stops = tt;
         begun = begun_before run old new engine (suc i) going;
         done = (inr all.1, all.0, going.moments, ended run old new engine (suc i) going, going.quiet);
-        demands = demands_ok pool (first_lines run (suc i)) old new x room queue numbers reads;
+        demands = demands_ok pool (first_lines run (suc i)) old new x room queue versions numbers reads;
         listed = listed;
         answers = answers;
       }

@@ -6,7 +6,7 @@ use Rattle.std.proofs.lemmas.Bool.{or_right}
 use Rattle.std.proofs.lemmas.List.{append-nil, take-map, take_all}
 use Rattle.site.specs.State.{State as Site}
 use Rattle.site.specs.declared.outside.Take.{Take}
-use Rattle.record_model.specs.Run.{Line, Turn, is_quit, replies}
+use Rattle.record_model.specs.Run.{Line, Turn, is_quit, left_by, replies}
 use Rattle.shell_text.specs.Runs.{lines_of, in_front}
 use Rattle.shell_text.specs.Reading.{line_of}
 use Rattle.shell_text.specs.Texts.{open_text, reply_text}
@@ -15,7 +15,7 @@ use Rattle.face.specs.Range.{HasBegun, first_texts, text_at, texts}
 use Rattle.face.specs.Run.{Run, answered, after_lines, first_lines, state_at, turns_of}
 use Rattle.face.specs.Waiting.{IsAnswered, NobodyWaits}
 use Rattle.face.specs.Working.{AnswersFirst, IsEarly}
-use Rattle.face.proofs.Turns.{first_answered, first_turns, turns_count}
+use Rattle.face.proofs.Turns.{first_answered, first_turns, left_are, turns_count}
 
 pub take_within : {X : Type 0} (w n : ℕ) (xs : List X) → w ≤ n → take w (take n xs) ≡ take w xs
 take_within zero n xs le = refl
@@ -50,6 +50,10 @@ module _ (run : Run) (n : ℕ) where
 
   pub state_first : (w : ℕ) → w ≤ n → state_at (first_lines run n) w ≡ state_at run w
   state_first w le = ap (λ (l : List Line). after_lines run.opening l run.listings) (ap (take w) lines_first ∙ take_within w n (answered run) le)
+
+  -- the state after them, by their turns
+  pub state_by_turns : state_at run n ≡ left_by run.opening (turns_of (first_lines run n))
+  state_by_turns = sym (left_are run.opening (take n run.lines) run.listings ∙ ap (λ (l : List Line). after_lines run.opening l run.listings) lines_first)
 
   -- where these are all of its lines its turns are theirs
   pub whole_turns : length (answered run) ≤ n → turns_of (first_lines run n) ≡ turns_of run

@@ -11,7 +11,7 @@ use Rattle.site.specs.State.{State as Site, Image, Snapshot, MayLeave, now_of}
 use Rattle.site.specs.Moments.{Leaves, LeavesOnly}
 use Rattle.site.specs.Laws.{holds_now, in_sequence, leaves_weaker}
 use Rattle.record_model.specs.State.{State}
-use Rattle.record_model.specs.Run.{Line, commit_marks, commits_among}
+use Rattle.record_model.specs.Run.{Line, commit_marks, commits_among, left_by}
 use Rattle.record_model.specs.Touches.{CacheWork}
 use Rattle.checkpoint.specs.declared.master.Master.{Master}
 use Rattle.log_records.specs.declared.log_record.LogRecord.{LogRecord}
@@ -25,6 +25,7 @@ use Rattle.engine.specs.declared.engine.Engine.{Engine}
 use Rattle.engine.specs.Going.{MayGoOn, sizes_of}
 use Rattle.engine.specs.Image.{IsSound, log_under}
 use Rattle.engine.specs.Listings.{QueueIsOnFlash}
+use Rattle.engine.specs.SeenVersions.{VersionsAreSeen, WhereItFits}
 use Rattle.engine.specs.Numbers.{CountsOn}
 use Rattle.engine.specs.Paging.{cache_on, restart_works}
 use Rattle.face.specs.declared.halt.Halt.{Halt}
@@ -40,7 +41,7 @@ use Rattle.face.specs.Workload.{get_line, load_run, numbers_of, opening_text, se
 use Rattle.face.proofs.Counted.{skips_course}
 use Rattle.face.proofs.Logs.{fits_stands}
 use Rattle.face.proofs.Courses.{carries_all, leaves_first}
-use Rattle.face.proofs.Fronts.{take_within}
+use Rattle.face.proofs.Fronts.{state_by_turns, take_within}
 use Rattle.face.proofs.Lefts.{left_first, left_none, none_among}
 use Rattle.face.proofs.Demanded.{demands_err, demands_ok}
 use Rattle.face.proofs.Pagings.{first_ask}
@@ -266,8 +267,8 @@ module _ (g : Geometry) (opening : State) (load : Load) where
         left = left_new (Err h) some;
       }
 
-      pub load_finished : {T : Type 0} → QueueIsOnFlash → (x : T) → CarriesOut (Ok x) run.lines before after mid new → LoadWorks {T = T} load.pool run [] old new (Ok x)
-      load_finished {T} law x course =
+      pub load_finished : {T : Type 0} → QueueIsOnFlash → WhereItFits → (x : T) → CarriesOut (Ok x) run.lines before after mid new → LoadWorks {T = T} load.pool run [] old new (Ok x)
+      load_finished {T} law seen x course =
           let some = carries_all x run.lines before after mid new course in
           record {
             stops = tt;
@@ -290,6 +291,14 @@ module _ (g : Geometry) (opening : State) (load : Load) where
                 (λ newest blocks sound.
                 ap (λ (y : Geometry). cache_on y new.image) (sym (course.sizes ∙ going.geometry)) ∙ law after new (after_lines opening run.lines []) (course.fits opening going.fits)
                 ∙ ap (λ (c : Cache). opened c.queue) ((some.course.serves opening going.fits).machine ∙ next_is (Ok x) some newest blocks sound))
+                (λ newest blocks sound.
+                let cache : Cache = cache_by load.pool (first_lines run some.begun) (turns_of (first_lines run some.begun)) newest old.image blocks in
+                let all : take some.begun (answered run) ≡ run.lines = take_all some.begun (answered run) (let same = ap length all_lines in omega (arith, same)) ∙ all_lines in
+                let left : after_lines opening run.lines [] ≡ left_by opening (turns_of (first_lines run some.begun)) = ap (λ (l : List Line). after_lines opening l []) (sym all) ∙ state_by_turns run some.begun in
+                subst (VersionsAreSeen run.geometry cache.pool new.image) left
+                (subst (λ (y : Geometry). VersionsAreSeen y cache.pool new.image (after_lines opening run.lines [])) (course.sizes ∙ going.geometry)
+                (subst (λ (c : Cache). VersionsAreSeen (sizes_of after.store) c.pool new.image (after_lines opening run.lines [])) ((some.course.serves opening going.fits).machine ∙ next_is (Ok x) some newest blocks sound)
+                (seen after new (after_lines opening run.lines []) (course.fits opening going.fits)))))
                 (numbers_are (Ok x) some) (reads_are (Ok x) some);
             left = left_new (Ok x) some;
           }

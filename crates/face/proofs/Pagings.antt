@@ -9,7 +9,7 @@ use Rattle.site.specs.declared.outside.Stop.{Stop}
 use Rattle.site.specs.declared.outside.Stop.TheVariants.{Worn, Memory}
 use Rattle.site.specs.State.{State as Site, Image}
 use Rattle.record_model.specs.State.{State}
-use Rattle.record_model.specs.Run.{Line, Turn, is_quit, turns, next_listing, later_listings}
+use Rattle.record_model.specs.Run.{Line, Turn, is_quit, left_by, turns, next_listing, later_listings}
 use Rattle.record_model.specs.Step.{Outcome, refusal, outcome, ready, effect, answer, full, lacks_room}
 use Rattle.record_model.specs.declared.words.CacheLine.{CacheLine}
 use Rattle.record_model.specs.declared.words.Reply.{Reply}
@@ -34,17 +34,18 @@ use Rattle.engine.specs.declared.engine.Engine.{Engine}
 use Rattle.engine.specs.Fits.{Fits}
 use Rattle.engine.specs.Going.{MayGoOn, sizes_of}
 use Rattle.engine.specs.Listings.{QueueIsOnFlash}
+use Rattle.engine.specs.SeenVersions.{VersionsAreSeen, WhereItFits}
 use Rattle.engine.specs.Image.{IsSound}
 use Rattle.engine.specs.Paging.{WritesFrom, AsksFrom, restart_works, cache_on}
 use Rattle.face.specs.declared.halt.Halt.TheVariants as halt
 use Rattle.face.specs.Lines.{commands_of, up_to_quit}
-use Rattle.face.proofs.Fronts.{first_commands, turns_first, whole_turns}
+use Rattle.face.proofs.Fronts.{first_commands, state_by_turns, turns_first, whole_turns}
 use Rattle.face.proofs.Runs.{turn_at, turns_next}
 use Rattle.face.proofs.Stated.{works_join}
 use Rattle.face.proofs.Turns.{first_answered}
 use Rattle.site.specs.declared.geometry.Geometry.{Geometry}
 use Rattle.face.specs.Going.{IsPaged, Serves}
-use Rattle.face.specs.Range.{run_of, works_by, cache_by, LeavesItsQueue, WearsOut, NeverWears}
+use Rattle.face.specs.Range.{run_of, works_by, cache_by, LeavesItsQueue, LeavesVersions, WearsOut, NeverWears}
 use Rattle.face.specs.Run.{Run, answered, first_lines, step, after_lines, state_at, works_of, AsksFew, turns_of}
 use Rattle.face.specs.Working.{asked_after}
 
@@ -231,6 +232,14 @@ module _ (pool : ℕ) (run : Run) (newest : Option Master) (image : Image) (bloc
   paged_queue law engine site s i fits sizes paged =
       ap (λ (g : Geometry). cache_on g site.image) (sym sizes) ∙ law engine site s fits ∙ ap (λ (c : Cache). opened c.queue) paged.machine
 
+  -- and the versions show what is seen
+  pub paged_versions : WhereItFits → (engine : Engine) (site : Site) (i : ℕ) → Fits engine site (state_at run i) → sizes_of engine.store ≡ run.geometry → IsPaged pool run newest image blocks engine i →
+      VersionsAreSeen run.geometry (after_works r (asked_after run newest image blocks i) (cache_on run.geometry image)).pool site.image (left_by run.opening (turns_of (first_lines run i)))
+  paged_versions law engine site i fits sizes paged =
+      subst (VersionsAreSeen run.geometry (after_works r (asked_after run newest image blocks i) (cache_on run.geometry image)).pool site.image) (state_by_turns run i)
+      (subst (λ (g : Geometry). VersionsAreSeen g (after_works r (asked_after run newest image blocks i) (cache_on run.geometry image)).pool site.image (state_at run i)) sizes
+      (subst (λ (c : Cache). VersionsAreSeen (sizes_of engine.store) c.pool site.image (state_at run i)) paged.machine (law engine site (state_at run i) fits)))
+
 -- a line that asks for nothing
 pub idle_asks : {T : Type 0} (x : T) (pages : PageStore) (now : Site) → Asks {T = T} (Ok x) [] pages pages now now
 idle_asks {T} x pages now = record { machine = refl; worn = λ is. absurd (no_error is); reads = record { flash = omega arith; disk = omega arith }; rules_are = refl; stages = stages_none (omega arith) refl }
@@ -299,6 +308,10 @@ taken_first false left octets rest is none =
 module _ (pool : ℕ) (run : Run) (n : ℕ) (few : length (answered run) ≤ n) (image : Image) where
   pub leaves_its_queue : (now : Image) → LeavesItsQueue pool (first_lines run n) image now → LeavesItsQueue pool run image now
   leaves_its_queue now queue newest blocks sound = queue newest blocks sound ∙ ap (λ (l : List Turn). opened (cache_by pool run l newest image blocks).queue) (whole_turns run n few)
+
+  pub leaves_versions : (now : Image) → LeavesVersions pool (first_lines run n) image now → LeavesVersions pool run image now
+  leaves_versions now seen newest blocks sound =
+      subst (λ (l : List Turn). VersionsAreSeen run.geometry (cache_by pool run l newest image blocks).pool now (left_by run.opening l)) (whole_turns run n few) (seen newest blocks sound)
 
   pub never_wears : NeverWears pool (first_lines run n) image → NeverWears pool run image
   never_wears room newest blocks sound = subst (λ (l : List Turn). next_group (cache_by pool run l newest image blocks) ≤ 2 ^ 40) (whole_turns run n few) (room newest blocks sound)

@@ -19,7 +19,7 @@ use Rattle.face.specs.Lines.{HeardAll, limit, commands_of}
 use Rattle.face.specs.Run.{Run, IsFront, first_lines, turns_of}
 use Rattle.face.specs.Range.{run_of, texts, run_text, IsLeft, IsWhole, WearsOut, NeverWears}
 use Rattle.face.specs.Waiting.{NobodyWaits}
-use Rattle.face.specs.Range.{LeavesItsQueue, SkipsNoNumber, AsksNoMore, ListsTheMachine, HasBegun}
+use Rattle.face.specs.Range.{LeavesItsQueue, LeavesVersions, SkipsNoNumber, AsksNoMore, ListsTheMachine, HasBegun}
 
 -- an honest and quiet site, whose image is sound, and over which a run opens with this state
 pub record IsGood (g : Geometry) (opening : State) (site : Site) : Type 0 where
@@ -99,6 +99,8 @@ pub record Resources (pool : ℕ) (run : Run) (begun : ℕ) (old new : Site) (st
   pub room : status ≡ 0 → NeverWears pool run old.image
   -- with 0 the frames on flash are those that the cache machine has in its queue
   pub frames : status ≡ 0 → LeavesItsQueue pool run old.image new.image
+  -- and the versions of pages that its pool doesn't hold as changed show what is seen of each record
+  pub versions : status ≡ 0 → LeavesVersions pool run old.image new.image
   -- whatever the status, with these lines no ring number is skipped on the log's device
   pub numbers : SkipsNoNumber (first_lines run begun) old.image new.image
   -- no more is read and written than they ask for

@@ -15,6 +15,7 @@ use Rattle.second_chance.specs.Machine.{Cache, rules_of, after_works, listing, o
 use Rattle.redo_undo.specs.Works.{next_group}
 use Rattle.engine.specs.Paging.{restart_works, cache_on}
 use Rattle.engine.specs.Image.{IsSound, Stands, log_under}
+use Rattle.engine.specs.SeenVersions.{VersionsAreSeen}
 use Rattle.sealed_ring.specs.Ring.{hi_of}
 use Rattle.image_changes.specs.Rings.{log_shape, master_shape}
 use Rattle.log_records.specs.Log.{Entry}
@@ -130,6 +131,14 @@ abbrev pub LeavesItsQueue : ℕ → Run → Image → Image → Type 0
 LeavesItsQueue pool run old now = (newest : Option Master) (blocks : List (List LogRecord)) →
     IsSound newest run.geometry old blocks → cache_on run.geometry now
     ≡ opened (cache_by pool run (turns_of run) newest old blocks).queue
+
+-- and of each record whose page the machine's pool doesn't hold as changed the slot of that page's version has what is
+-- seen of it: by the session that has written it, or in the table where none has
+abbrev pub LeavesVersions : ℕ → Run → Image → Image → Type 0
+LeavesVersions pool run old now = (newest : Option Master) (blocks : List (List LogRecord)) →
+    IsSound newest run.geometry old blocks →
+    VersionsAreSeen run.geometry (cache_by pool run (turns_of run) newest old blocks).pool now
+    (left_by run.opening (turns_of run))
 
 -- each line that asks for the listing of the cache is replied what the cache machine lists after the restart's work and
 -- that of the lines before it

@@ -14,8 +14,8 @@ use Rattle.checkpoint.specs.declared.master.Master.{Master}
 use Rattle.face.specs.declared.halt.Halt.{Halt}
 use Rattle.face.specs.declared.halt.Halt.TheVariants.{Stop, Output, Input, Limit}
 use Rattle.face.specs.Lines.{HeardAll, answered_of, commands_of, limit}
-use Rattle.face.specs.Range.{AsksNoMore, HasBegun, IsLeft, IsWhole, LeavesItsQueue, ListsTheMachine, NeverWears, SkipsNoNumber}
-use Rattle.face.specs.Range.{StandsAfter, WearsOut, first_texts, texts, works_by}
+use Rattle.face.specs.Range.{AsksNoMore, HasBegun, IsLeft, IsWhole, LeavesItsQueue, LeavesVersions, ListsTheMachine}
+use Rattle.face.specs.Range.{NeverWears, SkipsNoNumber, StandsAfter, WearsOut, first_texts, texts, works_by}
 use Rattle.face.specs.Run.{Run, first_lines, turns_of}
 use Rattle.face.specs.Texts.{status_of}
 use Rattle.face.specs.Waiting.{NobodyWaits}
@@ -79,6 +79,7 @@ pub record Demands {T : Type 0} (pool : ℕ) (run : Run) (old new : Site) (resul
   pub worn : IsErrOf result (Stop (Worn Flash)) → WearsOut pool run old.image
   pub room : OnOk result (NeverWears pool run old.image)
   pub queue : OnOk result (LeavesItsQueue pool run old.image new.image)
+  pub versions : OnOk result (LeavesVersions pool run old.image new.image)
   pub numbers : SkipsNoNumber run old.image new.image
   pub reads : AsksNoMore pool run old new
 

@@ -26,7 +26,7 @@ use crate::fault_lines::tell_halt;
 use crate::halt::Halt;
 use crate::opening::open;
 use crate::request::Load;
-use engine::{Engine, queue_is_on_flash, rest_counts_nothing};
+use engine::{Engine, queue_is_on_flash, rest_counts_nothing, versions_are_seen};
 use record_model::{Command, Reply};
 use redo_undo::works_add_up;
 use shell_text::Line;
@@ -203,6 +203,7 @@ fn work<S: Site>(alloc: Global, load: &Load, site: &mut S) -> Result<Counts, Hal
 {
     works_add_up();
     queue_is_on_flash();
+    versions_are_seen();
     let mut engine = match open(alloc, load.pool, site) {
         Ok(engine) => engine,
         Err(halt) => return Err(halt),

@@ -31,7 +31,7 @@ use crate::opening::open;
 use crate::request::{Request, TrialSizes, Unread, read_words};
 use crate::source::{Heard, Source};
 use crate::trial::trial;
-use engine::queue_is_on_flash;
+use engine::{queue_is_on_flash, versions_are_seen};
 use record_model::{Command, serial_order};
 use redo_undo::works_add_up;
 use site::{MemSite, Site};
@@ -61,6 +61,7 @@ fn work<S: Site>(alloc: Global, pool: u32, site: &mut S) -> Result<(), Halt>
 {
     works_add_up();
     queue_is_on_flash();
+    versions_are_seen();
     let mut engine = match open(alloc, pool, site) {
         Ok(engine) => engine,
         Err(halt) => return Err(halt),

@@ -11,7 +11,7 @@ use Rattle.second_chance.specs.Machine.{after_works, rules_of}
 use Rattle.engine.specs.Paging.{cache_on}
 use Rattle.face.proofs.Counted.{counted_on, counts_next, counts_still, next_counted}
 use Rattle.face.proofs.Writings.{engine_queue}
-use Rattle.face.proofs.Pagings.{asked_with, next_paged, next_reads, next_worn, paged_queue, paged_room, few_heard}
+use Rattle.face.proofs.Pagings.{asked_with, next_paged, next_reads, next_worn, paged_queue, paged_room, paged_versions, few_heard}
 use Rattle.engine.specs.Listings.{listing_of}
 use Rattle.face.specs.Lines.{up_to_quit}
 use Rattle.face.specs.Range.{ListsTheMachine}
@@ -89,6 +89,7 @@ returns-in-End-clause-works g c =
           (answers_next run entry mid next c.loop-line.source c.loop-line._line c.loop-line._line cut c.loop-line.invariant.source so_far.told (omega arith) (under_way.answers run [] begins (same ∙ sym (append-nil under_way.listings))) (c.next.ensures.takes honest cut.ended)) _ end.0 (c.in-Ok-next.ensures.ended honest cut.ended end.1)
           (λ newest blocks sound. paged_room c.args.pool run newest entry.image blocks c.loop-line.engine mid c.loop-line._line (c.loop-line.invariant.paged run begins newest blocks sound) c.loop-line.invariant.engine)
           (λ newest blocks sound. paged_queue c.args.pool run newest entry.image blocks c.queue_is_on_flash.ensures c.loop-line.engine next (state_at run c.loop-line._line) c.loop-line._line going.fits going.geometry (c.loop-line.invariant.paged run begins newest blocks sound))
+          (λ newest blocks sound. paged_versions c.args.pool run newest entry.image blocks c.versions_are_seen.ensures c.loop-line.engine next c.loop-line._line going.fits going.geometry (c.loop-line.invariant.paged run begins newest blocks sound))
           (λ newest blocks sound. counts_still run (log_under newest blocks) entry mid next c.loop-line._line (c.next.ensures.same honest).image (c.loop-line.invariant.counted run begins newest blocks sound).numbers),
     )
 
@@ -264,6 +265,8 @@ returns-then-last-clause-works g c =
           (λ newest blocks sound. paged_room c.args.pool run newest entry.image blocks c.answer.new.engine new (suc i)
           (next_paged c.args.pool run newest entry.image blocks c.works_add_up.ensures.works i c.in-Line.line _ is c.loop-line.engine (c.loop-line.invariant.paged run begins newest blocks sound) c.in_default.field-0 c.answer.new.engine next new (c.in_default.ensures.asks (state_at run i) going.fits)) c.in_default.ensures.going)
           (λ newest blocks sound. paged_queue c.args.pool run newest entry.image blocks c.queue_is_on_flash.ensures c.answer.new.engine new (state_at run (suc i)) (suc i) gone.fits gone.geometry
+          (next_paged c.args.pool run newest entry.image blocks c.works_add_up.ensures.works i c.in-Line.line _ is c.loop-line.engine (c.loop-line.invariant.paged run begins newest blocks sound) c.in_default.field-0 c.answer.new.engine next new (c.in_default.ensures.asks (state_at run i) going.fits)))
+          (λ newest blocks sound. paged_versions c.args.pool run newest entry.image blocks c.versions_are_seen.ensures c.answer.new.engine new (suc i) gone.fits gone.geometry
           (next_paged c.args.pool run newest entry.image blocks c.works_add_up.ensures.works i c.in-Line.line _ is c.loop-line.engine (c.loop-line.invariant.paged run begins newest blocks sound) c.in_default.field-0 c.answer.new.engine next new (c.in_default.ensures.asks (state_at run i) going.fits)))
           (λ newest blocks sound. (next_counted run (log_under newest blocks) entry mid next new c.loop-line.engine c.answer.new.engine i c.in-Line.line _ is (c.next.ensures.same honest).image going.geometry (c.loop-line.invariant.counted run begins newest blocks sound) c.in_default.field-0 (c.in_default.ensures.numbers (state_at run i) going.fits going.quiet)).numbers),
     )
