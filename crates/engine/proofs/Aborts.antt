@@ -39,7 +39,6 @@ others_go_on newest kept txn before now concerns (Some entry) (Some session) oth
 pub dropped : (newest : Option Master) (records log : List Entry) (old new : List Active) (s : State) (n : ℕ) (entry : Active) → SessionsAre newest records old s → n < 8 → entry_of old n ≡ Some entry → ChangesOnly old new n None → entries.owed new + (entry.writes + 1) ≡ entries.owed old →
     ConcernsOnly newest entry.begin records log → is_loser log entry.begin ≡ false → owed log + (entry.writes + 1) ≡ owed records → SessionsAre newest log new (with_session s n None)
 dropped newest records log old new s n entry are small at changes owes concerns closed less =
-    let before = are.owes in
     let count = are.count in
     record {
       count = length-set s.sessions n None ∙ are.count;
@@ -55,7 +54,7 @@ dropped newest records log old new s n entry are small at changes owes concerns 
           (λ (same : t ≡ entry.begin). absurd (true≢false (sym is ∙ ap (is_loser log) same ∙ closed)))
           (λ differ. older t differ (are.all t (sym (concerns.losers t differ) ∙ is)))
           (cases_eq t entry.begin);
-      owes = omega (arith, less, before, owes);
+      owes = omega (arith, less, are.owes, owes);
       differ = λ i j a b at_i at_j same. are.differ i j a b (was i a at_i) (was j b at_j) same;
     }
   where
@@ -84,8 +83,6 @@ aborted_fits engine mid last old new s entry fits table at honest back rest made
     let n = entry.session in
     let small = (entry_is engine.active n entry table at).small in
     let count = fits.sessions.count in
-    let writes = count_is engine old s entry fits at in
-    let begun = fits.counts.made in
     let made_last : last.store.made ≡ engine.store.made + (entry.writes + 1) = ap (λ (j : Store). j.made) store_is ∙ made in
     let done : SessionsAre fits.newest back.log last.active (with_session s n None) =
     dropped fits.newest fits.records back.log engine.active last.active s n entry fits.sessions small at
@@ -98,7 +95,7 @@ aborted_fits engine mid last old new s entry fits table at honest back rest made
       holds = subst (λ (j : Store). Holds j new fits.newest back.log s.table s.commits) (sym store_is) back.holds;
       counts = record {
         commits = commits_is ∙ ap (λ (x : Engine). x.commits) rest ∙ fits.counts.commits;
-        made = omega (arith, made_last, begun, writes);
+        made = omega (arith, made_last, fits.counts.made, count_is engine old s entry fits at);
         cap = cap_is ∙ ap (λ (x : Engine). x.cap) rest ∙ fits.counts.cap;
       };
       sessions = record { count = done.count; each = done.each; all = done.all; owes = done.owes; differ = done.differ };

@@ -56,8 +56,7 @@ others_stay newest kept records e (Some entry) (Some session) other is = record 
 pub not_fresh : (newest : Option Master) (kept : ℕ) (records : List Entry) (entry : Active) (session : Session) (lsn : ℕ) → IsUnderWay newest kept records entry session → IsFresh lsn records → entry.begin ≢ lsn
 not_fresh newest kept records entry session lsn under fresh same =
     let none : entries_of entry.begin records ≡ [] = ap (λ (t : ℕ). entries_of t records) same ∙ fresh_entries lsn records fresh in
-    let some = under.is_active.chain.begins in
-    let long : length (entries_of entry.begin records) ≡ suc (length (drop 1 (entries_of entry.begin records))) = ap length some in
+    let long : length (entries_of entry.begin records) ≡ suc (length (drop 1 (entries_of entry.begin records))) = ap length under.is_active.chain.begins in
     let short : length (entries_of entry.begin records) ≡ 0 = ap length none in
     omega (arith, long, short)
 

@@ -151,8 +151,7 @@ from_other_fails {A} {B} a stop pages others r works start scanned old new never
 -- the next group of a run at its beginning
 opened_next : (g : Geometry) (image : Image) → hi_of (group_shape g) image.flash ≤ next_group (cache_on g image)
 opened_next g image =
-    let groups = map frames_in (units_on (group_shape g) image).live in
-    omega (arith, length-map groups (map (λ (frame : Frame). known_of frame.page frame.dirty)))
+    omega (arith, length-map (map frames_in (units_on (group_shape g) image).live) (map (λ (frame : Frame). known_of frame.page frame.dirty)))
 
 pub still_writes : NumbersRise → (g : Geometry) (r : Rules) (works : List CacheWork) (old now : Site) → 1 ≤ r.groups → IsQuiet old → IsUnchanged old now → WritesFrom g r works (cache_on g old.image) old now
 still_writes rise g r works old now some quiet same =

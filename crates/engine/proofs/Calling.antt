@@ -123,10 +123,6 @@ serves_answered first = record { calls = calls_answered first.calls; going = fir
 pub serves_nothing : {T : Type 0} {x : T} {engine : Engine} {site : Site} → MayGoOn engine site → Serves {T = T} (Ok x) engine engine site site
 serves_nothing going = record { calls = calls_nothing; going = going; sizes = refl; stops = tt }
 
--- it has ended
-pub serves_ended : {A B : Type 0} {stop : Stop} {old new : Engine} {before now : Site} (b : Bool) → Serves {T = A} (Err stop) old new before now → Serves {T = B} (Err stop) old (record new { ended = b }) before now
-serves_ended b first = record { calls = calls_failed first.calls; going = tt; sizes = first.sizes; stops = first.stops }
-
 -- what log and pages keep, as what the database does
 pub does_of : {T : Type 0} {r : Result T Stop} {old new : Engine} {before now : Site} {s after : State} {P : Snapshot → Type 0} {n m : ℕ} → s.made + n ≤ after.made → OnOk r (Fits new now after) →
     Keeps r old.store new.store before now P n m → Does r old new before now s after P m
@@ -281,19 +277,10 @@ pub ends_no_memory : {A B : Type 0} {a : A} {stop : Stop} {g : Geometry} {before
 ends_no_memory {B = B} {stop = stop} memory honest calls first = record {
   any_moment = first.any_moment;
   quiet = λ quiet other. calls.stays_quiet honest quiet;
-  worn_log = λ is. absurd (no_log (sym memory ∙ stop_is {U = B} stop (Worn Log) is));
-  worn = λ is. absurd (no_flash (sym memory ∙ stop_is {U = B} stop (Worn Flash) is));
-  readable = λ is. no_foreigner (sym memory ∙ stop_is {U = B} stop Foreign is);
+  worn_log = λ is. (let never : Memory ≡ Worn Log = sym memory ∙ stop_is {U = B} stop (Worn Log) is in absurd cc);
+  worn = λ is. (let never : Memory ≡ Worn Flash = sym memory ∙ stop_is {U = B} stop (Worn Flash) is in absurd cc);
+  readable = λ is. (let never : Memory ≡ Foreign = sym memory ∙ stop_is {U = B} stop Foreign is in cc);
 }
-  where
-    no_log : Memory ≡ Worn Log → ⊥
-    no_log is = cc
-
-    no_flash : Memory ≡ Worn Flash → ⊥
-    no_flash is = cc
-
-    no_foreigner : Memory ≡ Foreign → ⊥
-    no_foreigner is = cc
 
 pub serves_no_memory : {A B : Type 0} {a : A} {stop : Stop} {old new : Engine} {before now : Site} → stop ≡ Memory → Serves {T = A} (Ok a) old new before now → Serves {T = B} (Err stop) old new before now
 serves_no_memory memory first = record { calls = calls_no_memory memory first.calls; going = tt; sizes = first.sizes; stops = subst MayStop (sym memory) tt }
@@ -305,19 +292,10 @@ does_no_memory {A = A} {B = B} {a = a} {stop = stop} {old = old} {new = new} {be
   any_moment = first.any_moment;
   numbers = λ quiet. count_failed {T = B} {A = B} stop old new new before now s after after' m few (count_refused {T = B} {A = A} a stop old new new before now s after m (first.numbers quiet));
   quiet = λ quiet other. serves.calls.stays_quiet honest quiet;
-  worn_log = λ is. absurd (no_log (sym memory ∙ stop_is {U = B} stop (Worn Log) is));
-  worn = λ is. absurd (no_flash (sym memory ∙ stop_is {U = B} stop (Worn Flash) is));
-  foreign = λ is. no_foreigner (sym memory ∙ stop_is {U = B} stop Foreign is);
+  worn_log = λ is. (let never : Memory ≡ Worn Log = sym memory ∙ stop_is {U = B} stop (Worn Log) is in absurd cc);
+  worn = λ is. (let never : Memory ≡ Worn Flash = sym memory ∙ stop_is {U = B} stop (Worn Flash) is in absurd cc);
+  foreign = λ is. (let never : Memory ≡ Foreign = sym memory ∙ stop_is {U = B} stop Foreign is in cc);
 }
-  where
-    no_log : Memory ≡ Worn Log → ⊥
-    no_log is = cc
-
-    no_flash : Memory ≡ Worn Flash → ⊥
-    no_flash is = cc
-
-    no_foreigner : Memory ≡ Foreign → ⊥
-    no_foreigner is = cc
 
 -- Leaves of the tower.
 

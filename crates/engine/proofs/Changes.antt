@@ -35,7 +35,6 @@ wrote_more newest records old new s n lsn page slot entry before after are small
     let now : Option Session = option_map (having_written write) (session_at s n) in
     let is_now : now ≡ Some (having_written write session) = ap (option_map (having_written write)) found.is in
     let under = found.under_way in
-    let many = under.count in
     record {
       count = length-set s.sessions n now ∙ are.count;
       each = λ m. ⊎_elim
@@ -45,7 +44,7 @@ wrote_more newest records old new s n lsn page slot entry before after are small
           (record {
             is_active = active_writes (master_of newest) records lsn entry.begin entry.last page slot session.writes before after under.is_active;
             born = under.born;
-            count = omega (arith, many, length-append session.writes (write ∷ []));
+            count = omega (arith, under.count, length-append session.writes (write ∷ []));
           }))))
           (λ differ. subst (λ (a : Option Active). SessionIs newest s.kept (records ++ e ∷ []) a (slice_index_or (slice_set s.sessions n now) m None)) (sym (changes.others m differ))
           (subst (λ (o : Option Session). SessionIs newest s.kept (records ++ e ∷ []) (entry_of old m) o) (sym (get_or-set_other s.sessions n m now None differ))
@@ -77,11 +76,8 @@ closed newest records old new s n entry e are small at changes owes closing own 
     let session = found.session in
     let under = found.under_way in
     let active : IsActive (master_of newest) records (txn_of e) entry.last session.writes = subst (λ (t : ℕ). IsActive (master_of newest) records t entry.last session.writes) (sym own) under.is_active in
-    let less = owed_closing records e closing active.lives.not_closed active.chain in
     let part = active_owes (master_of newest) records (txn_of e) entry.last session.writes active in
-    let many = under.count in
     let count = are.count in
-    let before = are.owes in
     record {
       count = length-set s.sessions n None ∙ are.count;
       each = λ m. ⊎_elim
@@ -96,7 +92,7 @@ closed newest records old new s n entry e are small at changes owes closing own 
           (λ (same : t ≡ txn_of e). absurd (true≢false (sym is ∙ ap (is_loser (records ++ e ∷ [])) same ∙ loser_is_closed records e closing)))
           (λ differ. older t differ (are.all t (sym (loser_stays records e t (ne_eqb (txn_of e) t (λ same. differ (sym same)))) ∙ is)))
           (cases_eq t (txn_of e));
-      owes = omega (arith, less, part, many, before, owes);
+      owes = omega (arith, owed_closing records e closing active.lives.not_closed active.chain, part, under.count, are.owes, owes);
       differ = λ i j a b at_i at_j same. are.differ i j a b (was i a at_i) (was j b at_j) same;
     }
   where

@@ -163,14 +163,13 @@ pub fits_after : ActiveOutlives → (old new : Engine) (site site' : Site) (s : 
     new.locks ≡ old.locks → Fits new site' (checkpointed_if true s)
 fits_after outlives old new site site' s first fits table go honest has counted owed made commits cap locks =
     let kept = kept_is old first fits.newest fits.records s fits.sessions fits.counts.made go in
-    let made_is = fits.counts.made in
     let held = subst (λ ls. LocksAre ls s) (sym locks) fits.locks_are in
     record {
       honest = honest;
       newest = Some has.master;
       records = from_block has.master.kept fits.records;
       holds = has.holds;
-      counts = record { commits = commits ∙ fits.counts.commits; made = omega (arith, made, made_is, kept); cap = cap ∙ fits.counts.cap };
+      counts = record { commits = commits ∙ fits.counts.commits; made = omega (arith, made, fits.counts.made, kept); cap = cap ∙ fits.counts.cap };
       sessions = sessions_outlive outlives fits.newest has.master fits.records old.active new.active s first fits.sessions table has.named has.keeps go.of_each kept counted owed;
       locks_are = record { written = held.written; reads = held.reads };
     }

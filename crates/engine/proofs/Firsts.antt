@@ -77,8 +77,7 @@ some_reply (Some r) some = (r, refl)
 
 pub due_is : (engine : Engine) (site : Site) (s : State) → Fits engine site s → nat_le (engine.cap / 2) engine.store.made ≡ is_due s
 due_is engine site s fits =
-    let made = fits.counts.made in
-    let used_is : engine.store.made ≡ used s = omega (arith, made) in
+    let used_is : engine.store.made ≡ used s = omega (arith, fits.counts.made) in
     λ i. nat_le (fits.counts.cap i / 2) (used_is i)
 
 -- where it is known whether one is made

@@ -102,10 +102,8 @@ pub began : (engine : Engine) (site : Site) (n : ℕ) (entry : Active) → MayGo
     → (entry.begin / 512 ≤ blocks_to engine.store.log) × (entry.born ≤ engine.store.made)
 began engine site n entry going is =
     let lasts = going.lasts n entry is in
-    let since = going.since n entry is in
-    let high = going.store.both.log_going.high in
-    let block : entry.begin / 512 ≤ engine.store.log.ring.hi = omega (arith, lasts.0, lasts.1, high) in
-    (omega (arith, block), omega (arith, since, block))
+    let block : entry.begin / 512 ≤ engine.store.log.ring.hi = omega (arith, lasts.0, lasts.1, going.store.both.log_going.high) in
+    (omega (arith, block), omega (arith, going.since n entry is, block))
 
 no_pairs : (active : List Active) → map (λ (entry : Active). entry.born) active ≡ [] → active ≡ []
 no_pairs [] is = refl
@@ -134,9 +132,7 @@ enough_in : (active : List Active) (blocks made first : ℕ) → first ≤ made 
     → blocks + first ≤ first_block blocks (begins_of (pairs_of active)) + made
 enough_in [] blocks made first less since early = omega (arith, less)
 enough_in (entry ∷ later) blocks made first less since early =
-    let from = since entry.session entry (first_of entry later) in
-    let born = early entry.session entry (first_of entry later) in
-    omega (arith, from, born)
+    omega (arith, since entry.session entry (first_of entry later), early entry.session entry (first_of entry later))
 
 lets_go_with : (engine : Engine) (site : Site) (first : ℕ) → MayGoOn engine site → All (λ entry. first ≤ entry.born) engine.active → first ≤ engine.store.made → (first ≡ engine.store.made) ⊎ IsOldest engine.active first → LetsGo engine first
 lets_go_with engine site first going early made oldest = record {
@@ -180,17 +176,10 @@ kept_is engine first newest records s are made go = by go.oldest (least_is s.mad
     most (inl is) = omega (arith, least-le-first s.made s.sessions, made, is)
     most (inr oldest) =
         let found = some_active newest records engine.active s are oldest.session oldest.entry oldest.is in
-        let less = least-le-born s.made s.sessions oldest.session found.session found.is in
-        let born = found.under_way.born in
-        let same = oldest.born_is in
-        omega (arith, less, born, same)
+        omega (arith, least-le-born s.made s.sessions oldest.session found.session found.is, found.under_way.born, oldest.born_is)
 
     by : (first ≡ engine.store.made) ⊎ IsOldest engine.active first → (kept_by_checkpoint s ≡ s.made) ⊎ IsBorn s.sessions (kept_by_checkpoint s) → kept_by_checkpoint s ≡ s.kept + first
     by oldest (inl is) = let less = most oldest in let early = go.made in omega (arith, less, is, made, early)
     by oldest (inr is) =
         let own = has_entry newest records engine.active s are is.place is.session is.is in
-        let less = most oldest in
-        let early = go.of_each is.place own.entry own.is in
-        let born = own.born in
-        let same = is.born_is in
-        omega (arith, less, early, born, same)
+        omega (arith, most oldest, go.of_each is.place own.entry own.is, own.born, is.born_is)

@@ -78,9 +78,8 @@ ends_behind store site newest records table commits lsn h behind =
     let log = h.both.log_holds in
     let hi = log.ready.blocks.hi in
     let next = log.ready.records.blocks.next in
-    let end = log.ready.records.tail.end in
     let last = next_block_is newest log.blocks in
-    (omega (arith, hi, next, end, behind, last), omega (arith, hi, next, behind, last))
+    (omega (arith, hi, next, log.ready.records.tail.end, behind, last), omega (arith, hi, next, behind, last))
 
 -- a record behind the last one begins a new transaction
 pub fresh_behind : (store : Store) (site : Site) (newest : Option Master) (records : List Entry) (table : List Content) (commits lsn : ℕ) (h : Holds store site newest records table commits) → end_of store.log ≤ lsn → IsFresh lsn records
@@ -94,9 +93,7 @@ fresh_behind store site newest records table commits lsn h behind =
 -- which redo doesn't leave out
 pub begins_late : (store : Store) (site : Site) (newest : Option Master) (records : List Entry) (table : List Content) (commits lsn : ℕ) (h : Holds store site newest records table commits) → end_of store.log ≤ lsn → 512 * (master_of newest).redo ≤ lsn
 begins_late store site newest records table commits lsn h behind =
-    let before = h.both.log_holds.runs_on.carries.sound.redo_before_end in
-    let last = (ends_behind store site newest records table commits lsn h behind).1 in
-    omega (arith, before, last)
+    omega (arith, h.both.log_holds.runs_on.carries.sound.redo_before_end, (ends_behind store site newest records table commits lsn h behind).1)
 
 -- Who has written.
 
@@ -171,10 +168,9 @@ free newest records active s are table number none t lives = by (follow.has_writ
 pub value_is : (engine : Engine) (site : Site) (s : State) (fits : Fits engine site s) (number : ℕ) → number < 32 * (sizes_of engine.store).pages →
     content_at s.table number ≡ value_of fits.records (versions_on (sizes_of engine.store) site.image) number
 value_is engine site s fits number less =
-    let versions = versions_on (sizes_of engine.store) site.image in
     let count = count_of_versions (sizes_of engine.store) site.image in
     ap (λ (t : List Content). content_at t number) (table_is engine.store site fits.newest fits.records s.table s.commits fits.holds)
-    ∙ content_of_table fits.records versions number (subst (λ (n : ℕ). number < 32 * n) (sym count) less)
+    ∙ content_of_table fits.records (versions_on (sizes_of engine.store) site.image) number (subst (λ (n : ℕ). number < 32 * n) (sym count) less)
 
 -- a session sees what is shown, where it may read it
 pub seen_is : (engine : Engine) (site : Site) (s : State) (fits : Fits engine site s) (n number : ℕ) (own : Active) → IsTable engine.active → number < 32 * (sizes_of engine.store).pages → entry_of engine.active n ≡ Some own → model.busy_read s (Some n) number ≡ None →

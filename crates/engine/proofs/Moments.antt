@@ -1,14 +1,10 @@
 -- Calls one after the other.
-use Rattle.std.proofs.Common.{◌≡◌, ◌⊎◌, inl, inr, List, sym, subst, ℕ}
-use Rattle.site.specs.declared.outside.Dev.TheVariants.{Log}
-use Rattle.site.specs.declared.outside.Stop.{Stop}
-use Rattle.site.specs.declared.outside.Stop.TheVariants.{Device, Worn}
+use Rattle.std.proofs.Common.{◌≡◌, List, subst, ℕ}
 use Rattle.site.specs.declared.geometry.Geometry.{Geometry}
 use Rattle.site.specs.State.{State}
 use Rattle.site.specs.Moments.{Leaves, LeavesOnly}
 use Rattle.site.specs.Laws.{in_sequence, holds_now}
 use Rattle.record_model.specs.State.{Content}
-use Rattle.page_store.specs.Stopping.{MayStop}
 use Rattle.engine.specs.Leaves.{LeavesTable}
 
 -- one call behind others
@@ -18,8 +14,3 @@ and_then g g' old mid new table commits same first second =
     let told : mid.told ≡ old.told = (holds_now old mid (LeavesTable g table commits old.told) first).told in
     in_sequence old mid new (Leaves (LeavesTable g table commits old.told)) first
     (subst (λ (t : List ℕ). LeavesOnly mid new (LeavesTable g table commits t)) told (subst (λ (x : Geometry). LeavesOnly mid new (LeavesTable x table commits mid.told)) same second))
-
--- a failing or worn log is one of the causes
-pub log_stops : (stop : Stop) → (stop ≡ Device Log) ⊎ (stop ≡ Worn Log) → MayStop stop
-log_stops stop (inl is) = subst MayStop (sym is) tt
-log_stops stop (inr is) = subst MayStop (sym is) tt

@@ -1,21 +1,20 @@
 -- What a restart finds on devices.
-use Rattle.std.proofs.Common.{Option, ◌≡◌, zero, suc, ◌+◌, ◌-◌, ◌<◌, min, false, nat_lt, List, [], ◌∷◌, ◌++◌, length, map, take, None, Some, Result, Ok, Err, IsErrOf, refl, sym, ap, subst, ◌∙◌, arith, ℕ}
-use Rattle.std.specs.Prelude.{if◌then◌else◌, IfOk}
+use Rattle.std.proofs.Common.{Option, ◌≡◌, zero, suc, ◌+◌, ◌-◌, ◌<◌, min, List, [], ◌∷◌, length, map, take, None, Some, Err, IsErrOf, refl, sym, ap, subst, ◌∙◌, arith, ℕ}
+use Rattle.std.specs.Prelude.{if◌then◌else◌}
 use Rattle.std.specs.List.{AllByRecursion, slice_get}
 use Rattle.std.proofs.lemmas.Option.{none-some, same_Some}
 use Rattle.std.proofs.Math.Nat.{min-le_left}
 use Rattle.std.proofs.lemmas.List.Concat.{flat_map-cons}
 use Rattle.std.proofs.lemmas.List.Sums.{sum_by-cons}
-use Rattle.site.specs.declared.outside.Dev.TheVariants.{Log, Flash, Disk}
 use Rattle.site.specs.declared.geometry.Geometry.{Geometry}
 use Rattle.site.specs.State.{State, Image, IsQuiet}
 use Rattle.site.specs.Calls.{Goes, IsUnchanged}
-use Rattle.site.specs.Moments.{Leaves, LeavesOnly, SameBut, ChangesOnly}
+use Rattle.site.specs.Moments.{Leaves, LeavesOnly}
 use Rattle.site.specs.Laws.{no_call, unchanged_calm, stays_honest, quiet_leaves}
 use Rattle.sealed_ring.specs.declared.ring.Ring.{Ring}
 use Rattle.sealed_ring.specs.declared.slots.Shape.{Shape}
 use Rattle.sealed_ring.specs.Ready.{Finds}
-use Rattle.sealed_ring.specs.Ring.{IsRing, FitsIn, hi_of, live, units_from}
+use Rattle.sealed_ring.specs.Ring.{IsRing, hi_of, live, units_from}
 use Rattle.image_changes.specs.Rings.{Masters, master_shape, group_shape, log_shape, units_on}
 use Rattle.record_model.specs.State.{Content}
 use Rattle.log_records.specs.declared.log_record.LogRecord.{LogRecord}
@@ -39,16 +38,13 @@ use Rattle.redo_undo.specs.Holding as both
 use Rattle.engine.specs.Image.{IsSound, Stands}
 use Rattle.engine.specs.Leaves.{LeavesTable}
 use Rattle.engine.specs.Restarting.{IsReady}
+use Rattle.redo_undo.proofs.Opens.{all_front, all_rest}
+use Rattle.redo_undo.proofs.Sames.{only_read}
+use Rattle.redo_undo.proofs.Saved.{log_still}
+use Rattle.redo_undo.proofs.Forced.{none_now}
+use Rattle.redo_undo.proofs.TakenRecords.{same_stop}
 
 -- The queue on flash.
-
-front_part : {X : Type 0} (P : X → Type 0) (xs ys : List X) → AllByRecursion P (xs ++ ys) → AllByRecursion P xs
-front_part P [] ys all = tt
-front_part P (x ∷ xs) ys all = (all.0, front_part P xs ys all.1)
-
-back_part : {X : Type 0} (P : X → Type 0) (xs ys : List X) → AllByRecursion P (xs ++ ys) → AllByRecursion P ys
-back_part P [] ys all = all
-back_part P (x ∷ xs) ys all = back_part P xs ys all.1
 
 each_exists : (g : Geometry) (frames : List Frame) → AllByRecursion (IsFrameOf g) frames → AllByRecursion (λ frame. frame.page < g.pages) frames
 each_exists g [] all = tt
@@ -63,8 +59,8 @@ are_groups : (g : Geometry) (contents : List (List ℕ)) → AllByRecursion (λ 
 are_groups g [] all frames = tt
 are_groups g (content ∷ contents) all frames =
     let parts = subst (AllByRecursion (IsFrameOf g)) (flat_map-cons frames_in content contents) frames in (
-      record { is_group = subst (λ (x : List ℕ). IsGroup x (frames_in content)) all.0.spelled all.0; exist = each_exists g (frames_in content) (front_part (IsFrameOf g) (frames_in content) (frames_of contents) parts) },
-      are_groups g contents all.1 (back_part (IsFrameOf g) (frames_in content) (frames_of contents) parts),
+      record { is_group = subst (λ (x : List ℕ). IsGroup x (frames_in content)) all.0.spelled all.0; exist = each_exists g (frames_in content) (all_front (IsFrameOf g) (frames_in content) (frames_of contents) parts) },
+      are_groups g contents all.1 (all_rest (IsFrameOf g) (frames_in content) (frames_of contents) parts),
     )
 
 so_many : (s : Shape) (c : List ℕ) (first n : ℕ) → length (units_from s c first n) ≡ n
@@ -83,12 +79,9 @@ has_groups g image is =
     let s = group_shape g in
     let hi = hi_of s image.flash in
     let contents = (units_on s image).live in
-    let many = so_many s image.flash (hi - (s.slots - 1)) (min hi (s.slots - 1)) in
-    let same = as_many contents in
-    let least = min-le_left hi (s.slots - 1) in
     record {
       form = is.form;
-      next = omega (arith, many, same, least);
+      next = omega (arith, so_many s image.flash (hi - (s.slots - 1)) (min hi (s.slots - 1)), as_many contents, min-le_left hi (s.slots - 1));
       are_groups = are_groups g contents is.each is.frames;
       live = spelled contents is.each;
     }
@@ -113,38 +106,15 @@ kept_is (Some m) = refl
 
 -- Calls that only read.
 
-only_read : (old new : State) → IsUnchanged old new → ChangesOnly Log old new
-only_read old new same = record {
-  only = unchanged_calm old old new (SameBut Log old) (no_call old (SameBut Log old) (record { told = refl; telling = refl; content = λ d other. refl; loose = λ d other. refl })) same;
-  left = same.left;
-}
-
-log_goes_on : (log : LogStore) (old new : State) → Goes old new → log_held.MayGoOn log old → log_held.MayGoOn log new
-log_goes_on log old new goes may = record {
-  limits = may.limits;
-  lengths = record { log = goes.sizes Log ∙ may.lengths.log; flash = goes.sizes Flash ∙ may.lengths.flash; disk = goes.sizes Disk ∙ may.lengths.disk };
-  usable = record { fits = subst (FitsIn log.ring.shape) (sym (goes.sizes log.ring.shape.dev)) may.usable.fits; bounded = may.usable.bounded };
-  shape = may.shape;
-  kept = may.kept;
-  live = may.live;
-  low = may.low;
-  high = may.high;
-}
-
-pub no_tail : (log : LogStore) → log.used ≡ 2 → has_tail log ≡ false
-no_tail log empty = ap (nat_lt 2) empty
-
 -- where nothing of the log is unsealed and no more blocks than can be live are there, log and pages may go on
 pub both_go_on : GoesOnBeside → (log : LogStore) (pages : PageStore) (a b c : State) → Goes a b → Goes b c → log_held.MayGoOn log a → page_held.MayGoOn pages b → log.geometry ≡ pages.flash.geometry → log.used ≡ 2 → both.MayGoOn log pages c
 both_go_on law log pages a b c first second log_may pages_may sizes empty = record {
-  log_going = log_goes_on log b c second (log_goes_on log a b first log_may);
+  log_going = log_still log b c second (log_still log a b first log_may);
   pages_going = law pages b c second pages_may;
   sizes = sizes;
   room =
-      let live = log_may.live in
-      let least = log_may.limits.blocks in
-      let none : (if has_tail log then 1 else 0) ≡ 0 = ap {B = ℕ} (λ b. if b then 1 else 0) (no_tail log empty) in
-      omega (arith, live, least, none);
+      let none : (if has_tail log then 1 else 0) ≡ 0 = ap {B = ℕ} (λ b. if b then 1 else 0) (none_now log empty) in
+      omega (arith, log_may.live, log_may.limits.blocks, none);
 }
 
 -- what was found there fits
@@ -192,30 +162,17 @@ owed_more [] place loser is = absurd (none-some loser is)
 owed_more (x ∷ table) zero loser is =
     let same : loser_of x ≡ loser = same_Some (loser_of x) loser is in
     let remaining : length x.updates ≡ loser.remaining = ap (λ (l : Loser). l.remaining) same in
-    let one = sum_by-cons owed_one x [] in
-    omega (arith, remaining, one)
+    omega (arith, remaining, sum_by-cons owed_one x [])
 owed_more (x ∷ table) (suc place) loser is =
-    let rest = owed_more table place loser is in
     let more : owed_for (take (suc (suc place)) (x ∷ table)) ≡ owed_one x + owed_for (take (suc place) table) = sum_by-cons owed_one x (take (suc place) table) in
     let before : owed_for (take (suc place) (x ∷ table)) ≡ owed_one x + owed_for (take place table) = sum_by-cons owed_one x (take place table) in
-    omega (arith, rest, more, before)
+    omega (arith, owed_more table place loser is, more, before)
 
 -- Results.
-
-abbrev stop_of : {A E : Type 0} → E → Result A E → E
-stop_of e (Ok x) = e
-stop_of e (Err stop) = stop
-
-pub same_stop : {A E : Type 0} (x y : E) → ◌≡◌ {A = Result A E} (Err x) (Err y) → x ≡ y
-same_stop x y is = ap (stop_of x) is
 
 -- an error is that error, of whatever it was the result
 pub err_again : {A B E : Type 0} (x y : E) → IsErrOf {T = A} (Err x) y → IsErrOf {T = B} (Err x) y
 err_again x y is = ap Err (same_stop x y is)
-
-pub if_ok_both : {A E : Type 0} (r : Result A E) (P Q Z : A → Type 0) → ((x : A) → P x → Q x → Z x) → IfOk r P → IfOk r Q → IfOk r Z
-if_ok_both (Ok x) P Q Z f p q = f x p q
-if_ok_both (Err e) P Q Z f p q = tt
 
 -- A crash while only was read leaves what stood there.
 pub stands_still : (g : Geometry) (old new : State) (table : List Content) (commits : ℕ) → IsQuiet old → IsUnchanged old new → Stands g old.image table commits → LeavesOnly old new (LeavesTable g table commits old.told)

@@ -43,8 +43,7 @@ part_of (suc (suc (suc (suc (suc (suc (suc (suc more)))))))) f less = absurd (om
 pub owed_changes : (old new : List Active) (n : ℕ) (entry : Option Active) → IsTable old → IsTable new → n < 8 → ChangesOnly old new n entry → owed new + owed_at old n ≡ owed old + option_map_or owed_one entry 0
 owed_changes old new n entry before after less changes =
     let all = changes_one n (owed_at new) (owed_at old) less (λ m ne. ap (λ (o : Option Active). option_map_or owed_one o 0) (changes.others m ne)) in
-    let own = ap (λ (o : Option Active). option_map_or owed_one o 0) changes.own in
-    omega (arith, all, own, owed_is old before, owed_is new after)
+    omega (arith, all, ap (λ (o : Option Active). option_map_or owed_one o 0) changes.own, owed_is old before, owed_is new after)
 
 -- an entry is its session's, below 8, and has so many writes at most
 pub record IsEntry (n : ℕ) (entry : Active) : Type 0 where
@@ -67,6 +66,4 @@ entry_is (entry ∷ later) n own table is = by (entry.session == n) refl is (ent
 pub owes : (active : List Active) (n : ℕ) (own : Active) → IsTable active → entry_of active n ≡ Some own → own.writes + 1 ≤ owed active
 owes active n own table is =
     let at : owed_at active n ≡ own.writes + 1 = ap (λ (o : Option Active). option_map_or owed_one o 0) is in
-    let all = owed_is active table in
-    let part = part_of n (owed_at active) (entry_is active n own table is).small in
-    omega (arith, at, all, part)
+    omega (arith, at, owed_is active table, part_of n (owed_at active) (entry_is active n own table is).small)

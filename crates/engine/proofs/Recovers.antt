@@ -60,29 +60,19 @@ owed_found one unfinished all newest g image blocks found sound read =
 pub next_of : (opened : Opened) (site : State) (newest : Option Master) (blocks : List (List LogRecord)) (table : List Content) (commits : ℕ) → IsReady opened site newest blocks table commits →
     opened.log.ring.hi ≡ next_block_under newest blocks
 next_of opened site newest blocks table commits h =
-    let hi = h.opened_is.ready.blocks.hi in
-    let next = h.opened_is.ready.records.blocks.next in
-    let last = next_block_is newest blocks in
-    omega (arith, hi, next, last)
+    omega (arith, h.opened_is.ready.blocks.hi, h.opened_is.ready.records.blocks.next, next_block_is newest blocks)
 
 -- the commits that it stands for are no more
 pub few_commits : (opened : Opened) (site : State) (newest : Option Master) (blocks : List (List LogRecord)) (table : List Content) (commits : ℕ) → IsReady opened site newest blocks table commits → commits ≤ opened.log.ring.hi
 few_commits opened site newest blocks table commits h =
-    let count = h.opened_is.means.count_is in
-    let fit = h.opened_is.sound.records.commits.fit in
-    let next = next_of opened site newest blocks table commits h in
-    omega (arith, count, fit, next)
+    omega (arith, h.opened_is.means.count_is, h.opened_is.sound.records.commits.fit, next_of opened site newest blocks table commits h)
 
 -- so it is of a log and pages that hold together
 pub commits_fit : (log : LogStore) (pages : PageStore) (site : State) (newest : Option Master) (records : List Entry) (table : List Content) (commits : ℕ) → Holds log pages site newest records table commits → commits ≤ log.ring.hi
 commits_fit log pages site newest records table commits h =
     let held = h.log_holds in
-    let count = held.runs_on.means.count_is in
-    let fit = held.runs_on.carries.sound.commits.fit in
-    let hi = held.ready.blocks.hi in
-    let next = held.ready.records.blocks.next in
     let last = next_block_is newest held.blocks in
-    omega (arith, count, fit, hi, next, last)
+    omega (arith, held.runs_on.means.count_is, held.runs_on.carries.sound.commits.fit, held.ready.blocks.hi, held.ready.records.blocks.next, last)
 
 -- analysis counts them
 pub commits_found : TakenCommits → (opened : Opened) (site : State) (newest : Option Master) (blocks : List (List LogRecord)) (table : List Content) (commits : ℕ) (found : Analysis) → IsReady opened site newest blocks table commits →

@@ -17,7 +17,7 @@ use Rattle.record_model.specs.declared.words.Reply.TheVariants as reply
 use Rattle.record_model.specs.State.{Session, State, session_at, used}
 use Rattle.record_model.specs.State as model
 use Rattle.record_model.specs.Touches.{CacheWork, record_touches}
-use Rattle.record_model.specs.Step.{Outcome, refusal, outcome, effect, answer, full, lacks_room, wants_active, wants_record, wants_short, refuse_if}
+use Rattle.record_model.specs.Step.{Outcome, refusal, outcome, effect, answer, full, lacks_room, wants_active, wants_record, wants_short, refuse_if, may_write, may_read}
 use Rattle.log_records.specs.Log.{Entry}
 use Rattle.txn_table.specs.declared.active.Active.{Active}
 use Rattle.txn_table.specs.Entries.{IsTable, entry_of}
@@ -26,7 +26,8 @@ use Rattle.engine.specs.declared.engine.Engine.{Engine}
 use Rattle.engine.specs.Going.{sizes_of}
 use Rattle.engine.specs.Fits.{Fits, SessionIs, IsFull, IsRefusedWith, IsCarriedOut}
 use Rattle.engine.proofs.Actives.{some_active, none_active}
-use Rattle.engine.proofs.Meanings.{same_size}
+use Rattle.lock_table.specs.Locks as locks
+use Rattle.engine.proofs.Meanings.{same_size, busy_write_is, busy_read_is}
 use Rattle.engine.proofs.Owing.{owed_at, owed_one, owed_is}
 
 abbrev way : State → Command → Bool → Outcome
@@ -81,37 +82,38 @@ owed_same engine site s fits table =
     ∙ sym (total_is s.sessions)
 
 -- the reply where there is no room
-pub full_is : (engine : Engine) (site : Site) (s : State) (more : ℕ) (r : Reply) → Fits engine site s → IsTable engine.active → IsFull engine more r → (r ≡ full s) × (nat_lt s.cap (used s + model.owed s + more) ≡ true)
-full_is engine site s more r fits table is =
+pub full_is : {engine : Engine} {site : Site} {s : State} (more : ℕ) (r : Reply) → Fits engine site s → IsTable engine.active → IsFull engine more r → (r ≡ full s) × (nat_lt s.cap (used s + model.owed s + more) ≡ true)
+full_is {engine = engine} {site = site} {s = s} more r fits table is =
     let owed = owed_same engine site s fits table in
-    let made = fits.counts.made in
     let cap = fits.counts.cap in
-    let used_is : engine.store.made ≡ used s = omega (arith, made) in
-    let less = is.no_room in
-    (is.full_is ∙ (λ i. reply.Full (used_is i) (owed i) (cap i)), lt-ltb s.cap (used s + model.owed s + more) (omega (arith, less, owed, used_is, cap)))
+    let used_is : engine.store.made ≡ used s = omega (arith, fits.counts.made) in
+    (is.full_is ∙ (λ i. reply.Full (used_is i) (owed i) (cap i)), lt-ltb s.cap (used s + model.owed s + more) (omega (arith, is.no_room, owed, used_is, cap)))
 
-pub has_room : (engine : Engine) (site : Site) (s : State) (more : ℕ) → Fits engine site s → IsTable engine.active → engine.store.made + entries.owed engine.active + more ≤ engine.cap → nat_lt s.cap (used s + model.owed s + more) ≡ false
-has_room engine site s more fits table room =
-    let owed = owed_same engine site s fits table in
-    let made = fits.counts.made in
-    let cap = fits.counts.cap in
-    le-ltb s.cap (used s + model.owed s + more) (omega (arith, room, owed, made, cap))
+pub full_refused : {engine : Engine} {site : Site} {s : State} (command : Command) (more : ℕ) {r : Reply} → Fits engine site s → IsTable engine.active →
+    IsFull engine more r →
+    lacks_room s command ≡ nat_lt s.cap (used s + model.owed s + more) → refusal s command ≡ None → IsRefusedWith s command r
+full_refused {s = s} command more fits table is lacks none =
+    let both = full_is more _ fits table is in
+    let r = no_room s command none (lacks ∙ both.1) in
+    (r.0 ∙ ap (λ (x : Reply). let o : Outcome = record { after = s; reply = x } in o) (sym both.0), r.1)
+
+pub has_room : {engine : Engine} {site : Site} {s : State} (more : ℕ) → Fits engine site s → IsTable engine.active → engine.store.made + entries.owed engine.active + more ≤ engine.cap → nat_lt s.cap (used s + model.owed s + more) ≡ false
+has_room {engine = engine} {site = site} {s = s} more fits table room =
+    le-ltb s.cap (used s + model.owed s + more) (omega (arith, room, owed_same engine site s fits table, fits.counts.made, fits.counts.cap))
 
 -- Tests that are passed, and that aren't.
 
 pub wants_active_is : (s : State) (n : ℕ) (session : Session) → session_at s n ≡ Some session → wants_active s n ≡ None
 wants_active_is s n session is = λ i. refuse_if (is_none (is i)) (reply.Refused BadSession)
 
-pub has_record : (engine : Engine) (site : Site) (s : State) (number : ℕ) → Fits engine site s → number < 32 * (sizes_of engine.store).pages → wants_record s number ≡ None
-has_record engine site s number fits less =
-    let size = same_size engine site s fits in
-    let below : nat_le (length s.table) number ≡ false = lt-leb (length s.table) number (omega (arith, less, size)) in
+pub has_record : {engine : Engine} {site : Site} {s : State} (number : ℕ) → Fits engine site s → number < 32 * (sizes_of engine.store).pages → wants_record s number ≡ None
+has_record {engine = engine} {site = site} {s = s} number fits less =
+    let below : nat_le (length s.table) number ≡ false = lt-leb (length s.table) number (omega (arith, less, same_size engine site s fits)) in
     λ i. refuse_if (below i) (reply.Refused NoRecord)
 
-pub lacks_record : (engine : Engine) (site : Site) (s : State) (number : ℕ) → Fits engine site s → 32 * (sizes_of engine.store).pages ≤ number → wants_record s number ≡ Some (reply.Refused NoRecord)
-lacks_record engine site s number fits more =
-    let size = same_size engine site s fits in
-    let from : nat_le (length s.table) number ≡ true = le-leb (length s.table) number (omega (arith, more, size)) in
+pub lacks_record : {engine : Engine} {site : Site} {s : State} (number : ℕ) → Fits engine site s → 32 * (sizes_of engine.store).pages ≤ number → wants_record s number ≡ Some (reply.Refused NoRecord)
+lacks_record {engine = engine} {site = site} {s = s} number fits more =
+    let from : nat_le (length s.table) number ≡ true = le-leb (length s.table) number (omega (arith, more, same_size engine site s fits)) in
     λ i. refuse_if (from i) (reply.Refused NoRecord)
 
 pub is_short : (value : List ℕ) → length value ≤ VALUE_MAX → wants_short value ≡ None
@@ -129,18 +131,33 @@ pub has : (o : Option Active) → IsSome o → Has o
 has (Some own) some = record { own = own; is = refl }
 has None some = absurd (true≢false (sym some))
 
-pub is_active : (engine : Engine) (site : Site) (s : State) (n : ℕ) → Fits engine site s → IsSome (entry_of engine.active n) → wants_active s n ≡ None
-is_active engine site s n fits some =
+pub is_active : {engine : Engine} {site : Site} {s : State} (n : ℕ) → Fits engine site s → IsSome (entry_of engine.active n) → wants_active s n ≡ None
+is_active {engine = engine} {s = s} n fits some =
     let own = has (entry_of engine.active n) some in
     let session = some_active fits.newest fits.records engine.active s fits.sessions n own.own own.is in
     wants_active_is s n session.session session.is
 
 -- a session that isn't active
+pub idle_session : {engine : Engine} {site : Site} {s : State} (n : ℕ) → Fits engine site s → entry_of engine.active n ≡ None →
+    wants_active s n ≡ Some (reply.Refused BadSession)
+idle_session {engine = engine} {s = s} n fits none =
+    let idle : session_at s n ≡ None = none_active fits.newest fits.records engine.active s fits.sessions n none in
+    λ i. refuse_if (is_none (idle i)) (reply.Refused BadSession)
+
 pub refused_session : (engine : Engine) (site : Site) (s : State) (command : Command) (n : ℕ) → Fits engine site s → entry_of engine.active n ≡ None → refusal s command ≡ wants_active s n →
     IsRefusedWith s command (reply.Refused BadSession)
-refused_session engine site s command n fits none test =
-    let idle : session_at s n ≡ None = none_active fits.newest fits.records engine.active s fits.sessions n none in
-    refused s command (reply.Refused BadSession) (test ∙ (λ i. refuse_if (is_none (idle i)) (reply.Refused BadSession)))
+refused_session engine site s command n fits none test = refused s command (reply.Refused BadSession) (test ∙ idle_session n fits none)
+
+-- whether another session has the record, as the locks say it
+pub may_write_is : {engine : Engine} {site : Site} {s : State} (own : Option ℕ) (number : ℕ) {r o : Option Reply} → Fits engine site s →
+    r ≡ option_map reply.Busy (locks.busy_write engine.locks own number) → r ≡ o → may_write s own number ≡ o
+may_write_is {engine = engine} {s = s} own number fits says is = ap (option_map reply.Busy) (sym (busy_write_is engine.locks s fits.locks_are own number))
+    ∙ sym says ∙ is
+
+pub may_read_is : {engine : Engine} {site : Site} {s : State} (own : Option ℕ) (number : ℕ) {r o : Option Reply} → Fits engine site s →
+    r ≡ option_map reply.Busy (locks.busy_read engine.locks own number) → r ≡ o → may_read s own number ≡ o
+may_read_is {engine = engine} {s = s} own number fits says is = ap (option_map reply.Busy) (sym (busy_read_is engine.locks s fits.locks_are own number)) ∙ sym
+    says ∙ is
 
 -- no other session has the record
 pub none_busy : (o : Option ℕ) → option_map reply.Busy o ≡ None → o ≡ None

@@ -1,6 +1,6 @@
 -- The numbers of the rings' units, over the calls of the database.
 use Rattle.std.proofs.Common.{◌≡◌, ◌+◌, ◌≤◌, Bool, true, false, List, [], Option, None, Some, sym, ap, subst, arith, ℕ}
-use Rattle.std.specs.Prelude.{Result, Ok, Err, IfOk, if◌then◌else◌}
+use Rattle.std.specs.Prelude.{Result, Ok, Err, if◌then◌else◌}
 use Rattle.site.specs.declared.outside.Stop.{Stop}
 use Rattle.site.specs.declared.geometry.Geometry.{Geometry}
 use Rattle.site.specs.State.{State as Site, Image}
@@ -25,10 +25,11 @@ use Rattle.engine.specs.declared.restart.Opened.{Opened}
 use Rattle.engine.specs.Fits.{Fits, run_now}
 use Rattle.engine.specs.Going.{MayGoOn, sizes_of}
 use Rattle.engine.specs.Restarting.{IsReady}
-use Rattle.engine.specs.Numbers.{CountsOn, RestartsWithin, RestCountsNothing}
-use Rattle.engine.proofs.Openings.{no_tail}
+use Rattle.engine.specs.Numbers.{CountsOn, RestartsWithin}
 use Rattle.engine.proofs.Recovers.{tail_blocks}
 use Rattle.site.proofs.Working.{ok_as}
+use Rattle.redo_undo.proofs.Appended.{if_ok_one}
+use Rattle.redo_undo.proofs.Forced.{none_now}
 
 -- Calls on log and pages, as calls of the database.
 
@@ -60,23 +61,13 @@ pub count_then : {T E A B : Type 0} (r : Result T E) (x : A) (old mid new : Engi
     → m + m' ≡ k → CountsOn r old new before now s after k
 count_then r x old mid new before middle now s u after m m' k same first second is =
     let ring : hi_of (log_shape (sizes_of mid.store)) now.image.log ≡ hi_of (log_shape (sizes_of old.store)) now.image.log = ap (λ (g : Geometry). hi_of (log_shape g) now.image.log) same in
-    let before_log = first.log in
     let before_saved = first.saved in
     record {
-      log = ok_as r _ _ (λ more. omega (arith, more, before_log)) second.log;
-      blocks = let more = second.blocks in omega (arith, more, before_log, ring);
+      log = ok_as r _ _ (λ more. omega (arith, more, first.log)) second.log;
+      blocks = let more = second.blocks in omega (arith, more, first.log, ring);
       masters = let more = second.masters in omega (arith, more, before_saved, is);
       saved = ok_as r _ _ (λ more. let all : hi_of master_shape now.image.log ≡ hi_of master_shape before.image.log + k = omega (arith, more, before_saved, is) in all) second.saved;
     }
-
--- the model counts as many records
-pub count_same : {T E : Type 0} (r : Result T E) (old new : Engine) (before now : Site) (s u after : State) (m : ℕ) → u.made ≡ after.made → CountsOn r old new before now s u m → CountsOn r old new before now s after m
-count_same r old new before now s u after m same first = record {
-  log = ok_as r _ _ (λ more. omega (arith, more, same)) first.log;
-  blocks = let more = first.blocks in omega (arith, more, same);
-  masters = first.masters;
-  saved = first.saved;
-}
 
 -- what a command leaves is known
 pub count_known : {T E : Type 0} (r : Result T E) (old new : Engine) (before now : Site) (s : State) (o known : Outcome) (m : ℕ) → o ≡ known → CountsOn r old new before now s known.after m → CountsOn r old new before now s o.after m
@@ -91,13 +82,6 @@ next_there engine site s fits going = hi_on engine.store.log.geometry (sizes_of 
 pub count_nothing : {T E : Type 0} (r : Result T E) (engine : Engine) (site : Site) (s after : State) → Fits engine site s → MayGoOn engine site → s.made ≤ after.made → CountsOn r engine engine site site s after 0
 count_nothing r engine site s after fits going few =
     counts r engine engine site site s after 0 0 (skips_nothing r (sizes_of engine.store) engine.store.log site 0 (next_there engine site s fits going)) (omega (arith, few))
-
--- a command is refused
-pub count_none : {T E : Type 0} (r : Result T E) (engine : Engine) (site : Site) (s : State) (o : Outcome) (answered : Reply) → Fits engine site s → MayGoOn engine site → o ≡ record { after = s; reply = answered } → CountsOn r engine engine site site s o.after 0
-count_none r engine site s o answered fits going is = count_known r engine engine site site s o (record { after = s; reply = answered }) 0 is (count_nothing r engine site s s fits going (omega arith))
-
-pub rest_counts : RestCountsNothing
-rest_counts result engine site s fits going = count_nothing result engine site s s fits going (omega arith)
 
 -- A checkpoint comes first.
 
@@ -128,16 +112,12 @@ run_makes s command = by (refusal s command)
 
 -- A restart.
 
-if_ok_as : {A E : Type 0} (r : Result A E) (P Q : A → Type 0) → ((x : A) → P x → Q x) → IfOk r P → IfOk r Q
-if_ok_as (Ok x) P Q f p = f x p
-if_ok_as (Err e) P Q f p = tt
-
 -- where nothing of the log is unsealed, its blocks are those of the ring
 pub opened_next : (opened : Opened) (site : Site) (newest : Option Master) (blocks : List (List LogRecord)) (table : List Content) (commits : ℕ) → IsReady opened site newest blocks table commits → opened.log.geometry ≡ opened.pages.flash.geometry → opened.log.used ≡ 2
     → blocks_to opened.log ≡ hi_of (log_shape opened.pages.flash.geometry) site.image.log
 opened_next opened site newest blocks table commits h same empty =
     let hi = hi_on opened.log.geometry opened.pages.flash.geometry opened.log site.image same h.opened_is.ready.blocks.hi in
-    let none : tail_blocks (has_tail opened.log) ≡ 0 = ap tail_blocks (no_tail opened.log empty) in
+    let none : tail_blocks (has_tail opened.log) ≡ 0 = ap tail_blocks (none_now opened.log empty) in
     omega (arith, hi, none)
 
 -- it stops
@@ -189,7 +169,7 @@ restart_behind r f g g' records before middle now sizes same first =
     let blocks : hi_of (log_shape g') middle.image.log ≡ hi_of (log_shape g') before.image.log = ap (λ (i : Image). hi_of (log_shape g') i.log) same in
     let masters : hi_of master_shape middle.image.log ≡ hi_of master_shape before.image.log = ap (λ (i : Image). hi_of master_shape i.log) same in
     record {
-      log = if_ok_as r _ _ (λ x more. omega (arith, more, blocks)) all.log;
+      log = if_ok_one r _ _ (λ x more. omega (arith, more, blocks)) all.log;
       blocks = let more = all.blocks in omega (arith, more, blocks);
       masters = let more = all.masters in omega (arith, more, masters);
       saved = ok_as r _ _ (λ more. let is : hi_of master_shape now.image.log ≡ hi_of master_shape before.image.log + 1 = omega (arith, more, masters) in is) all.saved;

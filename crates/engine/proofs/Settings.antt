@@ -84,12 +84,10 @@ pub may_begin : (engine : Engine) (old : Site) (s : State) (fits : Fits engine o
     MayGrow engine.store old fits.newest fits.records (begin_at txn)
 may_begin engine old s fits txn behind room blocks cap =
     let fresh = fresh_behind engine.store old fits.newest fits.records s.table s.commits txn fits.holds behind in
-    let owes = owed_begin fits.records txn fresh in
-    let are = fits.sessions.owes in
     record {
       follows = begin_follows (master_of fits.newest) (versions_on (sizes_of engine.store) old.image) fits.records txn fresh;
       no_commit = refl;
-      room = omega (arith, owes, are, room, blocks, cap);
+      room = omega (arith, owed_begin fits.records txn fresh, fits.sessions.owes, room, blocks, cap);
     }
 
 module _ (engine : Engine) (old : Site) (s : State) (number : ℕ) (fits : Fits engine old s) (table : IsTable engine.active) (less : number < 32 * (sizes_of engine.store).pages)
@@ -111,20 +109,15 @@ module _ (engine : Engine) (old : Site) (s : State) (number : ℕ) (fits : Fits 
       let log = fits.records ++ begin_at txn ∷ [] in
       let versions = versions_on (sizes_of store) site.image in
       let before : Content = shown log versions number in
-      let e = update_at txn lsn number before after in
       let is = place in
-      let all = count_of_versions (sizes_of store) site.image in
       let pages = ap (λ (g : Geometry). g.pages) same in
-      let within : 32 * (number / 32) + number % 32 < 32 * length versions = omega (arith, less, is, all, pages) in
+      let within : 32 * (number / 32) + number % 32 < 32 * length versions = omega (arith, less, is, count_of_versions (sizes_of store) site.image, pages) in
       let free_here : IsFreeFor log txn number = free_begun fits.records txn number (free fits.newest fits.records engine.active s fits.sessions table number (unwritten s number (sym (busy_write_is engine.locks s fits.locks_are None number) ∙ unlocked))) in
-      let owes_begin = owed_begin fits.records txn fresh in
-      let owes = owed_update log e refl begun.lives.not_closed begun.chain in
-      let are = fits.sessions.owes in
-      let count = ap (λ (g : Geometry). g.blocks) same in
+      let owes = owed_update log (update_at txn lsn number before after) refl begun.lives.not_closed begun.chain in
       record {
         follows = active_may_write (master_of fits.newest) versions log lsn txn txn (number / 32) (number % 32) [] before after begun within (subst (IsFreeFor log txn) (sym is) free_here) (ap (shown log versions) (sym is));
         no_commit = refl;
-        room = omega (arith, owes, owes_begin, are, room, blocks, cap, more, count, kept);
+        room = omega (arith, owes, owed_begin fits.records txn fresh, fits.sessions.owes, room, blocks, cap, more, ap (λ (g : Geometry). g.blocks) same, kept);
       }
 
   -- both are logged
@@ -133,8 +126,6 @@ module _ (engine : Engine) (old : Site) (s : State) (number : ℕ) (fits : Fits 
   one_write store site lsn before after holds =
       let log = fits.records ++ begin_at txn ∷ [] in
       let e = update_at txn lsn number before after in
-      let owes_begin = owed_begin fits.records txn fresh in
-      let owes = owed_update log e refl begun.lives.not_closed begun.chain in
       record {
         log = log ++ e ∷ [];
         fresh = fresh;
@@ -142,7 +133,7 @@ module _ (engine : Engine) (old : Site) (s : State) (number : ℕ) (fits : Fits 
         holds = holds;
         last = lsn;
         active = subst (λ (n : ℕ). IsActive (master_of fits.newest) (log ++ e ∷ []) txn lsn ((n, after) ∷ [])) place (active_writes (master_of fits.newest) log lsn txn txn (number / 32) (number % 32) [] before after begun);
-        owes = omega (arith, owes, owes_begin);
+        owes = omega (arith, owed_update log e refl begun.lives.not_closed begun.chain, owed_begin fits.records txn fresh);
       }
 
 -- The sessions are as they were.
@@ -172,7 +163,6 @@ pub set_fits : (engine one last : Engine) (old between new : Site) (s : State) (
 set_fits engine one last old between new s number txn lsn after fits w honest holds rest_one rest_last commits made_one made_last =
     let e : Entry = record { lsn = lsn; rec = Commit txn (one.commits + 1) } in
     let log = w.log ++ e ∷ [] in
-    let begun = fits.counts.made in
     let owes_two = active_owes (master_of fits.newest) w.log txn w.last ((number, after) ∷ []) w.active in
     let owes = owed_closing w.log e refl w.active.lives.not_closed w.active.chain in
     let before = w.owes in
@@ -187,7 +177,7 @@ set_fits engine one last old between new s number txn lsn after fits w honest ho
       holds = subst (λ (ws : List Write). Holds last.store new fits.newest log (table_with s.table ws) (s.commits + 1)) (sym w.active.writes_are) holds;
       counts = record {
         commits = commits ∙ ap (λ (n : ℕ). n + 1) (ap (λ (x : Engine). x.commits) rest_one ∙ fits.counts.commits);
-        made = omega (arith, made_last, made_one, begun);
+        made = omega (arith, made_last, made_one, fits.counts.made);
         cap = ap (λ (x : Engine). x.cap) engine_is ∙ fits.counts.cap;
       };
       sessions = record { count = kept.count; each = kept.each; all = kept.all; owes = kept.owes; differ = kept.differ };

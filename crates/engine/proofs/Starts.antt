@@ -54,7 +54,6 @@ pub started : OwedNone → (g : Geometry) (image : Image) (site : Site) (s : Sta
 started law g image site s restarted engine honest opening done blocks store_is commits_is cap_is active_is locks_is =
     let sessions_are : s.sessions ≡ replicate 8 None = ap (λ (x : State). x.sessions) opening.state in
     let sessions = subst (λ (a : List Active). SessionsAre done.newest done.records a s) (sym active_is) (idle done.newest done.records s done.finished (law done.records done.finished) sessions_are) in
-    let locks = subst (λ (l : List Lock). LocksAre l s) (sym locks_is) (unlocked s sessions_are) in
     record {
       honest = honest;
       newest = done.newest;
@@ -63,13 +62,11 @@ started law g image site s restarted engine honest opening done blocks store_is 
       counts = record {
         commits = commits_is ∙ done.commits_are;
         made =
-            let store_made = ap (λ (j : Store). j.made) store_is in
-            let all = done.made in
             let made = ap (λ (x : State). x.made) opening.state in
             let none : s.kept ≡ 0 = ap (λ (x : State). x.kept) opening.state in
-            omega (arith, store_made, all, made, none);
+            omega (arith, ap (λ (j : Store). j.made) store_is, done.made, made, none);
         cap = cap_is ∙ ap (λ (n : ℕ). n - 1) blocks ∙ sym (ap (λ (x : State). x.cap) opening.state);
       };
       sessions = sessions;
-      locks_are = locks;
+      locks_are = subst (λ (l : List Lock). LocksAre l s) (sym locks_is) (unlocked s sessions_are);
     }

@@ -157,13 +157,11 @@ may_write engine site s fits entry number lsn after table at less free room bloc
     let only : IsFreeFor fits.records entry.begin number = free_for fits.newest fits.records engine.active s fits.sessions table n number entry at none in
     let size = count_of_versions (sizes_of engine.store) site.image in
     let place = page_and_slot number in
-    let owes = owed_update fits.records e refl active.lives.not_closed active.chain in
-    let are = fits.sessions.owes in
     record {
       follows = active_may_write (master_of fits.newest) versions fits.records lsn entry.begin entry.last (number / 32) (number % 32) found.session.writes before after active
           (omega (arith, place, less, size)) (subst (IsFreeFor fits.records entry.begin) (sym place) only) (ap (shown fits.records versions) (sym place));
       no_commit = refl;
-      room = omega (arith, owes, are, room, blocks, cap);
+      room = omega (arith, owed_update fits.records e refl active.lives.not_closed active.chain, fits.sessions.owes, room, blocks, cap);
     }
 
 pub write_fits : (engine last : Engine) (old new : Site) (s : State) (entry : Active) (number lsn : ℕ) (before after : Content) (fits : Fits engine old s) → IsTable engine.active → entry_of engine.active entry.session ≡ Some entry → IsTrue new.honest →
@@ -176,10 +174,8 @@ write_fits engine last old new s entry number lsn before after fits table at hon
     let e : Entry = record { lsn = lsn; rec = update_by entry.begin entry.last number before after } in
     let found = some_active fits.newest fits.records engine.active s fits.sessions n entry at in
     let small = (entry_is engine.active n entry table at).small in
-    let count = fits.sessions.count in
-    let place = page_and_slot number in
     let more : SessionsAre fits.newest (fits.records ++ e ∷ []) last.active (with_write s n (number, after)) =
-    subst (λ (k : ℕ). SessionsAre fits.newest (fits.records ++ e ∷ []) last.active (with_write s n (k, after))) place
+    subst (λ (k : ℕ). SessionsAre fits.newest (fits.records ++ e ∷ []) last.active (with_write s n (k, after))) (page_and_slot number)
     (wrote_more fits.newest fits.records engine.active last.active s n lsn (number / 32) (number % 32) entry before after fits.sessions small at changes owes) in
     record {
       honest = honest;
@@ -188,7 +184,7 @@ write_fits engine last old new s entry number lsn before after fits table at hon
       holds = holds;
       counts = record { commits = commits ∙ fits.counts.commits; made = let before = fits.counts.made in omega (arith, made, before); cap = cap ∙ fits.counts.cap };
       sessions = more;
-      locks_are = added_write engine.locks last.locks s n number after found.session (omega (arith, small, count)) found.is adds fits.locks_are;
+      locks_are = added_write engine.locks last.locks s n number after found.session (omega (arith, small, fits.sessions.count)) found.is adds fits.locks_are;
     }
 
 -- A read.
@@ -231,7 +227,6 @@ pub read_fits : (engine : Engine) (held : _) (site : Site) (s : State) (n number
 read_fits engine held site s n number entry fits table at adds =
     let found = some_active fits.newest fits.records engine.active s fits.sessions n entry at in
     let small = (entry_is engine.active n entry table at).small in
-    let count = fits.sessions.count in
     record {
       honest = fits.honest;
       newest = fits.newest;
@@ -239,5 +234,5 @@ read_fits engine held site s n number entry fits table at adds =
       holds = fits.holds;
       counts = record { commits = fits.counts.commits; made = fits.counts.made; cap = fits.counts.cap };
       sessions = read_more fits.newest fits.records engine.active s n number entry fits.sessions small at;
-      locks_are = added_read engine.locks held s n number found.session (omega (arith, small, count)) found.is adds fits.locks_are;
+      locks_are = added_read engine.locks held s n number found.session (omega (arith, small, fits.sessions.count)) found.is adds fits.locks_are;
     }

@@ -81,8 +81,7 @@ live_then live content groups count long few some = by (nat_le (groups - 1) coun
         let one : length (live ++ content ∷ []) - (groups - 1) ≡ 1 = let size = more in omega (arith, size, long, few, full) in
         ap (λ (n : ℕ). drop n (live ++ content ∷ [])) one ∙ drop-append-le 1 live (content ∷ []) (omega (arith, long, full, some))
     by false is =
-        let room = leb-false (groups - 1) count is in
-        let none : length (live ++ content ∷ []) - (groups - 1) ≡ 0 = let size = more in omega (arith, size, long, room) in
+        let none : length (live ++ content ∷ []) - (groups - 1) ≡ 0 = let size = more in omega (arith, size, long, leb-false (groups - 1) count is) in
         ap (λ (n : ℕ). drop n (live ++ content ∷ [])) none
 
 module _ (log : LogStore) (list : LogList) (store store' : PageStore) (mid new : State) (ready : AreReady store log list mid) (fits : held.Fits store'.flash new) (geometry : store'.flash.geometry ≡ store.flash.geometry)
@@ -111,10 +110,7 @@ module _ (log : LogStore) (list : LogList) (store store' : PageStore) (mid new :
 
   count : length (units_on (group_shape g) mid.image).live ≡ length store.flash.directory.groups
   count =
-      let own = ready.pages.holds.has.next in
-      let hi = ready.pages.flash.hi in
-      let same = ap length ready.pages.holds.has.live ∙ length-map ready.pages.groups group in
-      omega (arith, own, hi, next, same)
+      omega (arith, ready.pages.holds.has.next, ready.pages.flash.hi, next, ap length ready.pages.holds.has.live ∙ length-map ready.pages.groups group)
 
   pub has_pushed : HasPushed s frames store' new.image
   has_pushed = record {

@@ -1,5 +1,5 @@
 -- Stores beside calls of others.
-use Rattle.std.proofs.Common.{◌≡◌, ◌≢◌, ◌==◌, ℕ, ◌*◌, ◌≤◌, Bool, true, false, ◌||◌, cond, List, [], ◌∷◌, arith, refl, sym, ap, subst, ◌∙◌}
+use Rattle.std.proofs.Common.{◌≡◌, ◌≢◌, ℕ, ◌*◌, ◌≤◌, List, [], ◌∷◌, arith, sym, ap, subst, ◌∙◌}
 use Rattle.site.specs.declared.outside.Dev.TheVariants.{Log, Flash, Disk}
 use Rattle.site.specs.declared.geometry.Geometry.{Geometry}
 use Rattle.site.specs.Laws.{stays_honest}
@@ -8,25 +8,11 @@ use Rattle.image_changes.specs.Laws.{RingKept}
 use Rattle.flash_cache.specs.Held.{version_on}
 use Rattle.buffer_pool.specs.declared.frame.Frame.{Frame}
 use Rattle.buffer_pool.specs.Frames.{frame_of}
-use Rattle.second_chance.specs.Machine.{Cache, is_changed, without, holds, with_room}
-use Rattle.second_chance.specs.Queue.{with_read}
 use Rattle.page_store.specs.Held.{content_by}
 use Rattle.page_store.specs.Ahead.{IsLogged, AreLogged, sealed_end, end_forced}
-use Rattle.page_store.specs.Laws.{TouchThenChange, GoesOnBeside, FitsBeside, CurrentBeside, AheadBeside, VersionsBeside, LeavesBeside, SealedBeside}
+use Rattle.page_store.specs.Laws.{GoesOnBeside, FitsBeside, CurrentBeside, AheadBeside, VersionsBeside, LeavesBeside, SealedBeside}
 use Rattle.page_store.proofs.PushLaws.{version_same, clean_same, flash_fits_same, flash_holds_same, logged_more, force_leaves, force_sealed}
 use Rattle.page_store.proofs.Versions.{pages_later}
-
-pub touch_then_change : TouchThenChange
-touch_then_change r page cache =
-    let room : Cache = with_room r page cache in
-    λ i. let c : Cache = record {
-      pool = record { page = page; changed = or_true (is_changed room.pool page) i } ∷ without (λ other. other == page) room.pool;
-      queue = cond (holds room.pool page) room.queue (with_read page room.queue);
-    } in c
-  where
-    or_true : (b : Bool) → (b || true) ≡ true
-    or_true true = refl
-    or_true false = refl
 
 pub goes_on_beside : GoesOnBeside
 goes_on_beside store old new goes going = pages_later store old new goes going

@@ -1,6 +1,6 @@
 -- Calls on pages one after the other, each known by its record.
 use Rattle.std.proofs.Common.{◌≡◌, ℕ, ◌+◌, Bool, true, false, true≢false, ◌||◌, cond, List, [], ◌++◌, refl, sym, subst, ap, ◌∙◌, arith}
-use Rattle.std.specs.Prelude.{Result, Ok, Err, IsErrOf}
+use Rattle.std.specs.Prelude.{Result, Ok, Err, OnOk, IfErr, IsErrOf}
 use Rattle.std.specs.List.{AllByRecursion}
 use Rattle.site.specs.declared.geometry.Geometry.{Geometry}
 use Rattle.site.specs.declared.outside.Dev.TheVariants.{Log, Flash}
@@ -8,6 +8,7 @@ use Rattle.site.specs.declared.outside.Stop.{Stop}
 use Rattle.site.specs.declared.outside.Stop.TheVariants.{Worn, Foreign}
 use Rattle.site.specs.State.{State, Image, IsQuiet, snapshot_of}
 use Rattle.site.specs.Calls.{IsUnchanged}
+use Rattle.site.specs.Work.{Calls}
 use Rattle.site.specs.Moments.{Leaves, LeavesOnly}
 use Rattle.site.specs.Laws.{unchanged_calm, in_sequence, leaves_weaker}
 use Rattle.site.proofs.Working.{no_error, err_always, ok_as, ok_always, calls_then, calls_failed}
@@ -23,11 +24,11 @@ use Rattle.log_store.specs.declared.store.LogStore.{LogStore}
 use Rattle.log_store.specs.Held.{has_tail, HasRoom}
 use Rattle.log_store.specs.LogList.{LogList, sealed_if}
 use Rattle.page_store.specs.declared.store.PageStore.{PageStore}
-use Rattle.page_store.specs.Held.{current}
+use Rattle.page_store.specs.Held.{MayGoOn, current}
 use Rattle.page_store.specs.Ahead.{IsLogged, AreSealed, LeavesSealed, AreLogged, end_forced, forces}
 use Rattle.page_store.specs.Leaves.{AreReady, LeavesPages, LeavesRings, AreGiven, KeepsCurrent}
-use Rattle.page_store.specs.Stopping.{IsLogAtEnd}
-use Rattle.page_store.specs.Calls.{Forces, Works, Pushes, StopsAtEnd, Keeps, Stands, KeepsGiven, StandsGiven}
+use Rattle.page_store.specs.Stopping.{MayStop, IsLogAtEnd}
+use Rattle.page_store.specs.Calls.{MayWork, Forces, Works, Pushes, StopsAtEnd, Keeps, Stands, KeepsGiven, StandsGiven}
 use Rattle.page_store.proofs.Evictions.{same_pages, stays_pages, stays_sealed}
 use Rattle.page_store.proofs.Bringing.{current_again}
 use Rattle.page_store.proofs.Rounds.{sealed_again, more_sealed, one_more_pages, one_more_push}
@@ -56,15 +57,36 @@ stands_as {old = old} {new = new} {pages = pages} {pages' = pages'} {before = be
 
 -- Nothing is called.
 
-pub forces_nothing : {T : Type 0} {x : T} {log : LogStore} {sealing : Bool} → sealing ≡ false → (has_tail log ≡ true → HasRoom log) → Forces {T = T} (Ok x) log log sealing
-forces_nothing {log = log} none room = record {
-  next = sym (ap {B = ℕ} (λ (b : Bool). cond b (log.ring.hi + 1) log.ring.hi) none);
+pub forces_still : {T : Type 0} (r : Result T Stop) {log : LogStore} {sealing : Bool} → OnOk r (sealing ≡ false) → (has_tail log ≡ true → HasRoom log) → Forces r log log sealing
+forces_still r {log = log} none room = record {
+  next = ok_as r _ _ (λ is. sym (ap {B = ℕ} (λ (b : Bool). cond b (log.ring.hi + 1) log.ring.hi) is)) none;
   rises = omega arith;
-  end = refl;
-  grows = omega arith;
-  room = room;
+  end = ok_always r _ refl;
+  grows = ok_always r _ (omega arith);
+  room = ok_always r _ room;
   kept = refl;
   geometry = refl;
+}
+
+pub pushes_still : {T : Type 0} (r : Result T Stop) {log : LogStore} {pages pages' : PageStore} {site : State} {sealing : Bool} → Calls r site site →
+    IfErr r (λ stop. MayStop stop) → OnOk r (sealing ≡ false) → MayWork log pages site →
+    MayGoOn pages' site → pages'.flash.geometry ≡ pages.flash.geometry → pages'.pool.size ≡ pages.pool.size → pages'.ended ≡ pages.ended →
+    (AreLogged (end_forced log) pages.pool.frames → AreLogged (end_forced log) pages'.pool.frames) →
+    Pushes r log log pages pages' site site sealing
+pushes_still r calls stops none may going geometry size ended logged = record {
+  works = record {
+    calls = calls;
+    forces = forces_still r none may.room;
+    going = going;
+    log_going = may.log_going;
+    geometry = geometry;
+    size = size;
+    log_reads = refl;
+    stops = stops;
+  };
+  logged = λ all. ok_always r _ (logged all);
+  ended = ended;
+  others = λ d other. refl;
 }
 
 pub keeps_still : {T : Type 0} {r : Result T Stop} {log : LogStore} {pages : PageStore} {site : State} {list : LogList} {sealing : Bool} {changes : List Change} → log.geometry ≡ pages.flash.geometry → AreReady pages log list site →
@@ -127,13 +149,11 @@ keeps_read {r = r} {pages = pages} {before = before} {between = between} {now = 
 
 pub forces_then : {A B : Type 0} {a : A} {r : Result B Stop} {old mid new : LogStore} {b f : Bool} → (b ≡ true → f ≡ false) → Forces {T = A} (Ok a) old mid b → Forces r mid new f → Forces r old new (b || f)
 forces_then {r = r} {old = old} {mid = mid} {new = new} {b = b} {f = f} once first second =
-    let rises = first.rises in
-    let grows = first.grows in
     record {
       next = ok_as r _ _ (next b f once first.next) second.next;
-      rises = omega (arith, rises, second.rises);
+      rises = omega (arith, first.rises, second.rises);
       end = ok_as r _ _ (λ more. more ∙ first.end) second.end;
-      grows = ok_as r _ _ (λ more. omega (arith, grows, more)) second.grows;
+      grows = ok_as r _ _ (λ more. omega (arith, first.grows, more)) second.grows;
       room = second.room;
       kept = second.kept ∙ first.kept;
       geometry = second.geometry ∙ first.geometry;
@@ -162,6 +182,29 @@ pushes_then once first second = record {
   ended = second.ended ∙ first.ended;
   others = λ d other. second.others d other ∙ first.others d other;
 }
+
+-- a push, where the pool is another one before it, or behind it
+pub pushes_with : {T : Type 0} {r : Result T Stop} {old new : LogStore} {pages between middle after : PageStore} {before now : State} {sealing : Bool} →
+    Pushes r old new between middle before now sealing →
+    MayGoOn after now → after.flash.geometry ≡ pages.flash.geometry → after.pool.size ≡ pages.pool.size → after.ended ≡ pages.ended →
+    (AreLogged (end_forced old) pages.pool.frames → OnOk r (AreLogged (end_forced new) after.pool.frames)) → Pushes r old new pages after before now sealing
+pushes_with push going geometry size ended logged =
+    let works = push.works in
+    record {
+      works = record {
+        calls = works.calls;
+        forces = works.forces;
+        going = going;
+        log_going = works.log_going;
+        geometry = geometry;
+        size = size;
+        log_reads = works.log_reads;
+        stops = works.stops;
+      };
+      logged = logged;
+      ended = ended;
+      others = push.others;
+    }
 
 -- an error says nothing of what is sealed
 pub pushes_failed : {A B : Type 0} {stop : Stop} {old new : LogStore} {pages pages' : PageStore} {before now : State} {a b : Bool} → Pushes {T = A} (Err stop) old new pages pages' before now a → Pushes {T = B} (Err stop) old new pages pages' before now b

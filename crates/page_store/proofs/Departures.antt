@@ -29,14 +29,14 @@ use Rattle.page_store.specs.Leaves.{AreReady, AreGiven, Gives, AreChanged, Keeps
 use Rattle.page_store.proofs.Pools.{absent}
 use Rattle.page_store.proofs.Clearing.{is_among}
 use Rattle.page_store.proofs.Saving.{all_both, all_weaker, all_reverse, distinct_reverse, found_all}
-use Rattle.page_store.proofs.Removing.{store_part, page_of, frames_without, all_left, pulled_few, all_pulled, pulled_move, pulled_apart, pool_left}
+use Rattle.page_store.proofs.Removing.{absent_part, few_part, store_part, page_of, frames_without, all_left, pulled_few, all_pulled, pulled_move, pulled_apart, pool_left}
 use Rattle.page_store.proofs.Choosing.{room_some}
 use Rattle.page_store.proofs.Movable.{pulled_of}
 use Rattle.std.specs.List.{All}
 use Rattle.std.proofs.lemmas.List.{length-map}
 use Rattle.slotted_page.specs.Layout.{IsSound}
 use Rattle.page_store.specs.Ahead.{AreLogged, end_forced}
-use Rattle.page_store.proofs.Evictions.{all_front, all_last, distinct_front, reverse_last, not_forced}
+use Rattle.page_store.proofs.Evictions.{all_front, distinct_front, reverse_last, not_forced}
 use Rattle.page_store.proofs.PushLaws.{or_listed}
 use Rattle.page_store.proofs.Saving.{all_index, all_map, pages_apart}
 use Rattle.page_store.proofs.Touching.{all_found}
@@ -114,22 +114,28 @@ all_gone P (x ∷ xs) all = (
 
 -- The store.
 
-module _ (store : PageStore) (rest : Pool) (last : Frame) (is : store.pool.frames ≡ rest.frames ++ last ∷ []) (one : IsLast rest.frames last) where
+-- The coldest page has left the pool: it stood last there.
+pub record HasLeft (store : PageStore) (rest : Pool) (last : Frame) : Type 0 where
+  pub is : store.pool.frames ≡ rest.frames ++ last ∷ []
+  pub one : IsLast rest.frames last
+  pub size : rest.size ≡ store.pool.size
+
+module _ (store : PageStore) (rest : Pool) (last : Frame) (h : HasLeft store rest last) where
   abbrev smaller : PageStore
   smaller = record store { pool = rest }
 
   own : frame_of store.pool.frames last.page ≡ Some last
-  own = ap (λ (frames : List Frame). frame_of frames last.page) is ∙ one.own
+  own = ap (λ (frames : List Frame). frame_of frames last.page) h.is ∙ h.one.own
 
   others : (n : ℕ) → n ≢ last.page → frame_of rest.frames n ≡ frame_of store.pool.frames n
-  others n ne = one.others n ne ∙ ap (λ (frames : List Frame). frame_of frames n) (sym is)
+  others n ne = h.one.others n ne ∙ ap (λ (frames : List Frame). frame_of frames n) (sym h.is)
 
   -- the pages that are pushed, where the coldest one is
   abbrev gone : List Frame
   gone = last ∷ pulled smaller
 
   evicted_is : evicted_frames store ≡ cond (must_be_pushed store.flash.directory (pool_page last)) gone []
-  evicted_is = ap (evicted_of (rules store) store.flash.directory) (ap reverse is ∙ reverse_last rest.frames last)
+  evicted_is = ap (evicted_of (rules store) store.flash.directory) (ap reverse h.is ∙ reverse_last rest.frames last)
 
   pub none_evicted : must_be_pushed store.flash.directory (pool_page last) ≡ false → evicted_frames store ≡ []
   none_evicted must = evicted_is ∙ ap (λ b. cond b gone []) must
@@ -140,26 +146,23 @@ module _ (store : PageStore) (rest : Pool) (last : Frame) (is : store.pool.frame
   pub none_forced : (log : LogStore) → must_be_pushed store.flash.directory (pool_page last) ≡ false → forces log (evicted store) ≡ false
   none_forced log must = ap (λ (l : List Frame). forces log (map (λ (f : Frame). f.content) l)) (none_evicted must) ∙ not_forced log
 
-  pub rest_going : (site : State) → rest.size ≡ store.pool.size → MayGoOn store site → MayGoOn smaller site
-  rest_going site size going = record {
+  pub rest_going : (site : State) → MayGoOn store site → MayGoOn smaller site
+  rest_going site going = record {
     flash = going.flash;
     own = record {
-      least = subst (λ n. 1 ≤ n) (sym size) going.own.least;
-      most = subst (λ n. n ≤ 4096) (sym size) going.own.most;
+      least = subst (λ n. 1 ≤ n) (sym h.size) going.own.least;
+      most = subst (λ n. n ≤ 4096) (sym h.size) going.own.most;
       pool = record {
-        few = let few = going.own.pool.few in let longer = ap length is in omega (arith, few, longer, size, length-append rest.frames (last ∷ []));
-        distinct = distinct_front rest.frames last (subst AreDistinct is going.own.pool.distinct);
+        few = let few = going.own.pool.few in let longer = ap length h.is in omega (arith, few, longer, h.size, length-append rest.frames (last ∷ []));
+        distinct = distinct_front rest.frames last (subst AreDistinct h.is going.own.pool.distinct);
       };
-      pages = all_front (IsPage store.flash.geometry.pages) rest.frames last (subst (AllByRecursion (IsPage store.flash.geometry.pages)) is going.own.pages);
+      pages = all_front (IsPage store.flash.geometry.pages) rest.frames last (subst (AllByRecursion (IsPage store.flash.geometry.pages)) h.is going.own.pages);
     };
   }
 
-  pub last_page : IsStore store → IsPage store.flash.geometry.pages last
-  last_page own = all_last (IsPage store.flash.geometry.pages) rest.frames last (subst (AllByRecursion (IsPage store.flash.geometry.pages)) is own.pages)
-
   rest_unchanged : (site : State) (n : ℕ) (frame : Frame) → Fits store site → frame_of rest.frames n ≡ Some frame → frame.changed ≡ false → (n ≡ last.page) ⊎ (n ≢ last.page)
       → frame.content ≡ version_on store.flash.geometry site.image n
-  rest_unchanged site n frame fits found unchanged (inl same) = absurd (none-some frame (sym one.gone ∙ ap (frame_of rest.frames) (sym same) ∙ found))
+  rest_unchanged site n frame fits found unchanged (inl same) = absurd (none-some frame (sym h.one.gone ∙ ap (frame_of rest.frames) (sym same) ∙ found))
   rest_unchanged site n frame fits found unchanged (inr other) = fits.unchanged n frame (sym (others n other) ∙ found) unchanged
 
   pub rest_fits : (site : State) → Fits store site → Fits smaller site
@@ -186,26 +189,26 @@ module _ (store : PageStore) (rest : Pool) (last : Frame) (is : store.pool.frame
       by : (page : ℕ) → (page ≡ last.page) ⊎ (page ≢ last.page) → current smaller site.image page ≡ current store site.image page
       by page (inl same) =
           ap (current smaller site.image) same
-          ∙ ap (λ o. content_by o (version_on store.flash.geometry site.image last.page)) one.gone
+          ∙ ap (λ o. content_by o (version_on store.flash.geometry site.image last.page)) h.one.gone
           ∙ sym (fits.unchanged last.page last own (unmarked last.changed (has_frame store.flash.directory last.page) must))
           ∙ sym (ap (λ o. content_by o (version_on store.flash.geometry site.image last.page)) own)
           ∙ ap (current store site.image) (sym same)
       by page (inr other) = ap (λ o. content_by o (version_on store.flash.geometry site.image page)) (others page other)
 
   pub rest_logged : (end : ℕ) → AllByRecursion (λ (frame : Frame). IsLogged end frame.content) store.pool.frames → AllByRecursion (λ (frame : Frame). IsLogged end frame.content) rest.frames
-  rest_logged end all = all_front (λ (frame : Frame). IsLogged end frame.content) rest.frames last (subst (AllByRecursion (λ (frame : Frame). IsLogged end frame.content)) is all)
+  rest_logged end all = all_front (λ (frame : Frame). IsLogged end frame.content) rest.frames last (subst (AllByRecursion (λ (frame : Frame). IsLogged end frame.content)) h.is all)
 
   pub absent_rest : (page : ℕ) → frame_of store.pool.frames page ≡ None → frame_of rest.frames page ≡ None
   absent_rest page none = by (cases_eq page last.page)
     where
       by : (page ≡ last.page) ⊎ (page ≢ last.page) → frame_of rest.frames page ≡ None
-      by (inl same) = ap (frame_of rest.frames) same ∙ one.gone
+      by (inl same) = ap (frame_of rest.frames) same ∙ h.one.gone
       by (inr other) = others page other ∙ none
 
   -- The pages that are pushed are the pool's own, each once.
 
   not_last : AllByRecursion (λ (f : Frame). f.page ≢ last.page) rest.frames
-  not_last = all_weaker (λ (f : Frame). last.page ≢ f.page) (λ (f : Frame). f.page ≢ last.page) (λ f ne same. ne (sym same)) rest.frames (absent rest.frames last.page one.gone)
+  not_last = all_weaker (λ (f : Frame). last.page ≢ f.page) (λ (f : Frame). f.page ≢ last.page) (λ f ne same. ne (sym same)) rest.frames (absent rest.frames last.page h.one.gone)
 
   module _ (distinct : AreDistinct rest.frames) where
     pulled_found : AllByRecursion (λ (f : Frame). frame_of rest.frames f.page ≡ Some f) (pulled smaller)
@@ -235,7 +238,7 @@ module _ (store : PageStore) (rest : Pool) (last : Frame) (is : store.pool.frame
     pub gone_without : WithoutTakesOne → IsWithout store.pool.frames (without_all (map page_of (pulled smaller)) rest.frames) gone
     gone_without law = record {
       absent = (
-        frames_without law (map page_of (pulled smaller)) rest.frames last.page ∙ ap (λ (o : Option Frame). cond (is_among (map page_of (pulled smaller)) last.page) None o) one.gone ∙ none_either (is_among (map page_of (pulled smaller)) last.page),
+        frames_without law (map page_of (pulled smaller)) rest.frames last.page ∙ ap (λ (o : Option Frame). cond (is_among (map page_of (pulled smaller)) last.page) None o) h.one.gone ∙ none_either (is_among (map page_of (pulled smaller)) last.page),
         all_gone (λ (n : ℕ). frame_of (without_all (map page_of (pulled smaller)) rest.frames) n ≡ None) (pulled smaller) (λ n is. frames_without law (map page_of (pulled smaller)) rest.frames n ∙ ap (λ (b : Bool). cond b None (frame_of rest.frames n)) is),
       );
       others = λ n none.
@@ -351,10 +354,7 @@ with_parts P {a = a} {a' = a'} {b = b} {b' = b'} {c = c} first second third p =
 -- All that a push of the coldest page and of those that are pulled with it asks, and what it makes.
 
 pub record Departs (store : PageStore) (pool : Pool) (pages : List ℕ) (changed : List Bool) (contents : List (List ℕ)) : Type 0 where
-  pub some : 1 ≤ length pages
   pub few : length (pages_pushed store.flash pages) ≤ 8
-  pub marks : length changed ≡ length pages
-  pub lists : length contents ≡ length pages
   pub exist : All (λ (page : ℕ). page < store.flash.geometry.pages) pages
   pub apart : AllPairs (λ (a b : ℕ). a ≢ b) pages
   pub forced : (log : LogStore) → forces log contents ≡ forces log (evicted store)
@@ -363,28 +363,35 @@ pub record Departs (store : PageStore) (pool : Pool) (pages : List ℕ) (changed
   pub ready : (log : LogStore) (list : LogList) (site : State) → AreReady store log list site → AreReady (record store { pool = pool }) log list site
   pub are_changed : AreChanged (record store { pool = pool }) pages
   pub current : (store' : PageStore) (old new : Image) → store'.pool ≡ pool → store'.flash.geometry ≡ store.flash.geometry → Gives store.flash.geometry pages contents old new → KeepsCurrent store old store' new
-  pub logged : (end : ℕ) → AreLogged end store.pool.frames → AreLogged end pool.frames
   pub machine : (queue : Queue) → queue ≡ pushed_queue store.flash (known_pushed store.flash pages changed) → ◌≡◌ {A = Cache} (record { pool = map pool_page pool.frames; queue = queue }) (evict_coldest (rules store) (cache_of store))
 
--- both may go on
-pub going_left : (log : LogStore) (store : PageStore) (rest : Pool) (last : Frame) (site : State) (pool : Pool) → store.pool.frames ≡ rest.frames ++ last ∷ [] → IsLast rest.frames last → rest.size ≡ store.pool.size
-    → LeavesOut rest.frames pool.frames → pool.size ≡ rest.size → MayWork log store site → MayWork log (record store { pool = pool }) site
-going_left log store rest last site pool is one size part same going =
-    let smaller : PageStore = record store { pool = rest } in
-    let left = rest_going store rest last is one site size going.pages_going in
-    record {
-      pages_going = record { flash = left.flash; own = store_part smaller pool part same left.own };
-      log_going = going.log_going;
-      sizes = going.sizes;
-      room = going.room;
-    }
+-- What is left of the pool once they have left it too.
 
--- and what is left is logged as it was
-pub logged_left : (end : ℕ) (store : PageStore) (rest : Pool) (last : Frame) (pool : Pool) → store.pool.frames ≡ rest.frames ++ last ∷ [] → LeavesOut rest.frames pool.frames → AreLogged end store.pool.frames → AreLogged end pool.frames
-logged_left end store rest last pool is part all = subst (AllByRecursion (λ (f : Frame). IsLogged end f.content)) (sym part.left) (all_left (λ (f : Frame). IsLogged end f.content) part.pages rest.frames
-    (all_front (λ (f : Frame). IsLogged end f.content) rest.frames last (subst (AllByRecursion (λ (f : Frame). IsLogged end f.content)) is all)))
+module _ (store : PageStore) (rest : Pool) (last : Frame) (h : HasLeft store rest last) (pool : Pool) (part : LeavesOut rest.frames pool.frames) where
+  pub going_left : (log : LogStore) (site : State) → pool.size ≡ rest.size → MayWork log store site → MayWork log (record store { pool = pool }) site
+  going_left log site same going = record {
+    pages_going = record {
+      flash = going.pages_going.flash;
+      own = store_part (record store { pool = rest }) pool part same
+          (rest_going store rest last h site going.pages_going).own;
+    };
+    log_going = going.log_going;
+    sizes = going.sizes;
+    room = going.room;
+  }
 
-module _ (store : PageStore) (rest : Pool) (last : Frame) (is : store.pool.frames ≡ rest.frames ++ last ∷ []) (one : IsLast rest.frames last) (disk : UnframedIsDisk) (law : WithoutTakesOne) (whole : IsStore store)
+  pub few_left : length pool.frames < length store.pool.frames
+  few_left = let before = ap length h.is in omega (arith, before, length-append rest.frames (last ∷ []), few_part rest.frames pool.frames part)
+
+  pub absent_left : WithoutTakesOne → (page : ℕ) → frame_of store.pool.frames page ≡ None → frame_of pool.frames page ≡ None
+  absent_left law page none = absent_part law rest.frames pool.frames part page (absent_rest store rest last h page none)
+
+  pub logged_left : (end : ℕ) → AreLogged end store.pool.frames → AreLogged end pool.frames
+  logged_left end all =
+      subst (AllByRecursion (λ (f : Frame). IsLogged end f.content)) (sym part.left)
+      (all_left (λ (f : Frame). IsLogged end f.content) part.pages rest.frames (rest_logged store rest last h end all))
+
+module _ (store : PageStore) (rest : Pool) (last : Frame) (h : HasLeft store rest last) (disk : UnframedIsDisk) (law : WithoutTakesOne) (whole : IsStore store)
     (must : must_be_pushed store.flash.directory (pool_page last) ≡ true) where
   abbrev all_gone_now : List Frame
   all_gone_now = last ∷ pulled (record store { pool = rest })
@@ -393,34 +400,28 @@ module _ (store : PageStore) (rest : Pool) (last : Frame) (is : store.pool.frame
   pool_then = record rest { frames = without_all (map page_of (pulled (record store { pool = rest }))) rest.frames }
 
   rest_distinct : AreDistinct rest.frames
-  rest_distinct = distinct_front rest.frames last (subst AreDistinct is whole.pool.distinct)
+  rest_distinct = distinct_front rest.frames last (subst AreDistinct h.is whole.pool.distinct)
 
   own_departs : Departs store pool_then (map page_of all_gone_now) (map (λ (f : Frame). f.changed) all_gone_now) (map (λ (f : Frame). f.content) all_gone_now)
   own_departs =
       let xs : List Frame = all_gone_now in
-      let found = gone_found store rest last is one rest_distinct in
-      let move = gone_move store rest last is one rest_distinct must in
-      let out = gone_without store rest last is one rest_distinct law in
+      let found = gone_found store rest last h rest_distinct in
+      let out = gone_without store rest last h rest_distinct law in
       let chances : List Placed = chance_marks store.flash in
       let few = pulled_few (rules store) store.flash.directory (reverse rest.frames) in
       let least = room_some (rules store) store.flash.directory in
-      let evicted_are = some_evicted store rest last is one must in
+      let evicted_are = some_evicted store rest last h must in
       record {
-        some = omega arith;
         few = omega (arith, few, least, length-append (map (λ (f : Placed). f.1.page) chances) (map page_of xs), length-map chances (λ (f : Placed). f.1.page), length-map xs page_of);
-        marks = omega (arith, length-map xs page_of, length-map xs (λ (f : Frame). f.changed));
-        lists = omega (arith, length-map xs page_of, length-map xs (λ (f : Frame). f.content));
         exist = own_exist store xs found whole;
-        apart = pages_apart xs (gone_apart store rest last is one rest_distinct);
+        apart = pages_apart xs (gone_apart store rest last h rest_distinct);
         forced = λ log. ap (λ (l : List Frame). forces log (map (λ (f : Frame). f.content) l)) (sym evicted_are);
         changes = λ log list image. given_are log list store image xs ∙ sym (eviction_is log list store image xs evicted_are);
-        own = λ log site fits. own_push store xs found disk log site whole fits move;
+        own = λ log site fits. own_push store xs found disk log site whole fits (gone_move store rest last h rest_distinct must);
         ready = λ log list site ready. without_ready store pool_then xs out log list site ready;
         are_changed = without_changed store pool_then xs out;
         current = λ store' old new pool geometry gives. without_current store pool_then xs out store' old new pool geometry (own_given store xs found old) gives;
-        logged = λ end all. all_left (λ (f : Frame). IsLogged end f.content) (map page_of (pulled (record store { pool = rest }))) rest.frames
-            (all_front (λ (f : Frame). IsLogged end f.content) rest.frames last (subst (AllByRecursion (λ (f : Frame). IsLogged end f.content)) is all));
-        machine = λ queue after. evicts_pushed store rest last queue is must (after ∙ ap (λ (l : List Known). pushed_queue store.flash (map chance_frame (chance_marks store.flash) ++ l)) (known_own xs));
+        machine = λ queue after. evicts_pushed store rest last queue h.is must (after ∙ ap (λ (l : List Known). pushed_queue store.flash (map chance_frame (chance_marks store.flash) ++ l)) (known_own xs));
       }
 
   pub departs : (pool : Pool) (taken : Taken) (pages : List ℕ) (changed : List Bool) (contents : List (List ℕ)) → pool ≡ pool_then → Has taken all_gone_now

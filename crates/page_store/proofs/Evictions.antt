@@ -42,10 +42,6 @@ pub all_front : {X : Type 0} (P : X → Type 0) (xs : List X) (x : X) → AllByR
 all_front P [] x all = tt
 all_front P (y ∷ xs) x all = (all.0, all_front P xs x all.1)
 
-pub all_last : {X : Type 0} (P : X → Type 0) (xs : List X) (x : X) → AllByRecursion P (xs ++ x ∷ []) → P x
-all_last P [] x all = all.0
-all_last P (y ∷ xs) x all = all_last P xs x all.1
-
 pub distinct_front : (xs : List Frame) (x : Frame) → AreDistinct (xs ++ x ∷ []) → AreDistinct xs
 distinct_front [] x all = tt
 distinct_front (y ∷ xs) x all = (all_front (λ other. y.page ≢ other.page) xs x all.0, distinct_front xs x all.1)

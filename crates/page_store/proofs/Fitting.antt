@@ -1,6 +1,5 @@
 -- A store that fits its site, at its start and after a change.
-use Rattle.std.proofs.Common.{◌≡◌, ◌≢◌, ℕ, ◌<◌, true, false, List, [], ◌∷◌, length, drop, Option, Some, arith, sym, ap, subst, ◌∙◌, ◌⊎◌, inl, inr}
-use Rattle.std.specs.List.{AllByRecursion}
+use Rattle.std.proofs.Common.{◌≡◌, ◌≢◌, ℕ, ◌<◌, true, false, List, [], Some, sym, ap, subst, ◌∙◌, ◌⊎◌, inl, inr}
 use Rattle.std.proofs.lemmas.Option.{none-some}
 use Rattle.std.proofs.lemmas.Bool.{cases_eq}
 use Rattle.site.specs.declared.geometry.Geometry.{Geometry}
@@ -10,7 +9,7 @@ use Rattle.frame_group.specs.Groups.{Frame as Stored}
 use Rattle.flash_cache.specs.Held as held
 use Rattle.flash_cache.specs.Held.{version_on, IsCleanOn}
 use Rattle.buffer_pool.specs.declared.frame.Frame.{Frame}
-use Rattle.buffer_pool.specs.Frames.{State as Pool, frame_of, front_of, ChangesFront}
+use Rattle.buffer_pool.specs.Frames.{State as Pool, frame_of, front_of}
 use Rattle.buffer_pool.specs.Laws.{ChangesOne}
 use Rattle.page_store.specs.declared.store.PageStore.{PageStore}
 use Rattle.page_store.specs.Held.{Fits}
@@ -49,16 +48,3 @@ change_fits store pool site one changed fits = record {
         let marks = ap (λ (f : Frame). f.changed) is in
         absurd cc
     by page frame found unchanged (inr other) = fits.unchanged page frame (sym (one.others page other) ∙ found) unchanged
-
-all_drop : (P : Frame → Type 0) (frames : List Frame) → AllByRecursion P frames → AllByRecursion P (drop 1 frames)
-all_drop P [] all = tt
-all_drop P (frame ∷ frames) all = all.1
-
-all_again : (P : Frame → Type 0) (frames : List Frame) → 0 < length frames → P (front_of frames) → AllByRecursion P (drop 1 frames) → AllByRecursion P frames
-all_again P [] some own rest = tt
-all_again P (frame ∷ frames) some own rest = (own, rest)
-
-pub all_changed : (P : Frame → Type 0) (old new : List Frame) (slot : ℕ) (content : Option (List ℕ)) (lsn : ℕ) → 0 < length old → ChangesFront old new slot content lsn
-    → P (front_of new) → AllByRecursion P old → AllByRecursion P new
-all_changed P old new slot content lsn some is own all =
-    all_again P new (let count = is.count in omega (arith, count, some)) own (subst (AllByRecursion P) (sym is.others) (all_drop P old all))

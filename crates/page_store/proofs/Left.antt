@@ -107,12 +107,6 @@ pages_left room frames distinct =
     none [] = tt
     none (f ∷ l) = (refl, none l)
 
--- whether some are left
-
-any_pages : (frames : List Frame) → list_any (λ p. p.changed) (map pool_page frames) ≡ list_any (λ (f : Frame). f.changed) frames
-any_pages [] = refl
-any_pages (f ∷ frames) = ap (λ b. f.changed || b) (any_pages frames)
-
 -- some page is changed exactly where changed ones are left
 some_pages : (frames : List Frame) → 0 < length (map page_of (changed_frames frames)) → list_any (λ p. p.changed) (map pool_page frames) ≡ true
 some_pages [] less = absurd (omega (arith, less))

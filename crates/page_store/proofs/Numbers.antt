@@ -39,9 +39,7 @@ flushed_next rules cache some = flushed_by_next (length cache.pool) rules cache 
 pub flushed_more : FlushGoesOn → (rules : Rules) (cache : Cache) → 1 ≤ rules.groups → wants_flush cache ≡ true → next_group cache + 1 ≤ next_group (flushed rules cache)
 flushed_more goes_on rules cache some wants =
     let same : next_group (flushed rules cache) ≡ next_group (flushed rules (push_changed rules cache)) = ap next_group (goes_on rules cache wants).0 in
-    let later = flushed_next rules (push_changed rules cache) some in
-    let one = changed_next rules cache some in
-    omega (arith, same, later, one)
+    omega (arith, same, flushed_next rules (push_changed rules cache) some, changed_next rules cache some)
 
 -- An eviction appends one group where it pushes.
 
@@ -56,7 +54,7 @@ after_next rules own cache some = by (must_be_pushed cache.queue own)
     by true = evicted_next rules own cache some
     by false = omega arith
 
-first_next : (rules : Rules) (pool : List PoolPage) (cache : Cache) → 1 ≤ rules.groups →
+pub first_next : (rules : Rules) (pool : List PoolPage) (cache : Cache) → 1 ≤ rules.groups →
     next_group (evict_first rules pool cache) ≡ next_group cache + (if first_pushed cache.queue pool then 1 else 0)
 first_next rules [] cache some = omega arith
 first_next rules (coldest ∷ warmer) cache some = after_next rules coldest (record cache { pool = reverse warmer }) some

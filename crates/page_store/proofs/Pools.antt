@@ -83,11 +83,9 @@ touched_held r frames queue page frame distinct found =
     let held : holds (map pool_page frames) page ≡ true = is_held frames page ∙ ap is_some found in
     let mark : frame.changed ≡ (is_changed (map pool_page frames) page || false) = sym (or_false (is_changed (map pool_page frames) page) ∙ mark_is frames page frame distinct found) in
     let here : map pool_page (pool.touched frames page) ≡ pool_page frame ∷ map pool_page (pool.without frames page) = ap (λ (o : Option Frame). map pool_page (pool.in_front o (pool.without frames page))) found in
-    let rest = pages_without frames page in
-    let own = page_is frames page frame found in
     (λ i. let c : Cache = record { pool = here i; queue = queue } in c)
     ∙ (λ i. let c : Cache = record {
-      pool = record { page = own i; changed = mark i } ∷ rest i;
+      pool = record { page = (page_is frames page frame found) i; changed = mark i } ∷ (pages_without frames page) i;
       queue = cond (sym held i) queue (with_read page queue);
     } in c)
     ∙ sym (ap (in_front page false) (room_held r page cache held))
@@ -118,9 +116,7 @@ pub in_front_absent : (frames : List Frame) (queue : Queue) (page : ℕ) → fra
     → ◌≡◌ {A = Cache} (record { pool = record { page = page; changed = false } ∷ map pool_page frames; queue = with_read page queue }) (in_front page false (record { pool = map pool_page frames; queue = queue }))
 in_front_absent frames queue page none =
     let mark : false ≡ (is_changed (map pool_page frames) page || false) = sym (or_false (is_changed (map pool_page frames) page) ∙ none_changed frames page none) in
-    let rest = sym (none_leaves frames page (absent frames page none)) in
-    let held = sym (not_held frames page none) in
     λ i. let c : Cache = record {
-      pool = record { page = page; changed = mark i } ∷ rest i;
-      queue = cond (held i) queue (with_read page queue);
+      pool = record { page = page; changed = mark i } ∷ (sym (none_leaves frames page (absent frames page none))) i;
+      queue = cond ((sym (not_held frames page none)) i) queue (with_read page queue);
     } in c

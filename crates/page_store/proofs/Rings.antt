@@ -60,8 +60,7 @@ none_due_stays g old new groups segments none =
 
 none_due_then : (g : Geometry) (old new : Image) (content : List ℕ) → SegmentIsDue g old → Makes g (AppendsSegment content) old new → NoSegmentIsDue g new
 none_due_then g old new content due made =
-    let here = made.others Groups (λ same. cc) in
-    let h : hi_of (group_shape g) new.flash ≡ hi_of (group_shape g) old.flash = ap (λ (u : Units). u.hi) here.units in
+    let h : hi_of (group_shape g) new.flash ≡ hi_of (group_shape g) old.flash = ap (λ (u : Units). u.hi) (made.others Groups (λ same. cc)).units in
     let k : hi_of (segment_shape g) new.flash ≡ hi_of (segment_shape g) old.flash + 1 = ap (λ (u : Units). u.hi) made.units in
     omega (arith, due, h, k)
 

@@ -44,8 +44,7 @@ use Rattle.page_store.proofs.Written.{wrote, rewritten, groups_in, front_rewritt
 -- where flash and disk are as they were nothing is written
 pub nothing_written : (g : Geometry) (staged : List Staged) (next : ℕ) (old now : Image) → hi_of (group_shape g) old.flash ≤ next → now.flash ≡ old.flash → now.disk ≡ old.disk → WritesOnly g staged next old now
 nothing_written g staged next old now low flash disk =
-    let same = ap (hi_of (group_shape g)) flash in
-    record { groups = omega (arith, same, low); disk = λ page out. ap (page_on page) disk }
+    record { groups = omega (arith, ap (hi_of (group_shape g)) flash, low); disk = λ page out. ap (page_on page) disk }
 
 pub written_weaker : (g : Geometry) (staged more : List Staged) (next next' : ℕ) (old now : Image) → ((page : ℕ) → Contains (pages_staged staged) page → Contains (pages_staged more) page) → next ≤ next' →
     WritesOnly g staged next old now → WritesOnly g more next' old now
@@ -94,10 +93,8 @@ front_writes g changes staged next old now low among front = leaves_weaker old n
     within : (s : Snapshot) → IsReached g (IsFrontOf changes) old s → WritesOnly g staged next old.image s.image
     within s is =
         let made = wrote g is.changes old.image s.image is.reaches in
-        let same = made.groups_are in
-        let few = front_groups changes is.changes is.made in
         record {
-          groups = omega (arith, same, few, low);
+          groups = omega (arith, made.groups_are, front_groups changes is.changes is.made, low);
           disk = λ page out. made.disk page (λ listed. out (among page (front_rewritten changes is.changes is.made page listed)));
         }
 

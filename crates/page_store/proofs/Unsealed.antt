@@ -142,9 +142,6 @@ next_round test room frames apart b false t2 h1 h2 next end = ap (λ t. b || t) 
     grouped false c = refl
 next_round test room frames apart b true t2 h1 h2 next end = by (list_any (test (512 * h1)) (map (λ (f : Frame). f.content) (first_changed room frames))) refl next
   where
-    last : Bool → Bool
-    last c = (b || c) || forces_at t2 h2 (cleared_all (map (λ (f : Frame). f.page) (first_changed room frames)) frames) test
-
     or_true : (a c : Bool) → (a || true) ≡ ((a || true) || c)
     or_true true c = refl
     or_true false c = refl

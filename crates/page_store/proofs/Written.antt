@@ -50,8 +50,7 @@ page_beside : (pages : List ℕ) (old new : List ℕ) (page : ℕ) → length ne
 page_beside pages old new page sizes beside out =
     let size = size_is page old new sizes in
     same_lists (page_on page new) (page_on page old) size (λ k d lt.
-    let w = within_disk page new k lt in
-    let low = w.0 in
+    let low = (within_disk page new k lt).0 in
     let all : IsBesideAll pages (4096 * page + k) = λ other listed. apart page other (4096 * page + k) (λ same. out (subst (Contains pages) same listed)) (omega arith) (omega (arith, low)) in
     octet_is page new k d lt ∙ beside (4096 * page + k) all ∙ sym (octet_is page old k d (subst (λ (n : ℕ). k < n) size lt)))
 
@@ -84,23 +83,19 @@ beside_groups g old new same disk = record { groups_are = omega (arith, same); d
 wrote_one : (g : Geometry) (change : Change) (old new : Image) → Makes g change old new → Wrote g (rewritten (change ∷ [])) (groups_in (change ∷ [])) old new
 wrote_one g (SealsBlock records) old new makes = beside_groups g old new (ap (λ (u : Units). u.hi) (makes.1.others Groups (λ h. cc)).units) makes.1.disk
 wrote_one g (RewritesPages pages) old new makes =
-    let same = ap (λ (u : Units). u.hi) (makes.rings Groups).units in
     record {
-      groups_are = omega (arith, same);
+      groups_are = omega (arith, ap (λ (u : Units). u.hi) (makes.rings Groups).units);
       disk = λ page out. page_beside pages old.disk new.disk page (makes.sizes Disk) makes.others (λ listed. out (Contains-append_left pages [] page listed));
     }
 wrote_one g (AppendsGroup content) old new makes =
-    let more = ap (λ (u : Units). u.hi) makes.units in
-    record { groups_are = omega (arith, more); disk = λ page out. ap (page_on page) makes.disk }
+    record { groups_are = omega (arith, ap (λ (u : Units). u.hi) makes.units); disk = λ page out. ap (page_on page) makes.disk }
 wrote_one g (AppendsSegment content) old new makes = beside_groups g old new (ap (λ (u : Units). u.hi) (makes.others Groups (λ h. cc)).units) makes.disk
 wrote_one g (AppendsMaster content) old new makes = beside_groups g old new (ap (λ (u : Units). u.hi) (makes.others Groups (λ h. cc)).units) makes.disk
 
 wrote_then : (g : Geometry) (pages more : List ℕ) (groups others : ℕ) (a b c : Image) → Wrote g pages groups a b → Wrote g more others b c → Wrote g (pages ++ more) (groups + others) a c
 wrote_then g pages more groups others a b c one two =
-    let first = one.groups_are in
-    let second = two.groups_are in
     record {
-      groups_are = omega (arith, first, second);
+      groups_are = omega (arith, one.groups_are, two.groups_are);
       disk = λ page out. two.disk page (λ is. out (Contains-append_right pages more page is)) ∙ one.disk page (λ is. out (Contains-append_left pages more page is));
     }
 

@@ -1,5 +1,6 @@
 -- A record is appended beside the pages.
 use Rattle.std.proofs.Common.{◌≡◌, ℕ, ◌+◌, ◌*◌, ◌≤◌, ◌<◌, Bool, true, false, List, [], ◌∷◌, ◌++◌, map, refl, sym, ap, subst, ◌∙◌, arith}
+use Rattle.log_laws.specs.Tail.{next_lsn}
 use Rattle.std.specs.Prelude.{if◌then◌else◌, Result, Ok, Err, OnOk, IfOk, Option}
 use Rattle.std.specs.List.{AllByRecursion, range_with_len}
 use Rattle.std.proofs.lemmas.Bool.{lt-ltb}
@@ -24,7 +25,7 @@ use Rattle.page_store.specs.declared.store.PageStore.{PageStore}
 use Rattle.page_store.specs.Held.{IsStore, current, content_by}
 use Rattle.buffer_pool.specs.Frames.{frame_of}
 use Rattle.page_store.specs.Ahead.{IsLogged, AreSealed, LeavesSealed, IsAhead, sealed_end, end_forced}
-use Rattle.page_store.specs.Leaves.{HasQueue, LeavesRings}
+use Rattle.page_store.specs.Leaves.{AreReady, HasQueue, LeavesRings}
 use Rattle.checkpoint.specs.declared.master.Master.{Master}
 use Rattle.image_meaning.specs.Meaning.{next_block_under, picture_under, master_of, versions_on, version_in, kept_by}
 use Rattle.image_meaning.specs.Moments.{LeavesTableUnder}
@@ -32,7 +33,6 @@ use Rattle.image_meaning.specs.Beside.{AreRingsSoundUnder, KeepsRingsAll}
 use Rattle.page_store.proofs.Rings.{all_front, sealing_keeps}
 use Rattle.redo_undo.specs.Running.{RunsOn}
 use Rattle.slotted_page.specs.Layout.{lsn_of}
-use Rattle.log_records.specs.Unfinished.{owed}
 use Rattle.redo_undo.specs.Holding.{HoldsLog, Holds, MayGrow, KeepsPages, blocks_to}
 use Rattle.redo_undo.specs.Committing.{EndsWith}
 use Rattle.redo_undo.specs.Laws.{LogLaws, PageLaws, BesideLaws}
@@ -89,6 +89,10 @@ module _ (log log' : LogStore) (lsn : ℕ) where
   pub before_end : (sealing : Bool) → IsNumbered log log' lsn sealing → lsn < end_forced log'
   before_end sealing is = let a = one_now sealing is in let b = is.below in let c = is.high in omega (arith, a, b, c)
 
+  pub in_last_block : (sealing : Bool) → IsNumbered log log' lsn sealing → 512 * log'.ring.hi ≤ lsn
+  in_last_block true is = let at = is.lsn_is in let next = is.next in omega (arith, at, next)
+  in_last_block false is = let at = is.lsn_is in let next = is.next in omega (arith, at, next)
+
 pub logged_more : (end end' : ℕ) → end ≤ end' → (frames : List Frame) → AllByRecursion (λ frame. IsLogged end frame.content) frames → AllByRecursion (λ frame. IsLogged end' frame.content) frames
 logged_more end end' more [] all = tt
 logged_more end end' more (frame ∷ frames) all = (record { below = λ some. let below = all.0.below some in omega (arith, below, more) }, logged_more end end' more frames all.1)
@@ -112,8 +116,7 @@ module _ (beside : BesideLaws) (pages : PageStore) (site new : State) (changes :
         each = λ page exists. record {
           below = λ some.
               let was = (sealed.each page exists).below (subst (λ (c : List ℕ). 0 < lsn_of c) (beside.versions g site new page changes) some) in
-              let same_lsn = ap lsn_of (beside.versions g site new page changes) in
-              omega (arith, was, before, after, more, same_lsn);
+              omega (arith, was, before, after, more, ap lsn_of (beside.versions g site new page changes));
         };
       }
 
@@ -167,107 +170,87 @@ module _ (logs : LogLaws) (laws : PageLaws) (beside : BesideLaws) (log : LogStor
         subst (λ (versions : List Version). RunsOn (record { master = (master_of newest); log = log_from (kept_by newest) blocks; hi = next_block_under newest blocks; blocks = g.blocks; pages = versions }) tail records' table commits) (sym (versions_same beside pages site new changes)) runs
 
   module _ (log' : LogStore) (new : State) (rec : LogRecord) (lsn : ℕ) (rings : AreRingsSoundUnder newest g new.image) (are_sealed : AreSealed g new.image) where
-    ahead_still : (sealing : Bool) → IsAppended g log log' list site new rec lsn sealing → IsAhead log' pages new.image
-    ahead_still sealing is =
-        let more = least_blocks log log' lsn sealing is.numbers in
-        record {
-          pool = logged_more (end_forced log) (end_forced log') (omega (arith, more)) pages.pool.frames h.log_holds.ahead.pool;
-          versions = are_sealed;
-        }
+    -- what stands in the log before the record: the tail, or nothing where it was sealed
+    record StandsBefore : Type 0 where
+      pub blocks : List (List LogRecord)
+      pub front : List LogRecord
+      pub holds : log_held.Holds log' new.image (record { first = kept_by newest; blocks = blocks; tail = front ++ rec ∷ [] })
+      pub runs_on : RunsOn (picture_under newest g site.image blocks) front records table commits
+      pub next : lsn ≡ next_lsn (picture_under newest g site.image blocks) front
 
-    -- The record comes last in the tail.
-    module _ (keeps : KeepsPages g pages site.image new.image) (behind : end_of log ≤ lsn) where
-      below_end : (sealing : Bool) → IsAppended g log log' list site new rec lsn sealing → (number : ℕ) → number < g.pages → lsn_of (current pages new.image number) < end_of log'
-      below_end sealing is number exists =
-          let before = h.below number exists in
-          let next = is.numbers.below in
-          subst (λ (c : List ℕ). lsn_of c < end_of log') (sym (keeps.current number)) (omega (arith, before, behind, next))
-
-      room_left : (sealing : Bool) → (sealing ≡ true → has_tail log ≡ true) → IsAppended g log log' list site new rec lsn sealing → blocks_to log' + owed records ≤ log'.kept + g.blocks
-      room_left sealing full is =
-          let most = most_blocks log log' lsn sealing full is.numbers in
-          let room = h.log_holds.room in
-          let blocks = h.log_holds.rings.limits.blocks in
-          let kept = is.kept in omega (arith, most, room, blocks, kept)
-
-      pub ends_with : (sealing : Bool) → (sealing ≡ true → has_tail log ≡ true) → IsAppended g log log' list site new rec lsn sealing → EndsWith g log' pages new newest records table commits (record { lsn = lsn; rec = rec })
-      ends_with false full is =
-          let hi = hi_is logs laws log pages site newest records table commits h in
-          let used = h.log_holds.ready.records.tail.end in
-          let number = is.numbers.lsn_is in
-          record {
-            kept = is.kept ∙ h.log_holds.kept;
-            blocks = h.log_holds.blocks;
-            front = h.log_holds.tail;
-            ready = record { pages = beside.fits pages site new is.changes is.goes h.log_holds.ready.pages; blocks = is.finds; records = is.holds };
-            rings = rings;
-            runs_on = moved new is.changes h.log_holds.blocks h.log_holds.tail records h.log_holds.runs_on;
-            next = omega (arith, hi, used, number);
-            ahead = ahead_still false is;
-            shows = record { each = shows_same logs g log log' pages site new newest records table commits h keeps };
-            below = below_end false is;
-            room = room_left false full is;
-          }
-      ends_with true full is =
-          let hi = hi_is logs laws log pages site newest records table commits h in
-          let number = is.numbers.lsn_is in
-          let more : List (List LogRecord) = h.log_holds.blocks ++ h.log_holds.tail ∷ [] in
-          let runs = runs_sealed logs laws log pages site newest records table commits h (full refl) (last_of_all AreBlock h.log_holds.blocks h.log_holds.tail is.holds.blocks.are_blocks) in
-          record {
-            kept = is.kept ∙ h.log_holds.kept;
-            blocks = more;
-            front = [];
-            ready = record { pages = beside.fits pages site new is.changes is.goes h.log_holds.ready.pages; blocks = is.finds; records = is.holds };
-            rings = rings;
-            runs_on = moved new is.changes more [] records runs;
-            next = omega (arith, hi, number, next_more logs laws newest h.log_holds.blocks h.log_holds.tail);
-            ahead = ahead_still true is;
-            shows = record { each = shows_same logs g log log' pages site new newest records table commits h keeps };
-            below = below_end true is;
-            room = room_left true full is;
-          }
-
-    -- where it may follow, log and pages hold together with it
-    pub appended : MayGrow log pages site.image newest records (record { lsn = lsn; rec = rec }) → (sealing : Bool) → (sealing ≡ true → has_tail log ≡ true) → IsAppended g log log' list site new rec lsn sealing → HoldsLog g log' pages new newest (records ++ record { lsn = lsn; rec = rec } ∷ []) table commits
-    appended may false full is =
-        let most = most_blocks log log' lsn false full is.numbers in
-        let room = may.room in
+    stands_before : (sealing : Bool) → (sealing ≡ true → has_tail log ≡ true) → IsAppended g log log' list site new rec lsn sealing → StandsBefore
+    stands_before false full is =
         let hi = hi_is logs laws log pages site newest records table commits h in
         let used = h.log_holds.ready.records.tail.end in
         let number = is.numbers.lsn_is in
         record {
-          kept = is.kept ∙ h.log_holds.kept;
           blocks = h.log_holds.blocks;
-          tail = h.log_holds.tail ++ rec ∷ [];
-          ready = record { pages = beside.fits pages site new is.changes is.goes h.log_holds.ready.pages; blocks = is.finds; records = is.holds };
-          rings = rings;
-          runs_on = moved new is.changes h.log_holds.blocks (h.log_holds.tail ++ rec ∷ []) (records ++ record { lsn = lsn; rec = rec } ∷ [])
-              (one_more logs (picture_under newest g site.image h.log_holds.blocks) h.log_holds.tail rec lsn records table commits h.log_holds.runs_on (omega (arith, hi, used, number)) may.follows may.no_commit);
-          ahead = ahead_still false is;
-          room = (let kept = is.kept in omega (arith, most, room, kept));
+          front = h.log_holds.tail;
+          holds = is.holds;
+          runs_on = h.log_holds.runs_on;
+          next = omega (arith, hi, used, number);
         }
-    appended may true full is =
-        let most = most_blocks log log' lsn true full is.numbers in
-        let room = may.room in
+    stands_before true full is =
         let hi = hi_is logs laws log pages site newest records table commits h in
-        let number = is.numbers.lsn_is in
-        let more : List (List LogRecord) = h.log_holds.blocks ++ h.log_holds.tail ∷ [] in
-        let runs = runs_sealed logs laws log pages site newest records table commits h (full refl) (last_of_all AreBlock h.log_holds.blocks h.log_holds.tail is.holds.blocks.are_blocks) in
         record {
-          kept = is.kept ∙ h.log_holds.kept;
-          blocks = more;
-          tail = rec ∷ [];
-          ready = record { pages = beside.fits pages site new is.changes is.goes h.log_holds.ready.pages; blocks = is.finds; records = is.holds };
-          rings = rings;
-          runs_on = moved new is.changes more (rec ∷ []) (records ++ record { lsn = lsn; rec = rec } ∷ [])
-              (one_more logs (picture_under newest g site.image more) [] rec lsn records table commits runs (omega (arith, hi, number, next_more logs laws newest h.log_holds.blocks h.log_holds.tail)) may.follows may.no_commit);
-          ahead = ahead_still true is;
-          room = (let kept = is.kept in omega (arith, most, room, kept));
+          blocks = h.log_holds.blocks ++ h.log_holds.tail ∷ [];
+          front = [];
+          holds = is.holds;
+          runs_on = runs_sealed logs laws log pages site newest records table commits h (full refl) (last_of_all AreBlock h.log_holds.blocks h.log_holds.tail is.holds.blocks.are_blocks);
+          next = omega (arith, hi, is.numbers.lsn_is, next_more logs laws newest h.log_holds.blocks h.log_holds.tail);
         }
 
-pub if_ok_six : {A E : Type 0} (r : Result A E) (P Q R N : Type 0) (L S Z : A → Type 0) → ((x : A) → P → Q → R → N → L x → S x → Z x) → OnOk r P → OnOk r Q → OnOk r R → OnOk r N → IfOk r L → IfOk r S → IfOk r Z
-if_ok_six (Ok x) P Q R N L S Z f p q r n l s = f x p q r n l s
-if_ok_six (Err e) P Q R N L S Z f p q r n l s = tt
+    module _ (sealing : Bool) (full : sealing ≡ true → has_tail log ≡ true) (is : IsAppended g log log' list site new rec lsn sealing) where
+      before : StandsBefore
+      before = stands_before sealing full is
+
+      ready_now : AreReady pages log' (record { first = kept_by newest; blocks = before.blocks; tail = before.front ++ rec ∷ [] }) new
+      ready_now = record { pages = beside.fits pages site new is.changes is.goes h.log_holds.ready.pages; blocks = is.finds; records = before.holds }
+
+      ahead_still : IsAhead log' pages new.image
+      ahead_still =
+          let more = least_blocks log log' lsn sealing is.numbers in
+          record { pool = logged_more (end_forced log) (end_forced log') (omega (arith, more)) pages.pool.frames h.log_holds.ahead.pool; versions = are_sealed }
+
+      -- the record comes last in the tail
+      pub ends_with : KeepsPages g pages site.image new.image → end_of log ≤ lsn →
+          EndsWith g log' pages new newest records table commits (record { lsn = lsn; rec = rec })
+      ends_with keeps behind =
+          record {
+            kept = is.kept ∙ h.log_holds.kept;
+            blocks = before.blocks;
+            front = before.front;
+            ready = ready_now;
+            rings = rings;
+            runs_on = moved new is.changes before.blocks before.front records before.runs_on;
+            next = before.next;
+            ahead = ahead_still;
+            shows = record { each = shows_same logs g log log' pages site new newest records table commits h keeps };
+            below = λ number exists.
+                subst (λ (c : List ℕ). lsn_of c < end_of log') (sym (keeps.current number)) (omega (arith, h.below number exists, behind, is.numbers.below));
+            room = omega (arith, most_blocks log log' lsn sealing full is.numbers, h.log_holds.room, h.log_holds.rings.limits.blocks, is.kept);
+          }
+
+      -- where it may follow, log and pages hold together with it
+      pub appended : MayGrow log pages site.image newest records (record { lsn = lsn; rec = rec }) →
+          HoldsLog g log' pages new newest (records ++ record { lsn = lsn; rec = rec } ∷ []) table commits
+      appended may =
+          record {
+            kept = is.kept ∙ h.log_holds.kept;
+            blocks = before.blocks;
+            tail = before.front ++ rec ∷ [];
+            ready = ready_now;
+            rings = rings;
+            runs_on = moved new is.changes before.blocks (before.front ++ rec ∷ []) (records ++ record { lsn = lsn; rec = rec } ∷ [])
+                (one_more logs (picture_under newest g site.image before.blocks) before.front rec lsn records table commits before.runs_on before.next
+                may.follows may.no_commit);
+            ahead = ahead_still;
+            room = omega (arith, most_blocks log log' lsn sealing full is.numbers, may.room, is.kept);
+          }
+
+pub if_ok_four : {A E : Type 0} (r : Result A E) (P Q R : Type 0) (L Z : A → Type 0) → ((x : A) → P → Q → R → L x → Z x) → OnOk r P → OnOk r Q → OnOk r R → IfOk r L → IfOk r Z
+if_ok_four (Ok x) P Q R L Z f p q r l = f x p q r l
+if_ok_four (Err e) P Q R L Z f p q r l = tt
 
 pub if_ok_one : {A E : Type 0} (r : Result A E) (P Q : A → Type 0) → ((x : A) → P x → Q x) → IfOk r P → IfOk r Q
 if_ok_one (Ok x) P Q f p = f x p
@@ -281,6 +264,6 @@ pub if_ok_three : {A E : Type 0} (r : Result A E) (N : Type 0) (P R Q : A → Ty
 if_ok_three (Ok x) N P R Q f n p s = f x n p s
 if_ok_three (Err e) N P R Q f n p s = tt
 
-pub ok_two : {A E : Type 0} (r : Result A E) (N : Type 0) (P R : A → Type 0) (Z : Type 0) → ((x : A) → N → P x → R x → Z) → OnOk r N → IfOk r P → IfOk r R → OnOk r Z
-ok_two (Ok x) N P R Z f n p s = f x n p s
-ok_two (Err e) N P R Z f n p s = tt
+pub ok_by : {A E : Type 0} (r : Result A E) (P : A → Type 0) (Z : Type 0) → ((x : A) → P x → Z) → IfOk r P → OnOk r Z
+ok_by (Ok x) P Z f p = f x p
+ok_by (Err e) P Z f p = tt

@@ -25,16 +25,10 @@ pub asks_around : {A B : Type 0} (r : Result A Stop) (s : Result B Stop) (works 
     OnOk s (cache_of pages' ≡ after_works (rules pages) works (cache_of pages)) → (IsErrOf s (Worn Flash) → IsErrOf r (Worn Flash)) → Stages {T = ⊤} (Ok tt) [] (next_group (cache_of pages)) pages pages old mid → Stages s (staged_by_works (rules pages) works (cache_of pages)) (next_group (after_works (rules pages) works (cache_of pages))) pages pages' mid new →
     Asks r works pages pages' mid flushed → Asks s works pages pages' old new
 asks_around r s works pages pages' old mid flushed new first last machine stops still later asks =
-    let a = first Flash in
-    let b = last Flash in
-    let c = first Disk in
-    let d = last Disk in
-    let flash = asks.reads.flash in
-    let disk = asks.reads.disk in
     record {
       machine = machine;
       worn = λ is. asks.worn (stops is);
-      reads = record { flash = omega (arith, a, b, flash); disk = omega (arith, c, d, disk) };
+      reads = record { flash = omega (arith, first Flash, last Flash, asks.reads.flash); disk = omega (arith, first Disk, last Disk, asks.reads.disk) };
       rules_are = asks.rules_are;
       stages = stages_then (λ has. more_next (rules pages) [] works (cache_of pages) has.room) still later;
     }

@@ -110,13 +110,12 @@ pub change_made : {A B : Type 0} (a : A) (result : Result B Stop) (page : ℕ) (
 change_made a result page old mid new before between now some law asks changed same read never still =
     let there : with_change (cache_of mid) ≡ touched (rules old) page true (cache_of old) = ap with_change asks.machine ∙ sym (law (rules old) page (cache_of old)) in
     let none = none_read between now read in
-    let touches = asks.reads in
     record {
       machine = ok_as result _ _ (λ is. is ∙ there) changed;
       worn = λ is. absurd (never is);
       reads = change_reads (rules old) page (cache_of old) before now some (record {
-        flash = (let reads = touches.flash in omega (arith, reads, none.flash));
-        disk = (let reads = touches.disk in omega (arith, reads, none.disk));
+        flash = (let reads = asks.reads.flash in omega (arith, reads, none.flash));
+        disk = (let reads = asks.reads.disk in omega (arith, reads, none.disk));
       });
       rules_are = same ∙ asks.rules_are;
       stages = change_stages result page old new before now some

@@ -34,8 +34,8 @@ use Rattle.redo_undo.proofs.RingNumbers.{skips_reads, hi_on}
 use Rattle.site.specs.Work.{Calls}
 use Rattle.redo_undo.proofs.Sames.{and_then, going_still, holds_still, leaves_still, units_then}
 use Rattle.redo_undo.proofs.RingNumbers.{then_skips, skips_again, skips_answered, skips_weaker, skips_on}
-use Rattle.redo_undo.proofs.LeftNumbers.{skips_not_saved}
-use Rattle.redo_undo.proofs.UndoneNumbers.{skips_so_far, masters_hi}
+use Rattle.redo_undo.proofs.LeftNumbers.{skips_not_saved, masters_same}
+use Rattle.redo_undo.proofs.UndoneNumbers.{skips_so_far}
 use Rattle.site.proofs.Working.{err_again, ok_as, ok_always, no_error, of_error, err_as, err_always, calls_nothing, calls_then, calls_failed, calls_answered, calls_refused}
 
 -- The errors of calls on the log.
@@ -99,11 +99,10 @@ works_nothing going = record { calls = calls_nothing; going = going; rises = ome
 pub works_then : {A B : Type 0} {a : A} {r : Result B Stop} {old mid new : LogStore} {pages between pages' : PageStore} {before middle now : State} →
     Works {T = A} (Ok a) old mid pages between before middle → Works r mid new between pages' middle now → Works r old new pages pages' before now
 works_then {r = r} first second =
-    let rises = first.rises in
     record {
       calls = calls_then first.calls second.calls;
       going = second.going;
-      rises = ok_as r _ _ (λ more. omega (arith, more, rises)) second.rises;
+      rises = ok_as r _ _ (λ more. omega (arith, more, first.rises)) second.rises;
       kept = second.kept ∙ first.kept;
       log_geometry = second.log_geometry ∙ first.log_geometry;
       geometry = second.geometry ∙ first.geometry;
@@ -262,7 +261,7 @@ keeps_counted {A = A} {B = B} {a = a} {b = b} {g = g} {old = old} {new = new} {b
     let answered = keeps_answered {A = A} {B = B} {a = a} {b = b} first in
     record {
       any_moment = first.any_moment;
-      numbers = λ quiet. skips_so_far {T = B} {E = Stop} (Ok b) g old new before now k sizes hi few (masters_hi before.image now.image (first.masters refl));
+      numbers = λ quiet. skips_so_far {T = B} {E = Stop} (Ok b) g old new before now k sizes hi few (masters_same before.image now.image (first.masters refl));
       quiet = answered.quiet;
       worn_log = answered.worn_log;
       worn = answered.worn;

@@ -23,12 +23,9 @@ use Rattle.log_records.specs.Log.{Entry, Version, number_of, after_of, is_on, is
 use Rattle.log_laws.specs.Follow.{shown}
 use Rattle.image_meaning.specs.Redone.{Redoes, AreKnown, ShowsAll}
 use Rattle.redo_undo.specs.Laws.{LogLaws}
+use Rattle.flash_cache.proofs.Given.{all_append}
 
-all_append : {X : Type 0} (P : X → Type 0) (xs ys : List X) → AllByRecursion P xs → AllByRecursion P ys → AllByRecursion P (xs ++ ys)
-all_append P [] ys front rest = rest
-all_append P (x ∷ xs) ys front rest = (front.0, all_append P xs ys front.1 rest)
-
-known_more : (log : List Entry) (page from to : ℕ) → from ≤ to → AreKnown log page from → AreKnown log page to
+pub known_more : (log : List Entry) (page from to : ℕ) → from ≤ to → AreKnown log page from → AreKnown log page to
 known_more [] page from to more known = tt
 known_more (e ∷ log) page from to more known = ((λ number is at. let known_e = known.0 number is at in omega (arith, known_e, more)), known_more log page from to more known.1)
 
@@ -85,8 +82,7 @@ module _ (logs : LogLaws) (g : Geometry) (log log' : LogStore) (pages : PageStor
           (λ own is at. none-some own (sym none ∙ is)) (shows_same number exists);
     };
     below = λ number exists.
-        let before = h.below number exists in
-        subst (λ (c : List ℕ). lsn_of c < end_of log') (sym (keeps.current number)) (omega (arith, before, behind, below));
+        subst (λ (c : List ℕ). lsn_of c < end_of log') (sym (keeps.current number)) (omega (arith, h.below number exists, behind, below));
   }
 
   -- a record on the page in front, which is redone there
@@ -115,11 +111,9 @@ module _ (logs : LogLaws) (g : Geometry) (log log' : LogStore) (pages : PageStor
 
       below_by : (page : ℕ) → page < g.pages → (page ≡ front) ⊎ (page ≢ front) → lsn_of (current pages' new.image page) < end_of log'
       below_by page exists (inl same) =
-          let set = redoes.lsn in
-          subst (λ n. lsn_of (current pages' new.image n) < end_of log') (sym same) (omega (arith, set, below))
+          subst (λ n. lsn_of (current pages' new.image n) < end_of log') (sym same) (omega (arith, redoes.lsn, below))
       below_by page exists (inr other) =
-          let before = h.below page exists in
-          subst (λ (c : List ℕ). lsn_of c < end_of log') (sym (others page other ∙ keeps.current page)) (omega (arith, before, behind, below))
+          subst (λ (c : List ℕ). lsn_of c < end_of log') (sym (others page other ∙ keeps.current page)) (omega (arith, h.below page exists, behind, below))
 
 -- other pages beside the same log
 pub other_pages : (g : Geometry) (log : LogStore) (pages pages' : PageStore) (site : State) (newest : Option Master) (records : List Entry) (table : List Content) (commits : ℕ) → Fits pages' site → IsAhead log pages' site.image →

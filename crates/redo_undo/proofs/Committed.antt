@@ -114,13 +114,9 @@ module _ (logs : LogLaws) (laws : PageLaws) (beside : BesideLaws) (own : CommitL
 
   room_here : HasRoom (sealed (picture_under newest g site.image m.blocks) (m.front ++ Commit txn number ∷ []))
   room_here =
-      let room = m.room in
-      let one = ap tail_blocks some in
       let all : owed (whole (picture_under newest g site.image m.blocks) (m.front ++ Commit txn number ∷ [])) ≡ owed (records ++ record { lsn = lsn; rec = Commit txn number } ∷ []) =
       ap owed (whole_commit logs own (picture_under newest g site.image m.blocks) m.front txn number lsn records table commits m.runs_on m.next follows may.number_is) in
-      let kept = m.kept in
-      let at = laws.next newest m.blocks in
-      omega (arith, room, one, hi_here, all, owed_less, kept, at)
+      omega (arith, m.room, ap tail_blocks some, hi_here, all, owed_less, m.kept, laws.next newest m.blocks)
 
   runs_after : AreBlock (m.front ++ Commit txn number ∷ []) → RunsOn (picture_under newest g site.image (m.blocks ++ (m.front ++ Commit txn number ∷ []) ∷ [])) [] (records ++ record { lsn = lsn; rec = Commit txn number } ∷ []) (table_with table (writes_in txn records)) (commits + 1)
   runs_after block =
@@ -190,7 +186,6 @@ module _ (logs : LogLaws) (laws : PageLaws) (beside : BesideLaws) (own : CommitL
       let stays = current_same beside pages site new changes in
       let one = ap tail_blocks some in
       let no_tail = ap tail_blocks none in
-      let room = m.room in
       let forced : end_forced log ≤ end_forced log' = omega (arith, one, no_tail, next) in
       record {
         log_holds = record {
@@ -202,7 +197,7 @@ module _ (logs : LogLaws) (laws : PageLaws) (beside : BesideLaws) (own : CommitL
           runs_on = subst (λ (versions : List Version). RunsOn (record { master = (master_of newest); log = log_from (kept_by newest) more; hi = next_block_under newest more; blocks = g.blocks; pages = versions }) [] (records ++ e ∷ []) table' (commits + 1)) (sym same)
               (runs_after (last_of_all AreBlock m.blocks tail holds.blocks.are_blocks));
           ahead = record { pool = logged_more (end_forced log) (end_forced log') forced pages.pool.frames m.ahead.pool; versions = are_sealed };
-          room = omega (arith, room, one, no_tail, next, owed_less, same_kept);
+          room = omega (arith, m.room, one, no_tail, next, owed_less, same_kept);
         };
         shows = record {
           each = λ number' exists.
@@ -210,8 +205,7 @@ module _ (logs : LogLaws) (laws : PageLaws) (beside : BesideLaws) (own : CommitL
               (subst (λ (c : List ℕ). ShowsAll (records ++ e ∷ []) (versions_on g site.image) number' (version_in c)) (sym (stays number')) (shows_after number' exists));
         };
         below = λ number' exists.
-            let before = m.below number' exists in
-            subst (λ (c : List ℕ). lsn_of c < end_of log') (sym (stays number')) (omega (arith, before, next, empty, high));
+            subst (λ (c : List ℕ). lsn_of c < end_of log') (sym (stays number')) (omega (arith, m.below number' exists, next, empty, high));
       }
 
 -- a call that leaves the table of before

@@ -90,15 +90,12 @@ module _ (pages_laws : PageLaws) (laws : UndoLaws) (log : LogStore) (pages : Pag
       IsWanted g site.image newest records x (record { prev = prev; page = page; slot = slot; before = before })
   wanted_is lsn txn prev page slot before after some at read =
       let is = read_is lsn (Update txn prev page slot before after) some at read in
-      let within = is.4 in
-      let long = pages_laws.count g site.image in
-      record { late = is.1; early = is.2; exists = omega (arith, within, long); follows = is.5 }
+      record { late = is.1; early = is.2; exists = omega (arith, is.4, pages_laws.count g site.image); follows = is.5 }
 
   -- it is read there
   pub is_there : (lsn : ℕ) → 0 < x.remaining → lsn ≡ x.next → at_lsn lsn (entries (record { first = kept_by newest; blocks = h.log_holds.blocks; tail = h.log_holds.tail })) ≡ None → ⊥
   is_there lsn some at none =
-      let wanted = to_undo some in
-      let found = wanted.1 in
+      let found = (to_undo some).1 in
       let there : at_lsn x.next (entries (record { first = kept_by newest; blocks = h.log_holds.blocks; tail = h.log_holds.tail })) ≡ None = subst (λ (n : ℕ). at_lsn n (entries (record { first = kept_by newest; blocks = h.log_holds.blocks; tail = h.log_holds.tail })) ≡ None) at none in
       cc
 
@@ -120,44 +117,37 @@ follows_moved newest versions versions' records e other same f = record {
 pub may_moved : PageLaws → (log log' : LogStore) (pages pages' : PageStore) (old new : Image) (newest : Option Master) (records : List Entry) (e : Entry) → is_update e.rec ≡ false → pages'.flash.geometry ≡ pages.flash.geometry → blocks_to log' ≡ blocks_to log → log'.kept ≡ log.kept →
     MayGrow log pages old newest records e → MayGrow log' pages' new newest records e
 may_moved laws log log' pages pages' old new newest records e other geometry blocks kept may =
-    let room = may.room in
     let all = ap (λ (g : Geometry). g.pages) geometry in
-    let many = ap (λ (g : Geometry). g.blocks) geometry in
     record {
       follows = follows_moved newest (versions_on pages.flash.geometry old) (versions_on pages'.flash.geometry new) records e other (laws.count pages'.flash.geometry new ∙ all ∙ sym (laws.count pages.flash.geometry old)) may.follows;
       no_commit = may.no_commit;
-      room = omega (arith, room, many, blocks, kept);
+      room = omega (arith, may.room, ap (λ (g : Geometry). g.blocks) geometry, blocks, kept);
     }
 
 -- A CLR of an unfinished transaction may be logged: with it there is less to undo.
 module _ (pages_laws : PageLaws) (laws : UndoLaws) (log : LogStore) (pages : PageStore) (site : State) (newest : Option Master) (records : List Entry) (table : List Content) (commits : ℕ) (h : Holds log pages site newest records table commits) (x : Unfinished) (unfinished : IsUnfinished records x) where
   pub owes_less : (e : Entry) → is_clr e.rec ≡ true → txn_of e ≡ x.txn → 0 < x.remaining → owed records ≡ owed (records ++ e ∷ []) + 1
   owes_less e clr own some =
-      let remains = unfinished.remaining_is in
       laws.owed_clr records e clr (subst (λ t. is_closed records t ≡ false) (sym own) (laws.lives records x.txn unfinished.loser))
       (subst (λ t. IsLoserChain t (entries_of t records)) (sym own) (chain pages_laws laws log pages site newest records table commits h x unfinished))
-      (subst (λ t. 0 < length (left_open records t)) (sym own) (omega (arith, some, remains)))
+      (subst (λ t. 0 < length (left_open records t)) (sym own) (omega (arith, some, unfinished.remaining_is)))
 
   pub may_compensate : (at : Undoing) (w : Wanted) (lsn : ℕ) → IsAt at x → 0 < x.remaining → IsWanted pages.flash.geometry site.image newest records x w →
       MayGrow log pages site.image newest records (record { lsn = lsn; rec = Clr at.txn at.last w.prev w.page w.slot w.before })
   may_compensate at w lsn is some wanted =
       let e : Entry = record { lsn = lsn; rec = Clr at.txn at.last w.prev w.page w.slot w.before } in
-      let room = h.log_holds.room in
-      let owes = owes_less e refl is.txn some in
       record {
         follows = subst (λ (t : ℕ). Follows (master_of newest) (versions_on pages.flash.geometry site.image) records (record { lsn = lsn; rec = Clr t at.last w.prev w.page w.slot w.before })) (sym is.txn)
             (subst (λ (l : ℕ). Follows (master_of newest) (versions_on pages.flash.geometry site.image) records (record { lsn = lsn; rec = Clr x.txn l w.prev w.page w.slot w.before })) (sym is.last) (wanted.follows lsn));
         no_commit = refl;
-        room = omega (arith, owes, room);
+        room = omega (arith, owes_less e refl is.txn some, h.log_holds.room);
       }
 
   -- there is room for it
   pub room_for_clr : (w : Wanted) → 0 < x.remaining → blocks_to log + 1 ≤ log.kept + (pages.flash.geometry.blocks - 1)
   room_for_clr w some =
       let e : Entry = record { lsn = 0; rec = Clr x.txn 0 0 0 0 None } in
-      let room = h.log_holds.room in
-      let owes = owes_less e refl refl some in
-      omega (arith, owes, room)
+      omega (arith, owes_less e refl refl some, h.log_holds.room)
 
 -- it was logged
 pub undone : UndoLaws → (log : LogStore) (pages : PageStore) (site : State) (newest : Option Master) (records : List Entry) (table : List Content) (commits : ℕ) (x : Unfinished) (at : Undoing) (w : Wanted) (lsn : ℕ) →

@@ -1,14 +1,13 @@
 -- What work costs the cache: the groups that it appends, and the pages that it reads.
-use Rattle.std.proofs.Common.{◌≡◌, ℕ, zero, suc, ◌+◌, ◌≤◌, Bool, true, false, ◌&&◌, List, [], ◌∷◌, ◌++◌, length, drop, reverse, arith, refl, sym, append_assoc, ap, ◌∙◌, length-append}
+use Rattle.std.proofs.Common.{◌≡◌, ℕ, suc, ◌+◌, ◌≤◌, Bool, true, false, ◌&&◌, List, [], ◌∷◌, ◌++◌, length, reverse, arith, refl, sym, append_assoc, ap, ◌∙◌}
 use Rattle.std.specs.Prelude.{if◌then◌else◌}
-use Rattle.std.proofs.lemmas.Bool.{leb-true}
-use Rattle.std.proofs.lemmas.List.{length-drop}
 use Rattle.record_model.specs.Touches.{CacheWork, touch, flush}
 use Rattle.second_chance.specs.declared.frame.Frame.{Frame}
-use Rattle.second_chance.specs.Queue.{Queue, pushed, groups_read, with_read}
-use Rattle.second_chance.specs.Machine.{Rules, PoolPage, Cache, holds, is_full, push_evicted, push_changed, must_be_pushed, after_eviction, evict_first, evict_coldest, lacks_room, with_room, in_front, touched, wants_flush, flushed_by, worked, after_works, Staged, staged_by, staged_by_works}
-use Rattle.page_store.specs.Caching.{first_pushed, is_pushed, pushes}
+use Rattle.second_chance.specs.Queue.{groups_read, with_read}
+use Rattle.second_chance.specs.Machine.{Rules, Cache, holds, evict_coldest, lacks_room, with_room, in_front, touched, worked, after_works, Staged, staged_by, staged_by_works}
+use Rattle.page_store.specs.Caching.{is_pushed, pushes}
 use Rattle.redo_undo.specs.Works.{next_group, finds_in, misses_in, WorksAddUp, ReadsAddUp, ReadsForMore, NumbersRise, OverflowsWithMore}
+use Rattle.page_store.proofs.Numbers.{first_next, flushed_next}
 
 -- Work after work.
 
@@ -40,35 +39,6 @@ reads_add_up rules first later cache old mid new one two =
 
 -- The numbers of groups.
 
--- a push appends one group
-full_has_one : (rules : Rules) (queue : Queue) → 1 ≤ rules.groups → is_full rules queue ≡ true → 1 ≤ length queue.groups
-full_has_one rules queue some full = omega (arith, some, leb-true rules.groups (length queue.groups) full)
-
-pushed_next : (leaves : Bool) (group : List Frame) (queue : Queue) → (leaves ≡ true → 1 ≤ length queue.groups) →
-    (pushed leaves group queue).first + length (pushed leaves group queue).groups ≡ queue.first + length queue.groups + 1
-pushed_next true group queue some = omega (arith, some refl, length-append (drop 1 queue.groups) (group ∷ []), length-drop 1 queue.groups)
-pushed_next false group queue some = omega (arith, length-append queue.groups (group ∷ []))
-
-pub evicted_next : (rules : Rules) (own : PoolPage) (cache : Cache) → 1 ≤ rules.groups → next_group (push_evicted rules own cache) ≡ next_group cache + 1
-evicted_next rules own cache some = pushed_next (is_full rules cache.queue) _ cache.queue (full_has_one rules cache.queue some)
-
-changed_next : (rules : Rules) (cache : Cache) → 1 ≤ rules.groups → next_group (push_changed rules cache) ≡ next_group cache + 1
-changed_next rules cache some = pushed_next (is_full rules cache.queue) _ cache.queue (full_has_one rules cache.queue some)
-
--- an eviction appends one group where it pushes
-eviction_next : (rules : Rules) (own : PoolPage) (cache : Cache) → 1 ≤ rules.groups →
-    next_group (after_eviction rules own cache) ≡ next_group cache + (if must_be_pushed cache.queue own then 1 else 0)
-eviction_next rules own cache some = by (must_be_pushed cache.queue own)
-  where
-    by : (b : Bool) → next_group (if b then push_evicted rules own cache else cache) ≡ next_group cache + (if b then 1 else 0)
-    by true = evicted_next rules own cache some
-    by false = omega arith
-
-first_next : (rules : Rules) (pool : List PoolPage) (cache : Cache) → 1 ≤ rules.groups →
-    next_group (evict_first rules pool cache) ≡ next_group cache + (if first_pushed cache.queue pool then 1 else 0)
-first_next rules [] cache some = omega arith
-first_next rules (coldest ∷ warmer) cache some = eviction_next rules coldest (record cache { pool = reverse warmer }) some
-
 room_next : (rules : Rules) (page : ℕ) (cache : Cache) → 1 ≤ rules.groups →
     next_group (with_room rules page cache) ≡ next_group cache + (if pushes rules page cache then 1 else 0)
 room_next rules page cache some = by (lacks_room rules page cache)
@@ -94,18 +64,9 @@ pub touched_next : (rules : Rules) (page : ℕ) (change : Bool) (cache : Cache) 
     next_group (touched rules page change cache) ≡ next_group cache + (if pushes rules page cache then 1 else 0)
 touched_next rules page change cache some = front_next page change (with_room rules page cache) ∙ room_next rules page cache some
 
-flushed_next : (pushes : ℕ) (rules : Rules) (cache : Cache) → 1 ≤ rules.groups → next_group cache ≤ next_group (flushed_by pushes rules cache)
-flushed_next zero rules cache some = omega arith
-flushed_next (suc pushes) rules cache some = by (wants_flush cache) (flushed_next pushes rules (push_changed rules cache) some)
-  where
-    by : (b : Bool) → next_group (push_changed rules cache) ≤ next_group (flushed_by pushes rules (push_changed rules cache)) →
-        next_group cache ≤ next_group (if b then flushed_by pushes rules (push_changed rules cache) else cache)
-    by true later = omega (arith, later, changed_next rules cache some)
-    by false later = omega arith
-
 work_next : (rules : Rules) (work : CacheWork) (cache : Cache) → 1 ≤ rules.groups → next_group cache ≤ next_group (worked rules work cache)
 work_next rules (touch page change) cache some = omega (arith, touched_next rules page change cache some)
-work_next rules flush cache some = flushed_next (length cache.pool) rules cache some
+work_next rules flush cache some = flushed_next rules cache some
 
 pub numbers_rise : NumbersRise
 numbers_rise rules [] cache some = omega arith

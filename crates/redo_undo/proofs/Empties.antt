@@ -17,7 +17,7 @@ use Rattle.redo_undo.specs.HoldingLaws.{EmptyHolds}
 use Rattle.redo_undo.specs.Laws.{LogLaws, PageLaws}
 use Rattle.redo_undo.proofs.Sames.{opened_holds}
 
-logged_below : (n end : ℕ) → IsTrue ((n == 0) || nat_lt n end) → 0 < n → n < end
+pub logged_below : (n end : ℕ) → IsTrue ((n == 0) || nat_lt n end) → 0 < n → n < end
 logged_below n end logged some = grind (arith, nat_tests)
 
 below_by : (n end to : ℕ) → (0 < n → n < end) → end < to → 0 < to → n < to

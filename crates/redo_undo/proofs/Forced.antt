@@ -55,10 +55,9 @@ hi_after false hi hi' some is = absurd (true≢false (sym some))
 -- the blocks stay as many
 pub same_blocks : (log log' : LogStore) → has_tail log ≡ true → log'.ring.hi ≡ (if has_tail log then log.ring.hi + 1 else log.ring.hi) → log'.used ≡ 2 → blocks_to log' ≡ blocks_to log
 same_blocks log log' some next empty =
-    let hi = hi_after (has_tail log) log.ring.hi log'.ring.hi some next in
     let one : (if has_tail log then 1 else 0) ≡ 1 = ap tail_blocks some in
     let none : (if has_tail log' then 1 else 0) ≡ 0 = ap tail_blocks (none_now log' empty) in
-    omega (arith, hi, one, none)
+    omega (arith, hi_after (has_tail log) log.ring.hi log'.ring.hi some next, one, none)
 
 module _ (logs : LogLaws) (laws : PageLaws) (beside : BesideLaws) (log : LogStore) (pages : PageStore) (site : State) (newest : Option Master) (records : List Entry) (table : List Content) (commits : ℕ) (h : Holds log pages site newest records table commits)
     (sizes : log.geometry ≡ pages.flash.geometry) (log' : LogStore) (new : State) (some : has_tail log ≡ true) (high : log.used ≤ block_len)
@@ -100,10 +99,7 @@ module _ (logs : LogLaws) (laws : PageLaws) (beside : BesideLaws) (log : LogStor
               (subst (λ (c : List ℕ). ShowsAll records (versions_on pages.flash.geometry site.image) number (version_in c)) (sym (stays number)) (h.shows.each number exists));
         };
         below = λ number exists.
-            let before = h.below number exists in
-            let empty = is.empty in
-            let next = hi_is in
-            subst (λ (c : List ℕ). lsn_of c < end_of log') (sym (stays number)) (omega (arith, before, next, empty, high));
+            subst (λ (c : List ℕ). lsn_of c < end_of log') (sym (stays number)) (omega (arith, h.below number exists, hi_is, is.empty, high));
       }
 
 -- where no record is unsealed there is no tail

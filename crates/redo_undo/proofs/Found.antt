@@ -33,7 +33,7 @@ use Rattle.redo_undo.proofs.Opens.{all_found}
 
 -- LSNs.
 
-last_after : (from : ℕ) (xs : List Entry) (e : Entry) (to : ℕ) → IsInOrder from (xs ++ e ∷ []) to → from ≤ e.lsn
+pub last_after : (from : ℕ) (xs : List Entry) (e : Entry) (to : ℕ) → IsInOrder from (xs ++ e ∷ []) to → from ≤ e.lsn
 last_after from [] e to order = order.0
 last_after from (x ∷ xs) e to order = let a = order.0 in let b = last_after (x.lsn + 1) xs e to order.1 in omega (arith, a, b)
 
@@ -114,8 +114,7 @@ module _ (found_laws : FoundLaws) (laws : UndoLaws) (log : LogStore) (pages : Pa
   -- and undoing it goes on with the first of its Updates that remain
   next_at : (t lsn : ℕ) (x : Open) → found_in (listed found.table) t ≡ Some x → IsTop lsn x.updates → next_of records t ≡ lsn
   next_at t lsn x there top =
-      let same = (open_is t x there).1 in
-      let head = head_of (left_open records t) lsn (subst (λ (y : Open). IsTop lsn y.updates) same top) in
+      let head = head_of (left_open records t) lsn (subst (λ (y : Open). IsTop lsn y.updates) (open_is t x there).1 top) in
       (found_laws.next (512 * kept_by newest) (next_lsn (picture_under newest pages.flash.geometry site.image h.log_holds.blocks) h.log_holds.tail) records t head.0 head.1 order (undoable.undone t (lives t x there)) head.2).next ∙ head.3
 
   abbrev standing : Loser → ℕ → Unfinished
@@ -140,11 +139,8 @@ module _ (found_laws : FoundLaws) (laws : UndoLaws) (log : LogStore) (pages : Pa
   -- its last record stands where the others do
   pub last_known : (known : ℕ) (loser : Loser) → AreUpTo known records → IsOf (listed found.table) loser → loser.last ≤ known
   last_known known loser up_to of =
-      let u = unfinished_of loser.txn of.x of.there in
       let last : loser.last ≡ of.x.last = ap (λ (l : Loser). l.last) of.same in
-      let is_last = u.last_is in
-      let less = last_up_to 0 known (is_of loser.txn) records (omega arith) up_to in
-      omega (arith, last, is_last, less)
+      omega (arith, last, (unfinished_of loser.txn of.x of.there).last_is, last_up_to 0 known (is_of loser.txn) records (omega arith) up_to)
 
   found_some : (t : ℕ) → is_loser records t ≡ true → found_in (listed found.table) t ≡ Some (open_at [] records t)
   found_some t loser =
@@ -182,8 +178,7 @@ module _ (page_laws : PageLaws) (laws : UndoLaws) (log : LogStore) (pages : Page
   owes_end lsn =
       let owes : owed records ≡ owed (records ++ record { lsn = lsn; rec = End x.txn } ∷ []) + owed_by records x.txn =
       laws.owed_closing records (record { lsn = lsn; rec = End x.txn }) refl (laws.lives records x.txn unfinished.loser) (chain page_laws laws log pages site newest records table commits h x unfinished) in
-      let remains = unfinished.remaining_is in
-      omega (arith, owes, remains, none)
+      omega (arith, owes, unfinished.remaining_is, none)
 
   pub room_to_end : blocks_to log + 1 ≤ log.kept + (pages.flash.geometry.blocks - 1)
   room_to_end = let owes = owes_end 0 in let room = h.log_holds.room in omega (arith, owes, room)
@@ -192,13 +187,11 @@ module _ (page_laws : PageLaws) (laws : UndoLaws) (log : LogStore) (pages : Page
   end_may lsn =
       let p = picture_under newest pages.flash.geometry site.image h.log_holds.blocks in
       let are = h.log_holds.runs_on.records_are in
-      let owes = owes_end lsn in
-      let room = h.log_holds.room in
       record {
         follows = subst (λ (l : List Entry). Follows (master_of newest) (versions_on pages.flash.geometry site.image) l (record { lsn = lsn; rec = End x.txn })) are
             (laws.end p h.log_holds.tail x h.log_holds.runs_on.carries (subst (λ (l : List Entry). IsUnfinished l x) (sym are) unfinished) none lsn);
         no_commit = refl;
-        room = omega (arith, owes, room);
+        room = omega (arith, owes_end lsn, h.log_holds.room);
       }
 
 -- One record more.
@@ -247,14 +240,12 @@ nothing_undone log pages site newest records table commits found known is = reco
 unfoldable pub more_undone : (log log' : LogStore) (pages pages' : PageStore) (site site' : State) (newest : Option Master) (records : List Entry) (table : List Content) (commits : ℕ) (found found' : Analysis) (known known' : ℕ) →
     (a : UndoesSome log pages site newest records table commits found known) → UndoesSome log' pages' site' newest (records ++ a.more) table commits found' known' → UndoesSome log' pages' site' newest records table commits found' known'
 more_undone log log' pages pages' site site' newest records table commits found found' known known' a b =
-    let count = a.count in
-    let count' = b.count in
     let all = append_assoc records a.more b.more in
     record {
       more = a.more ++ b.more;
       now = subst (λ (l : List Entry). IsUndoing log' pages' site' newest l table commits found' known') all b.now;
       in_turn = in_turn_join IsNextUndo records a.more b.more a.in_turn b.in_turn;
-      count = omega (arith, count, count', length-append a.more b.more, ap owed all);
+      count = omega (arith, a.count, b.count, length-append a.more b.more, ap owed all);
       orderly = λ was. subst AreOrderly all (b.orderly (a.orderly was));
     }
 
@@ -263,12 +254,11 @@ pub all_undone : FoundLaws → UndoLaws → (log : LogStore) (pages : PageStore)
     UndoesSome log pages site newest records table commits found known → listed found.table ≡ [] → UndoesAll log pages site newest records table commits
 all_undone found_laws laws log pages site newest records table commits found known a none =
     let done = none_unfinished found_laws laws log pages site newest (records ++ a.more) table commits found a.now.holds a.now.analysis none in
-    let count = a.count in
     record {
       more = a.more;
       holds = a.now.holds;
       none = done;
-      count = omega (arith, count, found_laws.nothing (records ++ a.more) done);
+      count = omega (arith, a.count, found_laws.nothing (records ++ a.more) done);
       in_turn = a.in_turn;
       orderly = a.orderly;
     }

@@ -21,6 +21,7 @@ use Rattle.redo_undo.specs.Laws.{PageLaws, UndoLaws, FoundLaws}
 use Rattle.redo_undo.proofs.Compensations.{chain, found_at, entries_are}
 use Rattle.std.proofs.lemmas.Bool.{eqb-true}
 use Rattle.redo_undo.proofs.LeftUpdates.{order_filtered}
+use Rattle.redo_undo.proofs.Found.{last_after}
 
 -- what passes a test stands in the list
 pub split_at : (test : Entry → Bool) (xs front : List Entry) (e : Entry) (back : List Entry) → filter test xs ≡ front ++ e ∷ back → (a : List Entry) × (b : List Entry) × (xs ≡ a ++ e ∷ b) × (test e ≡ true)
@@ -100,10 +101,6 @@ abbrev first_lsn : List Entry → ℕ
 first_lsn [] = 0
 first_lsn (x ∷ xs) = x.lsn
 
-last_after : (from : ℕ) (xs : List Entry) (e : Entry) (to : ℕ) → IsInOrder from (xs ++ e ∷ []) to → from ≤ e.lsn
-last_after from [] e to order = order.0
-last_after from (x ∷ xs) e to order = let a = order.0 in let b = last_after (x.lsn + 1) xs e to order.1 in omega (arith, a, b)
-
 after_first : (from to : ℕ) (front : List Entry) (e : Entry) → IsInOrder from (front ++ e ∷ []) to → first_lsn (front ++ e ∷ []) ≤ e.lsn
 after_first from to [] e order = omega arith
 after_first from to (x ∷ front) e order = let a = last_after (x.lsn + 1) front e to order.1 in omega (arith, a)
@@ -125,10 +122,7 @@ module _ (page_laws : PageLaws) (found_laws : FoundLaws) (laws : UndoLaws) (log 
       by [] is = let next = unfinished.next_is ∙ laws.next_undone (512 * kept_by newest) end records x.txn order its_chain is in omega (arith, next, late)
       by (u ∷ rest) is =
           let to = found_laws.next (512 * kept_by newest) end records x.txn u rest order its_chain is in
-          let next = unfinished.next_is ∙ to.next in
-          let early = to.early in
-          let last_is = unfinished.last_is in
-          omega (arith, next, early, last_is, same)
+          omega (arith, unfinished.next_is ∙ to.next, to.early, unfinished.last_is, same)
 
   its_last : (e : Entry) × (at_lsn x.last (entries (record { first = kept_by newest; blocks = h.log_holds.blocks; tail = h.log_holds.tail })) ≡ Some e.rec) × Says x x.last e.rec
   its_last =

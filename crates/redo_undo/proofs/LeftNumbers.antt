@@ -1,6 +1,6 @@
 -- The numbers of the rings in what a call has left.
 use Rattle.std.proofs.Common.{◌≡◌, inl, inr, ◌+◌, ◌≤◌, Bool, true, List, [], ◌∷◌, ◌++◌, length, ap, subst, arith, ℕ}
-use Rattle.std.specs.Prelude.{Result, Ok, Err, OnOk, Some, ◌≢◌, if◌then◌else◌}
+use Rattle.std.specs.Prelude.{Result, Err, OnOk, Some, ◌≢◌, if◌then◌else◌}
 use Rattle.std.specs.List.{AllByRecursion}
 use Rattle.std.proofs.lemmas.List.{length-append}
 use Rattle.site.specs.declared.geometry.Geometry.{Geometry}
@@ -24,10 +24,6 @@ use Rattle.redo_undo.proofs.Touched.{tail_blocks}
 use Rattle.redo_undo.proofs.Opens.{all_front}
 use Rattle.redo_undo.proofs.Forced.{seals_only, same_blocks}
 use Rattle.site.proofs.Working.{ok_as, ok_always}
-
-pub ok_both : {T E : Type 0} (r : Result T E) (P Q Z : Type 0) → (P → Q → Z) → OnOk r P → OnOk r Q → OnOk r Z
-ok_both (Ok x) P Q Z f p q = f p q
-ok_both (Err e) P Q Z f p q = tt
 
 -- the ring's next block is the one behind the blocks that are held
 pub ready_next : (pages : PageStore) (log : LogStore) (list : LogList) (site : State) → AreReady pages log list site → log.ring.hi ≡ list.first + length list.blocks
@@ -53,10 +49,9 @@ pub left_skips : {T E : Type 0} (r : Result T E) (g : Geometry) (log log' : LogS
     → LeavesLog g sealing list site.told (snapshot_of new) → KeepsUnits master_shape site.image new.image → OnOk r (blocks_to log' ≤ blocks_to log + n) → SkipsNone r g log log' site new n 0
 left_skips r g log log' list sealing site new n hi some leaves keeps count =
     let same = masters_same site.image new.image keeps in
-    let now = blocks_left g log list sealing site.told (snapshot_of new) hi some leaves in
     record {
       log = count;
-      blocks = omega (arith, now);
+      blocks = omega (arith, blocks_left g log list sealing site.told (snapshot_of new) hi some leaves);
       masters = omega (arith, same);
       saved = ok_always r _ (let all : hi_of master_shape new.image.log ≡ hi_of master_shape site.image.log + 0 = omega (arith, same) in all);
     }
@@ -88,15 +83,13 @@ record HasMasters (g : Geometry) (old new : Image) : Type 0 where
 
 masters_left : (g : Geometry) (unit : List ℕ) (changes left : List Change) (old new : Image) → AppendsMaster unit ∷ [] ≡ changes ++ left → Reaches g changes old new → HasMasters g old new
 masters_left g unit [] left old new is reads =
-    let masters = masters_same old new (reads.rings Masters) in
-    record { blocks = blocks_same g old new (reads.rings Blocks); masters = omega (arith, masters) }
+    record { blocks = blocks_same g old new (reads.rings Blocks); masters = omega (arith, masters_same old new (reads.rings Masters)) }
 masters_left g unit (AppendsMaster content ∷ []) left old new is made =
     let mid = made.0 in
-    let first = ap (λ (u : Units). u.hi) made.1.units in
     let second = masters_same mid new (made.2.rings Masters) in
     let before : hi_of (log_shape g) mid.log ≡ hi_of (log_shape g) old.log = blocks_same g old mid (made.1.others Blocks (λ same. cc)) in
     let behind = blocks_same g mid new (made.2.rings Blocks) in
-    record { blocks = omega (arith, before, behind); masters = omega (arith, first, second) }
+    record { blocks = omega (arith, before, behind); masters = omega (arith, ap (λ (u : Units). u.hi) made.1.units, second) }
 masters_left g unit (x ∷ y ∷ changes) left old new is made = absurd (let len = ap length is in omega (arith, len))
 masters_left g unit (other ∷ []) left old new is made = absurd cc
 
@@ -106,10 +99,9 @@ pub save_skips : {T E : Type 0} (r : Result T E) (g : Geometry) (log log' : LogS
 save_skips r g log log' unit site new hi front count saved =
     let is = holds_now site new (IsReached g (IsFrontOf (AppendsMaster unit ∷ [])) site) front in
     let has = masters_left g unit is.changes is.made.0 site.image new.image is.made.1 is.reaches in
-    let blocks = has.blocks in
     record {
       log = ok_as r _ _ (λ same. omega (arith, same)) count;
-      blocks = omega (arith, blocks, hi);
+      blocks = omega (arith, has.blocks, hi);
       masters = has.masters;
       saved = saved;
     }

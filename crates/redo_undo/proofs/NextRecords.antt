@@ -18,14 +18,11 @@ use Rattle.image_meaning.specs.Redone.{IsRedone, AreKnown, Redoes}
 use Rattle.analysis.specs.Taken.{Steps, is_taken}
 use Rattle.redo_undo.specs.Holding.{IsOnPage}
 use Rattle.redo_undo.specs.Laws.{PageLaws}
-use Rattle.redo_undo.proofs.Changed.{front_is_current}
+use Rattle.redo_undo.proofs.Changed.{front_is_current, known_more}
 use Rattle.redo_undo.specs.RedoLaws.{RedoLaws}
 use Rattle.std.specs.Prelude.{if◌then◌else◌, filter, nat_lt}
 use Rattle.redo_undo.specs.Redoing.{Opening, opened, IsFrom, IsRedoing, heard_of}
-
-all_append : {X : Type 0} (P : X → Type 0) (xs ys : List X) → AllByRecursion P xs → AllByRecursion P ys → AllByRecursion P (xs ++ ys)
-all_append P [] ys front rest = rest
-all_append P (x ∷ xs) ys front rest = (front.0, all_append P xs ys front.1 rest)
+use Rattle.flash_cache.proofs.Given.{all_append}
 
 one_of_all : {X : Type 0} (P : X → Type 0) (front : List X) (x : X) (rest : List X) → AllByRecursion P (front ++ x ∷ rest) → P x
 one_of_all P [] x rest all = all.0
@@ -49,12 +46,8 @@ filter_more test front e here = filter_split test front e [] here
 pub filter_none : (test : Entry → Bool) (front : List Entry) (e : Entry) → test e ≡ false → filter test (front ++ e ∷ []) ≡ filter test front
 filter_none test front e here = filter_append test front (e ∷ []) ∙ ap (λ (l : List Entry). filter test front ++ l) (cond-false (test e) (e ∷ []) [] here) ∙ append-nil (filter test front)
 
-known_more : (log : List Entry) (page from to : ℕ) → from ≤ to → AreKnown log page from → AreKnown log page to
-known_more [] page from to more known = tt
-known_more (e ∷ log) page from to more known = ((λ number is at. let known_e = known.0 number is at in omega (arith, known_e, more)), known_more log page from to more known.1)
-
 -- a record of an ordered log stands before the log's end
-order_ends : (from to : ℕ) (log : List Entry) → IsInOrder from log to → from ≤ to
+pub order_ends : (from to : ℕ) (log : List Entry) → IsInOrder from log to → from ≤ to
 order_ends from to [] ordered = ordered
 order_ends from to (e ∷ log) ordered = let later = order_ends (e.lsn + 1) to log ordered.1 in let first = ordered.0 in omega (arith, later, first)
 
@@ -70,8 +63,7 @@ comes_after from to (x ∷ front) e rest ordered = let later = comes_after (x.ls
 last_before : (from to n : ℕ) (front : List Entry) (e : Entry) (rest : List Entry) → IsInOrder from (front ++ e ∷ rest) to → n ≤ e.lsn - 1 → last_number n (map (λ x. x.lsn) front) ≤ e.lsn - 1
 last_before from to n [] e rest ordered low = low
 last_before from to n (x ∷ front) e rest ordered low =
-    let later = comes_after (x.lsn + 1) to front e rest ordered.1 in
-    last_before (x.lsn + 1) to x.lsn front e rest ordered.1 (omega (arith, later))
+    last_before (x.lsn + 1) to x.lsn front e rest ordered.1 (omega (arith, comes_after (x.lsn + 1) to front e rest ordered.1))
 
 last_of : (n : ℕ) (front : List Entry) (e : Entry) → last_number n (map (λ x. x.lsn) (front ++ e ∷ [])) ≡ e.lsn
 last_of n [] e = refl
@@ -95,9 +87,7 @@ module _ (laws : PageLaws) (redo : RedoLaws) (o : Opening) (log : LogStore) (pag
   pub page_exists : (page number : ℕ) → number_of e.rec ≡ Some number → number / 32 ≡ page → page < o.sizes.pages
   page_exists page number own at =
       let within = one_of_all (IsInTable (versions_on o.sizes o.image)) front e rest (subst (AllByRecursion (IsInTable (versions_on o.sizes o.image))) is h.sound.in_table) in
-      let small = within number own in
-      let long = laws.count o.sizes o.image in
-      omega (arith, small, long, at)
+      omega (arith, within number own, laws.count o.sizes o.image, at)
 
   hi_is : log.ring.hi ≡ next_block_under o.newest o.blocks
   hi_is = let hi = h.ready.blocks.hi in let next = h.ready.records.blocks.next in let at = laws.next o.newest o.blocks in omega (arith, hi, next, at)
@@ -106,8 +96,7 @@ module _ (laws : PageLaws) (redo : RedoLaws) (o : Opening) (log : LogStore) (pag
   pub lsn_sealed : e.lsn < end_forced log
   lsn_sealed =
       let below = before_end (512 * kept_by o.newest) (512 * next_block_under o.newest o.blocks) front e rest (subst (λ (l : List Entry). IsInOrder (512 * kept_by o.newest) l (512 * next_block_under o.newest o.blocks)) is h.sound.in_order) in
-      let hi = hi_is in
-      omega (arith, below, hi)
+      omega (arith, below, hi_is)
 
   -- those before it have smaller ones
   pub last_below : last_lsn front ≤ e.lsn - 1
@@ -127,14 +116,12 @@ module _ (laws : PageLaws) (redo : RedoLaws) (o : Opening) (log : LogStore) (pag
   -- before the redo block its page knows of it
   pub known_before : e.lsn < 512 * (opened o).master.redo → (page number : ℕ) → page < o.sizes.pages → number_of e.rec ≡ Some number → number / 32 ≡ page → e.lsn ≤ lsn_of (current pages site.image page)
   known_before early page number exists own at =
-      let long = laws.count o.sizes o.image in
-      let fits = h.sound.versions_fit page (omega (arith, exists, long)) in
+      let fits = h.sound.versions_fit page (omega (arith, exists, laws.count o.sizes o.image)) in
       let before : before_block (opened o).master.redo (opened o).log ≡ before_block (opened o).master.redo front ++ e ∷ before_block (opened o).master.redo rest =
       ap (before_block (opened o).master.redo) is ∙ filter_split (λ (x : Entry). nat_lt x.lsn (512 * (opened o).master.redo)) front e rest (lt-ltb e.lsn (512 * (opened o).master.redo) early) in
       let knows = one_of_all (λ (x : Entry). (n : ℕ) → number_of x.rec ≡ Some n → n / 32 ≡ page → x.lsn ≤ (version_at (opened o).pages page).lsn) (before_block (opened o).master.redo front) e (before_block (opened o).master.redo rest)
       (subst (AllByRecursion (λ (x : Entry). (n : ℕ) → number_of x.rec ≡ Some n → n / 32 ≡ page → x.lsn ≤ (version_at (opened o).pages page).lsn)) before fits.knows) number own at in
-      let later = (h.redone page exists).later in
-      omega (arith, knows, later)
+      omega (arith, knows, (h.redone page exists).later)
 
   with_known : (pages' : PageStore) → pages'.flash.geometry ≡ pages.flash.geometry → Fits pages' site → IsAhead log pages' site.image →
       ((page : ℕ) → page < o.sizes.pages → IsRedone (opened o) page (version_in (current pages' site.image page)) × AreKnown (front ++ e ∷ []) page (lsn_of (current pages' site.image page)) × IsFrom (opened o) (front ++ e ∷ []) page (lsn_of (current pages' site.image page))) →

@@ -9,6 +9,8 @@ use Rattle.analysis.specs.declared.analysis.Loser.{Loser}
 use Rattle.analysis.specs.Open.{Open, owed_one, owed_for, found_in, AscendFrom, Replaces, TakesOut}
 use Rattle.analysis.specs.Read.{loser_of}
 use Rattle.redo_undo.specs.UndoingAll.{IsOf, Remain, HasNone}
+use Rattle.flash_cache.proofs.Given.{all_append}
+use Rattle.page_store.proofs.Saving.{all_both}
 
 pub all_front : {X : Type 0} (P : X → Type 0) (front left : List X) → AllByRecursion P (front ++ left) → AllByRecursion P front
 all_front P [] left all = tt
@@ -17,14 +19,6 @@ all_front P (x ∷ front) left all = (all.0, all_front P front left all.1)
 pub all_rest : {X : Type 0} (P : X → Type 0) (front left : List X) → AllByRecursion P (front ++ left) → AllByRecursion P left
 all_rest P [] left all = all
 all_rest P (x ∷ front) left all = all_rest P front left all.1
-
-pub all_join : {X : Type 0} (P : X → Type 0) (front left : List X) → AllByRecursion P front → AllByRecursion P left → AllByRecursion P (front ++ left)
-all_join P [] left first second = second
-all_join P (x ∷ front) left first second = (first.0, all_join P front left first.1 second)
-
-pub all_both : {X : Type 0} (P Q R : X → Type 0) → ((x : X) → P x → Q x → R x) → (xs : List X) → AllByRecursion P xs → AllByRecursion Q xs → AllByRecursion R xs
-all_both P Q R f [] p q = tt
-all_both P Q R f (x ∷ xs) p q = (f x p.0 q.0, all_both P Q R f xs p.1 q.1)
 
 -- Looked at place by place.
 
@@ -57,8 +51,7 @@ others_differ : (n : ℕ) (front : List Open) (was : Open) (back : List Open) �
 others_differ n [] was back ascend =
     all_both (λ y. was.txn + 1 ≤ y.txn) (λ y. was.txn + 1 ≤ y.txn) (λ y. y.txn ≢ was.txn) (λ y p q same. omega (arith, p, same)) back (above (was.txn + 1) back ascend.1) (above (was.txn + 1) back ascend.1)
 others_differ n (x ∷ front) was back ascend =
-    let more = at_least (x.txn + 1) front was back ascend.1 in
-    (λ same. omega (arith, more, same), others_differ (x.txn + 1) front was back ascend.1)
+    (λ same. omega (arith, at_least (x.txn + 1) front was back ascend.1, same), others_differ (x.txn + 1) front was back ascend.1)
 
 -- what holds of all holds of what is found
 pub all_found : (P : Open → Type 0) (table : List Open) (t : ℕ) (x : Open) → AllByRecursion P table → found_in table t ≡ Some x → P x
@@ -94,7 +87,7 @@ still_remain old new loser last ascend all is more r =
     let same = first_is old loser.txn r.front r.was r.back is.x ascend r.old_is r.of is.there in
     let count : loser.remaining ≡ length r.was.updates = ap (λ (l : Loser). l.remaining) is.same ∙ sym (ap (λ (x : Open). length x.updates) same) in
     subst Remain (sym r.new_is)
-    (all_join (λ x. 0 < length x.updates) r.front (undone_by last r.was ∷ r.back) (all_front (λ x. 0 < length x.updates) r.front (r.was ∷ r.back) parts)
+    (all_append (λ x. 0 < length x.updates) r.front (undone_by last r.was ∷ r.back) (all_front (λ x. 0 < length x.updates) r.front (r.was ∷ r.back) parts)
     (drop_some r.was.updates (omega (arith, more, count)), (all_rest (λ x. 0 < length x.updates) r.front (r.was ∷ r.back) parts).1))
 
 -- and else none does
@@ -114,14 +107,14 @@ others_remain old mid new t last ascend all r out =
     let parts = subst Remain r.old_is all in
     let but : AllByRecursion (λ (x : Open). x.txn ≢ t → 0 < length x.updates) mid =
     subst (AllByRecursion (λ (x : Open). x.txn ≢ t → 0 < length x.updates)) (sym r.new_is)
-    (all_join (λ x. x.txn ≢ t → 0 < length x.updates) r.front (undone_by last r.was ∷ r.back)
+    (all_append (λ x. x.txn ≢ t → 0 < length x.updates) r.front (undone_by last r.was ∷ r.back)
     (all_weaker r.front (all_front (λ x. 0 < length x.updates) r.front (r.was ∷ r.back) parts))
     (λ differ. absurd (differ r.of), all_weaker r.back ((all_rest (λ x. 0 < length x.updates) r.front (r.was ∷ r.back) parts).1))) in
     let there = subst (AllByRecursion (λ (x : Open). x.txn ≢ t → 0 < length x.updates)) out.old_is but in
     subst Remain (sym out.new_is)
     (all_both (λ x. x.txn ≢ out.was.txn) (λ x. x.txn ≢ t → 0 < length x.updates) (λ x. 0 < length x.updates) (λ x differ some. some (λ same. differ (same ∙ sym out.of))) (out.front ++ out.back)
     (others_differ 0 out.front out.was out.back (subst (AscendFrom 0) out.old_is ascend))
-    (all_join (λ x. x.txn ≢ t → 0 < length x.updates) out.front out.back (all_front (λ x. x.txn ≢ t → 0 < length x.updates) out.front (out.was ∷ out.back) there)
+    (all_append (λ x. x.txn ≢ t → 0 < length x.updates) out.front out.back (all_front (λ x. x.txn ≢ t → 0 < length x.updates) out.front (out.was ∷ out.back) there)
     ((all_rest (λ x. x.txn ≢ t → 0 < length x.updates) out.front (out.was ∷ out.back) there).1)))
   where
     all_weaker : (xs : List Open) → AllByRecursion (λ x. 0 < length x.updates) xs → AllByRecursion (λ x. x.txn ≢ t → 0 < length x.updates) xs

@@ -64,9 +64,7 @@ before_last : (from to : ℕ) (front : List Entry) (u : Entry) → IsInOrder fro
 before_last from to [] u order = (order.0, tt)
 before_last from to (x ∷ front) u order =
     let later = before_last (x.lsn + 1) to front u order.1 in
-    let first = order.0 in
-    let less = later.0 in
-    (omega (arith, first, less), (omega (arith, less), later.1))
+    (omega (arith, order.0, later.0), (omega (arith, later.0), later.1))
 
 -- Which records are pending.
 

@@ -6,7 +6,7 @@ use Rattle.std.proofs.lemmas.List.Elements.{filter_map-append}
 use Rattle.site.specs.declared.outside.Dev.{Dev}
 use Rattle.site.specs.declared.outside.Dev.TheVariants.{Log, Flash, Disk}
 use Rattle.site.specs.declared.outside.Stop.{Stop}
-use Rattle.site.specs.declared.outside.Stop.TheVariants.{Worn, Memory, Foreign, Device}
+use Rattle.site.specs.declared.outside.Stop.TheVariants.{Worn, Memory, Foreign}
 use Rattle.site.specs.State.{State, reads_of}
 use Rattle.record_model.specs.Touches.{CacheWork, touch, page_of}
 use Rattle.log_records.specs.Log.{Entry, version_at, number_of, log_from}
@@ -42,11 +42,6 @@ stops_first {A} stop works pages site some never =
 pub not_worn : (stop : Stop) → (stop ≡ Memory) ⊎ (stop ≡ Foreign) → stop ≢ Worn Flash
 not_worn stop (inl is) = λ same. cc
 not_worn stop (inr is) = λ same. cc
-
--- and reading a block of the log
-pub not_worn_log : (stop : Stop) → (stop ≡ Device Log) ⊎ (stop ≡ Foreign) → stop ≢ Worn Flash
-not_worn_log stop (inl is) = λ same. cc
-not_worn_log stop (inr is) = λ same. cc
 
 -- a call that reads the log alone
 pub asks_reading : {A : Type 0} (result : Result A Stop) (pages : PageStore) (old new : State) → ((dev : Dev) → dev ≢ Log → reads_of dev new ≡ reads_of dev old) → (IsErrOf result (Worn Flash) → ⊥) →
@@ -194,7 +189,6 @@ module _ (laws : PageLaws) (redo : RedoLaws) (o : Opening) (log : LogStore) (mid
   pub asks_redone : lsn_of (current mid between.image page) < e.lsn → (new : PageStore) → 1 ≤ (rules old).groups → cache_of new ≡ with_change (cache_of mid) → rules new ≡ rules mid → new.flash ≡ mid.flash →
       Asks {T = A} (Ok x) (touches_of o (e ∷ [])) old new before between
   asks_redone less new some changed same flash =
-      let later = (h.redone page exists).later in
-      let older : (version_at (opened o).pages page).lsn < e.lsn = omega (arith, later, less) in
+      let older : (version_at (opened o).pages page).lsn < e.lsn = omega (arith, (h.redone page exists).later, less) in
       subst (λ (works : List CacheWork). Asks {T = A} (Ok x) works old new before between) (sym (touch_of o e page number true own at (lt-ltb (version_at (opened o).pages page).lsn e.lsn older)))
       (change_asks redo.change x page old mid new before between some asks changed same flash)

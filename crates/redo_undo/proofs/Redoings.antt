@@ -6,8 +6,7 @@ use Rattle.std.proofs.lemmas.Bool.Decides.{nat_tests}
 use Rattle.site.specs.declared.geometry.Geometry.{Geometry}
 use Rattle.site.specs.State.{State, Image, Snapshot, snapshot_of, IsQuiet}
 use Rattle.site.specs.Calls.{Goes, IsUnchanged}
-use Rattle.site.specs.declared.outside.Dev.TheVariants.{Log}
-use Rattle.site.specs.Moments.{Leaves, LeavesOnly, SameBut, ChangesOnly}
+use Rattle.site.specs.Moments.{Leaves, LeavesOnly}
 use Rattle.site.specs.Laws.{each_both, each_weaker, no_call, unchanged_calm, stays_honest, quiet_leaves}
 use Rattle.sealed_ring.specs.Ring.{IsRing, hi_of}
 use Rattle.image_changes.specs.Rings.{log_shape, KeepsUnits, master_shape}
@@ -40,8 +39,9 @@ use Rattle.redo_undo.specs.Laws.{PageLaws}
 use Rattle.redo_undo.specs.RedoLaws.{RedoLaws}
 use Rattle.redo_undo.specs.Redoing.{IsOpened, Opening, opened, IsFrom, LeavesOpened, IsRedoing}
 use Rattle.checkpoint.specs.declared.master.Master.{Master}
-use Rattle.redo_undo.proofs.Sames.{units_then}
+use Rattle.redo_undo.proofs.Sames.{units_then, only_read}
 use Rattle.redo_undo.proofs.Standing.{current_sound}
+use Rattle.redo_undo.proofs.Empties.{logged_below}
 
 -- an empty tail is never forced
 pub never_forced : (log : LogStore) (contents : List (List ℕ)) → log.used ≡ 2 → forces log contents ≡ false
@@ -187,9 +187,6 @@ module _ (laws : PageLaws) (redo : RedoLaws) (o : Opening) (log : LogStore) (pag
 
 -- Nothing was redone yet.
 
-logged_number : (n end : ℕ) → IsTrue ((n == 0) || nat_lt n end) → 0 < n → n < end
-logged_number n end logged some = grind (arith, nat_tests)
-
 before_two : (n end : ℕ) → IsTrue ((n == 0) || nat_lt n end) → n < end + 2
 before_two n end logged = grind (arith, nat_tests)
 
@@ -206,12 +203,10 @@ module _ (laws : PageLaws) (redo : RedoLaws) (log : LogStore) (pages : PageStore
 
   version_logged : (number : ℕ) → number < pages.flash.geometry.pages → IsLogged (sealed_end pages.flash.geometry site.image) (version_on pages.flash.geometry site.image number)
   version_logged number exists =
-      let next = h.sound.held.next in
-      let at = laws.next newest blocks in
-      let end : 512 * next_block_under newest blocks ≡ sealed_end pages.flash.geometry site.image = omega (arith, next, at) in
+      let end : 512 * next_block_under newest blocks ≡ sealed_end pages.flash.geometry site.image = omega (arith, h.sound.held.next, laws.next newest blocks) in
       let logged = (h.sound.records.versions_fit number (listed_there number exists)).logged in
       let of_it = subst (λ (v : Version). IsTrue ((v.lsn == 0) || nat_lt v.lsn (512 * next_block_under newest blocks))) (laws.at pages.flash.geometry site.image number exists) logged in
-      record { below = λ some. subst (λ n. lsn_of (version_on pages.flash.geometry site.image number) < n) end (logged_number (lsn_of (version_on pages.flash.geometry site.image number)) (512 * next_block_under newest blocks) of_it some) }
+      record { below = λ some. subst (λ n. lsn_of (version_on pages.flash.geometry site.image number) < n) end (logged_below (lsn_of (version_on pages.flash.geometry site.image number)) (512 * next_block_under newest blocks) of_it some) }
 
   pub begins : IsRedoing begun log pages site []
   begins = record {
@@ -240,20 +235,15 @@ module _ (opens : OpenedHolds) (laws : PageLaws) (redo : RedoLaws) (o : Opening)
   shows_all : (number : ℕ) → number < o.sizes.pages → ShowsAll (log_from (kept_by o.newest) o.blocks) (versions_on o.sizes site.image) number (version_in (current pages site.image number))
   shows_all number exists =
       let v = version_in (current pages site.image number) in
-      let long = laws.count o.sizes o.image in
       let is = redo.last (opened o) number v (h.redone number exists) (h.known number exists) in
       subst (λ (l : List Entry). ShowsAll l (versions_on o.sizes site.image) number v) (append-nil (log_from (kept_by o.newest) o.blocks))
-      (redo.shows (opened o) (versions_on o.sizes site.image) [] number v h.replace (omega (arith, exists, long))
+      (redo.shows (opened o) (versions_on o.sizes site.image) [] number v h.replace (omega (arith, exists, laws.count o.sizes o.image))
       (subst (λ (l : List Entry). ShowsAll l (versions_on o.sizes o.image) number v) (sym (append-nil (log_from (kept_by o.newest) o.blocks))) is.all))
 
   below_end : (number : ℕ) → number < o.sizes.pages → lsn_of (current pages site.image number) < end_of log
   below_end number exists =
-      let hi = h.ready.blocks.hi in
-      let next = h.ready.records.blocks.next in
-      let used = h.ready.records.tail.end in
       let less = before_two (lsn_of (current pages site.image number)) (512 * next_block_under o.newest o.blocks) (h.redone number exists).logged in
-      let at = laws.next o.newest o.blocks in
-      omega (arith, hi, next, used, less, at)
+      omega (arith, h.ready.blocks.hi, h.ready.records.blocks.next, h.ready.records.tail.end, less, laws.next o.newest o.blocks)
 
   pub holds_all : Holds log pages site o.newest (log_from (kept_by o.newest) o.blocks) o.table o.commits
   holds_all =
@@ -266,12 +256,6 @@ module _ (opens : OpenedHolds) (laws : PageLaws) (redo : RedoLaws) (o : Opening)
       (subst (λ (k : Geometry). (number : ℕ) → number < k.pages → lsn_of (current pages site.image number) < end_of log) back below_end)
 
 -- A site of which only was read.
-
-only_read : (old new : State) → IsUnchanged old new → ChangesOnly Log old new
-only_read old new same = record {
-  only = unchanged_calm old old new (SameBut Log old) (no_call old (SameBut Log old) (record { told = refl; telling = refl; content = λ d other. refl; loose = λ d other. refl })) same;
-  left = same.left;
-}
 
 pub redoing_still : RedoLaws → (o : Opening) (log : LogStore) (pages : PageStore) (old new : State) (front : List Entry) → Goes old new → IsUnchanged old new → IsRedoing o log pages old front → IsRedoing o log pages new front
 redoing_still redo o log pages old new front goes same h =

@@ -1,6 +1,5 @@
 -- Undoing a transaction, CLR by CLR, and its End.
 use Rattle.std.proofs.Common.{◌≡◌, ◌≢◌, ℕ, zero, suc, ◌+◌, ◌-◌, ◌*◌, ◌<◌, ◌≤◌, true, List, [], ◌∷◌, ◌++◌, length, refl, sym, ap, subst, ◌∙◌, arith, append_assoc, append-nil, Option}
-use Rattle.std.specs.List.{AllByRecursion}
 use Rattle.std.proofs.lemmas.Bool.{ne_eqb}
 use Rattle.std.proofs.lemmas.List.{length-append}
 use Rattle.site.specs.State.{State}
@@ -24,14 +23,8 @@ use Rattle.redo_undo.specs.Undoing.{IsAt, Undone}
 use Rattle.redo_undo.specs.Rollback.{AreClrsOf, left_of, Compensates, RollsBack}
 use Rattle.redo_undo.specs.Laws.{PageLaws, UndoLaws}
 use Rattle.redo_undo.proofs.Compensations.{to_undo, chain}
-
-pub all_append : {X : Type 0} (P : X → Type 0) (xs ys : List X) → AllByRecursion P xs → AllByRecursion P ys → AllByRecursion P (xs ++ ys)
-all_append P [] ys front rest = rest
-all_append P (x ∷ xs) ys front rest = (front.0, all_append P xs ys front.1 rest)
-
-none_left : {X : Type 0} (xs : List X) → 0 ≡ length xs → xs ≡ []
-none_left [] is = refl
-none_left (x ∷ xs) is = absurd (omega (arith, is))
+use Rattle.redo_undo.proofs.LeftUpdates.{none_of}
+use Rattle.flash_cache.proofs.Given.{all_append}
 
 -- nothing is compensated yet
 unfoldable pub starts : (log : LogStore) (pages : PageStore) (site : State) (newest : Option Master) (records : List Entry) (table : List Content) (commits : ℕ) (x : Unfinished) (first : Undoing) → Holds log pages site newest records table commits → IsUnfinished records x → IsAt first x →
@@ -63,7 +56,7 @@ module _ (pages_laws : PageLaws) (laws : UndoLaws) (log : LogStore) (pages : Pag
           let p = picture_under newest pages.flash.geometry site.image c.holds.log_holds.blocks in
           let order = subst (λ (l : List Entry). IsInOrder (512 * p.master.kept) l (next_lsn p c.holds.log_holds.tail)) c.holds.log_holds.runs_on.records_are (laws.in_order p c.holds.log_holds.tail c.holds.log_holds.runs_on.carries) in
           absurd (differ (c.left.next_is ∙ laws.next_undone (512 * p.master.kept) (next_lsn p c.holds.log_holds.tail) (records ++ c.clrs) now.txn order
-          (chain pages_laws laws log pages site newest (records ++ c.clrs) table commits c.holds (left_of now c.remaining) c.left) (none_left (left_open (records ++ c.clrs) now.txn) (sym is ∙ c.left.remaining_is))))
+          (chain pages_laws laws log pages site newest (records ++ c.clrs) table commits c.holds (left_of now c.remaining) c.left) (none_of (left_open (records ++ c.clrs) now.txn) (sym is ∙ c.left.remaining_is))))
 
   later : (rec : LogRecord) → IsToUndo (picture_under newest pages.flash.geometry site.image c.holds.log_holds.blocks) (records ++ c.clrs) (left_of now c.remaining) rec → now.txn < now.next
   later (Update txn prev page slot before after) is = let late = is.1 in let early = is.2 in omega (arith, late, early)
@@ -80,8 +73,7 @@ module _ (pages_laws : PageLaws) (laws : UndoLaws) (log : LogStore) (pages : Pag
       by zero is = refl
       by (suc n) is =
           let there = to_undo pages_laws laws log pages site newest (records ++ c.clrs) table commits c.holds (left_of now c.remaining) c.left (omega (arith, is)) in
-          let more = later there.0.rec there.2 in
-          absurd (omega (arith, more, same))
+          absurd (omega (arith, later there.0.rec there.2, same))
 
   -- one more CLR
   unfoldable pub goes_on : (log' : LogStore) (pages' : PageStore) (new : State) (next : Undoing) → Undone log' pages' new newest (records ++ c.clrs) table commits (left_of now c.remaining) next → blocks_to log' ≤ blocks_to log + 1 → new.log_reads ≤ site.log_reads + 1 →
@@ -124,13 +116,11 @@ module _ (pages_laws : PageLaws) (laws : UndoLaws) (log : LogStore) (pages : Pag
     may_end lsn =
         let p = picture_under newest pages.flash.geometry site.image c.holds.log_holds.blocks in
         let are = c.holds.log_holds.runs_on.records_are in
-        let owes = owes_less lsn in
-        let room = c.holds.log_holds.room in
         subst (λ (t : ℕ). MayGrow log pages site.image newest (records ++ c.clrs) (record { lsn = lsn; rec = End t })) c.same (record {
           follows = subst (λ (l : List Entry). Follows (master_of newest) (versions_on pages.flash.geometry site.image) l (record { lsn = lsn; rec = End now.txn })) are
               (laws.end p c.holds.log_holds.tail (left_of now c.remaining) c.holds.log_holds.runs_on.carries (subst (λ (l : List Entry). IsUnfinished l (left_of now c.remaining)) (sym are) c.left) none lsn);
           no_commit = refl;
-          room = omega (arith, owes, room);
+          room = omega (arith, owes_less lsn, c.holds.log_holds.room);
         })
 
 -- all other transactions are as they were

@@ -20,9 +20,8 @@ module _ (laws : LogLaws) where
   -- the tail is sealed, and a new one begins
   pub resealed : (p : Picture) (tail : List LogRecord) (records : List Entry) (table : List Content) (commits : ℕ) → RunsOn p tail records table commits → AreBlock tail → HasRoom (sealed p tail) → RunsOn (sealed p tail) [] records table commits
   resealed p tail records table commits runs block room =
-      let sound = laws.sealed_tail p tail runs.carries block room (inl runs.no_commit) in
       record {
-        carries = laws.carries_nothing (sealed p tail) sound;
+        carries = laws.carries_nothing (sealed p tail) (laws.sealed_tail p tail runs.carries block room (inl runs.no_commit));
         means = record {
           table_is = runs.means.table_is ∙ sym (laws.tail_without_commit p tail runs.carries runs.no_commit);
           count_is = let is = runs.means.count_is in let count = laws.sealed_count p tail runs.carries.sound block in let no : length (commit_numbers (next_entries p tail)) ≡ 0 = ap length runs.no_commit in omega (arith, is, count, no);
@@ -66,11 +65,10 @@ module _ (laws : PageLaws) where
       ShowsAll records (versions_on g old) page v → ShowsAll records (versions_on g new) page v
   shows_still g old new blocks tail newest records table commits page v replace runs exists shows =
       let p = picture_under newest g old blocks in
-      let long = laws.count g old in
       record {
         known = shows.known;
         slots = λ slot less.
             shows.slots slot less
             ∙ sym (subst (λ (l : List Entry). shown l (versions_on g new) (32 * page + slot) ≡ shown l (versions_on g old) (32 * page + slot)) runs.records_are
-            (laws.shown_stays p (versions_on g new) (next_entries p tail) (32 * page + slot) replace (omega (arith, exists, less, long))));
+            (laws.shown_stays p (versions_on g new) (next_entries p tail) (32 * page + slot) replace (omega (arith, exists, less, laws.count g old))));
       }

@@ -38,7 +38,7 @@ and_then newest g g' old mid new table commits same first second =
     (subst (λ (t : List ℕ). LeavesOnly mid new (LeavesTableUnder newest g table commits t)) told (subst (λ (x : Geometry). LeavesOnly mid new (LeavesTableUnder newest x table commits mid.told)) same second))
 
 -- reading changes no device
-only_read : (old new : State) → IsUnchanged old new → ChangesOnly Log old new
+pub only_read : (old new : State) → IsUnchanged old new → ChangesOnly Log old new
 only_read old new same = record {
   only = unchanged_calm old old new (SameBut Log old) (no_call old (SameBut Log old) (record { told = refl; telling = refl; content = λ d other. refl; loose = λ d other. refl })) same;
   left = same.left;
@@ -131,10 +131,7 @@ leaves_still log pages old new newest records table commits sizes same h quiet =
 -- where the tail is empty all records are sealed ones
 pub opened_holds : LogLaws → PageLaws → OpenedHolds
 opened_holds laws page_laws log pages site newest blocks table commits sizes kept ready sound means shows are_ahead below =
-    let g = pages.flash.geometry in
-    let p = picture_under newest g site.image blocks in
-    let hi = ready.blocks.hi in
-    let next = ready.records.blocks.next in
+    let p = picture_under newest pages.flash.geometry site.image blocks in
     let room = sound.records.room_for_undo in
     let empty : log.used ≡ 2 = ready.records.tail.end in
     let none : has_tail log ≡ false = ap (nat_lt 2) empty in
@@ -148,7 +145,7 @@ opened_holds laws page_laws log pages site newest blocks table commits sizes kep
         rings = record { limits = sound.octets.limits; lengths = sound.octets.lengths; masters = sound.octets.masters; segments = sound.octets.segments; groups = sound.octets.groups };
         runs_on = record { carries = laws.carries_nothing p sound.records; means = means; no_commit = refl; records_are = append-nil (log_from (kept_by newest) blocks) };
         ahead = are_ahead;
-        room = (let at = page_laws.next newest blocks in omega (arith, hi, next, room, no_tail, kept, at));
+        room = (let at = page_laws.next newest blocks in omega (arith, ready.blocks.hi, ready.records.blocks.next, room, no_tail, kept, at));
       };
       shows = shows;
       below = below;

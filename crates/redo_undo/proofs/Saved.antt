@@ -7,7 +7,7 @@ use Rattle.std.proofs.lemmas.List.Sums.{sum_by-cons}
 use Rattle.std.proofs.lemmas.Option.{none-some, same_Some}
 use Rattle.site.specs.declared.outside.Dev.TheVariants.{Log, Flash, Disk}
 use Rattle.site.specs.declared.geometry.Geometry.{Geometry}
-use Rattle.site.specs.State.{State, Image, content_of}
+use Rattle.site.specs.State.{State, Image, content_of, IsQuiet}
 use Rattle.site.specs.Calls.{Goes}
 use Rattle.site.specs.Laws.{stays_honest, holds_now, in_sequence}
 use Rattle.site.specs.Moments.{ChangesOnly, Leaves, LeavesOnly}
@@ -47,15 +47,17 @@ use Rattle.image_meaning.specs.Changes.{MaySave}
 use Rattle.image_meaning.specs.Flushed.{IsFlushed, IsMasterOf, first_block, oldest_needed}
 use Rattle.image_meaning.specs.Redone.{AreKnown, ShowsAll}
 use Rattle.redo_undo.specs.Holding.{Holds, blocks_to}
-use Rattle.redo_undo.specs.Checkpointing.{AreUnfinished, MayBeMade, begins_of, SaveLaws, KeepUnfinished}
+use Rattle.redo_undo.specs.Checkpointing.{AreUnfinished, MayBeMade, begins_of, SaveLaws, KeepUnfinished, IsSaved}
 use Rattle.redo_undo.specs.Laws.{LogLaws, PageLaws, BesideLaws}
 use Rattle.redo_undo.proofs.BlockRecords.{some_octet}
-use Rattle.redo_undo.proofs.Sames.{sound_there}
+use Rattle.redo_undo.proofs.Sames.{sound_there, nothing_happens}
 use Rattle.redo_undo.proofs.Touched.{hi_is}
 use Rattle.redo_undo.proofs.Appended.{current_same, more_sealed}
 use Rattle.log_laws.specs.Follow.{IsUndoable}
 use Rattle.std.proofs.lemmas.Bool.{eqb-true, eq-eqb, cond-true, cond-false, le-leb, lt-ltb}
 use Rattle.redo_undo.proofs.LeftUpdates.{order_filtered}
+use Rattle.redo_undo.proofs.NextRecords.{order_ends}
+use Rattle.image_changes.specs.Reached.{LeavesFront}
 
 -- the oldest of some transactions
 pub first_is : (next : ℕ) (pairs : List Pair) (pair : Pair) → slice_get pairs 0 ≡ Some pair → first_block next (begins_of pairs) ≡ pair.begin / 512
@@ -162,10 +164,6 @@ all_from n low to (x ∷ xs) less order =
     cond-true (nat_le (512 * n) x.lsn) (x ∷ from_block n xs) (from_block n xs) (le-leb (512 * n) x.lsn (let first = order.0 in omega (arith, less, first)))
     ∙ ap (λ (l : List Entry). x ∷ l) (all_from n (x.lsn + 1) to xs (let first = order.0 in omega (arith, less, first)) order.1)
 
-order_ends : (from to : ℕ) (xs : List Entry) → IsInOrder from xs to → from ≤ to
-order_ends from to [] order = order
-order_ends from to (x ∷ xs) order = let later = order_ends (x.lsn + 1) to xs order.1 in let first = order.0 in omega (arith, later, first)
-
 all_before : (n from to : ℕ) (xs : List Entry) → to ≤ 512 * n → IsInOrder from xs to → before_block n xs ≡ xs
 all_before n from to [] less order = refl
 all_before n from to (x ∷ xs) less order =
@@ -198,8 +196,7 @@ module _ (laws : SaveLaws) (logs : LogLaws) (page_laws : PageLaws) (beside : Bes
 
   flushed : IsFlushed p
   flushed page less =
-      let long = page_laws.count g site.image in
-      let exists : page < g.pages = omega (arith, less, long) in
+      let exists : page < g.pages = omega (arith, less, page_laws.count g site.image) in
       let version : lsn_of (current pages site.image page) ≡ (version_at p.pages page).lsn =
       ap lsn_of (clean_current log pages site newest records table commits h clean page) ∙ sym (ap (λ (v : Version). v.lsn) (page_laws.at g site.image page exists)) in
       subst (λ (n : ℕ). AreKnown p.log page n) version (subst (λ (l : List Entry). AreKnown l page (lsn_of (current pages site.image page))) (sym log_is) (h.shows.each page exists).known)
@@ -224,11 +221,7 @@ module _ (laws : SaveLaws) (logs : LogLaws) (page_laws : PageLaws) (beside : Bes
   pub needed_there : (log.kept ≤ first_block m.redo (begins_of m.active)) × (first_block m.redo (begins_of m.active) ≤ m.redo)
   needed_there =
       let there = laws.oldest p sound.records in
-      let low = there.0 in
-      let high = there.1 in
-      let kept = h.log_holds.kept in
-      let redo_is = is_master.redo in
-      (omega (arith, low, kept, needed_is), omega (arith, high, needed_is, redo_is))
+      (omega (arith, there.0, h.log_holds.kept, needed_is), omega (arith, there.1, needed_is, is_master.redo))
 
   module _ (kept : m.kept ≡ first_block m.redo (begins_of m.active)) (unit_is : IsUnit (unit m) m) (orderly : AreOrderly records ⊎ (m.active ≡ [])) where
     orderly_or_none : AreOrderly records ⊎ (m.active ≡ []) → AreOrderly p.log ⊎ (m.kept ≡ p.hi)
@@ -242,6 +235,13 @@ module _ (laws : SaveLaws) (logs : LogLaws) (page_laws : PageLaws) (beside : Bes
     may_save = laws.may newest g site.image h.log_holds.blocks (unit m) m sound unit_is is_master flushed rises (omega (arith, kept, needed_is)) (orderly_or_none orderly)
 
     -- behind it
+    -- a crash while the unit is written leaves what stands for the same
+    pub save_leaves : (new : State) → IsQuiet site → LeavesFront pages.flash.geometry (AppendsMaster (unit m) ∷ []) site new →
+        LeavesOnly site new (LeavesFor pages.flash.geometry table commits site.told)
+    save_leaves new quiet front = laws.stands newest g site site new h.log_holds.blocks _ table commits
+        (laws.for_any newest g site site table commits site.told (nothing_happens log pages site newest records table commits sizes h quiet)) refl sound
+        h.log_holds.runs_on.means may_save front
+
     module _ (new : State) (reaches : Reaches pages.flash.geometry (AppendsMaster (unit m) ∷ []) site.image new.image) (changes : ChangesOnly Log site new) (goes : Goes site new) where
       made : Makes g (AppendsMaster (unit m)) site.image new.image
       made = then_same g (unit m) site.image reaches.0 new.image reaches.1 reaches.2
@@ -330,7 +330,6 @@ module _ (laws : SaveLaws) (logs : LogLaws) (page_laws : PageLaws) (beside : Bes
 
       shows_now : (page : ℕ) → page < g.pages → ShowsAll (from_block n.kept records) (versions_on g new.image) page (version_in (current pages new.image page))
       shows_now page exists =
-          let long = page_laws.count g new.image in
           let v = version_at q.pages page in
           let here : v ≡ version_in (current pages new.image page) =
           page_laws.at g new.image page exists ∙ ap version_in (beside.versions g site new page changes)
@@ -342,11 +341,13 @@ module _ (laws : SaveLaws) (logs : LogLaws) (page_laws : PageLaws) (beside : Bes
           (known_filter (λ e. nat_le (512 * n.kept) e.lsn) records page (lsn_of (current pages site.image page)) (h.shows.each page exists).known))) in
           subst (λ (w : Version). ShowsAll (from_block n.kept records) (versions_on g new.image) page w) here
           (subst (λ (l : List Entry). ShowsAll l (versions_on g new.image) page v) records_now
-          (laws.last q page v (laws.first q page sound_now.records (omega (arith, exists, long))) known).all)
+          (laws.last q page v (laws.first q page sound_now.records (omega (arith, exists, page_laws.count g new.image))) known).all)
 
       -- the log lets go of the blocks before
-      module _ (log' : LogStore) (is : log' ≡ record log { kept = m.kept }) (finds : log_held.Finds log' new)
-          (held : log_held.Holds log' new.image (record { first = m.kept; blocks = drop (m.kept - kept_by newest) h.log_holds.blocks; tail = h.log_holds.tail })) where
+      module _ (log' : LogStore) (is : log' ≡ record log { kept = m.kept }) (finds : log_held.Finds log new → log_held.Finds log' new)
+          (held : log_held.Finds log new → log_held.Holds log new.image (record
+          { first = kept_by newest; blocks = h.log_holds.blocks; tail = h.log_holds.tail }) →
+          log_held.Holds log' new.image (record { first = max (kept_by newest) m.kept; blocks = drop (m.kept - kept_by newest) h.log_holds.blocks; tail = h.log_holds.tail })) where
         pub saved_holds : Holds log' pages new (Some m) (from_block m.kept records) table commits
         saved_holds = subst (λ (k : Master). Holds log' pages new (Some k) (from_block k.kept records) table commits) read (record {
           log_holds = record {
@@ -355,9 +356,9 @@ module _ (laws : SaveLaws) (logs : LogLaws) (page_laws : PageLaws) (beside : Bes
             tail = [];
             ready = record {
               pages = beside.fits pages site new changes goes h.log_holds.ready.pages;
-              blocks = finds;
+              blocks = finds finds_log;
               records = subst (λ (tail : List LogRecord). log_held.Holds log' new.image (record { first = n.kept; blocks = drop (n.kept - kept_by newest) h.log_holds.blocks; tail = tail })) tail_is
-                  (subst (λ (k : Master). log_held.Holds log' new.image (record { first = k.kept; blocks = drop (k.kept - kept_by newest) h.log_holds.blocks; tail = h.log_holds.tail })) (sym read) held);
+                  (subst (λ (k : Master). log_held.Holds log' new.image (record { first = k.kept; blocks = drop (k.kept - kept_by newest) h.log_holds.blocks; tail = h.log_holds.tail })) (sym read) (held_after log' (held finds_log held_log)));
             };
             rings = laws.rings newest g (unit m) site.image new.image h.log_holds.rings may_save.unit made;
             runs_on = record {
@@ -368,7 +369,8 @@ module _ (laws : SaveLaws) (logs : LogLaws) (page_laws : PageLaws) (beside : Bes
             };
             ahead = record {
               pool = subst (λ (l : LogStore). AreLogged (end_forced l) pages.pool.frames) (sym is) h.log_holds.ahead.pool;
-              versions = more_sealed beside pages site new changes log log' sizes (ap (λ (l : LogStore). l.geometry) is) h.log_holds.ready.blocks finds
+              versions = more_sealed beside pages site new changes log log' sizes (ap (λ (l : LogStore). l.geometry) is) h.log_holds.ready.blocks
+                  (finds finds_log)
                   (let same = ap (λ (l : LogStore). l.ring.hi) is in omega (arith, same)) h.log_holds.ahead.versions;
             };
             room = room_now;
@@ -384,14 +386,15 @@ module _ (laws : SaveLaws) (logs : LogLaws) (page_laws : PageLaws) (beside : Bes
 
             room_now : blocks_to log' + owed (from_block n.kept records) ≤ log'.kept + (g.blocks - 1)
             room_now =
-                let room = sound_now.records.room_for_undo in
                 let owed_is : owed q.log ≡ owed (from_block n.kept records) = ap owed records_now in
                 let hi_is_q : q.hi ≡ p.hi = ap (λ (x : Picture). x.hi) (laws.picture newest g site.image new.image h.log_holds.blocks (unit m) sound may_save made) in
                 let hi = hi_is logs page_laws log pages site newest records table commits h in
                 let same : blocks_to log' ≡ blocks_to log = ap blocks_to is in
                 let kept_is : log'.kept ≡ n.kept = ap (λ (l : LogStore). l.kept) is ∙ ap (λ (k : Master). k.kept) (sym read) in
-                let high = may_save.may.kept_in_log in
-                omega (arith, room, owed_is, hi_is_q, hi, same, kept_is, none, high)
+                omega (arith, sound_now.records.room_for_undo, owed_is, hi_is_q, hi, same, kept_is, none, may_save.may.kept_in_log)
+
+        pub is_saved : (masters : Ring) → Finds masters new → IsSaved log' pages masters new records table commits m
+        is_saved masters found = record { holds = saved_holds; orderly = orderly_now; keeps = unfinished_now; found = found }
 
 -- a log may go on after any calls on its site
 pub log_still : (log : LogStore) (old new : State) → Goes old new → log_held.MayGoOn log old → log_held.MayGoOn log new

@@ -42,11 +42,10 @@ module _ (logs : LogLaws) (laws : PageLaws) where
   pub begin_may_grow : FreshBehind → BeginFollows → OwedBegin → BeginMayGrow
   begin_may_grow fresh begins owes log pages site newest records table commits lsn h orderly behind room =
       let new = next_is_fresh fresh log pages site newest records table commits lsn h orderly behind in
-      let more = owes records lsn new in
       record {
         follows = begins (master_of newest) (versions_on pages.flash.geometry site.image) records lsn new;
         no_commit = refl;
-        room = omega (arith, more, room);
+        room = omega (arith, owes records lsn new, room);
       }
 
   pub update_may_grow : FrontShows → ActiveMayWrite → OwedUpdate → UpdateMayGrow
@@ -56,12 +55,11 @@ module _ (logs : LogLaws) (laws : PageLaws) where
       let e : Entry = record { lsn = lsn; rec = Update txn last page slot (front_content pages slot) after } in
       let exists = front_exists g.pages pages.pool.frames some own.pages in
       let long = laws.count g site.image in
-      let more = owes records e refl active.lives.not_closed active.chain in
       record {
         follows = may (master_of newest) (versions_on g site.image) records lsn txn last page slot writes (front_content pages slot) after active (omega (arith, exists, less, long)) free
             (front log pages site newest records table commits slot own some less h);
         no_commit = refl;
-        room = omega (arith, more, room);
+        room = omega (arith, owes records e refl active.lives.not_closed active.chain, room);
       }
 
   pub active_may_be_undone : UndoLaws → ActiveIsUnfinished → ActiveMayBeUndone
@@ -78,22 +76,20 @@ module _ (logs : LogLaws) (laws : PageLaws) where
       let owes =
       undo.owed_closing records (record { lsn = lsn; rec = End x.txn }) refl (undo.lives records x.txn unfinished.loser)
       (chain laws undo log pages site newest records table commits h x unfinished) in
-      let room = h.log_holds.room in
       record {
         follows = subst (λ (l : List Entry). Follows (master_of newest) (versions_on pages.flash.geometry site.image) l (record { lsn = lsn; rec = End x.txn })) are
             (undo.end p h.log_holds.tail x h.log_holds.runs_on.carries (subst (λ (l : List Entry). IsUnfinished l x) (sym are) unfinished) none lsn);
         no_commit = refl;
-        room = omega (arith, owes, room);
+        room = omega (arith, owes, h.log_holds.room);
       }
 
   -- The table.
 
   pub table_is : (log : LogStore) (pages : PageStore) (site : State) (newest : Option Master) (records : List Entry) (table : List Content) (commits : ℕ) → Holds log pages site newest records table commits → table ≡ table_of records (versions_on pages.flash.geometry site.image)
   table_is log pages site newest records table commits h =
-      let versions = versions_on pages.flash.geometry site.image in
       h.log_holds.runs_on.means.table_is
       ∙ sym (logs.tail_without_commit (picture_under newest pages.flash.geometry site.image h.log_holds.blocks) h.log_holds.tail h.log_holds.runs_on.carries h.log_holds.runs_on.no_commit)
-      ∙ ap (λ (l : List Entry). table_of l versions) h.log_holds.runs_on.records_are
+      ∙ ap (λ (l : List Entry). table_of l (versions_on pages.flash.geometry site.image)) h.log_holds.runs_on.records_are
 
   pub holds_size : HoldsSize
   holds_size log pages site newest records table commits h =
@@ -105,10 +101,9 @@ module _ (logs : LogLaws) (laws : PageLaws) where
       content_at table (front_number pages slot) ≡ value_of records (versions_on pages.flash.geometry site.image) (front_number pages slot)
   value_is at log pages site newest records table commits slot h own some less =
       let g = pages.flash.geometry in
-      let exists = front_exists g.pages pages.pool.frames some own.pages in
       let long = laws.count g site.image in
       ap (λ (t : List Content). content_at t (front_number pages slot)) (table_is log pages site newest records table commits h)
-      ∙ at records (versions_on g site.image) (front_number pages slot) (omega (arith, exists, less, long))
+      ∙ at records (versions_on g site.image) (front_number pages slot) (omega (arith, front_exists g.pages pages.pool.frames some own.pages, less, long))
 
   pub front_is_committed : FrontShows → TableAt → ShownIsValue → FrontIsCommitted
   front_is_committed front at value log pages site newest records table commits slot h own some less free =

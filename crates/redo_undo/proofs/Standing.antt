@@ -80,9 +80,8 @@ module _ (logs : LogLaws) (laws : PageLaws) where
 
     by_version : (number : ℕ) → number < g.pages → (version_on g now number ≡ version_on g old number) ⊎ (version_on g now number ≡ given number) → Replaces (picture_under newest g old blocks) number (version_in (version_on g now number))
     by_version number exists (inl same) =
-        let long = laws.count g old in
         subst (Replaces (picture_under newest g old blocks) number) (laws.at g old number exists ∙ ap version_in (sym same))
-        (laws.itself (picture_under newest g old blocks) number runs.carries.sound (omega (arith, exists, long)))
+        (laws.itself (picture_under newest g old blocks) number runs.carries.sound (omega (arith, exists, laws.count g old)))
     by_version number exists (inr same) =
         subst (λ (c : List ℕ). Replaces (picture_under newest g old blocks) number (version_in c)) (sym same)
         (laws.sealed_page (picture_under newest g old blocks) tail number (version_in (given number))

@@ -34,15 +34,12 @@ where_two A B C (Err e) first second then = tt
 pub works_then : {A B : Type 0} {a : A} {r : Result B Stop} {old mid new : Store} {before between now : Site} {n n' : ℕ} →
     Works {T = A} (Ok a) old mid before between n → Works r mid new between now n' → Works r old new before now (n + n')
 works_then {r = r} {old = old} {new = new} {n = n} {n' = n'} first second =
-    let made = first.made in
-    let blocks = first.blocks in
-    let rises = first.rises in
     record {
       calls = calls_then first.calls second.calls;
       going = second.going;
-      made = ok_as r _ _ (λ more. let all : new.made ≡ old.made + (n + n') = omega (arith, more, made) in all) second.made;
-      blocks = ok_as r _ _ (λ more. omega (arith, more, blocks)) second.blocks;
-      rises = ok_as r _ _ (λ more. omega (arith, more, rises)) second.rises;
+      made = ok_as r _ _ (λ more. let all : new.made ≡ old.made + (n + n') = omega (arith, more, first.made) in all) second.made;
+      blocks = ok_as r _ _ (λ more. omega (arith, more, first.blocks)) second.blocks;
+      rises = ok_as r _ _ (λ more. omega (arith, more, first.rises)) second.rises;
       kept = second.kept ∙ first.kept;
       sizes = second.sizes ∙ first.sizes;
       stops = second.stops;
@@ -147,19 +144,10 @@ keeps_no_memory {A = A} {B = B} {a = a} {old = old} {new = new} {before = before
   any_moment = first.any_moment;
   numbers = λ quiet. skips_refused {A = A} {B = B} a Memory (sizes_of old) old.log new.log before now n m (first.numbers quiet);
   quiet = λ quiet other. works.calls.stays_quiet honest quiet;
-  worn_log = λ is. absurd (no_log (stop_is {U = B} Memory (Worn Log) is));
-  worn = λ is. absurd (no_flash (stop_is {U = B} Memory (Worn Flash) is));
-  readable = λ is. no_foreigner (stop_is {U = B} Memory Foreign is);
+  worn_log = λ is. (let never : Memory ≡ Worn Log = stop_is {U = B} Memory (Worn Log) is in absurd cc);
+  worn = λ is. (let never : Memory ≡ Worn Flash = stop_is {U = B} Memory (Worn Flash) is in absurd cc);
+  readable = λ is. (let never : Memory ≡ Foreign = stop_is {U = B} Memory Foreign is in cc);
 }
-  where
-    no_log : Memory ≡ Worn Log → ⊥
-    no_log is = cc
-
-    no_flash : Memory ≡ Worn Flash → ⊥
-    no_flash is = cc
-
-    no_foreigner : Memory ≡ Foreign → ⊥
-    no_foreigner is = cc
 
 pub keeps_ok : {T : Type 0} {x : T} {old new : Store} {before now : Site} {P : Snapshot → Type 0} {n m : ℕ} → (IsQuiet before → LeavesOnly before now P) → (IsQuiet before → SkipsNone {T = T} {E = Stop} (Ok x) (sizes_of old) old.log new.log before now n m) →
     Keeps {T = T} (Ok x) old new before now P n m

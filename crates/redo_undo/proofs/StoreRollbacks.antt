@@ -53,22 +53,17 @@ pub rolls_back : (store last : Store) (old new : State) (newest : Option Master)
     undone.RollsBack last.log last.pages new newest records table commits begin → Finds last.masters new → RollsBack last new newest records table commits begin writes
 rolls_back store last old new newest records table commits begin at writes made h active many u masters =
     let unfinished = active_left store old newest records table commits begin at made h active in
-    let left = unfinished.remaining_is in
-    let clrs = u.count in
-    let owes = u.owes in
     let e : Entry = record { lsn = u.lsn; rec = End begin } in
     record {
       log = (records ++ u.clrs) ++ e ∷ [];
       concerns = concerns_more newest begin records (records ++ u.clrs) e refl (concerns_clrs newest begin records records u.clrs u.own (record { under_way = λ t last writes differ active. active; losers = λ t differ. refl }));
       holds = record { both = u.holds; orderly = u.orderly h.orderly; masters = masters };
       closed = u.closed;
-      owes = omega (arith, owes, clrs, left, many);
+      owes = omega (arith, u.owes, u.count, unfinished.remaining_is, many);
     }
 
 -- a transaction of so many writes is undone, and there is room to undo what else is owed
 pub has_room : (last : Store) (new : State) (newest : Option Master) (records : List Entry) (table : List Content) (commits begin writes more : ℕ) → RollsBack last new newest records table commits begin writes → owed records ≡ more + (writes + 1) →
     blocks_to last.log + more ≤ last.log.kept + ((sizes_of last).blocks - 1)
 has_room last new newest records table commits begin writes more back is =
-    let room = back.holds.both.log_holds.room in
-    let owes = back.owes in
-    omega (arith, room, owes, is)
+    omega (arith, back.holds.both.log_holds.room, back.owes, is)

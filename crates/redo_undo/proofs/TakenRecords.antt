@@ -101,12 +101,11 @@ module _ (redo : RedoLaws) (o : Opening) (log : LogStore) (pages : PageStore) (o
   pub next_block : (new : State) (content : List ℕ) (used : ℕ) → Goes site new → IsUnchanged site new → block - kept_by o.newest < length o.blocks → IsBlock content (sealed_block list block) × (used ≡ used_by (sealed_block list block)) →
       IsNextBlock o log pages old new so_far block content used
   next_block new content used goes same inside read =
-      let from = up.from in
       record {
         taken = record { pages_are = redoing_still redo o log pages site new (log_from (kept_by o.newest) (take (block - kept_by o.newest) o.blocks)) goes same up.taken.pages_are; analysis = up.taken.analysis; count = up.taken.count };
         content_is = read.0;
         used_is = read.1;
-        split = log_split (kept_by o.newest) (block - kept_by o.newest) block o.blocks (omega (arith, from)) inside;
+        split = log_split (kept_by o.newest) (block - kept_by o.newest) block o.blocks (omega (arith, up.from)) inside;
       }
 
 pub one_more_block : (o : Opening) (block : ℕ) → kept_by o.newest ≤ block → block - kept_by o.newest < length o.blocks →

@@ -67,12 +67,8 @@ module _ (logs : LogLaws) (laws : PageLaws) (log : LogStore) (pages : PageStore)
   -- a tail that has records may be sealed
   tail_room : has_tail log ≡ true → HasRoom (sealed (picture_under newest g site.image blocks) tail)
   tail_room some =
-      let room = h.log_holds.room in
-      let one = ap tail_blocks some in
       let all : owed (whole (picture_under newest g site.image blocks) tail) ≡ owed records = ap owed h.log_holds.runs_on.records_are in
-      let kept = h.log_holds.kept in
-      let at = laws.next newest blocks in
-      omega (arith, room, one, hi_is, all, kept, at)
+      omega (arith, h.log_holds.room, ap tail_blocks some, hi_is, all, h.log_holds.kept, laws.next newest blocks)
 
   pub runs_sealed : has_tail log ≡ true → AreBlock tail → RunsOn (picture_under newest g site.image (blocks ++ tail ∷ [])) [] records table commits
   runs_sealed some block =
@@ -110,8 +106,7 @@ module _ (logs : LogLaws) (laws : PageLaws) (log : LogStore) (pages : PageStore)
       (end : end_forced log' ≡ end_forced log) (are_sealed : AreSealed g new.image) (rings : AreRingsSoundUnder newest g new.image) (high : log.used ≤ block_len) where
     below_by : end_of log ≤ end_of log' → (number : ℕ) → number < g.pages → lsn_of (current pages' new.image number) < end_of log'
     below_by more number exists =
-        let before = h.below number exists in
-        subst (λ (c : List ℕ). lsn_of c < end_of log') (sym (kept.each number exists)) (omega (arith, before, more))
+        subst (λ (c : List ℕ). lsn_of c < end_of log') (sym (kept.each number exists)) (omega (arith, h.below number exists, more))
 
     shows_by : (blocks' : List (List LogRecord)) (tail' : List LogRecord) → RunsOn (picture_under newest g site.image blocks') tail' records table commits → HasBlocks g (kept_by newest) blocks' new.image →
         ((number : ℕ) → number < g.pages → (version_on g new.image number ≡ version_on g site.image number) ⊎ (version_on g new.image number ≡ given number)) → ShowRecords g pages' new.image records
@@ -125,7 +120,6 @@ module _ (logs : LogLaws) (laws : PageLaws) (log : LogStore) (pages : PageStore)
         HoldsIn g log' pages' new newest records table commits
     touched_holds false some ready leaves =
         let has : HasBlocks g (kept_by newest) blocks new.image = subst (λ (k : Geometry). HasBlocks k (kept_by newest) blocks new.image) geometry ready.records.blocks in
-        let room = h.log_holds.room in
         record {
           log_holds = record {
             kept = same_kept ∙ h.log_holds.kept;
@@ -135,7 +129,7 @@ module _ (logs : LogLaws) (laws : PageLaws) (log : LogStore) (pages : PageStore)
             rings = rings;
             runs_on = runs_now logs laws g site.image new.image given blocks tail newest records table commits h.log_holds.runs_on h.shows.each has are_sealed leaves.versions;
             ahead = are_ahead;
-            room = omega (arith, room, end, same_kept);
+            room = omega (arith, h.log_holds.room, end, same_kept);
           };
           shows = shows_by blocks tail h.log_holds.runs_on has leaves.versions;
           below = below_by (
@@ -145,7 +139,6 @@ module _ (logs : LogLaws) (laws : PageLaws) (log : LogStore) (pages : PageStore)
         }
     touched_holds true some ready leaves =
         let has : HasBlocks g (kept_by newest) (blocks ++ tail ∷ []) new.image = subst (λ (k : Geometry). HasBlocks k (kept_by newest) (blocks ++ tail ∷ []) new.image) geometry ready.records.blocks in
-        let room = h.log_holds.room in
         let runs = runs_sealed (some refl) (last_of_all AreBlock blocks tail has.are_blocks) in
         record {
           log_holds = record {
@@ -156,7 +149,7 @@ module _ (logs : LogLaws) (laws : PageLaws) (log : LogStore) (pages : PageStore)
             rings = rings;
             runs_on = runs_now logs laws g site.image new.image given (blocks ++ tail ∷ []) [] newest records table commits runs h.shows.each has are_sealed leaves.versions;
             ahead = are_ahead;
-            room = omega (arith, room, end, same_kept);
+            room = omega (arith, h.log_holds.room, end, same_kept);
           };
           shows = shows_by (blocks ++ tail ∷ []) [] runs has leaves.versions;
           below = below_by (

@@ -1,13 +1,11 @@
 -- A log that is worn stands at its end, and where a log ends.
-use Rattle.std.proofs.Common.{◌≡◌, inl, ◌^◌, ◌≤◌, ℕ, Bool, true, false, refl, sym, ap, subst, ◌∙◌, arith}
+use Rattle.std.proofs.Common.{◌≡◌, inl, ◌^◌, ℕ, Bool, sym, ap, subst, ◌∙◌, arith}
 use Rattle.std.specs.Prelude.{if◌then◌else◌, nat_lt}
-use Rattle.std.proofs.lemmas.Bool.{ltb-false}
 use Rattle.site.specs.State.{State, content_of}
 use Rattle.sealed_ring.specs.declared.ring.Ring.{Ring}
 use Rattle.sealed_ring.specs.declared.slots.Shape.{Shape}
 use Rattle.sealed_ring.specs.Ring.{hi_of}
 use Rattle.sealed_ring.specs.Ready.{Finds}
-use Rattle.log_records.specs.Spelling.{block_len}
 use Rattle.log_store.specs.declared.store.LogStore.{LogStore}
 use Rattle.log_store.specs.Held as log_held
 use Rattle.log_store.specs.Held.{has_tail, end_of}
@@ -28,18 +26,3 @@ pub sealed_hi : (log : LogStore) (blocks : ℕ) → log.used ≡ 2 → blocks_to
 sealed_hi log blocks empty is =
     let none : ◌≡◌ {A = ℕ} (if has_tail log then 1 else 0) 0 = ap {B = ℕ} (λ (b : Bool). if b then 1 else 0) (ap (nat_lt 2) empty) in
     omega (arith, is, none)
-
--- and not before the log that was sealed
-pub sealed_end : (log log' : LogStore) → log'.used ≡ 2 → blocks_to log' ≡ blocks_to log → log.used ≤ block_len → end_of log ≤ end_of log'
-sealed_end log log' empty same high = by (has_tail log) refl
-  where
-    by : (b : Bool) → has_tail log ≡ b → end_of log ≤ end_of log'
-    by true is =
-        let one : ◌≡◌ {A = ℕ} (if has_tail log then 1 else 0) 1 = ap {B = ℕ} (λ (b : Bool). if b then 1 else 0) is in
-        let hi = sealed_hi log' (blocks_to log) empty same in
-        omega (arith, hi, one, empty, high)
-    by false is =
-        let none : ◌≡◌ {A = ℕ} (if has_tail log then 1 else 0) 0 = ap {B = ℕ} (λ (b : Bool). if b then 1 else 0) is in
-        let hi = sealed_hi log' (blocks_to log) empty same in
-        let few = ltb-false 2 log.used is in
-        omega (arith, hi, none, empty, few)

@@ -30,9 +30,7 @@ kept_lives : (newest : Option Master) (k : Geometry) (image : Image) (blocks : L
     log.kept ≡ log.ring.hi - (k.blocks - 1) → (log.kept ≤ m.kept) × (m.kept ≤ log.ring.hi)
 kept_lives newest k image blocks log m sound is hi kept =
     let same : m.kept ≡ kept_by newest = ap (λ (x : Master). x.kept) is ∙ kept_is newest in
-    let next = sound.held.next in
-    let few = sound.held.few in
-    (omega (arith, same, next, few, hi, kept), omega (arith, same, next, hi))
+    (omega (arith, same, sound.held.next, sound.held.few, hi, kept), omega (arith, same, sound.held.next, hi))
 
 pub returns-in-Ok-keep_from-clause-ready : goal.returns-in-Ok-keep_from-clause-ready
 returns-in-Ok-keep_from-clause-ready g c honest newest blocks table commits sound means =
@@ -62,11 +60,10 @@ returns-in-Ok-keep_from-clause-ready g c honest newest blocks table commits soun
 
 pub returns-in-Ok-keep_from-clause-goes : goal.returns-in-Ok-keep_from-clause-goes
 returns-in-Ok-keep_from-clause-goes g c =
-    let old = g.S.Site.state c.args.site.now in
     let mid = g.S.Site.state c.start.new.site in
     let found = g.S.Site.state c.start-2.new.site in
     let new = g.S.Site.state c.newest.new.site in
-    goes_in_sequence old mid new c.start.ensures.goes (goes_in_sequence mid found new c.start-2.ensures.goes c.newest.ensures.goes)
+    goes_in_sequence (g.S.Site.state c.args.site.now) mid new c.start.ensures.goes (goes_in_sequence mid found new c.start-2.ensures.goes c.newest.ensures.goes)
 
 pub returns-in-Ok-keep_from-clause-going : goal.returns-in-Ok-keep_from-clause-going
 returns-in-Ok-keep_from-clause-going g c = record {
@@ -100,11 +97,10 @@ returns-in-Err-keep_from-clause-readable g c honest newest blocks sound is =
 
 pub returns-in-Err-newest-clause-readable : goal.returns-in-Err-newest-clause-readable
 returns-in-Err-newest-clause-readable g c honest newest blocks sound is =
-    let old = g.S.Site.state c.args.site.now in
     let mid = g.S.Site.state c.start.new.site in
     let found = g.S.Site.state c.start-2.new.site in
     let k = c.args.geometry.now in
-    let honest_mid = stays_honest old mid c.start.ensures.goes honest in
+    let honest_mid = stays_honest (g.S.Site.state c.args.site.now) mid c.start.ensures.goes honest in
     let honest_found = stays_honest mid found c.start-2.ensures.goes honest_mid in
     let there = subst (AreOctetsSoundUnder newest k) (sym (c.start-2.ensures.same honest_mid).image) (subst (AreOctetsSoundUnder newest k) (sym (c.start.ensures.same honest).image) sound.octets) in
     c.in-Err-newest.ensures.foreign (err_again c.in-Err-newest.stop Foreign is) honest_found (masters_form newest k found.image there.masters) (saved_by newest) (there_is_newest newest k found.image there.masters)

@@ -8,26 +8,18 @@ use Rattle.engine.proofs.restart.owed.Goals as goal
 pub overflow_add-sum : goal.overflow_add-sum
 overflow_add-sum c =
     let table = listed c.args.found.now.table in
-    let more = owed_more table c.loop-place.place c.loser.result c.loser.ensures.loser in
-    let part = sum_by-take-le owed_one table (suc c.loop-place.place) in
     let bounded = c.requires.bounded in
-    omega (arith, more, part, bounded)
+    omega (arith, owed_more table c.loop-place.place c.loser.result c.loser.ensures.loser, sum_by-take-le owed_one table (suc c.loop-place.place), bounded)
 
 pub overflow_add-sum-in-loop-place : goal.overflow_add-sum-in-loop-place
 overflow_add-sum-in-loop-place c =
     let table = listed c.args.found.now.table in
-    let more = owed_more table c.loop-place.place c.loser.result c.loser.ensures.loser in
     let part = sum_by-take-le owed_one table (suc c.loop-place.place) in
-    let bounded = c.requires.bounded in
-    let so_far = c.loop-place.invariant in
-    omega (arith, more, part, bounded, so_far)
+    omega (arith, owed_more table c.loop-place.place c.loser.result c.loser.ensures.loser, part, c.requires.bounded, c.loop-place.invariant)
 
 pub loop-place-preserved : goal.loop-place-preserved
 loop-place-preserved c =
     let table = listed c.args.found.now.table in
     let place = c.loop-place.place in
     let next : suc place ≡ place + 1 = omega arith in
-    let more = owed_more table place c.loser.result c.loser.ensures.loser in
-    let whole = ap (λ (n : ℕ). owed_for (take n table)) next in
-    let so_far = c.loop-place.invariant in
-    omega (arith, more, whole, so_far)
+    omega (arith, owed_more table place c.loser.result c.loser.ensures.loser, ap (λ (n : ℕ). owed_for (take n table)) next, c.loop-place.invariant)

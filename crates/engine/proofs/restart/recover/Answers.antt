@@ -61,16 +61,13 @@ returns-then-sealed_end-owed-clause-recovers g c newest blocks table commits h =
     let holds = c.in-Ok.ensures.holds newest blocks table commits h.master h.opened_is in
     let read = c.in-Ok.ensures.unfinished newest blocks table commits h.master h.opened_is in
     let owes = owed_found c.recovery_laws.ensures.one c.recovery_laws.ensures.unfinished c.recovery_laws.ensures.owed newest c.args.opened.pages.flash.geometry site.image blocks c.in-Ok.redone.found h.opened_is.sound read in
-    let room = holds.log_holds.room in
-    let least = holds.log_holds.rings.limits.blocks in
     let sizes = ap (λ (k : Geometry). k.blocks) c.in-Ok.ensures.works.going.sizes in
     let asked = ap (λ (k : Geometry). k.blocks) c.geometry-blocks.ensures in
-    let end = c.sealed_end.ensures in
     let owed_is = c.owed-owed.ensures in
     let full = c.if-sealed_end-owed.true in
     let kept = c.kept.ensures in
     let kept_is = c.redo.ensures.works.kept in
-    absurd (omega (arith, owes, room, least, sizes, asked, end, owed_is, full, kept, kept_is))
+    absurd (omega (arith, owes, holds.log_holds.room, holds.log_holds.rings.limits.blocks, sizes, asked, c.sealed_end.ensures, owed_is, full, kept, kept_is))
 
 pub returns-in-Err-undo_all-clause-recovers : goal.returns-in-Err-undo_all-clause-recovers
 returns-in-Err-undo_all-clause-recovers g c newest blocks table commits h =
@@ -124,11 +121,7 @@ returns-then-commits-sealed_end-clause-recovers g c newest blocks table commits 
     let bounded = c.requires.may.going.log_going.usable.bounded in
     let found = commits_found c.recovery_laws.ensures.commits c.args.opened old newest blocks table commits c.in-Ok.redone.found h (c.in-Ok.ensures.read newest blocks table commits h.master h.opened_is) bounded in
     let few = commits_fit c.undo_all.new.log c.undo_all.new.pages und newest (records ++ undone.more) table commits undone.holds in
-    let end = c.sealed_end-2.ensures in
-    let same = c.undo_all.ensures.commits in
-    let asked = c.commits-commits.ensures.commits in
-    let more = c.if-commits-sealed_end.true in
-    absurd (omega (arith, found, few, end, same, asked, more))
+    absurd (omega (arith, found, few, c.sealed_end-2.ensures, c.undo_all.ensures.commits, c.commits-commits.ensures.commits, c.if-commits-sealed_end.true))
 
 pub returns-in-Ok-checkpoint-clause-recovers : goal.returns-in-Ok-checkpoint-clause-recovers
 returns-in-Ok-checkpoint-clause-recovers g c newest blocks table commits h =
@@ -165,10 +158,9 @@ returns-in-Ok-checkpoint-clause-recovers g c newest blocks table commits h =
     let third = subst (λ (i : ℕ). Ends {T = Unit {0}} (Ok c.in-Ok-checkpoint.field-0) k' und new (LeavesTable k' table i und.told)) counted (ends_of keeps) in
     record {
       restarted =
-          let made = c.in-Ok-checkpoint.ensures.made in
           let checkpoint = subst (λ (active : List Pair). HasCheckpoint c.checkpoint.new.self new all table commits active) c.new.ensures
           (subst (λ (n : ℕ). HasCheckpoint c.checkpoint.new.self new all table n c.new.result) counted (c.in-Ok-checkpoint.ensures.checkpoint newest all table held may)) in
-          restarted_as _ new all table commits _ undone.none checkpoint made counted;
+          restarted_as _ new all table commits _ undone.none checkpoint c.in-Ok-checkpoint.ensures.made counted;
       ends = ends_answered (ends_then calm_und same (ends_then calm c.redo.ensures.works.geometry first second) third);
       numbers = λ quiet.
           let mine = skips_on (Ok c.in-Ok-undo_all.field-0) c.redo.new.pages.flash.geometry k c.redo.new.log c.undo_all.new.log mid und n 0 c.redo.ensures.works.geometry ((c.in-Ok-undo_all.ensures.keeps newest records table commits none holds read).numbers (calm quiet)) in
@@ -242,19 +234,13 @@ returns-in-Ok-checkpoint-clause-restarts g c =
     let second : Calls {T = Unit {0}} (Ok c.in-Ok-undo_all.field-0) (g.S.Site.state c.redo.new.site) (g.S.Site.state c.undo_all.new.site) = c.in-Ok-undo_all.ensures.works.calls in
     let going = c.in-Ok-checkpoint.ensures.going in
     let blocks = ap (λ (k : Geometry). k.blocks) (c.geometry-blocks.ensures ∙ c.in-Ok.ensures.works.going.sizes ∙ sym (c.checkpoint.ensures.sizes ∙ c.undo_all.ensures.works.geometry)) in
-    let room = going.both.room in
-    let own = ap (λ (k : Geometry). k.blocks) going.both.sizes in
-    let few = c.if-commits-sealed_end.false in
-    let end = c.sealed_end-2.ensures in
-    let more = c.in-Ok-checkpoint.ensures.end in
-    let made = c.in-Ok-checkpoint.ensures.made in
     record {
       calls = calls_answered (calls_then first (calls_then second c.in-Ok-checkpoint.ensures.calls));
       going = going;
       blocks = blocks;
-      room = omega (arith, room, own, blocks);
-      commits = omega (arith, few, end, more);
-      made = omega (arith, made);
+      room = omega (arith, going.both.room, ap (λ (k : Geometry). k.blocks) going.both.sizes, blocks);
+      commits = omega (arith, c.if-commits-sealed_end.false, c.sealed_end-2.ensures, c.in-Ok-checkpoint.ensures.end);
+      made = omega (arith, c.in-Ok-checkpoint.ensures.made);
       pool = ap (λ (r : Rules). r.pages) c.in-Ok-checkpoint.ensures.asks.rules_are ∙ c.undo_all.ensures.works.size ∙ c.redo.ensures.works.size;
       stops = tt;
     }

@@ -20,145 +20,118 @@ use Rattle.engine.specs.Leaves.{LeavesTable}
 use Rattle.engine.specs.Calls.{Ends}
 use Rattle.engine.proofs.Calling.{calls_stopped, calls_behind, ends_ok, ends_then}
 use Rattle.site.proofs.Working.{calls_failed, err_again}
-use Rattle.engine.proofs.Openings.{if_ok_both, stands_still}
+use Rattle.engine.proofs.Openings.{stands_still}
 use Rattle.engine.proofs.RingCounts.{restart_unmoved, restart_behind}
+use Rattle.redo_undo.proofs.Appended.{if_ok_two}
 use Rattle.engine.proofs.restart.restart.Goals as goal
 
-pub returns-clause-opens : goal.returns-clause-opens
-returns-clause-opens g c honest k newest blocks table commits sound means =
+pub returns : goal.returns
+returns g c =
     let old = g.S.Site.state c.args.site.now in
     let mid = g.S.Site.state c.open.new.site in
     let new = g.S.Site.state c.recover.new.site in
-    let same : c.in-Ok.geometry ≡ k = (c.in-Ok.ensures.found k sound.octets.limits sound.octets.lengths).1 in
-    let ready : IsReady c.in-Ok-open.opened mid newest blocks table commits = c.in-Ok-open.ensures.ready honest newest blocks table commits
-    (subst (λ (x : Geometry). IsSound newest x old.image blocks) (sym same) sound) (subst (λ (x : Geometry). Means (picture_under newest x old.image blocks) table commits) (sym same) means) in
-    if_ok_both c.recover.result (λ r. RestartedAs r new table commits) (λ r. sizes_of r.store ≡ c.in-Ok-open.opened.pages.flash.geometry) (λ r. RestartedAs r new table commits × (sizes_of r.store ≡ k))
-    (λ r done sizes. (done, sizes ∙ c.in-Ok-open.ensures.sizes ∙ same)) (c.recover.ensures.recovers newest blocks table commits ready).restarted c.recover.ensures.sizes
+    let behind = c.recover.ensures.restarts in
+    let flash = c.open.ensures.flash_reads in
+    record {
+      opens = λ honest k newest blocks table commits sound means.
+          let same : c.in-Ok.geometry ≡ k = (c.in-Ok.ensures.found k sound.octets.limits sound.octets.lengths).1 in
+          let ready : IsReady c.in-Ok-open.opened mid newest blocks table commits = c.in-Ok-open.ensures.ready honest newest blocks table commits
+          (subst (λ (x : Geometry). IsSound newest x old.image blocks) (sym same) sound) (subst (λ (x : Geometry). Means (picture_under newest x old.image blocks) table commits) (sym same) means) in
+          if_ok_two c.recover.result (λ r. RestartedAs r new table commits) (λ r. sizes_of r.store ≡ c.in-Ok-open.opened.pages.flash.geometry) (λ r. RestartedAs r new table commits × (sizes_of r.store ≡ k))
+          (λ r done sizes. (done, sizes ∙ c.in-Ok-open.ensures.sizes ∙ same)) (c.recover.ensures.recovers newest blocks table commits ready).restarted c.recover.ensures.sizes;
+      ends = λ honest k table commits stands.
+          let same : c.in-Ok.geometry ≡ k = (c.in-Ok.ensures.found k stands.stands.sound.octets.limits stands.stands.sound.octets.lengths).1 in
+          let ready : IsReady c.in-Ok-open.opened mid stands.newest stands.stands.blocks table commits = c.in-Ok-open.ensures.ready honest stands.newest stands.stands.blocks table commits
+          (subst (λ (x : Geometry). IsSound stands.newest x old.image stands.stands.blocks) (sym same) stands.stands.sound) (subst (λ (x : Geometry). Means (picture_under stands.newest x old.image stands.stands.blocks) table commits) (sym same) stands.stands.means) in
+          let unchanged = c.open.ensures.same honest in
+          let first : Ends {T = Opened} (Ok c.in-Ok-open.opened) k old mid (LeavesTable k table commits old.told) = ends_ok (λ quiet. stands_still k old mid table commits quiet unchanged stands) in
+          ends_then (λ quiet. unchanged.loose ∙ quiet) (c.in-Ok-open.ensures.sizes ∙ same) first (c.recover.ensures.recovers stands.newest stands.stands.blocks table commits ready).ends;
+      numbers = λ honest quiet k newest blocks sound.
+          let same : c.in-Ok.geometry ≡ k = (c.in-Ok.ensures.found k sound.octets.limits sound.octets.lengths).1 in
+          let there = subst (λ (x : Geometry). IsSound newest x old.image blocks) (sym same) sound in
+          let p = picture_under newest k old.image blocks in
+          let means : Means (picture_under newest k old.image blocks) (table_of p.log p.pages) (commit_count p) = record { table_is = refl; count_is = refl } in
+          let ready : IsReady c.in-Ok-open.opened mid newest blocks (table_of p.log p.pages) (commit_count p) = c.in-Ok-open.ensures.ready honest newest blocks (table_of p.log p.pages) (commit_count p) there (subst (λ (x : Geometry). Means (picture_under newest x old.image blocks) (table_of p.log p.pages) (commit_count p)) (sym same) means) in
+          let unchanged = c.open.ensures.same honest in
+          let quiet_mid : IsQuiet mid = unchanged.loose ∙ quiet in
+          restart_behind c.recover.result _ c.in-Ok-open.opened.pages.flash.geometry k _ old mid new (c.in-Ok-open.ensures.sizes ∙ same) unchanged.image ((c.recover.ensures.recovers newest blocks (table_of p.log p.pages) (commit_count p) ready).numbers quiet_mid);
+      asks = λ honest k newest blocks sound.
+          let same : c.in-Ok.geometry ≡ k = (c.in-Ok.ensures.found k sound.octets.limits sound.octets.lengths).1 in
+          let groups = ap (λ (x : Geometry). x.groups) same in
+          let there = subst (λ (x : Geometry). IsSound newest x old.image blocks) (sym same) sound in
+          let p = picture_under newest k old.image blocks in
+          let means : Means (picture_under newest k old.image blocks) (table_of p.log p.pages) (commit_count p) = record { table_is = refl; count_is = refl } in
+          let ready : IsReady c.in-Ok-open.opened mid newest blocks (table_of p.log p.pages) (commit_count p) = c.in-Ok-open.ensures.ready honest newest blocks (table_of p.log p.pages) (commit_count p) there (subst (λ (x : Geometry). Means (picture_under newest x old.image blocks) (table_of p.log p.pages) (commit_count p)) (sym same) means) in
+          let sizes = c.in-Ok-open.ensures.sizes ∙ same in
+          let unchanged = c.open.ensures.same honest in
+          from_found _ _ _ (rules_of c.args.pool k.groups) _ (restart_works p) _ (cache_on k old.image) (start_reads k) old mid
+          (g.S.Site.state c.recover.new.site)
+          (λ i. rules_of (c.in-Ok-open.ensures.pool i) (sizes i).groups) (λ i. restart_works (picture_under newest (sizes i) (unchanged.image i) blocks)) (c.in-Ok-open.ensures.cache honest newest blocks there ∙ ap (λ (x : Geometry). cache_on x old.image) same)
+          (omega (arith, flash, groups)) c.open.ensures.disk_reads (c.recover.ensures.recovers newest blocks (table_of p.log p.pages) (commit_count p)
+          ready).asks;
+      writes = λ honest quiet k newest blocks sound.
+          let same : c.in-Ok.geometry ≡ k = (c.in-Ok.ensures.found k sound.octets.limits sound.octets.lengths).1 in
+          let least = sound.octets.limits.groups in
+          let there = subst (λ (x : Geometry). IsSound newest x old.image blocks) (sym same) sound in
+          let p = picture_under newest k old.image blocks in
+          let means : Means (picture_under newest k old.image blocks) (table_of p.log p.pages) (commit_count p) = record { table_is = refl; count_is = refl } in
+          let ready : IsReady c.in-Ok-open.opened mid newest blocks (table_of p.log p.pages) (commit_count p) = c.in-Ok-open.ensures.ready honest newest blocks (table_of p.log p.pages) (commit_count p) there (subst (λ (x : Geometry). Means (picture_under newest x old.image blocks) (table_of p.log p.pages) (commit_count p)) (sym same) means) in
+          let sizes = c.in-Ok-open.ensures.sizes ∙ same in
+          let unchanged = c.open.ensures.same honest in
+          writes_found c.works_add_up.ensures.rise k (rules_of c.args.pool k.groups) (restart_works p) c.in-Ok-open.opened.pages.flash.geometry (rules c.in-Ok-open.opened.pages) (restart_works (picture_under newest c.in-Ok-open.opened.pages.flash.geometry mid.image blocks)) (cache_of c.in-Ok-open.opened.pages) old mid new (omega (arith, least)) quiet unchanged sizes
+          (λ i. rules_of (c.in-Ok-open.ensures.pool i) (sizes i).groups) (λ i. restart_works (picture_under newest (sizes i) (unchanged.image i) blocks)) (c.in-Ok-open.ensures.cache honest newest blocks there ∙ ap (λ (x : Geometry). cache_on x old.image) same)
+          ((c.recover.ensures.recovers newest blocks (table_of p.log p.pages) (commit_count p) ready).writes (unchanged.loose ∙ quiet));
+      restarts =
+          record {
+            calls = calls_behind c.open.ensures.goes c.open.ensures.same c.in-Ok-open.ensures.faults behind.calls;
+            going = behind.going;
+            blocks = behind.blocks;
+            room = behind.room;
+            commits = behind.commits;
+            made = behind.made;
+            pool = subst (λ (n : ℕ). IfOk c.recover.result (λ restarted. restarted.store.pages.pool.size ≡ n)) c.in-Ok-open.ensures.pool behind.pool;
+            stops = behind.stops;
+          };
+      refuses = λ none. absurd (none c.in-Ok.geometry c.in-Ok.ensures.limits c.in-Ok.ensures.lengths);
+    }
 
-pub returns-in-Err-clause-ends : goal.returns-in-Err-clause-ends
-returns-in-Err-clause-ends g c honest k table commits stands = absurd (c.in-Err.ensures.found k stands.stands.sound.octets.limits stands.stands.sound.octets.lengths).0
-
-pub returns-in-Err-open-clause-ends : goal.returns-in-Err-open-clause-ends
-returns-in-Err-open-clause-ends g c honest k table commits stands =
+pub returns-in-Err-open : goal.returns-in-Err-open
+returns-in-Err-open g c =
     let old = g.S.Site.state c.args.site.now in
     let stop = c.in-Err-open.stop in
-    let same : c.in-Ok.geometry ≡ k = (c.in-Ok.ensures.found k stands.stands.sound.octets.limits stands.stands.sound.octets.lengths).1 in
-    let unchanged = c.open.ensures.same honest in
-    record {
-      any_moment = λ quiet. stands_still k old (g.S.Site.state c.open.new.site) table commits quiet unchanged stands;
-      quiet = λ quiet other. unchanged.loose ∙ quiet;
-      worn_log = λ is. absurd (c.in-Err-open.ensures.unworn Log (err_again stop (Worn Log) is));
-      worn = λ is. absurd (c.in-Err-open.ensures.unworn Flash (err_again stop (Worn Flash) is));
-      readable = λ is. c.in-Err-open.ensures.readable honest stands.newest stands.stands.blocks (subst (λ (x : Geometry). IsSound stands.newest x old.image stands.stands.blocks) (sym same) stands.stands.sound) (err_again stop Foreign is);
-    }
-
-pub returns-clause-ends : goal.returns-clause-ends
-returns-clause-ends g c honest k table commits stands =
-    let old = g.S.Site.state c.args.site.now in
-    let mid = g.S.Site.state c.open.new.site in
-    let same : c.in-Ok.geometry ≡ k = (c.in-Ok.ensures.found k stands.stands.sound.octets.limits stands.stands.sound.octets.lengths).1 in
-    let ready : IsReady c.in-Ok-open.opened mid stands.newest stands.stands.blocks table commits = c.in-Ok-open.ensures.ready honest stands.newest stands.stands.blocks table commits
-    (subst (λ (x : Geometry). IsSound stands.newest x old.image stands.stands.blocks) (sym same) stands.stands.sound) (subst (λ (x : Geometry). Means (picture_under stands.newest x old.image stands.stands.blocks) table commits) (sym same) stands.stands.means) in
-    let unchanged = c.open.ensures.same honest in
-    let first : Ends {T = Opened} (Ok c.in-Ok-open.opened) k old mid (LeavesTable k table commits old.told) = ends_ok (λ quiet. stands_still k old mid table commits quiet unchanged stands) in
-    ends_then (λ quiet. unchanged.loose ∙ quiet) (c.in-Ok-open.ensures.sizes ∙ same) first (c.recover.ensures.recovers stands.newest stands.stands.blocks table commits ready).ends
-
-pub returns-in-Err-open-clause-restarts : goal.returns-in-Err-open-clause-restarts
-returns-in-Err-open-clause-restarts g c = record {
-  calls = calls_failed (calls_stopped c.open.ensures.goes c.open.ensures.same c.in-Err-open.ensures.device c.in-Err-open.ensures.faults);
-  going = tt;
-  blocks = tt;
-  room = tt;
-  commits = tt;
-  made = tt;
-  pool = tt;
-  stops = c.in-Err-open.ensures.stops;
-}
-
-pub returns-clause-restarts : goal.returns-clause-restarts
-returns-clause-restarts g c =
-    let behind = c.recover.ensures.restarts in
-    record {
-      calls = calls_behind c.open.ensures.goes c.open.ensures.same c.in-Ok-open.ensures.faults behind.calls;
-      going = behind.going;
-      blocks = behind.blocks;
-      room = behind.room;
-      commits = behind.commits;
-      made = behind.made;
-      pool = subst (λ (n : ℕ). IfOk c.recover.result (λ restarted. restarted.store.pages.pool.size ≡ n)) c.in-Ok-open.ensures.pool behind.pool;
-      stops = behind.stops;
-    }
-
-pub returns-in-Err-clause-asks : goal.returns-in-Err-clause-asks
-returns-in-Err-clause-asks g c honest k newest blocks sound = absurd (c.in-Err.ensures.found k sound.octets.limits sound.octets.lengths).0
-
-pub returns-in-Err-open-clause-asks : goal.returns-in-Err-open-clause-asks
-returns-in-Err-open-clause-asks g c honest k newest blocks sound =
-    let same : c.in-Ok.geometry ≡ k = (c.in-Ok.ensures.found k sound.octets.limits sound.octets.lengths).1 in
-    let groups = ap (λ (x : Geometry). x.groups) same in
-    let least = sound.octets.limits.groups in
     let flash = c.open.ensures.flash_reads in
-    not_found c.works_add_up.ensures.rise c.in-Err-open.stop _ (rules_of c.args.pool k.groups) _ _ (start_reads k) _ _ (omega (arith, least)) (λ is. c.in-Err-open.ensures.unworn Flash (err_again c.in-Err-open.stop (Worn Flash) is)) (omega (arith, flash, groups)) c.open.ensures.disk_reads
-
-pub returns-clause-asks : goal.returns-clause-asks
-returns-clause-asks g c honest k newest blocks sound =
-    let old = g.S.Site.state c.args.site.now in
-    let mid = g.S.Site.state c.open.new.site in
-    let new = g.S.Site.state c.recover.new.site in
-    let same : c.in-Ok.geometry ≡ k = (c.in-Ok.ensures.found k sound.octets.limits sound.octets.lengths).1 in
-    let groups = ap (λ (x : Geometry). x.groups) same in
-    let flash = c.open.ensures.flash_reads in
-    let there = subst (λ (x : Geometry). IsSound newest x old.image blocks) (sym same) sound in
-    let p = picture_under newest k old.image blocks in
-    let means : Means (picture_under newest k old.image blocks) (table_of p.log p.pages) (commit_count p) = record { table_is = refl; count_is = refl } in
-    let ready : IsReady c.in-Ok-open.opened mid newest blocks (table_of p.log p.pages) (commit_count p) = c.in-Ok-open.ensures.ready honest newest blocks (table_of p.log p.pages) (commit_count p) there (subst (λ (x : Geometry). Means (picture_under newest x old.image blocks) (table_of p.log p.pages) (commit_count p)) (sym same) means) in
-    let sizes = c.in-Ok-open.ensures.sizes ∙ same in
-    let unchanged = c.open.ensures.same honest in
-    from_found _ _ _ (rules_of c.args.pool k.groups) _ (restart_works p) _ (cache_on k old.image) (start_reads k) old mid new
-    (λ i. rules_of (c.in-Ok-open.ensures.pool i) (sizes i).groups) (λ i. restart_works (picture_under newest (sizes i) (unchanged.image i) blocks)) (c.in-Ok-open.ensures.cache honest newest blocks there ∙ ap (λ (x : Geometry). cache_on x old.image) same)
-    (omega (arith, flash, groups)) c.open.ensures.disk_reads (c.recover.ensures.recovers newest blocks (table_of p.log p.pages) (commit_count p) ready).asks
-
-pub returns-in-Err-clause-writes : goal.returns-in-Err-clause-writes
-returns-in-Err-clause-writes g c honest quiet k newest blocks sound = absurd (c.in-Err.ensures.found k sound.octets.limits sound.octets.lengths).0
-
-pub returns-in-Err-open-clause-writes : goal.returns-in-Err-open-clause-writes
-returns-in-Err-open-clause-writes g c honest quiet k newest blocks sound =
-    let least = sound.octets.limits.groups in
-    still_writes c.works_add_up.ensures.rise k (rules_of c.args.pool k.groups) (restart_works (picture_under newest k (g.S.Site.state c.args.site.now).image blocks)) (g.S.Site.state c.args.site.now) (g.S.Site.state c.open.new.site) (omega (arith, least)) quiet (c.open.ensures.same honest)
-
-pub returns-clause-writes : goal.returns-clause-writes
-returns-clause-writes g c honest quiet k newest blocks sound =
-    let old = g.S.Site.state c.args.site.now in
-    let mid = g.S.Site.state c.open.new.site in
-    let new = g.S.Site.state c.recover.new.site in
-    let same : c.in-Ok.geometry ≡ k = (c.in-Ok.ensures.found k sound.octets.limits sound.octets.lengths).1 in
-    let least = sound.octets.limits.groups in
-    let there = subst (λ (x : Geometry). IsSound newest x old.image blocks) (sym same) sound in
-    let p = picture_under newest k old.image blocks in
-    let means : Means (picture_under newest k old.image blocks) (table_of p.log p.pages) (commit_count p) = record { table_is = refl; count_is = refl } in
-    let ready : IsReady c.in-Ok-open.opened mid newest blocks (table_of p.log p.pages) (commit_count p) = c.in-Ok-open.ensures.ready honest newest blocks (table_of p.log p.pages) (commit_count p) there (subst (λ (x : Geometry). Means (picture_under newest x old.image blocks) (table_of p.log p.pages) (commit_count p)) (sym same) means) in
-    let sizes = c.in-Ok-open.ensures.sizes ∙ same in
-    let unchanged = c.open.ensures.same honest in
-    writes_found c.works_add_up.ensures.rise k (rules_of c.args.pool k.groups) (restart_works p) c.in-Ok-open.opened.pages.flash.geometry (rules c.in-Ok-open.opened.pages) (restart_works (picture_under newest c.in-Ok-open.opened.pages.flash.geometry mid.image blocks)) (cache_of c.in-Ok-open.opened.pages) old mid new (omega (arith, least)) quiet unchanged sizes
-    (λ i. rules_of (c.in-Ok-open.ensures.pool i) (sizes i).groups) (λ i. restart_works (picture_under newest (sizes i) (unchanged.image i) blocks)) (c.in-Ok-open.ensures.cache honest newest blocks there ∙ ap (λ (x : Geometry). cache_on x old.image) same)
-    ((c.recover.ensures.recovers newest blocks (table_of p.log p.pages) (commit_count p) ready).writes (unchanged.loose ∙ quiet))
-
-pub returns-in-Err-clause-numbers : goal.returns-in-Err-clause-numbers
-returns-in-Err-clause-numbers g c honest quiet k newest blocks sound = absurd (c.in-Err.ensures.found k sound.octets.limits sound.octets.lengths).0
-
-pub returns-in-Err-open-clause-numbers : goal.returns-in-Err-open-clause-numbers
-returns-in-Err-open-clause-numbers g c honest quiet k newest blocks sound = restart_unmoved c.in-Err-open.stop _ k _ (g.S.Site.state c.args.site.now) (g.S.Site.state c.open.new.site) (c.open.ensures.same honest).image
-
-pub returns-clause-numbers : goal.returns-clause-numbers
-returns-clause-numbers g c honest quiet k newest blocks sound =
-    let old = g.S.Site.state c.args.site.now in
-    let mid = g.S.Site.state c.open.new.site in
-    let new = g.S.Site.state c.recover.new.site in
-    let same : c.in-Ok.geometry ≡ k = (c.in-Ok.ensures.found k sound.octets.limits sound.octets.lengths).1 in
-    let there = subst (λ (x : Geometry). IsSound newest x old.image blocks) (sym same) sound in
-    let p = picture_under newest k old.image blocks in
-    let means : Means (picture_under newest k old.image blocks) (table_of p.log p.pages) (commit_count p) = record { table_is = refl; count_is = refl } in
-    let ready : IsReady c.in-Ok-open.opened mid newest blocks (table_of p.log p.pages) (commit_count p) = c.in-Ok-open.ensures.ready honest newest blocks (table_of p.log p.pages) (commit_count p) there (subst (λ (x : Geometry). Means (picture_under newest x old.image blocks) (table_of p.log p.pages) (commit_count p)) (sym same) means) in
-    let unchanged = c.open.ensures.same honest in
-    let quiet_mid : IsQuiet mid = unchanged.loose ∙ quiet in
-    restart_behind c.recover.result _ c.in-Ok-open.opened.pages.flash.geometry k _ old mid new (c.in-Ok-open.ensures.sizes ∙ same) unchanged.image ((c.recover.ensures.recovers newest blocks (table_of p.log p.pages) (commit_count p) ready).numbers quiet_mid)
+    record {
+      opens = search rules;
+      ends = λ honest k table commits stands.
+          let same : c.in-Ok.geometry ≡ k = (c.in-Ok.ensures.found k stands.stands.sound.octets.limits stands.stands.sound.octets.lengths).1 in
+          let unchanged = c.open.ensures.same honest in
+          record {
+            any_moment = λ quiet. stands_still k old (g.S.Site.state c.open.new.site) table commits quiet unchanged stands;
+            quiet = λ quiet other. unchanged.loose ∙ quiet;
+            worn_log = λ is. absurd (c.in-Err-open.ensures.unworn Log (err_again stop (Worn Log) is));
+            worn = λ is. absurd (c.in-Err-open.ensures.unworn Flash (err_again stop (Worn Flash) is));
+            readable = λ is. c.in-Err-open.ensures.readable honest stands.newest stands.stands.blocks (subst (λ (x : Geometry). IsSound stands.newest x old.image stands.stands.blocks) (sym same) stands.stands.sound) (err_again stop Foreign is);
+          };
+      numbers = λ honest quiet k newest blocks sound.
+          restart_unmoved c.in-Err-open.stop _ k _ (g.S.Site.state c.args.site.now) (g.S.Site.state c.open.new.site) (c.open.ensures.same honest).image;
+      asks = λ honest k newest blocks sound.
+          let same : c.in-Ok.geometry ≡ k = (c.in-Ok.ensures.found k sound.octets.limits sound.octets.lengths).1 in
+          let groups = ap (λ (x : Geometry). x.groups) same in
+          let least = sound.octets.limits.groups in
+          not_found c.works_add_up.ensures.rise c.in-Err-open.stop _ (rules_of c.args.pool k.groups) _ _ (start_reads k) _ _ (omega (arith, least)) (λ is. c.in-Err-open.ensures.unworn Flash (err_again c.in-Err-open.stop (Worn Flash) is)) (omega (arith, flash, groups)) c.open.ensures.disk_reads;
+      writes = λ honest quiet k newest blocks sound.
+          let least = sound.octets.limits.groups in
+          still_writes c.works_add_up.ensures.rise k (rules_of c.args.pool k.groups) (restart_works (picture_under newest k (g.S.Site.state c.args.site.now).image blocks)) (g.S.Site.state c.args.site.now) (g.S.Site.state c.open.new.site) (omega (arith, least)) quiet (c.open.ensures.same honest);
+      restarts =
+          record {
+            calls = calls_failed (calls_stopped c.open.ensures.goes c.open.ensures.same c.in-Err-open.ensures.device c.in-Err-open.ensures.faults);
+            going = tt;
+            blocks = tt;
+            room = tt;
+            commits = tt;
+            made = tt;
+            pool = tt;
+            stops = c.in-Err-open.ensures.stops;
+          };
+      refuses = λ none. absurd (none c.in-Ok.geometry c.in-Ok.ensures.limits c.in-Ok.ensures.lengths);
+    }

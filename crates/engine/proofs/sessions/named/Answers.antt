@@ -5,11 +5,9 @@ use Rattle.engine.proofs.sessions.named.Goals as goal
 
 pub push-requires : goal.push-requires
 push-requires c =
-    let end = c.len-place-end.ensures.len in
-    let few = c.len-place-end.ensures.few in
     let more = c.loop-place-test.true in
-    let long = length-named c.args.active.now c.loop-place.place (omega (arith, end, more)) in
-    omega (arith, few, more, long, ap length c.loop-place.invariant)
+    let long = length-named c.args.active.now c.loop-place.place (omega (arith, c.len-place-end.ensures.len, more)) in
+    omega (arith, c.len-place-end.ensures.few, more, long, ap length c.loop-place.invariant)
 
 pub loop-place-init : goal.loop-place-init
 loop-place-init c = c.new-named.ensures

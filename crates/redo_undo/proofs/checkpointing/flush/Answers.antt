@@ -1,4 +1,4 @@
-use Rattle.std.proofs.Common.{append-nil, Bool, sym, subst, ◌∙◌, arith, inl, refl, ◌≢◌}
+use Rattle.std.proofs.Common.{append-nil, Bool, sym, subst, ◌∙◌, arith, inl, refl}
 use Rattle.record_model.specs.Touches.{flush}
 use Rattle.page_store.specs.Caching.{cache_of, rules}
 use Rattle.page_store.proofs.StagingLaws.{stages_as}
@@ -15,52 +15,48 @@ use Rattle.redo_undo.proofs.Touched.{forced_tail, leaves_table, touched_holds, o
 use Rattle.site.proofs.Working.{ok_as}
 use Rattle.page_store.specs.Held.{current}
 use Rattle.redo_undo.proofs.LeftNumbers.{pages_skip, ready_next}
+use Rattle.std.proofs.lemmas.Grind.{common_steps}
 use Rattle.redo_undo.proofs.checkpointing.flush.Goals as goal
 
-pub returns-clause-holds : goal.returns-clause-holds
-returns-clause-holds g c newest records table commits h =
+pub returns : goal.returns
+returns g c =
     let site = g.S.Site.state c.args.site.now in
     let new = g.S.Site.state c.flush_all.new.site in
     let log = c.args.log.now in
     let pages = c.args.pages.now in
-    let ready = h.log_holds.ready in
-    let list : LogList = record { first = kept_by newest; blocks = h.log_holds.blocks; tail = h.log_holds.tail } in
-    let sealing : Bool = forces log (flushed_contents pages) in
-    ok_both c.flush_all.result _ _ (Holds c.flush_all.new.log c.flush_all.new.self new newest records table commits)
-    (λ stands end. subst (λ (x : Geometry). HoldsIn x c.flush_all.new.log c.flush_all.new.self new newest records table commits) (sym c.flush_all.ensures.works.geometry)
-    (touched_holds c.log_laws.ensures c.page_laws.ensures log pages site newest records table commits h c.flush_all.new.log c.flush_all.new.self new (c.flush_all.ensures.works.forces.geometry ∙ c.requires.going.sizes)
-    c.flush_all.ensures.works.forces.kept stands.current (stands.ahead h.log_holds.ahead) end (stands.sealed h.log_holds.ahead) (stands.rings newest h.log_holds.rings) c.requires.going.log_going.high sealing (forced_tail log (flushed_contents pages)) stands.ready stands.leaves))
-    (c.flush_all.ensures.stands list ready) c.flush_all.ensures.works.forces.end
-
-pub returns-clause-asks : goal.returns-clause-asks
-returns-clause-asks g c =
-    let asked = c.flush_all.ensures.flushes.asked in
-    let other = c.flush_all.ensures.others Disk (λ same. cc) in
-    record {
-      machine = c.flush_all.ensures.flushes.machine;
-      worn = c.flush_all.ensures.flushes.overflows;
-      reads = record { flash = omega (arith, asked); disk = omega (arith, other) };
-      stages = stages_as (sym (append-nil (staged_by (rules c.args.pages.now) flush (cache_of c.args.pages.now)))) refl c.flush_all.ensures.stages;
-      rules_are = (λ i. rules_of (c.flush_all.ensures.works.size i) (c.flush_all.ensures.works.geometry i).groups);
-    }
-
-pub returns-clause-keeps : goal.returns-clause-keeps
-returns-clause-keeps g c newest records table commits h =
-    let site = g.S.Site.state c.args.site.now in
-    let new = g.S.Site.state c.flush_all.new.site in
-    let log = c.args.log.now in
-    let pages = c.args.pages.now in
-    let ready = h.log_holds.ready in
-    let list : LogList = record { first = kept_by newest; blocks = h.log_holds.blocks; tail = h.log_holds.tail } in
     let sealing : Bool = forces log (flushed_contents pages) in
     let tail = forced_tail log (flushed_contents pages) in
     record {
-      any_moment = λ quiet. leaves_table c.log_laws.ensures c.page_laws.ensures log pages site newest records table commits h c.requires.going.pages_going.own sealing tail new
-          ((c.flush_all.ensures.keeps list ready).any_moment quiet) ((c.flush_all.ensures.keeps list ready).ahead_moment quiet h.log_holds.ahead) ((c.flush_all.ensures.keeps list ready).rings_moment newest quiet h.log_holds.rings);
-      numbers = λ quiet. pages_skip c.flush_all.result pages.flash.geometry (current pages site.image) log c.flush_all.new.log list sealing site new (ready_next pages log list site ready) tail ((c.flush_all.ensures.keeps list ready).any_moment quiet) c.flush_all.ensures.works.forces.end;
-      quiet = (c.flush_all.ensures.keeps list ready).quiet;
-      worn_log = λ worn. inl ((c.flush_all.ensures.keeps list ready).worn_log worn);
-      worn = (c.flush_all.ensures.keeps list ready).worn;
-      readable = (c.flush_all.ensures.keeps list ready).readable;
-      masters = λ none. ok_as c.flush_all.result _ (KeepsUnits master_shape site.image new.image) (λ stands. stands.leaves.masters) (c.flush_all.ensures.stands list ready);
+      holds = λ newest records table commits h.
+          let list : LogList = record { first = kept_by newest; blocks = h.log_holds.blocks; tail = h.log_holds.tail } in
+          ok_both c.flush_all.result _ _ (Holds c.flush_all.new.log c.flush_all.new.self new newest records table commits)
+          (λ stands end. subst (λ (x : Geometry). HoldsIn x c.flush_all.new.log c.flush_all.new.self new newest records table commits) (sym c.flush_all.ensures.works.geometry)
+          (touched_holds c.log_laws.ensures c.page_laws.ensures log pages site newest records table commits h c.flush_all.new.log c.flush_all.new.self new (c.flush_all.ensures.works.forces.geometry ∙ c.requires.going.sizes)
+          c.flush_all.ensures.works.forces.kept stands.current (stands.ahead h.log_holds.ahead) end (stands.sealed h.log_holds.ahead) (stands.rings newest h.log_holds.rings) c.requires.going.log_going.high sealing (forced_tail log (flushed_contents pages)) stands.ready stands.leaves))
+          (c.flush_all.ensures.stands list h.log_holds.ready) c.flush_all.ensures.works.forces.end;
+      keeps = λ newest records table commits h.
+          let ready = h.log_holds.ready in
+          let list : LogList = record { first = kept_by newest; blocks = h.log_holds.blocks; tail = h.log_holds.tail } in
+          record {
+            any_moment = λ quiet. leaves_table c.log_laws.ensures c.page_laws.ensures log pages site newest records table commits h c.requires.going.pages_going.own sealing tail new
+                ((c.flush_all.ensures.keeps list ready).any_moment quiet) ((c.flush_all.ensures.keeps list ready).ahead_moment quiet h.log_holds.ahead) ((c.flush_all.ensures.keeps list ready).rings_moment newest quiet h.log_holds.rings);
+            numbers = λ quiet. pages_skip c.flush_all.result pages.flash.geometry (current pages site.image) log c.flush_all.new.log list sealing site new (ready_next pages log list site ready) tail ((c.flush_all.ensures.keeps list ready).any_moment quiet) c.flush_all.ensures.works.forces.end;
+            quiet = (c.flush_all.ensures.keeps list ready).quiet;
+            worn_log = λ worn. inl ((c.flush_all.ensures.keeps list ready).worn_log worn);
+            worn = (c.flush_all.ensures.keeps list ready).worn;
+            readable = (c.flush_all.ensures.keeps list ready).readable;
+            masters = λ none. ok_as c.flush_all.result _ (KeepsUnits master_shape site.image new.image) (λ stands. stands.leaves.masters) (c.flush_all.ensures.stands list ready);
+          };
+      asks =
+          record {
+            machine = c.flush_all.ensures.flushes.machine;
+            worn = c.flush_all.ensures.flushes.overflows;
+            reads = record { flash = omega (arith, c.flush_all.ensures.flushes.asked); disk = omega (arith, c.flush_all.ensures.others Disk (λ same. cc)) };
+            stages = stages_as (sym (append-nil (staged_by (rules c.args.pages.now) flush (cache_of c.args.pages.now)))) refl c.flush_all.ensures.stages;
+            rules_are = (λ i. rules_of (c.flush_all.ensures.works.size i) (c.flush_all.ensures.works.geometry i).groups);
+          };
+      clean = search rules;
+      sealed = grind (arith, common_steps);
+      works = grind (arith, common_steps);
+      hi = grind (arith, common_steps);
     }

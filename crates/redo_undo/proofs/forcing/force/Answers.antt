@@ -10,7 +10,8 @@ use Rattle.redo_undo.proofs.Appended.{append_leaves, found_fits}
 use Rattle.redo_undo.proofs.Forced.{forced_holds, some_now, ok_five, quiet_stops, seals_only}
 use Rattle.redo_undo.proofs.WornLogs.{log_at_end}
 use Rattle.redo_undo.proofs.RingNumbers.{skips_nothing}
-use Rattle.redo_undo.proofs.LeftNumbers.{log_skips, ready_next, same_at_most, ok_both}
+use Rattle.redo_undo.proofs.LeftNumbers.{log_skips, ready_next, same_at_most}
+use Rattle.redo_undo.proofs.Touched.{ok_both}
 use Rattle.redo_undo.proofs.forcing.force.Goals as goal
 
 pub returns-clause-holds : goal.returns-clause-holds

@@ -42,9 +42,8 @@ returns-then-front_lsn-lsn-clause-keeps g c newest records table commits h =
     let site = g.S.Site.state c.args.site.now in
     let front = (front_of pages.pool.frames).page in
     let exists = front_exists pages.flash.geometry.pages pages.pool.frames c.requires.there c.requires.going.pages_going.own.pages in
-    let below = h.below front exists in
     let is : lsn_of (current pages site.image front) ≡ lsn_of (front_of pages.pool.frames).content = ap lsn_of (front_is_current pages site.image c.requires.there) in
-    absurd (omega (arith, below, is, c.front_lsn.ensures, c.if-front_lsn-lsn.true, c.in-Ok.ensures.rises.0))
+    absurd (omega (arith, h.below front exists, is, c.front_lsn.ensures, c.if-front_lsn-lsn.true, c.in-Ok.ensures.rises.0))
 
 pub returns-clause-keeps : goal.returns-clause-keeps
 returns-clause-keeps g c newest records table commits h = keeps_appended c.requires.going tt (c.in-Ok.ensures.keeps c.args.pages.now newest records table commits h)

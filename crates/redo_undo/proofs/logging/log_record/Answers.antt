@@ -1,23 +1,29 @@
-use Rattle.std.proofs.Common.{◌≡◌, ◌≤◌, ◌<◌, ◌+◌, ◌*◌, Bool, true, false, ◌∷◌, [], ◌++◌, ap, inr, arith, ℕ}
-use Rattle.std.specs.Prelude.{Result, Ok, Err, IfOk, OnOk, if◌then◌else◌}
-use Rattle.log_records.specs.declared.log_record.LogRecord.{LogRecord}
-use Rattle.log_store.specs.declared.store.LogStore.{LogStore}
+use Rattle.std.proofs.Common.{List, ◌≡◌, ◌≤◌, ◌<◌, Bool, true, ◌∷◌, [], ◌++◌, ap, inr, ℕ}
+use Rattle.std.specs.Prelude.{IfOk, Option}
 use Rattle.log_records.specs.Sound.{AreOrderly}
 use Rattle.image_meaning.specs.Meaning.{versions_on}
 use Rattle.redo_undo.proofs.Forced.{quiet_stops, seals_only}
 use Rattle.redo_undo.proofs.Orderlies.{ends_orderly}
-use Rattle.log_store.specs.Held.{overflows, next_lsn, end_of}
+use Rattle.log_store.specs.Held.{overflows, next_lsn, end_of, has_tail}
 use Rattle.log_store.specs.LogList.{LogList, changes_if}
-use Rattle.page_store.specs.Ahead.{end_forced}
+use Rattle.page_store.specs.Ahead.{AreSealed}
 use Rattle.image_meaning.specs.Meaning.{kept_by}
 use Rattle.redo_undo.specs.Holding.{MayGrow, HoldsLog, Holds}
-use Rattle.redo_undo.proofs.Appended.{found_fits, has_now, before_end, appended, ends_with, append_leaves, rings_now, sealed_now, versions_same, current_same, if_ok_six, if_ok_one, if_ok_two, if_ok_three, ok_two, most_blocks}
+use Rattle.redo_undo.proofs.Appended.{found_fits, appended, ends_with, append_leaves, rings_now, sealed_now, versions_same, current_same, IsNumbered, IsAppended, if_ok_four, if_ok_one, if_ok_two, if_ok_three, ok_by, most_blocks}
 use Rattle.redo_undo.specs.Committing.{EndsWith}
+use Rattle.image_meaning.specs.Beside.{AreRingsSoundUnder}
+use Rattle.checkpoint.specs.declared.master.Master.{Master}
+use Rattle.record_model.specs.State.{Content}
+use Rattle.log_records.specs.Log.{Entry}
+use Rattle.site.specs.State.{State}
+use Rattle.page_store.specs.declared.store.PageStore.{PageStore}
 use Rattle.redo_undo.proofs.Changed.{holds_off}
 use Rattle.image_changes.specs.Rings.{Masters, KeepsUnits, master_shape}
 use Rattle.site.proofs.Working.{ok_as}
 use Rattle.redo_undo.proofs.WornLogs.{log_at_end}
 use Rattle.redo_undo.proofs.LeftNumbers.{log_skips, ready_next}
+use Rattle.redo_undo.proofs.logging.log_record.Given.{Over}
+use Rattle.redo_undo.proofs.logging.log_record.Goals.{After-append}
 use Rattle.redo_undo.proofs.logging.log_record.Goals as goal
 
 pub returns-clause-pages : goal.returns-clause-pages
@@ -30,33 +36,62 @@ returns-clause-pages g c pages newest records table commits h =
       current = current_same c.beside_laws.ensures pages site new changes;
     }
 
+module _ (g : Over) (c : After-append g) where
+  numbered : IfOk c.append.result (λ lsn. IsNumbered c.args.log.now c.append.new.self lsn (overflows c.args.log.now c.args.rec.now))
+  numbered = if_ok_three c.append.result _ (λ lsn. lsn ≡ next_lsn c.args.log.now c.args.rec.now)
+      (λ lsn. (end_of c.args.log.now ≤ lsn) × (lsn < end_of c.append.new.self)) _
+      (λ lsn next lsn_is rises. record { lsn_is = lsn_is; next = next; below = rises.1; low = c.requires.going.low; high = c.append.ensures.going.high })
+      c.append.ensures.next c.append.ensures.lsn c.append.ensures.rises
+
+module _ (g : Over) (c : After-append g) (pages : PageStore) (newest : Option Master) (records : List Entry) (table : List Content) (commits : ℕ)
+    (h : Holds c.args.log.now pages (g.S.Site.state c.args.site.now) newest records table commits) where
+  abbrev site : State
+  site = g.S.Site.state c.args.site.now
+
+  abbrev new : State
+  new = g.S.Site.state c.append.new.site
+
+  abbrev list : LogList
+  list = record { first = kept_by newest; blocks = h.log_holds.blocks; tail = h.log_holds.tail }
+
+  abbrev sealing : Bool
+  sealing = overflows c.args.log.now c.args.rec.now
+
+  full : sealing ≡ true → has_tail c.args.log.now ≡ true
+  full = c.beside_laws.ensures.full c.args.log.now c.args.rec.now c.requires.form
+
+  -- all that stands behind it
+  record Stands (lsn : ℕ) : Type 0 where
+    pub rings : AreRingsSoundUnder newest pages.flash.geometry new.image
+    pub are_sealed : AreSealed pages.flash.geometry new.image
+    pub appended_is : IsAppended pages.flash.geometry c.args.log.now c.append.new.self list site new c.args.rec.now lsn sealing
+
+  stands : c.args.log.now.geometry ≡ pages.flash.geometry → IfOk c.append.result Stands
+  stands sizes =
+      let ready = h.log_holds.ready in
+      let changes = c.append.ensures.changes ready.blocks.honest in
+      if_ok_four c.append.result _ _ _ (λ lsn. IsNumbered c.args.log.now c.append.new.self lsn sealing) Stands (λ lsn holds finds reaches numbers. record {
+        rings = rings_now c.log_laws.ensures c.page_laws.ensures c.beside_laws.ensures c.args.log.now pages site newest records table commits h sizes new
+            sealing reaches;
+        are_sealed = sealed_now c.log_laws.ensures c.page_laws.ensures c.beside_laws.ensures c.args.log.now pages site newest records table commits h sizes new
+            sealing c.append.new.self changes
+            c.append.ensures.geometry finds c.append.ensures.at_most_one.0;
+        appended_is = record { numbers = numbers; kept = c.append.ensures.kept; holds = holds; finds = finds; changes = changes; goes = c.append.ensures.goes };
+      })
+      (c.append.ensures.holds list ready.blocks ready.records) (c.append.ensures.finds ready.blocks) (c.append.ensures.reaches list ready.blocks ready.records)
+      (numbered g c)
+
 pub returns-clause-log_holds : goal.returns-clause-log_holds
 returns-clause-log_holds g c pages newest records table commits sizes h =
     let site = g.S.Site.state c.args.site.now in
     let new = g.S.Site.state c.append.new.site in
     let log = c.args.log.now in
-    let rec = c.args.rec.now in
-    let ready = h.log_holds.ready in
-    let list : LogList = record { first = kept_by newest; blocks = h.log_holds.blocks; tail = h.log_holds.tail } in
-    let sealing : Bool = overflows log rec in
-    let k = pages.flash.geometry in
-    let finds = ready.blocks in
-    let changes = c.append.ensures.changes ready.blocks.honest in
-    if_ok_six c.append.result _ _ _ _ (λ lsn. lsn ≡ next_lsn log rec) (λ lsn. (end_of log ≤ lsn) × (lsn < end_of c.append.new.self))
-    (λ lsn. MayGrow log pages site.image newest records (record { lsn = lsn; rec = rec }) → HoldsLog k c.append.new.self pages new newest (records ++ record { lsn = lsn; rec = rec } ∷ []) table commits)
-    (λ lsn holds finds' reaches next lsn_is rises may.
-    appended c.log_laws.ensures c.page_laws.ensures c.beside_laws.ensures log pages site newest records table commits h sizes c.append.new.self new rec lsn
-    (rings_now c.log_laws.ensures c.page_laws.ensures c.beside_laws.ensures log pages site newest records table commits h sizes new sealing reaches)
-    (sealed_now c.log_laws.ensures c.page_laws.ensures c.beside_laws.ensures log pages site newest records table commits h sizes new sealing c.append.new.self changes c.append.ensures.geometry finds' c.append.ensures.at_most_one.0)
-    may sealing (c.beside_laws.ensures.full log rec c.requires.form) (record {
-      numbers = record { lsn_is = lsn_is; next = next; below = rises.1; low = c.requires.going.low; high = c.append.ensures.going.high };
-      kept = c.append.ensures.kept;
-      holds = holds;
-      finds = finds';
-      changes = changes;
-      goes = c.append.ensures.goes;
-    }))
-    (c.append.ensures.holds list finds ready.records) (c.append.ensures.finds finds) (c.append.ensures.reaches list finds ready.records) c.append.ensures.next c.append.ensures.lsn c.append.ensures.rises
+    if_ok_one c.append.result (Stands g c pages newest records table commits h)
+    (λ lsn. MayGrow log pages site.image newest records (record { lsn = lsn; rec = c.args.rec.now }) → HoldsLog pages.flash.geometry c.append.new.self pages new newest (records ++ record { lsn = lsn; rec = c.args.rec.now } ∷ []) table commits)
+    (λ lsn stands. appended c.log_laws.ensures c.page_laws.ensures c.beside_laws.ensures log pages site newest records table commits h sizes c.append.new.self
+    new c.args.rec.now lsn stands.rings stands.are_sealed
+    (overflows log c.args.rec.now) (full g c pages newest records table commits h) stands.appended_is)
+    (stands g c pages newest records table commits h sizes)
 
 pub returns-clause-holds : goal.returns-clause-holds
 returns-clause-holds g c pages newest records table commits sizes h none =
@@ -72,50 +107,19 @@ returns-clause-holds g c pages newest records table commits sizes h none =
     (λ lsn holds rises may. holds_off c.log_laws.ensures k log c.append.new.self pages site new newest records table commits h (returns-clause-pages g c pages newest records table commits h) rec lsn none rises.0 rises.1 (holds may))
     (returns-clause-log_holds g c pages newest records table commits sizes h) c.append.ensures.rises
 
-pub returns-clause-forced : goal.returns-clause-forced
-returns-clause-forced g c =
-    let log = c.args.log.now in
-    if_ok_three c.append.result _ (λ lsn. lsn ≡ next_lsn log c.args.rec.now) (λ lsn. (end_of log ≤ lsn) × (lsn < end_of c.append.new.self)) (λ lsn. lsn < end_forced c.append.new.self)
-    (λ lsn next lsn_is rises. before_end log c.append.new.self lsn (overflows log c.args.rec.now)
-    (record { lsn_is = lsn_is; next = next; below = rises.1; low = c.requires.going.low; high = c.append.ensures.going.high }))
-    c.append.ensures.next c.append.ensures.lsn c.append.ensures.rises
-
 pub returns-clause-last : goal.returns-clause-last
 returns-clause-last g c pages newest records table commits sizes h =
     let site = g.S.Site.state c.args.site.now in
     let new = g.S.Site.state c.append.new.site in
     let log = c.args.log.now in
     let rec = c.args.rec.now in
-    let ready = h.log_holds.ready in
-    let list : LogList = record { first = kept_by newest; blocks = h.log_holds.blocks; tail = h.log_holds.tail } in
-    let sealing : Bool = overflows log rec in
-    let k = pages.flash.geometry in
-    let finds = ready.blocks in
-    let changes = c.append.ensures.changes ready.blocks.honest in
-    if_ok_six c.append.result _ _ _ _ (λ lsn. lsn ≡ next_lsn log rec) (λ lsn. (end_of log ≤ lsn) × (lsn < end_of c.append.new.self))
-    (λ lsn. EndsWith k c.append.new.self pages new newest records table commits (record { lsn = lsn; rec = rec }))
-    (λ lsn holds finds' reaches next lsn_is rises.
-    ends_with c.log_laws.ensures c.page_laws.ensures c.beside_laws.ensures log pages site newest records table commits h sizes c.append.new.self new rec lsn
-    (rings_now c.log_laws.ensures c.page_laws.ensures c.beside_laws.ensures log pages site newest records table commits h sizes new sealing reaches)
-    (sealed_now c.log_laws.ensures c.page_laws.ensures c.beside_laws.ensures log pages site newest records table commits h sizes new sealing c.append.new.self changes c.append.ensures.geometry finds' c.append.ensures.at_most_one.0)
-    (returns-clause-pages g c pages newest records table commits h) rises.0
-    sealing (c.beside_laws.ensures.full log rec c.requires.form) (record {
-      numbers = record { lsn_is = lsn_is; next = next; below = rises.1; low = c.requires.going.low; high = c.append.ensures.going.high };
-      kept = c.append.ensures.kept;
-      holds = holds;
-      finds = finds';
-      changes = changes;
-      goes = c.append.ensures.goes;
-    }))
-    (c.append.ensures.holds list finds ready.records) (c.append.ensures.finds finds) (c.append.ensures.reaches list finds ready.records) c.append.ensures.next c.append.ensures.lsn c.append.ensures.rises
-
-pub returns-clause-some : goal.returns-clause-some
-returns-clause-some g c =
-    let log = c.args.log.now in
-    ok_two c.append.result _ (λ lsn. lsn ≡ next_lsn log c.args.rec.now) (λ lsn. (end_of log ≤ lsn) × (lsn < end_of c.append.new.self)) _
-    (λ lsn next lsn_is rises. has_now log c.append.new.self lsn (overflows log c.args.rec.now)
-    (record { lsn_is = lsn_is; next = next; below = rises.1; low = c.requires.going.low; high = c.append.ensures.going.high }))
-    c.append.ensures.next c.append.ensures.lsn c.append.ensures.rises
+    if_ok_two c.append.result (Stands g c pages newest records table commits h) (λ lsn. (end_of log ≤ lsn) × (lsn < end_of c.append.new.self))
+    (λ lsn. EndsWith pages.flash.geometry c.append.new.self pages new newest records table commits (record { lsn = lsn; rec = rec }))
+    (λ lsn stands rises. ends_with c.log_laws.ensures c.page_laws.ensures c.beside_laws.ensures log pages site newest records table commits h sizes
+    c.append.new.self new rec lsn stands.rings stands.are_sealed
+    (overflows log rec) (full g c pages newest records table commits h) stands.appended_is (returns-clause-pages g c pages newest records table commits h)
+    rises.0)
+    (stands g c pages newest records table commits h sizes) c.append.ensures.rises
 
 pub returns-clause-orderly : goal.returns-clause-orderly
 returns-clause-orderly g c pages newest records table commits sizes h =
@@ -131,37 +135,23 @@ returns-clause-orderly g c pages newest records table commits sizes h =
     (returns-clause-last g c pages newest records table commits sizes h)
 
 -- a record goes into the block that is sealed next
-in_last_block : {E : Type 0} (r : Result ℕ E) (old new : LogStore) (rec : LogRecord) → IfOk r (λ lsn. lsn ≡ next_lsn old rec) → OnOk r (new.ring.hi ≡ (if overflows old rec then old.ring.hi + 1 else old.ring.hi)) → IfOk r (λ lsn. 512 * new.ring.hi ≤ lsn)
-in_last_block (Err e) old new rec at next = tt
-in_last_block (Ok lsn) old new rec at next = by (overflows old rec) at next
-  where
-    by : (b : Bool) → lsn ≡ (if b then 512 * (old.ring.hi + 1) + 2 else end_of old) → new.ring.hi ≡ (if b then old.ring.hi + 1 else old.ring.hi) → 512 * new.ring.hi ≤ lsn
-    by true at next = omega (arith, at, next)
-    by false at next = omega (arith, at, next)
-
-pub returns-clause-last_block : goal.returns-clause-last_block
-returns-clause-last_block g c = in_last_block c.append.result c.args.log.now c.append.new.self c.args.rec.now c.append.ensures.lsn c.append.ensures.next
 
 pub returns-clause-keeps : goal.returns-clause-keeps
 returns-clause-keeps g c pages newest records table commits h =
     let site = g.S.Site.state c.args.site.now in
     let new = g.S.Site.state c.append.new.site in
     let log = c.args.log.now in
-    let rec = c.args.rec.now in
     let ready = h.log_holds.ready in
     let list : LogList = record { first = kept_by newest; blocks = h.log_holds.blocks; tail = h.log_holds.tail } in
-    let sealing : Bool = overflows log rec in
-    let full = c.beside_laws.ensures.full log rec c.requires.form in
+    let sealing : Bool = overflows log c.args.rec.now in
+    let full = c.beside_laws.ensures.full log c.args.rec.now c.requires.form in
     record {
       any_moment = λ going quiet. append_leaves c.log_laws.ensures c.page_laws.ensures c.beside_laws.ensures log pages site newest records table commits h going.sizes new sealing quiet
           (c.append.ensures.changes ready.blocks.honest) (c.append.ensures.any_moment list (found_fits log site quiet ready.blocks) ready.records)
           (c.append.ensures.front list (found_fits log site quiet ready.blocks) ready.records quiet) going.pages_going.own full;
       numbers = λ going quiet. log_skips c.ring_kept.ensures c.append.result log.geometry log c.append.new.self list sealing site new 1 (ready_next pages log list site ready) full
           (c.append.ensures.any_moment list (found_fits log site quiet ready.blocks) ready.records) (c.append.ensures.front list (found_fits log site quiet ready.blocks) ready.records quiet)
-          (ok_two c.append.result _ (λ lsn. lsn ≡ next_lsn log rec) (λ lsn. (end_of log ≤ lsn) × (lsn < end_of c.append.new.self)) _
-          (λ lsn next lsn_is rises. most_blocks log c.append.new.self lsn sealing full
-          (record { lsn_is = lsn_is; next = next; below = rises.1; low = c.requires.going.low; high = c.append.ensures.going.high }))
-          c.append.ensures.next c.append.ensures.lsn c.append.ensures.rises);
+          (ok_by c.append.result _ _ (λ lsn is. most_blocks log c.append.new.self lsn sealing full is) (numbered g c));
       quiet = λ quiet. quiet_stops c.append.result new site quiet (λ is. ap g.S.Site.state (c.append.ensures.unchanged (inr (c.append.ensures.worn.0 is).1))) c.append.ensures.stops;
       worn_log = λ is. (let worn = (c.append.ensures.worn.0 is).1 in log_at_end log site new ready.blocks (ap g.S.Site.state (c.append.ensures.unchanged (inr worn))) worn);
       masters = ok_as c.append.result _ (KeepsUnits master_shape site.image new.image)

@@ -1,8 +1,8 @@
-use Rattle.std.proofs.Common.{◌≤◌, Bool, false, [], arith, ◌∙◌, inl}
-use Rattle.std.specs.Prelude.{◌≡◌}
+use Rattle.std.proofs.Common.{◌≤◌, Bool, false, [], arith, ◌∙◌, inl, List}
+use Rattle.std.specs.Prelude.{◌≡◌, OnOk}
 use Rattle.page_store.specs.Ahead.{forces, pushed_by_touch}
 use Rattle.log_store.specs.LogList.{LogList}
-use Rattle.redo_undo.specs.Redoing.{IsRedoing}
+use Rattle.redo_undo.specs.Redoing.{IsRedoing, Opening}
 use Rattle.redo_undo.proofs.Redoings.{never_forced, rings_given, rings_of, touch_leaves, touched}
 use Rattle.record_model.specs.Touches.{touch}
 use Rattle.page_store.proofs.StagingLaws.{stages_as}
@@ -20,88 +20,82 @@ use Rattle.redo_undo.specs.Holding.{HoldsIn, Holds}
 use Rattle.redo_undo.proofs.Touched.{forced_tail, leaves_table, touched_holds, ok_both}
 use Rattle.page_store.specs.Held.{current}
 use Rattle.redo_undo.proofs.LeftNumbers.{pages_skip, ready_next}
+use Rattle.redo_undo.proofs.logging.touch.Given.{Over}
+use Rattle.redo_undo.proofs.logging.touch.Goals.{After-touch}
+use Rattle.log_records.specs.Log.{Entry}
+use Rattle.std.proofs.lemmas.Grind.{common_steps}
 use Rattle.redo_undo.proofs.logging.touch.Goals as goal
 
-pub returns-clause-holds : goal.returns-clause-holds
-returns-clause-holds g c newest records table commits h =
+redoing_now : (g : Over) (c : After-touch g) (o : Opening) (front : List Entry) →
+    IsRedoing o c.args.log.now c.args.pages.now (g.S.Site.state c.args.site.now) front →
+    OnOk c.touch.result (IsRedoing o c.touch.new.log c.touch.new.self (g.S.Site.state c.touch.new.site) front)
+redoing_now g c o front h =
+    let log = c.args.log.now in
+    let pages = c.args.pages.now in
+    let site = g.S.Site.state c.args.site.now in
+    let new = g.S.Site.state c.touch.new.site in
+    let never = never_forced log (pushed_by_touch pages c.args.page) h.ready.records.tail.end in
+    ok_as c.touch.result _ (IsRedoing o c.touch.new.log c.touch.new.self new front)
+    (λ stands. touched c.page_laws.ensures c.redo_laws.ensures o log pages site front h (forces log (pushed_by_touch pages c.args.page)) never new
+    c.touch.new.log c.touch.new.self c.touch.ensures.works.geometry c.touch.ensures.works.forces.kept stands.ready stands.current (stands.ahead h.ahead) stands.leaves (stands.rings o.newest (rings_given o log pages site front h)))
+    (c.touch.ensures.stands (record { first = kept_by o.newest; blocks = o.blocks; tail = [] }) h.ready)
+
+pub returns : goal.returns
+returns g c =
     let site = g.S.Site.state c.args.site.now in
     let new = g.S.Site.state c.touch.new.site in
     let log = c.args.log.now in
     let pages = c.args.pages.now in
-    let ready = h.log_holds.ready in
-    let list : LogList = record { first = kept_by newest; blocks = h.log_holds.blocks; tail = h.log_holds.tail } in
     let sealing : Bool = forces log (pushed_by_touch pages c.args.page) in
     let k = pages.flash.geometry in
-    ok_both c.touch.result _ _ (Holds c.touch.new.log c.touch.new.self new newest records table commits)
-    (λ stands end. subst (λ (x : Geometry). HoldsIn x c.touch.new.log c.touch.new.self new newest records table commits) (sym c.touch.ensures.works.geometry)
-    (touched_holds c.log_laws.ensures c.page_laws.ensures log pages site newest records table commits h c.touch.new.log c.touch.new.self new (c.touch.ensures.works.forces.geometry ∙ c.requires.going.sizes) c.touch.ensures.works.forces.kept stands.current (stands.ahead h.log_holds.ahead) end
-    (stands.sealed h.log_holds.ahead) (stands.rings newest h.log_holds.rings) c.requires.going.log_going.high sealing (forced_tail log (pushed_by_touch pages c.args.page)) stands.ready stands.leaves))
-    (c.touch.ensures.stands list ready) c.touch.ensures.works.forces.end
-
-pub returns-clause-asks : goal.returns-clause-asks
-returns-clause-asks g c =
-    let pages = c.args.pages.now in
-    let new = c.touch.new.self in
     let some : 1 ≤ (rules pages).groups = omega (arith, c.requires.going.pages_going.flash.limits.groups) in
-    record {
-      machine = c.touch.ensures.machine;
-      worn = λ is. (let full = c.touch.ensures.worn.worn_flash is in touch_overflows (rules pages) c.args.page (cache_of pages) some full.0 (c.requires.going.pages_going.flash.next ∙ full.1));
-      reads = touch_reads (rules pages) c.args.page (cache_of pages) (g.S.Site.state c.args.site.now) (g.S.Site.state c.touch.new.site) some c.touch.ensures.flash_reads c.touch.ensures.disk_reads;
-      stages = stages_as (sym (append-nil (staged_by (rules pages) (touch c.args.page false) (cache_of pages)))) (sym (touched_next (rules pages) c.args.page false (cache_of pages) some)) c.touch.ensures.stages;
-      rules_are = (λ i. rules_of (c.touch.ensures.works.size i) (c.touch.ensures.works.geometry i).groups);
-    }
-
-pub returns-clause-keeps : goal.returns-clause-keeps
-returns-clause-keeps g c newest records table commits h =
-    let site = g.S.Site.state c.args.site.now in
-    let new = g.S.Site.state c.touch.new.site in
-    let log = c.args.log.now in
-    let pages = c.args.pages.now in
-    let ready = h.log_holds.ready in
-    let list : LogList = record { first = kept_by newest; blocks = h.log_holds.blocks; tail = h.log_holds.tail } in
-    let sealing : Bool = forces log (pushed_by_touch pages c.args.page) in
     let tail = forced_tail log (pushed_by_touch pages c.args.page) in
     record {
-      any_moment = λ quiet. leaves_table c.log_laws.ensures c.page_laws.ensures log pages site newest records table commits h c.requires.going.pages_going.own sealing tail new
-          ((c.touch.ensures.keeps list ready).any_moment quiet) ((c.touch.ensures.keeps list ready).ahead_moment quiet h.log_holds.ahead) ((c.touch.ensures.keeps list ready).rings_moment newest quiet h.log_holds.rings);
-      numbers = λ quiet. pages_skip c.touch.result pages.flash.geometry (current pages site.image) log c.touch.new.log list sealing site new (ready_next pages log list site ready) tail ((c.touch.ensures.keeps list ready).any_moment quiet) c.touch.ensures.works.forces.end;
-      quiet = (c.touch.ensures.keeps list ready).quiet;
-      worn_log = λ worn. inl ((c.touch.ensures.keeps list ready).worn_log worn);
-      worn = (c.touch.ensures.keeps list ready).worn;
-      masters = λ none. ok_as c.touch.result _ (KeepsUnits master_shape site.image new.image) (λ stands. stands.leaves.masters) (c.touch.ensures.stands list ready);
-      readable = λ is. (c.touch.ensures.keeps list ready).readable is;
-    }
-
-pub returns-clause-redoing : goal.returns-clause-redoing
-returns-clause-redoing g c o front h =
-    let site = g.S.Site.state c.args.site.now in
-    let new = g.S.Site.state c.touch.new.site in
-    let log = c.args.log.now in
-    let pages = c.args.pages.now in
-    let list : LogList = record { first = kept_by o.newest; blocks = o.blocks; tail = [] } in
-    let sealing : Bool = forces log (pushed_by_touch pages c.args.page) in
-    let never : sealing ≡ false = never_forced log (pushed_by_touch pages c.args.page) h.ready.records.tail.end in
-    ok_as c.touch.result _ (IsRedoing o c.touch.new.log c.touch.new.self new front)
-    (λ stands. touched c.page_laws.ensures c.redo_laws.ensures o log pages site front h sealing never new
-    c.touch.new.log c.touch.new.self c.touch.ensures.works.geometry c.touch.ensures.works.forces.kept stands.ready stands.current (stands.ahead h.ahead) stands.leaves (stands.rings o.newest (rings_given o log pages site front h)))
-    (c.touch.ensures.stands list h.ready)
-
-pub returns-clause-keeps_opened : goal.returns-clause-keeps_opened
-returns-clause-keeps_opened g c o front h =
-    let site = g.S.Site.state c.args.site.now in
-    let new = g.S.Site.state c.touch.new.site in
-    let log = c.args.log.now in
-    let pages = c.args.pages.now in
-    let list : LogList = record { first = kept_by o.newest; blocks = o.blocks; tail = [] } in
-    let sealing : Bool = forces log (pushed_by_touch pages c.args.page) in
-    let never : sealing ≡ false = never_forced log (pushed_by_touch pages c.args.page) h.ready.records.tail.end in
-    record {
-      any_moment = λ quiet. touch_leaves c.page_laws.ensures c.redo_laws.ensures o log pages site front h sealing never new ((c.touch.ensures.keeps list h.ready).any_moment quiet)
-          (rings_of o log pages site front h new ((c.touch.ensures.keeps list h.ready).rings_moment o.newest quiet (rings_given o log pages site front h))) c.requires.going.pages_going.own;
-      numbers = λ quiet. skips_touch c.page_laws.ensures c.redo_laws.ensures o log pages site front h sealing never new c.touch.result c.touch.new.log c.touch.new.self ((c.touch.ensures.keeps list h.ready).any_moment quiet) (returns-clause-redoing g c o front h);
-      quiet = (c.touch.ensures.keeps list h.ready).quiet;
-      worn_log = λ worn. inl ((c.touch.ensures.keeps list h.ready).worn_log worn);
-      worn = (c.touch.ensures.keeps list h.ready).worn;
-      readable = λ is. (c.touch.ensures.keeps list h.ready).readable is;
-      masters = λ none. ok_as c.touch.result _ (KeepsUnits master_shape site.image new.image) (λ stands. stands.leaves.masters) (c.touch.ensures.stands list h.ready);
+      holds = λ newest records table commits h.
+          let list : LogList = record { first = kept_by newest; blocks = h.log_holds.blocks; tail = h.log_holds.tail } in
+          ok_both c.touch.result _ _ (Holds c.touch.new.log c.touch.new.self new newest records table commits)
+          (λ stands end. subst (λ (x : Geometry). HoldsIn x c.touch.new.log c.touch.new.self new newest records table commits)
+          (sym c.touch.ensures.works.geometry)
+          (touched_holds c.log_laws.ensures c.page_laws.ensures log pages site newest records table commits h c.touch.new.log c.touch.new.self new (c.touch.ensures.works.forces.geometry ∙ c.requires.going.sizes) c.touch.ensures.works.forces.kept stands.current (stands.ahead h.log_holds.ahead) end
+          (stands.sealed h.log_holds.ahead) (stands.rings newest h.log_holds.rings) c.requires.going.log_going.high sealing (forced_tail log (pushed_by_touch pages c.args.page)) stands.ready stands.leaves))
+          (c.touch.ensures.stands list h.log_holds.ready) c.touch.ensures.works.forces.end;
+      keeps = λ newest records table commits h.
+          let ready = h.log_holds.ready in
+          let list : LogList = record { first = kept_by newest; blocks = h.log_holds.blocks; tail = h.log_holds.tail } in
+          record {
+            any_moment = λ quiet. leaves_table c.log_laws.ensures c.page_laws.ensures log pages site newest records table commits h c.requires.going.pages_going.own sealing tail new
+                ((c.touch.ensures.keeps list ready).any_moment quiet) ((c.touch.ensures.keeps list ready).ahead_moment quiet h.log_holds.ahead) ((c.touch.ensures.keeps list ready).rings_moment newest quiet h.log_holds.rings);
+            numbers = λ quiet. pages_skip c.touch.result pages.flash.geometry (current pages site.image) log c.touch.new.log list sealing site new (ready_next pages log list site ready) tail ((c.touch.ensures.keeps list ready).any_moment quiet) c.touch.ensures.works.forces.end;
+            quiet = (c.touch.ensures.keeps list ready).quiet;
+            worn_log = λ worn. inl ((c.touch.ensures.keeps list ready).worn_log worn);
+            worn = (c.touch.ensures.keeps list ready).worn;
+            masters = λ none. ok_as c.touch.result _ (KeepsUnits master_shape site.image new.image) (λ stands. stands.leaves.masters) (c.touch.ensures.stands list ready);
+            readable = λ is. (c.touch.ensures.keeps list ready).readable is;
+          };
+      redoing = redoing_now g c;
+      keeps_opened = λ o front h.
+          let list : LogList = record { first = kept_by o.newest; blocks = o.blocks; tail = [] } in
+          let never : sealing ≡ false = never_forced log (pushed_by_touch pages c.args.page) h.ready.records.tail.end in
+          record {
+            any_moment = λ quiet. touch_leaves c.page_laws.ensures c.redo_laws.ensures o log pages site front h sealing never new ((c.touch.ensures.keeps list h.ready).any_moment quiet)
+                (rings_of o log pages site front h new ((c.touch.ensures.keeps list h.ready).rings_moment o.newest quiet (rings_given o log pages site front h))) c.requires.going.pages_going.own;
+            numbers = λ quiet. skips_touch c.page_laws.ensures c.redo_laws.ensures o log pages site front h sealing never new c.touch.result c.touch.new.log c.touch.new.self ((c.touch.ensures.keeps list h.ready).any_moment quiet) (redoing_now g c o front h);
+            quiet = (c.touch.ensures.keeps list h.ready).quiet;
+            worn_log = λ worn. inl ((c.touch.ensures.keeps list h.ready).worn_log worn);
+            worn = (c.touch.ensures.keeps list h.ready).worn;
+            readable = λ is. (c.touch.ensures.keeps list h.ready).readable is;
+            masters = λ none. ok_as c.touch.result _ (KeepsUnits master_shape site.image new.image) (λ stands. stands.leaves.masters) (c.touch.ensures.stands list h.ready);
+          };
+      asks =
+          let new = c.touch.new.self in
+          record {
+            machine = c.touch.ensures.machine;
+            worn = λ is. (let full = c.touch.ensures.worn.worn_flash is in touch_overflows (rules pages) c.args.page (cache_of pages) some full.0 (c.requires.going.pages_going.flash.next ∙ full.1));
+            reads = touch_reads (rules pages) c.args.page (cache_of pages) (g.S.Site.state c.args.site.now) (g.S.Site.state c.touch.new.site) some c.touch.ensures.flash_reads c.touch.ensures.disk_reads;
+            stages = stages_as (sym (append-nil (staged_by (rules pages) (touch c.args.page false) (cache_of pages)))) (sym (touched_next (rules pages) c.args.page false (cache_of pages) some)) c.touch.ensures.stages;
+            rules_are = (λ i. rules_of (c.touch.ensures.works.size i) (c.touch.ensures.works.geometry i).groups);
+          };
+      front = search rules;
+      there = search rules;
+      logs_nothing = grind (arith, common_steps);
     }

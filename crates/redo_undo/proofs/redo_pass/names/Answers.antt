@@ -1,9 +1,6 @@
 use Rattle.std.proofs.Common.{sym}
-use Rattle.redo_undo.proofs.Names.{named_at, named_more}
+use Rattle.redo_undo.proofs.Names.{named_at}
 use Rattle.redo_undo.proofs.redo_pass.names.Goals as goal
 
 pub returns-then-begin-txn : goal.returns-then-begin-txn
 returns-then-begin-txn c = sym (named_at c.args.master.now.active c.loop-place.place c.args.txn _ c.at-begin.ensures c.if-begin-txn.true)
-
-pub loop-place-preserved : goal.loop-place-preserved
-loop-place-preserved c = named_more c.args.master.now.active c.loop-place.place c.args.txn _ c.at-begin.ensures c.if-begin-txn.false c.loop-place.invariant

@@ -1,4 +1,4 @@
-use Rattle.std.proofs.Common.{◌≡◌, ◌≤◌, ◌∷◌, [], sym, ap, ◌∙◌, arith, inr, refl}
+use Rattle.std.proofs.Common.{◌≡◌, ◌≤◌, ◌∷◌, [], sym, ap, ◌∙◌, arith}
 use Rattle.site.specs.declared.outside.Stop.TheVariants.{Foreign}
 use Rattle.redo_undo.specs.Redoing.{touches_of}
 use Rattle.std.proofs.lemmas.Option.{none-some}
@@ -13,41 +13,69 @@ use Rattle.page_store.specs.Caching.{rules}
 use Rattle.redo_undo.proofs.Changed.{front_is_current}
 use Rattle.redo_undo.proofs.NextRecords.{page_exists, lsn_sealed, no_change, changed, front_knows}
 use Rattle.redo_undo.proofs.RedoWorks.{stops_first, asks_no_page, stops_in_touch, asks_known, asks_redone}
-use Rattle.redo_undo.proofs.Calling.{keeps_redoing, logs_nothing, logs_refused_by}
+use Rattle.redo_undo.proofs.Calling.{keeps_redoing, logs_nothing}
+use Rattle.std.proofs.lemmas.Grind.{common_steps}
 use Rattle.redo_undo.proofs.redo_pass.redo_record.Goals as goal
 
-pub returns-in_default-clause-redoing : goal.returns-in_default-clause-redoing
-returns-in_default-clause-redoing g c o front rest h is =
-    no_change c.page_laws.ensures c.redo_laws.ensures o c.args.log.now c.args.pages.now (g.S.Site.state c.args.site.now) front h (record { lsn = c.args.lsn; rec = c.args.rec.now }) rest is
-    (λ page number exists own at. absurd (none-some number (sym c.in_default.ensures.none ∙ own)))
+pub returns-in_default : goal.returns-in_default
+returns-in_default g c =
+    record {
+      redoing = λ o front rest h is.
+          no_change c.page_laws.ensures c.redo_laws.ensures o c.args.log.now c.args.pages.now (g.S.Site.state c.args.site.now) front h (record { lsn = c.args.lsn; rec = c.args.rec.now }) rest is
+          (λ page number exists own at. absurd (none-some number (sym c.in_default.ensures.none ∙ own)));
+      keeps = λ o front rest h is. keeps_redoing c.page_laws.ensures c.redo_laws.ensures c.requires.going.sizes h;
+      asks = λ o front rest h is.
+          asks_no_page _ o (record { lsn = c.args.lsn; rec = c.args.rec.now }) c.args.pages.now (g.S.Site.state c.args.site.now) c.in_default.ensures.none;
+      logs_nothing = logs_nothing c.requires.going;
+    }
 
-pub returns-then-front_lsn-lsn-clause-redoing : goal.returns-then-front_lsn-lsn-clause-redoing
-returns-then-front_lsn-lsn-clause-redoing g c o front rest h is =
+pub returns-then-front_lsn-lsn : goal.returns-then-front_lsn-lsn
+returns-then-front_lsn-lsn g c =
     let pages = c.touch.new.pages in
     let site = g.S.Site.state c.touch.new.site in
     let on = c.in-Some.ensures.on in
-    no_change c.page_laws.ensures c.redo_laws.ensures o c.touch.new.log pages site front (c.in-Ok.ensures.redoing o front h) (record { lsn = c.args.lsn; rec = c.args.rec.now }) rest is
-    (λ page number exists own at. front_knows pages site.image c.args.rec.now c.args.lsn c.in-Some.page c.in-Ok.ensures.there c.in-Ok.ensures.front on
-    (omega (arith, c.front_lsn.ensures, c.if-front_lsn-lsn.true)) page number own at)
+    record {
+      redoing = λ o front rest h is.
+          no_change c.page_laws.ensures c.redo_laws.ensures o c.touch.new.log pages site front (c.in-Ok.ensures.redoing o front h) (record { lsn = c.args.lsn; rec = c.args.rec.now }) rest is
+          (λ page number exists own at. front_knows pages site.image c.args.rec.now c.args.lsn c.in-Some.page c.in-Ok.ensures.there c.in-Ok.ensures.front on
+          (omega (arith, c.front_lsn.ensures, c.if-front_lsn-lsn.true)) page number own at);
+      keeps = λ o front rest h is. c.in-Ok.ensures.keeps_opened o front h;
+      asks = λ o front rest h is.
+          asks_known c.page_laws.ensures c.redo_laws.ensures o c.touch.new.log pages site front (c.in-Ok.ensures.redoing o front h) (record { lsn = c.args.lsn; rec = c.args.rec.now }) rest is
+          c.in-Some.page on.0 on.1 on.2 c.args.pages.now (g.S.Site.state c.args.site.now) _ c.in-Ok.ensures.asks
+          (front_knows pages site.image c.args.rec.now c.args.lsn c.in-Some.page c.in-Ok.ensures.there c.in-Ok.ensures.front on
+          (omega (arith, c.front_lsn.ensures, c.if-front_lsn-lsn.true)) c.in-Some.page on.0 on.1 on.2);
+      logs_nothing = grind (arith, common_steps);
+    }
 
-pub returns-clause-redoing : goal.returns-clause-redoing
-returns-clause-redoing g c o front rest h is =
+pub returns : goal.returns
+returns g c =
     let log = c.touch.new.log in
     let pages = c.touch.new.pages in
     let site = g.S.Site.state c.touch.new.site in
     let on = c.in-Some.ensures.on in
     let e : Entry = record { lsn = c.args.lsn; rec = c.args.rec.now } in
     let first = (front_of pages.pool.frames).page in
-    let now = c.in-Ok.ensures.redoing o front h in
     let content : lsn_of (current pages site.image first) ≡ lsn_of (front_of pages.pool.frames).content = ap lsn_of (front_is_current pages site.image c.in-Ok.ensures.there) in
-    changed c.page_laws.ensures c.redo_laws.ensures o log pages site front now e rest is c.change_front.new.pages first on.0 on.1 (on.2 ∙ sym c.in-Ok.ensures.front)
-    (omega (arith, content, c.front_lsn.ensures, c.if-front_lsn-lsn.false)) (c.change_front.ensures.redoes site.image on.0 on.1) (c.change_front.ensures.others site.image)
-    (ap (λ (f : FlashCache). f.geometry) c.change_front.ensures.flash) (c.change_front.ensures.fit site now.ready.pages)
-    (c.change_front.ensures.ahead log site.image now.ahead (lsn_sealed c.page_laws.ensures c.redo_laws.ensures o log pages site front now e rest is))
-
-pub returns-in_default-clause-asks : goal.returns-in_default-clause-asks
-returns-in_default-clause-asks g c o front rest h is =
-    asks_no_page _ o (record { lsn = c.args.lsn; rec = c.args.rec.now }) c.args.pages.now (g.S.Site.state c.args.site.now) c.in_default.ensures.none
+    let some : 1 ≤ (rules c.args.pages.now).groups = omega (arith, c.requires.going.pages_going.flash.limits.groups) in
+    record {
+      redoing = λ o front rest h is.
+          let now = c.in-Ok.ensures.redoing o front h in
+          changed c.page_laws.ensures c.redo_laws.ensures o log pages site front now e rest is c.change_front.new.pages first on.0 on.1 (on.2 ∙ sym c.in-Ok.ensures.front)
+          (omega (arith, content, c.front_lsn.ensures, c.if-front_lsn-lsn.false)) (c.change_front.ensures.redoes site.image on.0 on.1) (c.change_front.ensures.others site.image)
+          (ap (λ (f : FlashCache). f.geometry) c.change_front.ensures.flash) (c.change_front.ensures.fit site now.ready.pages)
+          (c.change_front.ensures.ahead log site.image now.ahead (lsn_sealed c.page_laws.ensures c.redo_laws.ensures o log pages site front now e rest is));
+      keeps = λ o front rest h is. c.in-Ok.ensures.keeps_opened o front h;
+      asks = λ o front rest h is.
+          let content : lsn_of (current pages site.image c.in-Some.page) ≡ lsn_of (front_of pages.pool.frames).content =
+          ap (λ page. lsn_of (current pages site.image page)) (sym c.in-Ok.ensures.front) ∙ ap lsn_of
+          (front_is_current pages site.image c.in-Ok.ensures.there) in
+          asks_redone c.page_laws.ensures c.redo_laws.ensures o c.touch.new.log pages site front (c.in-Ok.ensures.redoing o front h) (record { lsn = c.args.lsn; rec = c.args.rec.now }) rest is
+          c.in-Some.page on.0 on.1 on.2 c.args.pages.now (g.S.Site.state c.args.site.now) _ c.in-Ok.ensures.asks
+          (omega (arith, content, c.front_lsn.ensures, c.if-front_lsn-lsn.false)) c.change_front.new.pages some c.change_front.ensures.machine
+          (λ i. rules_of (c.change_front.ensures.size i) (c.change_front.ensures.flash i).geometry.groups) c.change_front.ensures.flash;
+      logs_nothing = grind (arith, common_steps);
+    }
 
 pub returns-then-page-geometry-clause-asks : goal.returns-then-page-geometry-clause-asks
 returns-then-page-geometry-clause-asks g c o front rest h is =
@@ -61,52 +89,13 @@ returns-in-Err-clause-asks g c o front rest h is =
     stops_in_touch c.in-Err.stop o (record { lsn = c.args.lsn; rec = c.args.rec.now }) c.in-Some.page on.0 c.args.pages.now c.touch.new.pages (g.S.Site.state c.args.site.now) (g.S.Site.state c.touch.new.site)
     on.1 on.2 some c.in-Err.ensures.asks
 
-pub returns-then-front_lsn-lsn-clause-asks : goal.returns-then-front_lsn-lsn-clause-asks
-returns-then-front_lsn-lsn-clause-asks g c o front rest h is =
-    let pages = c.touch.new.pages in
-    let site = g.S.Site.state c.touch.new.site in
-    let on = c.in-Some.ensures.on in
-    asks_known c.page_laws.ensures c.redo_laws.ensures o c.touch.new.log pages site front (c.in-Ok.ensures.redoing o front h) (record { lsn = c.args.lsn; rec = c.args.rec.now }) rest is
-    c.in-Some.page on.0 on.1 on.2 c.args.pages.now (g.S.Site.state c.args.site.now) _ c.in-Ok.ensures.asks
-    (front_knows pages site.image c.args.rec.now c.args.lsn c.in-Some.page c.in-Ok.ensures.there c.in-Ok.ensures.front on
-    (omega (arith, c.front_lsn.ensures, c.if-front_lsn-lsn.true)) c.in-Some.page on.0 on.1 on.2)
-
-pub returns-clause-asks : goal.returns-clause-asks
-returns-clause-asks g c o front rest h is =
-    let pages = c.touch.new.pages in
-    let site = g.S.Site.state c.touch.new.site in
-    let on = c.in-Some.ensures.on in
-    let some : 1 ≤ (rules c.args.pages.now).groups = omega (arith, c.requires.going.pages_going.flash.limits.groups) in
-    let content : lsn_of (current pages site.image c.in-Some.page) ≡ lsn_of (front_of pages.pool.frames).content =
-    ap (λ page. lsn_of (current pages site.image page)) (sym c.in-Ok.ensures.front) ∙ ap lsn_of (front_is_current pages site.image c.in-Ok.ensures.there) in
-    asks_redone c.page_laws.ensures c.redo_laws.ensures o c.touch.new.log pages site front (c.in-Ok.ensures.redoing o front h) (record { lsn = c.args.lsn; rec = c.args.rec.now }) rest is
-    c.in-Some.page on.0 on.1 on.2 c.args.pages.now (g.S.Site.state c.args.site.now) _ c.in-Ok.ensures.asks
-    (omega (arith, content, c.front_lsn.ensures, c.if-front_lsn-lsn.false)) c.change_front.new.pages some c.change_front.ensures.machine
-    (λ i. rules_of (c.change_front.ensures.size i) (c.change_front.ensures.flash i).geometry.groups) c.change_front.ensures.flash
-
-pub returns-in_default-clause-keeps : goal.returns-in_default-clause-keeps
-returns-in_default-clause-keeps g c o front rest h is = keeps_redoing c.page_laws.ensures c.redo_laws.ensures c.requires.going.sizes h
-
 -- the page exists
 pub returns-then-page-geometry-clause-keeps : goal.returns-then-page-geometry-clause-keeps
 returns-then-page-geometry-clause-keeps g c o front rest h is =
     let on = c.in-Some.ensures.on in
     let exists = page_exists c.page_laws.ensures c.redo_laws.ensures o c.args.log.now c.args.pages.now (g.S.Site.state c.args.site.now) front h (record { lsn = c.args.lsn; rec = c.args.rec.now }) rest is
     c.in-Some.page on.0 on.1 on.2 in
-    let all = ap (λ (k : Geometry). k.pages) (c.geometry.ensures ∙ c.requires.going.sizes ∙ h.geometry) in
-    absurd (omega (arith, exists, all, c.if-page-geometry.true))
+    absurd (omega (arith, exists, ap (λ (k : Geometry). k.pages) (c.geometry.ensures ∙ c.requires.going.sizes ∙ h.geometry), c.if-page-geometry.true))
 
 pub returns-in-Err-clause-keeps : goal.returns-in-Err-clause-keeps
 returns-in-Err-clause-keeps g c o front rest h is = c.in-Err.ensures.keeps_opened o front h
-
-pub returns-then-front_lsn-lsn-clause-keeps : goal.returns-then-front_lsn-lsn-clause-keeps
-returns-then-front_lsn-lsn-clause-keeps g c o front rest h is = c.in-Ok.ensures.keeps_opened o front h
-
-pub returns-clause-keeps : goal.returns-clause-keeps
-returns-clause-keeps g c o front rest h is = c.in-Ok.ensures.keeps_opened o front h
-
-pub returns-in_default-clause-logs_nothing : goal.returns-in_default-clause-logs_nothing
-returns-in_default-clause-logs_nothing g c = logs_nothing c.requires.going
-
-pub returns-then-page-geometry-clause-logs_nothing : goal.returns-then-page-geometry-clause-logs_nothing
-returns-then-page-geometry-clause-logs_nothing g c = logs_refused_by (inr refl) c.requires.going

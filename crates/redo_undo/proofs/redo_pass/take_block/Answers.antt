@@ -5,15 +5,14 @@ use Rattle.redo_undo.specs.Redoing.{HasTaken}
 use Rattle.redo_undo.proofs.BlockRecords.{some_octet, next_of_log, past_one, none_there, past_all}
 use Rattle.redo_undo.proofs.TakenRecords.{part_begins}
 use Rattle.redo_undo.proofs.RedoWorks.{asks_more, asks_all, stops_within}
-use Rattle.redo_undo.proofs.Calling.{keeps_answered, keeps_redoing, keeps_then, logs_answered, logs_nothing, logs_refused, logs_then}
+use Rattle.redo_undo.proofs.Calling.{keeps_answered, keeps_redoing, keeps_then, logs_answered, logs_nothing, logs_then}
 use Rattle.redo_undo.proofs.redo_pass.take_block.Goals as goal
 
 pub loop-at-init : goal.loop-at-init
 loop-at-init g c =
-    let low = c.requires.low in
     record {
       low = omega arith;
-      high = omega (arith, low);
+      high = omega (arith, c.requires.low);
       logs = logs_nothing c.requires.going;
       found_going = c.requires.found_going;
       few = omega arith;
@@ -33,29 +32,22 @@ loop-at-smaller g c =
 pub loop-at-preserved : goal.loop-at-preserved
 loop-at-preserved g c =
     let found = c.in-Ok.ensures.found in
-    let rose = some_octet c.in-Ok.rec in
-    let size_is = found.length_is in
     let i = c.loop-at.invariant in
-    let low = i.low in
-    let few = i.few in
-    let more = i.more in
-    let owed = i.owed in
     let before = c.loop-at-test.true in
     let t = c.in-Ok-take_record.ensures in
     let one = t.records in
-    let owes = t.owed in
     let old = g.S.Site.state c.args.site.now in
     let mid = g.S.Site.state c.loop-at.site in
     let new = g.S.Site.state c.take_record.new.site in
     record {
-      low = omega (arith, low, size_is);
+      low = omega (arith, i.low, found.length_is);
       high = found.inside;
       logs = logs_answered (logs_then i.logs t.logs_nothing);
       found_going = t.found_going;
-      few = omega (arith, few, one, rose, size_is);
-      more = omega (arith, one, more);
-      some = λ less. omega (arith, one, more);
-      owed = omega (arith, owed, owes, one);
+      few = omega (arith, i.few, one, some_octet c.in-Ok.rec, found.length_is);
+      more = omega (arith, one, i.more);
+      some = λ less. omega (arith, one, i.more);
+      owed = omega (arith, i.owed, t.owed, one);
       part = λ o front rest records own h block used is.
           let a = i.part o front rest records own h block used is in
           let e : Entry = record { lsn = 512 * c.args.block + c.loop-at.at; rec = c.in-Ok.rec } in
@@ -72,9 +64,6 @@ loop-at-preserved g c =
           let next = next_of_log c.read_again.ensures.only c.args.block c.args.content.now c.args.used c.loop-at.at records a.done a.past front c.in-Ok.rec c.in-Ok.end _ rest before found is in
           keeps_answered (keeps_then h.pages_are.ready.blocks.honest i.logs.works.geometry refl i.logs.works.calls (i.keeps o front rest records own h block used is) (t.takes o (front ++ a.done) next.0 own a.taken next.1).keeps);
     }
-
-pub take_record-requires-clause-going : goal.take_record-requires-clause-going
-take_record-requires-clause-going g c = c.loop-at.invariant.logs.works.going
 
 pub returns-in_default-clause-takes : goal.returns-in_default-clause-takes
 returns-in_default-clause-takes g c o front rest records own h block used is =
@@ -108,12 +97,3 @@ returns-clause-takes g c o front rest records own h block used is =
       keeps = i.keeps o front rest records own h block used is;
       asks = asks_all _ o c.args.pages.now c.loop-at.pages (g.S.Site.state c.args.site.now) (g.S.Site.state c.loop-at.site) a.done (entries_from (512 * c.args.block + 2) records) all a.asked;
     }
-
-pub returns-in_default-clause-logs_nothing : goal.returns-in_default-clause-logs_nothing
-returns-in_default-clause-logs_nothing g c = logs_refused (λ d same. cc) tt c.loop-at.invariant.logs
-
-pub returns-in-Err-clause-logs_nothing : goal.returns-in-Err-clause-logs_nothing
-returns-in-Err-clause-logs_nothing g c = logs_then c.loop-at.invariant.logs c.in-Err.ensures.logs_nothing
-
-pub returns-clause-logs_nothing : goal.returns-clause-logs_nothing
-returns-clause-logs_nothing g c = c.loop-at.invariant.logs

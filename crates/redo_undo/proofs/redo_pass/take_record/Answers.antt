@@ -9,7 +9,7 @@ use Rattle.redo_undo.proofs.NextRecords.{may_step, known_before, no_change}
 use Rattle.redo_undo.proofs.RedoWorks.{stops_first, not_worn, asks_early, asks_late}
 use Rattle.redo_undo.proofs.TakenRecords.{analysis_to, analysis_back, step_to}
 use Rattle.std.specs.Prelude.{Err}
-use Rattle.redo_undo.proofs.Calling.{keeps_redoing, keeps_refused_by, logs_nothing, logs_refused_by}
+use Rattle.redo_undo.proofs.Calling.{keeps_redoing, keeps_refused_by}
 use Rattle.redo_undo.proofs.redo_pass.take_record.Goals as goal
 
 pub returns-in-Err-clause-takes : goal.returns-in-Err-clause-takes
@@ -29,17 +29,15 @@ pub returns-then-lsn-master-clause-takes : goal.returns-then-lsn-master-clause-t
 returns-then-lsn-master-clause-takes g c o front rest own h is =
     let e : Entry = record { lsn = c.args.lsn; rec = c.args.rec.now } in
     let site = g.S.Site.state c.args.site.now in
-    let to = analysis_to o c.args.master.now own front c.args.so_far.now.found h.analysis in
     let step = step_to o c.args.master.now own front e (may_step c.page_laws.ensures c.redo_laws.ensures o c.args.log.now c.args.pages.now site front h.pages_are e rest is) in
-    let heard = c.in_default.ensures.heard front to step in
+    let heard = c.in_default.ensures.heard front (analysis_to o c.args.master.now own front c.args.so_far.now.found h.analysis) step in
     let redo = ap (λ (m : Master). m.redo) own in
-    let count = h.count in
     record {
       taken = record {
         pages_are = no_change c.page_laws.ensures c.redo_laws.ensures o c.args.log.now c.args.pages.now site front h.pages_are e rest is
             (known_before c.page_laws.ensures c.redo_laws.ensures o c.args.log.now c.args.pages.now site front h.pages_are e rest is (omega (arith, redo, c.if-lsn-master.true)));
         analysis = analysis_back o c.args.master.now own (front ++ e ∷ []) _ heard;
-        count = omega (arith, count, length-append front (e ∷ []));
+        count = omega (arith, h.count, length-append front (e ∷ []));
       };
       keeps = keeps_redoing c.page_laws.ensures c.redo_laws.ensures c.requires.going.sizes h.pages_are;
       asks = asks_early _ o e c.args.pages.now site (omega (arith, redo, c.if-lsn-master.true));
@@ -49,9 +47,8 @@ pub returns-clause-takes : goal.returns-clause-takes
 returns-clause-takes g c o front rest own h is =
     let e : Entry = record { lsn = c.args.lsn; rec = c.args.rec.now } in
     let site = g.S.Site.state c.args.site.now in
-    let to = analysis_to o c.args.master.now own front c.args.so_far.now.found h.analysis in
     let step = step_to o c.args.master.now own front e (may_step c.page_laws.ensures c.redo_laws.ensures o c.args.log.now c.args.pages.now site front h.pages_are e rest is) in
-    let heard = c.in_default.ensures.heard front to step in
+    let heard = c.in_default.ensures.heard front (analysis_to o c.args.master.now own front c.args.so_far.now.found h.analysis) step in
     let redo = ap (λ (m : Master). m.redo) own in
     let count = h.count in
     record {
@@ -60,9 +57,3 @@ returns-clause-takes g c o front rest own h is =
       keeps = c.redo_record.ensures.keeps o front rest h.pages_are is;
       asks = asks_late c.redo_record.result o e c.args.pages.now c.redo_record.new.pages site (g.S.Site.state c.redo_record.new.site) (omega (arith, redo, c.if-lsn-master.false)) (c.redo_record.ensures.asks o front rest h.pages_are is);
     }
-
-pub returns-in-Err-clause-logs_nothing : goal.returns-in-Err-clause-logs_nothing
-returns-in-Err-clause-logs_nothing g c = logs_refused_by c.in-Err.ensures.stops c.requires.going
-
-pub returns-then-lsn-master-clause-logs_nothing : goal.returns-then-lsn-master-clause-logs_nothing
-returns-then-lsn-master-clause-logs_nothing g c = logs_nothing c.requires.going

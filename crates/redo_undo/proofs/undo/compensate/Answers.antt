@@ -9,40 +9,51 @@ use Rattle.redo_undo.proofs.Appended.{if_ok_one}
 use Rattle.second_chance.specs.Machine.{rules_of}
 use Rattle.page_store.specs.Caching.{rules}
 use Rattle.redo_undo.proofs.AskingUndo.{change_made, change_stopped, never_worn}
-use Rattle.redo_undo.proofs.Calling.{keeps_failed, keeps_few, keeps_then, works_failed, works_then}
+use Rattle.redo_undo.proofs.Calling.{keeps_failed, keeps_few, keeps_then, works_then}
+use Rattle.std.proofs.lemmas.Grind.{common_steps}
 use Rattle.redo_undo.proofs.undo.compensate.Goals as goal
 
 pub log_change-requires-clause-on_page : goal.log_change-requires-clause-on_page
 log_change-requires-clause-on_page g c = (32 * c.args.wanted.page + c.args.wanted.slot, refl, let front = c.in-Ok.ensures.front in let form = c.requires.form.0 in omega (arith, front, form))
 
-pub returns-in-Ok-clause-holds : goal.returns-in-Ok-clause-holds
-returns-in-Ok-clause-holds g c newest records table commits h =
+pub returns-in-Ok : goal.returns-in-Ok
+returns-in-Ok g c =
     let log = c.args.log.now in
     let pages = c.args.pages.now in
     let site = g.S.Site.state c.args.site.now in
     let mid = g.S.Site.state c.touch.new.site in
     let new = g.S.Site.state c.log_change.new.site in
     let w = c.args.wanted in
-    let at = c.args.at.now in
-    let entry : ℕ → Entry = λ (lsn : ℕ). record { lsn = lsn; rec = Clr at.txn at.last w.prev w.page w.slot w.before } in
-    if_ok_one c.log_change.result
-    (λ lsn. MayGrow c.touch.new.log c.touch.new.pages mid.image newest records (entry lsn) → Holds c.log_change.new.log c.log_change.new.pages new newest (records ++ entry lsn ∷ []) table commits)
-    (λ lsn. MayGrow log pages site.image newest records (entry lsn) → Holds c.log_change.new.log c.log_change.new.pages new newest (records ++ entry lsn ∷ []) table commits)
-    (λ lsn grown may. grown (may_moved c.page_laws.ensures log c.touch.new.log pages c.touch.new.pages site.image mid.image newest records (entry lsn) refl c.touch.ensures.logs_nothing.works.geometry c.in-Ok.ensures.logs_nothing.blocks c.touch.ensures.logs_nothing.works.kept may))
-    (c.log_change.ensures.holds newest records table commits (c.in-Ok.ensures.holds newest records table commits h))
-
-pub returns-in-Ok-clause-log_reads : goal.returns-in-Ok-clause-log_reads
-returns-in-Ok-clause-log_reads g c = c.log_change.ensures.reads Log ∙ c.touch.ensures.logs_nothing.log_reads
-
-pub returns-in-Ok-clause-asks : goal.returns-in-Ok-clause-asks
-returns-in-Ok-clause-asks g c =
-    let pages = c.args.pages.now in
-    let mid = c.touch.new.pages in
-    let new = c.log_change.new.pages in
+    let entry : ℕ → Entry = λ (lsn : ℕ). record { lsn = lsn; rec = Clr c.args.at.now.txn c.args.at.now.last w.prev w.page w.slot w.before } in
     let some : 1 ≤ (rules pages).groups = omega (arith, c.requires.going.pages_going.flash.limits.groups) in
-    change_made tt c.log_change.result c.args.wanted.page pages mid new (g.S.Site.state c.args.site.now) (g.S.Site.state c.touch.new.site) (g.S.Site.state c.log_change.new.site) some c.touch_then_change.ensures
-    c.in-Ok.ensures.asks c.log_change.ensures.machine (λ i. rules_of (c.log_change.ensures.works.size i) (c.log_change.ensures.works.geometry i).groups) c.log_change.ensures.reads
-    (never_worn c.log_change.result c.log_change.ensures.stops) c.log_change.ensures.stages
+    let first = c.in-Ok.ensures.logs_nothing.works in
+    record {
+      holds = λ newest records table commits h.
+          if_ok_one c.log_change.result
+          (λ lsn. MayGrow c.touch.new.log c.touch.new.pages mid.image newest records (entry lsn) → Holds c.log_change.new.log c.log_change.new.pages new newest (records ++ entry lsn ∷ []) table commits)
+          (λ lsn. MayGrow log pages site.image newest records (entry lsn) → Holds c.log_change.new.log c.log_change.new.pages new newest (records ++ entry lsn ∷ []) table commits)
+          (λ lsn grown may. grown (may_moved c.page_laws.ensures log c.touch.new.log pages c.touch.new.pages site.image mid.image newest records (entry lsn) refl c.touch.ensures.logs_nothing.works.geometry c.in-Ok.ensures.logs_nothing.blocks c.touch.ensures.logs_nothing.works.kept may))
+          (c.log_change.ensures.holds newest records table commits (c.in-Ok.ensures.holds newest records table commits h));
+      orderly = λ newest records table commits h.
+          if_ok_one c.log_change.result
+          (λ lsn. MayGrow c.touch.new.log c.touch.new.pages mid.image newest records (entry lsn) → AreOrderly records → AreOrderly (records ++ entry lsn ∷ []))
+          (λ lsn. MayGrow log pages site.image newest records (entry lsn) → AreOrderly records → AreOrderly (records ++ entry lsn ∷ []))
+          (λ lsn grown may. grown (may_moved c.page_laws.ensures log c.touch.new.log pages c.touch.new.pages site.image mid.image newest records (entry lsn) refl c.touch.ensures.logs_nothing.works.geometry c.in-Ok.ensures.logs_nothing.blocks c.touch.ensures.logs_nothing.works.kept may))
+          (c.log_change.ensures.orderly newest records table commits (c.in-Ok.ensures.holds newest records table commits h));
+      keeps = λ newest records table commits h.
+          keeps_then h.log_holds.ready.blocks.honest first.geometry first.geometry first.calls (c.in-Ok.ensures.keeps newest records table commits h)
+          (c.log_change.ensures.keeps newest records table commits (c.in-Ok.ensures.holds newest records table commits h));
+      asks =
+          let mid = c.touch.new.pages in
+          let new = c.log_change.new.pages in
+          change_made tt c.log_change.result c.args.wanted.page pages mid new (g.S.Site.state c.args.site.now) (g.S.Site.state c.touch.new.site) (g.S.Site.state c.log_change.new.site) some c.touch_then_change.ensures
+          c.in-Ok.ensures.asks c.log_change.ensures.machine (λ i. rules_of (c.log_change.ensures.works.size i) (c.log_change.ensures.works.geometry i).groups) c.log_change.ensures.reads
+          (never_worn c.log_change.result c.log_change.ensures.stops) c.log_change.ensures.stages;
+      before = grind (arith, common_steps);
+      works = works_then c.in-Ok.ensures.logs_nothing.works c.log_change.ensures.works;
+      blocks = grind (arith, common_steps);
+      log_reads = c.log_change.ensures.reads Log ∙ c.touch.ensures.logs_nothing.log_reads;
+    }
 
 pub returns-in-Err-clause-asks : goal.returns-in-Err-clause-asks
 returns-in-Err-clause-asks g c =
@@ -50,32 +61,5 @@ returns-in-Err-clause-asks g c =
     let some : 1 ≤ (rules pages).groups = omega (arith, c.requires.going.pages_going.flash.limits.groups) in
     change_stopped c.in-Err.stop c.args.wanted.page pages c.touch.new.pages (g.S.Site.state c.args.site.now) (g.S.Site.state c.touch.new.site) some c.in-Err.ensures.asks
 
-pub returns-in-Ok-clause-orderly : goal.returns-in-Ok-clause-orderly
-returns-in-Ok-clause-orderly g c newest records table commits h =
-    let log = c.args.log.now in
-    let pages = c.args.pages.now in
-    let site = g.S.Site.state c.args.site.now in
-    let mid = g.S.Site.state c.touch.new.site in
-    let w = c.args.wanted in
-    let at = c.args.at.now in
-    let entry : ℕ → Entry = λ (lsn : ℕ). record { lsn = lsn; rec = Clr at.txn at.last w.prev w.page w.slot w.before } in
-    if_ok_one c.log_change.result
-    (λ lsn. MayGrow c.touch.new.log c.touch.new.pages mid.image newest records (entry lsn) → AreOrderly records → AreOrderly (records ++ entry lsn ∷ []))
-    (λ lsn. MayGrow log pages site.image newest records (entry lsn) → AreOrderly records → AreOrderly (records ++ entry lsn ∷ []))
-    (λ lsn grown may. grown (may_moved c.page_laws.ensures log c.touch.new.log pages c.touch.new.pages site.image mid.image newest records (entry lsn) refl c.touch.ensures.logs_nothing.works.geometry c.in-Ok.ensures.logs_nothing.blocks c.touch.ensures.logs_nothing.works.kept may))
-    (c.log_change.ensures.orderly newest records table commits (c.in-Ok.ensures.holds newest records table commits h))
-
 pub returns-in-Err-clause-keeps : goal.returns-in-Err-clause-keeps
 returns-in-Err-clause-keeps g c newest records table commits h = keeps_few (omega arith) (keeps_failed (c.in-Err.ensures.keeps newest records table commits h))
-
-pub returns-in-Ok-clause-keeps : goal.returns-in-Ok-clause-keeps
-returns-in-Ok-clause-keeps g c newest records table commits h =
-    let first = c.in-Ok.ensures.logs_nothing.works in
-    keeps_then h.log_holds.ready.blocks.honest first.geometry first.geometry first.calls (c.in-Ok.ensures.keeps newest records table commits h)
-    (c.log_change.ensures.keeps newest records table commits (c.in-Ok.ensures.holds newest records table commits h))
-
-pub returns-in-Ok-clause-works : goal.returns-in-Ok-clause-works
-returns-in-Ok-clause-works g c = works_then c.in-Ok.ensures.logs_nothing.works c.log_change.ensures.works
-
-pub returns-in-Err-clause-works : goal.returns-in-Err-clause-works
-returns-in-Err-clause-works g c = works_failed c.in-Err.ensures.logs_nothing.works

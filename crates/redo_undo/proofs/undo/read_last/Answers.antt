@@ -37,8 +37,7 @@ returns-then-next-last-clause-readable g c pages newest records table commits x 
     let says = last_says c.page_laws.ensures c.found_laws.ensures c.undo_laws.ensures c.args.log.now pages (g.S.Site.state c.args.site.now) newest records table commits h x unfinished c.args.last c.in-Ok.rec last
     (c.in-Ok.ensures.found _ finds h.log_holds.ready.records (omega arith)) in
     let next = c.in-Some.ensures.open.2 ∙ ap (λ (t : ℕ). next_by t c.args.last c.in-Ok.rec) says.own ∙ says.next in
-    let falls = says.falls in
-    absurd (omega (arith, next, falls, c.if-next-last.true))
+    absurd (omega (arith, next, says.falls, c.if-next-last.true))
 
 pub returns-clause-at : goal.returns-clause-at
 returns-clause-at g c pages newest records table commits x sizes h unfinished own last =
@@ -55,5 +54,4 @@ returns-clause-at g c pages newest records table commits x sizes h unfinished ow
 pub returns-then-last-kept-clause-readable : goal.returns-then-last-kept-clause-readable
 returns-then-last-kept-clause-readable g c pages newest records table commits x sizes h unfinished own last = λ same.
     let late = last_kept c.page_laws.ensures c.found_laws.ensures c.undo_laws.ensures c.args.log.now pages (g.S.Site.state c.args.site.now) newest records table commits h x unfinished in
-    let kept = h.log_holds.kept in
-    absurd (omega (arith, late, kept, last, c.kept.ensures, c.if-last-kept.true))
+    absurd (omega (arith, late, h.log_holds.kept, last, c.kept.ensures, c.if-last-kept.true))

@@ -13,9 +13,7 @@ pub returns-then-at-clause-readable : goal.returns-then-at-clause-readable
 returns-then-at-clause-readable g c pages newest records table commits x sizes h unfinished at some = λ same.
     let wanted = to_undo c.page_laws.ensures c.undo_laws.ensures c.args.log.now pages (g.S.Site.state c.args.site.now) newest records table commits h x unfinished some in
     let below = next_below (picture_under newest pages.flash.geometry (g.S.Site.state c.args.site.now).image h.log_holds.blocks) records x wanted.0.rec wanted.2 in
-    let last = at.last in
-    let next = at.next in
-    absurd (omega (arith, below, last, next, c.if-at.true))
+    absurd (omega (arith, below, at.last, at.next, c.if-at.true))
 
 pub returns-in-Err-clause-readable : goal.returns-in-Err-clause-readable
 returns-in-Err-clause-readable g c pages newest records table commits x sizes h unfinished at some = λ same.
@@ -38,9 +36,7 @@ returns-then-prev-at-clause-readable g c pages newest records table commits x si
     let finds : Finds c.args.log.now (g.S.Site.state c.args.site.now) = record { honest = ready.honest; form = ready.form; hi = ready.hi } in
     let is = read_is c.page_laws.ensures c.undo_laws.ensures c.args.log.now pages (g.S.Site.state c.args.site.now) newest records table commits h x unfinished c.args.at.now.next (Update _ _ _ _ _ _) some at.next
     (c.in-Ok.ensures.found _ finds h.log_holds.ready.records (omega arith) ∙ ap Some c.in-Update.is) in
-    let before = is.2 in
-    let next = at.next in
-    absurd (omega (arith, before, next, c.if-prev-at.true))
+    absurd (omega (arith, is.2, at.next, c.if-prev-at.true))
 
 pub returns-then-page-geometry-clause-readable : goal.returns-then-page-geometry-clause-readable
 returns-then-page-geometry-clause-readable g c pages newest records table commits x sizes h unfinished at some = λ same.
@@ -48,9 +44,7 @@ returns-then-page-geometry-clause-readable g c pages newest records table commit
     let finds : Finds c.args.log.now (g.S.Site.state c.args.site.now) = record { honest = ready.honest; form = ready.form; hi = ready.hi } in
     let wanted = wanted_is c.page_laws.ensures c.undo_laws.ensures c.args.log.now pages (g.S.Site.state c.args.site.now) newest records table commits h x unfinished c.args.at.now.next _ _ _ _ _ _ some at.next
     (c.in-Ok.ensures.found _ finds h.log_holds.ready.records (omega arith) ∙ ap Some c.in-Update.is) in
-    let exists = wanted.exists in
-    let all = ap (λ (k : Geometry). k.pages) (c.geometry.ensures ∙ sizes) in
-    absurd (omega (arith, exists, all, c.if-page-geometry.true))
+    absurd (omega (arith, wanted.exists, ap (λ (k : Geometry). k.pages) (c.geometry.ensures ∙ sizes), c.if-page-geometry.true))
 
 pub returns-else-page-geometry-clause-wanted : goal.returns-else-page-geometry-clause-wanted
 returns-else-page-geometry-clause-wanted g c pages newest records table commits x sizes h unfinished at some =
@@ -76,11 +70,8 @@ returns-else-page-geometry-clause-last_left g c pages newest records table commi
 
 pub returns-then-at-kept-clause-readable : goal.returns-then-at-kept-clause-readable
 returns-then-at-kept-clause-readable g c pages newest records table commits x sizes h unfinished at some = λ same.
-    let log = c.args.log.now in
     let site = g.S.Site.state c.args.site.now in
-    let wanted = to_undo c.page_laws.ensures c.undo_laws.ensures log pages site newest records table commits h x unfinished some in
+    let wanted = to_undo c.page_laws.ensures c.undo_laws.ensures c.args.log.now pages site newest records table commits h x unfinished some in
     let late = next_late (picture_under newest pages.flash.geometry site.image h.log_holds.blocks) records x wanted.0.rec wanted.2 in
-    let begun = begin_kept c.page_laws.ensures c.found_laws.ensures c.undo_laws.ensures log pages site newest records table commits h x unfinished in
-    let kept = h.log_holds.kept in
-    let next = at.next in
-    absurd (omega (arith, late, begun, kept, next, c.kept.ensures, c.if-at-kept.true))
+    let begun = begin_kept c.page_laws.ensures c.found_laws.ensures c.undo_laws.ensures c.args.log.now pages site newest records table commits h x unfinished in
+    absurd (omega (arith, late, begun, h.log_holds.kept, at.next, c.kept.ensures, c.if-at-kept.true))

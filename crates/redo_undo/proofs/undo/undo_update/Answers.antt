@@ -9,29 +9,49 @@ use Rattle.site.specs.declared.outside.Stop.TheVariants.{Foreign}
 use Rattle.page_store.specs.Caching.{rules}
 use Rattle.redo_undo.specs.UndoWorks.{works_of}
 use Rattle.redo_undo.proofs.AskingUndo.{log_alone, not_worn, asks_refused, asks_of_update}
-use Rattle.redo_undo.proofs.Calling.{calls_read, held_read, keeps_answered, keeps_failed, keeps_few, keeps_read, keeps_then, works_answered, works_failed, works_foreign, works_read, works_stopped, works_then}
+use Rattle.redo_undo.proofs.Calling.{calls_read, held_read, keeps_answered, keeps_failed, keeps_few, keeps_read, keeps_then, works_answered, works_read, works_then}
 use Rattle.redo_undo.proofs.Asking.{asks_err, asks_ok, stages_read}
+use Rattle.std.proofs.lemmas.Grind.{common_steps}
 use Rattle.redo_undo.proofs.undo.undo_update.Goals as goal
 
 pub compensate-requires-clause-going : goal.compensate-requires-clause-going
 compensate-requires-clause-going g c = going_still c.args.log.now c.args.pages.now (g.S.Site.state c.args.site.now) (g.S.Site.state c.read_update.new.site) c.read_update.ensures.reads.goes c.requires.going
 
-pub returns-clause-undone : goal.returns-clause-undone
-returns-clause-undone g c newest records table commits x h unfinished at some =
+pub returns : goal.returns
+returns g c =
     let log = c.args.log.now in
     let pages = c.args.pages.now in
     let old = g.S.Site.state c.args.site.now in
     let mid = g.S.Site.state c.read_update.new.site in
-    let same = c.read_update.ensures.reads.same h.log_holds.ready.blocks.honest in
-    let still = holds_still c.beside_laws.ensures.fits log pages old mid newest records table commits c.read_update.ensures.reads.goes same h in
     let w = c.in-Ok.wanted in
-    let wanted = c.in-Ok.ensures.wanted pages newest records table commits x c.requires.going.sizes h unfinished at some in
-    let there : IsWanted pages.flash.geometry mid.image newest records x w = subst (λ (i : Image). IsWanted pages.flash.geometry i newest records x w) (sym same.image) wanted in
-    let may = may_compensate c.page_laws.ensures c.undo_laws.ensures log pages mid newest records table commits still x unfinished c.args.at w c.in-Ok-compensate.last at some there in
-    undone c.undo_laws.ensures c.compensate.new.log c.compensate.new.pages (g.S.Site.state c.compensate.new.site) newest records table commits x c.args.at w c.in-Ok-compensate.last unfinished at some
-    (c.in-Ok-compensate.ensures.holds newest records table commits still may)
-    (owes_less c.page_laws.ensures c.undo_laws.ensures log pages mid newest records table commits still x unfinished (record { lsn = c.in-Ok-compensate.last; rec = Clr c.args.at.txn c.args.at.last w.prev w.page w.slot w.before }) refl at.txn some)
-    (c.in-Ok-compensate.ensures.orderly newest records table commits still may)
+    let new = c.compensate.new.pages in
+    let now = g.S.Site.state c.compensate.new.site in
+    let read = c.in-Ok.ensures.reads in
+    record {
+      undone = λ newest records table commits x h unfinished at some.
+          let same = c.read_update.ensures.reads.same h.log_holds.ready.blocks.honest in
+          let still = holds_still c.beside_laws.ensures.fits log pages old mid newest records table commits c.read_update.ensures.reads.goes same h in
+          let wanted = c.in-Ok.ensures.wanted pages newest records table commits x c.requires.going.sizes h unfinished at some in
+          let there : IsWanted pages.flash.geometry mid.image newest records x w = subst (λ (i : Image). IsWanted pages.flash.geometry i newest records x w) (sym same.image) wanted in
+          let may = may_compensate c.page_laws.ensures c.undo_laws.ensures log pages mid newest records table commits still x unfinished c.args.at w c.in-Ok-compensate.last at some there in
+          undone c.undo_laws.ensures c.compensate.new.log c.compensate.new.pages (g.S.Site.state c.compensate.new.site) newest records table commits x c.args.at w c.in-Ok-compensate.last unfinished at some
+          (c.in-Ok-compensate.ensures.holds newest records table commits still may)
+          (owes_less c.page_laws.ensures c.undo_laws.ensures log pages mid newest records table commits still x unfinished (record { lsn = c.in-Ok-compensate.last; rec = Clr c.args.at.txn c.args.at.last w.prev w.page w.slot w.before }) refl at.txn some)
+          (c.in-Ok-compensate.ensures.orderly newest records table commits still may);
+      keeps = λ newest records table commits x h unfinished at some.
+          keeps_answered (keeps_then h.log_holds.ready.blocks.honest refl refl (calls_read read) (keeps_read c.requires.going.sizes h read tt)
+          (c.in-Ok-compensate.ensures.keeps newest records table commits (held_read c.beside_laws.ensures.fits h read)));
+      asks = λ newest records table commits x u rest h unfinished at left.
+          asks_ok c.in-Ok-compensate.last _ (works_of (u ∷ [])) pages new old now
+          (asks_of_update (Ok c.in-Ok-compensate.last) u c.in-Ok.wanted.page c.in-Ok.wanted.slot pages new old mid now c.in-Ok.ensures.form.0
+          (c.in-Ok.ensures.last_left pages newest records table commits x u rest c.requires.going.sizes h unfinished at left) (log_alone old mid c.read_update.ensures.reads.others) (stages_read c.read_update.ensures.reads.same c.read_update.ensures.reads.goes) c.in-Ok-compensate.ensures.asks);
+      last = grind (arith, common_steps);
+      falls = grind (arith, common_steps);
+      same = search rules;
+      works = works_answered (works_then (works_read c.requires.going c.in-Ok.ensures.reads) c.in-Ok-compensate.ensures.works);
+      blocks = grind (arith, common_steps);
+      log_reads = grind (arith, common_steps);
+    }
 
 pub returns-in-Err-clause-asks : goal.returns-in-Err-clause-asks
 returns-in-Err-clause-asks g c newest records table commits x u rest h unfinished at left =
@@ -54,34 +74,9 @@ returns-in-Err-compensate-clause-asks g c newest records table commits x u rest 
     let old = g.S.Site.state c.args.site.now in
     let mid = g.S.Site.state c.read_update.new.site in
     let now = g.S.Site.state c.compensate.new.site in
-    let w = c.in-Ok.wanted in
     asks_err c.in-Err-compensate.stop (works_of (u ∷ [])) pages new old now
-    (asks_of_update (Err c.in-Err-compensate.stop) u w.page w.slot pages new old mid now c.in-Ok.ensures.form.0
+    (asks_of_update (Err c.in-Err-compensate.stop) u c.in-Ok.wanted.page c.in-Ok.wanted.slot pages new old mid now c.in-Ok.ensures.form.0
     (c.in-Ok.ensures.last_left pages newest records table commits x u rest c.requires.going.sizes h unfinished at left) (log_alone old mid c.read_update.ensures.reads.others) (stages_read c.read_update.ensures.reads.same c.read_update.ensures.reads.goes) c.in-Err-compensate.ensures.asks)
-
-pub returns-clause-asks : goal.returns-clause-asks
-returns-clause-asks g c newest records table commits x u rest h unfinished at left =
-    let pages = c.args.pages.now in
-    let new = c.compensate.new.pages in
-    let old = g.S.Site.state c.args.site.now in
-    let mid = g.S.Site.state c.read_update.new.site in
-    let now = g.S.Site.state c.compensate.new.site in
-    let w = c.in-Ok.wanted in
-    asks_ok c.in-Ok-compensate.last _ (works_of (u ∷ [])) pages new old now
-    (asks_of_update (Ok c.in-Ok-compensate.last) u w.page w.slot pages new old mid now c.in-Ok.ensures.form.0
-    (c.in-Ok.ensures.last_left pages newest records table commits x u rest c.requires.going.sizes h unfinished at left) (log_alone old mid c.read_update.ensures.reads.others) (stages_read c.read_update.ensures.reads.same c.read_update.ensures.reads.goes) c.in-Ok-compensate.ensures.asks)
-
-pub returns-in-Err-clause-works : goal.returns-in-Err-clause-works
-returns-in-Err-clause-works g c = works_failed (works_read c.requires.going c.in-Err.ensures.reads)
-
-pub returns-then-not-has_room-clause-works : goal.returns-then-not-has_room-clause-works
-returns-then-not-has_room-clause-works g c = works_foreign (works_read c.requires.going c.in-Ok.ensures.reads)
-
-pub returns-in-Err-compensate-clause-works : goal.returns-in-Err-compensate-clause-works
-returns-in-Err-compensate-clause-works g c = works_stopped (works_read c.requires.going c.in-Ok.ensures.reads) c.in-Err-compensate.ensures.works
-
-pub returns-clause-works : goal.returns-clause-works
-returns-clause-works g c = works_answered (works_then (works_read c.requires.going c.in-Ok.ensures.reads) c.in-Ok-compensate.ensures.works)
 
 pub returns-in-Err-clause-keeps : goal.returns-in-Err-clause-keeps
 returns-in-Err-clause-keeps g c newest records table commits x h unfinished at some =
@@ -92,17 +87,10 @@ pub returns-then-not-has_room-clause-keeps : goal.returns-then-not-has_room-clau
 returns-then-not-has_room-clause-keeps g c newest records table commits x h unfinished at some =
     let room = room_for_clr c.page_laws.ensures c.undo_laws.ensures c.args.log.now c.args.pages.now (g.S.Site.state c.args.site.now) newest records table commits h x unfinished c.in-Ok.wanted some in
     let all = ap (λ (k : Geometry). k.blocks) c.requires.going.sizes in
-    let many = c.requires.going.log_going.limits.blocks in
-    absurd (true≢false (sym (c.has_room.ensures.1 (omega (arith, room, all, many))) ∙ c.if-not-has_room.true))
+    absurd (true≢false (sym (c.has_room.ensures.1 (omega (arith, room, all, c.requires.going.log_going.limits.blocks))) ∙ c.if-not-has_room.true))
 
 pub returns-in-Err-compensate-clause-keeps : goal.returns-in-Err-compensate-clause-keeps
 returns-in-Err-compensate-clause-keeps g c newest records table commits x h unfinished at some =
     let read = c.in-Ok.ensures.reads in
     keeps_failed (keeps_then h.log_holds.ready.blocks.honest refl refl (calls_read read) (keeps_read c.requires.going.sizes h read tt)
     (c.in-Err-compensate.ensures.keeps newest records table commits (held_read c.beside_laws.ensures.fits h read)))
-
-pub returns-clause-keeps : goal.returns-clause-keeps
-returns-clause-keeps g c newest records table commits x h unfinished at some =
-    let read = c.in-Ok.ensures.reads in
-    keeps_answered (keeps_then h.log_holds.ready.blocks.honest refl refl (calls_read read) (keeps_read c.requires.going.sizes h read tt)
-    (c.in-Ok-compensate.ensures.keeps newest records table commits (held_read c.beside_laws.ensures.fits h read)))

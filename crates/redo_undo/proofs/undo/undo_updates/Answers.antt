@@ -8,7 +8,7 @@ use Rattle.page_store.specs.Caching.{rules}
 use Rattle.redo_undo.proofs.LeftUpdates.{first_of, none_of}
 use Rattle.redo_undo.proofs.AskingUndo.{more_work_stopped, all_work}
 use Rattle.redo_undo.proofs.UndoSoFar.{starts_asking, goes_on_asking}
-use Rattle.redo_undo.proofs.Calling.{keeps_answered, keeps_failed, keeps_few, keeps_nothing, keeps_then, works_answered, works_nothing, works_stopped, works_then}
+use Rattle.redo_undo.proofs.Calling.{keeps_answered, keeps_failed, keeps_few, keeps_nothing, keeps_then, works_answered, works_nothing, works_then}
 use Rattle.redo_undo.specs.Undoing.{IsAt}
 use Rattle.redo_undo.proofs.undo.undo_updates.Goals as goal
 
@@ -22,9 +22,6 @@ loop-at-init g c = record {
     keeps_few (omega arith) (keeps_nothing c.requires.going.sizes h),
   );
 }
-
-pub undo_update-requires-clause-going : goal.undo_update-requires-clause-going
-undo_update-requires-clause-going g c = c.loop-at.invariant.works.going
 
 pub loop-at-preserved : goal.loop-at-preserved
 loop-at-preserved g c =
@@ -41,8 +38,7 @@ loop-at-preserved g c =
           let before = both.0.0 in
           let some = remains c.page_laws.ensures c.undo_laws.ensures c.loop-at.log c.loop-at.pages mid newest records table commits x.txn (blocks_to c.args.log.now) old.log_reads c.loop-at.at before c.loop-at-test.true in
           let there : IsAt c.loop-at.at (left_of c.loop-at.at before.remaining) = record { txn = refl; last = refl; next = refl } in
-          let count = before.left.remaining_is in
-          let u = first_of (left_open (records ++ before.clrs) c.loop-at.at.txn) (omega (arith, some, count)) in
+          let u = first_of (left_open (records ++ before.clrs) c.loop-at.at.txn) (omega (arith, some, before.left.remaining_is)) in
           let more = goes_on_asking c.page_laws.ensures c.undo_laws.ensures c.loop-at.log c.loop-at.pages mid newest records table commits x.txn (blocks_to c.args.log.now) c.loop-at.at c.args.pages.now old both.0 c.undo_update.new.log c.undo_update.new.pages new c.in-Ok.next u.0 u.1 u.2
           (c.in-Ok.ensures.undone newest _ table commits (left_of c.loop-at.at before.remaining) before.holds before.left there some) c.in-Ok.ensures.blocks c.in-Ok.ensures.log_reads
           (c.in-Ok.ensures.asks newest _ table commits (left_of c.loop-at.at before.remaining) u.0 u.1 before.holds before.left there u.2) in (
@@ -52,11 +48,30 @@ loop-at-preserved g c =
           );
     }
 
-pub returns-in-Err-clause-works : goal.returns-in-Err-clause-works
-returns-in-Err-clause-works g c = works_stopped c.loop-at.invariant.works c.in-Err.ensures.works
-
-pub returns-clause-works : goal.returns-clause-works
-returns-clause-works g c = works_answered c.loop-at.invariant.works
+pub returns : goal.returns
+returns g c =
+    let old = g.S.Site.state c.args.site.now in
+    let mid = g.S.Site.state c.loop-at.site in
+    record {
+      undone = λ newest records table commits x h unfinished at. (c.loop-at.invariant.undone newest records table commits x h unfinished at).0.0;
+      keeps = λ newest records table commits x h unfinished at.
+          let both = c.loop-at.invariant.undone newest records table commits x h unfinished at in
+          keeps_few (omega (arith, both.0.0.count, unfinished.remaining_is)) (keeps_answered both.1);
+      log_reads = λ newest records table commits x h unfinished at.
+          let inv = (c.loop-at.invariant.undone newest records table commits x h unfinished at).0.0 in
+          omega (arith, inv.count, inv.read, unfinished.remaining_is);
+      asks = λ newest records table commits x h unfinished at.
+          let both = (c.loop-at.invariant.undone newest records table commits x h unfinished at).0 in
+          let before = both.0 in
+          let none = none_remains c.page_laws.ensures c.undo_laws.ensures c.loop-at.log c.loop-at.pages mid newest records table commits x.txn (blocks_to c.args.log.now) old.log_reads c.loop-at.at before c.loop-at-test.false in
+          let count = before.left.remaining_is in
+          let empty : left_open (records ++ before.clrs) x.txn ≡ [] = sym (ap (left_open (records ++ before.clrs)) before.same) ∙ none_of (left_open (records ++ before.clrs) c.loop-at.at.txn) (omega (arith, none, count)) in
+          all_work tt _ (left_open records x.txn) both.1.done c.args.pages.now c.loop-at.pages old mid
+          (both.1.are ∙ ap (λ (l : List Entry). both.1.done ++ l) empty ∙ append-nil both.1.done) both.1.asks;
+      none = search rules;
+      same = search rules;
+      works = works_answered c.loop-at.invariant.works;
+    }
 
 pub returns-in-Err-clause-keeps : goal.returns-in-Err-clause-keeps
 returns-in-Err-clause-keeps g c newest records table commits x h unfinished at =
@@ -69,33 +84,11 @@ returns-in-Err-clause-keeps g c newest records table commits x h unfinished at =
     keeps_few (omega (arith, some, count, all)) (keeps_failed (keeps_then h.log_holds.ready.blocks.honest inv.works.geometry inv.works.geometry inv.works.calls both.1
     (c.in-Err.ensures.keeps newest _ table commits (left_of c.loop-at.at before.remaining) before.holds before.left (record { txn = refl; last = refl; next = refl }) some)))
 
-pub returns-clause-keeps : goal.returns-clause-keeps
-returns-clause-keeps g c newest records table commits x h unfinished at =
-    let both = c.loop-at.invariant.undone newest records table commits x h unfinished at in
-    let count = both.0.0.count in
-    let all = unfinished.remaining_is in
-    keeps_few (omega (arith, count, all)) (keeps_answered both.1)
-
-pub returns-clause-undone : goal.returns-clause-undone
-returns-clause-undone g c newest records table commits x h unfinished at = (c.loop-at.invariant.undone newest records table commits x h unfinished at).0.0
-
 pub returns-in-Err-clause-log_reads : goal.returns-in-Err-clause-log_reads
 returns-in-Err-clause-log_reads g c newest records table commits x h unfinished at =
     let inv = (c.loop-at.invariant.undone newest records table commits x h unfinished at).0.0 in
     let some = remains c.page_laws.ensures c.undo_laws.ensures c.loop-at.log c.loop-at.pages (g.S.Site.state c.loop-at.site) newest records table commits x.txn (blocks_to c.args.log.now) (g.S.Site.state c.args.site.now).log_reads c.loop-at.at inv c.loop-at-test.true in
-    let count = inv.count in
-    let read = inv.read in
-    let one = c.in-Err.ensures.log_reads in
-    let all = unfinished.remaining_is in
-    omega (arith, some, count, read, one, all)
-
-pub returns-clause-log_reads : goal.returns-clause-log_reads
-returns-clause-log_reads g c newest records table commits x h unfinished at =
-    let inv = (c.loop-at.invariant.undone newest records table commits x h unfinished at).0.0 in
-    let count = inv.count in
-    let read = inv.read in
-    let all = unfinished.remaining_is in
-    omega (arith, count, read, all)
+    omega (arith, some, inv.count, inv.read, c.in-Err.ensures.log_reads, unfinished.remaining_is)
 
 pub returns-in-Err-clause-asks : goal.returns-in-Err-clause-asks
 returns-in-Err-clause-asks g c newest records table commits x h unfinished at =
@@ -105,22 +98,9 @@ returns-in-Err-clause-asks g c newest records table commits x h unfinished at =
     let both = (c.loop-at.invariant.undone newest records table commits x h unfinished at).0 in
     let before = both.0 in
     let remain = remains c.page_laws.ensures c.undo_laws.ensures c.loop-at.log c.loop-at.pages mid newest records table commits x.txn (blocks_to c.args.log.now) old.log_reads c.loop-at.at before c.loop-at-test.true in
-    let count = before.left.remaining_is in
-    let u = first_of (left_open (records ++ before.clrs) c.loop-at.at.txn) (omega (arith, remain, count)) in
+    let u = first_of (left_open (records ++ before.clrs) c.loop-at.at.txn) (omega (arith, remain, before.left.remaining_is)) in
     let some : 1 ≤ (rules c.args.pages.now).groups = omega (arith, c.requires.going.pages_going.flash.limits.groups) in
     let left : left_open (records ++ before.clrs) x.txn ≡ u.0 ∷ u.1 = sym (ap (left_open (records ++ before.clrs)) before.same) ∙ u.2 in
     let all : left_open records x.txn ≡ both.1.done ++ u.0 ∷ u.1 = both.1.are ∙ ap (λ (l : List Entry). both.1.done ++ l) left in
     more_work_stopped tt c.in-Err.stop (left_open records x.txn) both.1.done u.1 u.0 c.args.pages.now c.loop-at.pages c.undo_update.new.pages old mid new some all both.1.asks
     (c.in-Err.ensures.asks newest _ table commits (left_of c.loop-at.at before.remaining) u.0 u.1 before.holds before.left (record { txn = refl; last = refl; next = refl }) u.2)
-
-pub returns-clause-asks : goal.returns-clause-asks
-returns-clause-asks g c newest records table commits x h unfinished at =
-    let old = g.S.Site.state c.args.site.now in
-    let mid = g.S.Site.state c.loop-at.site in
-    let both = (c.loop-at.invariant.undone newest records table commits x h unfinished at).0 in
-    let before = both.0 in
-    let none = none_remains c.page_laws.ensures c.undo_laws.ensures c.loop-at.log c.loop-at.pages mid newest records table commits x.txn (blocks_to c.args.log.now) old.log_reads c.loop-at.at before c.loop-at-test.false in
-    let count = before.left.remaining_is in
-    let empty : left_open (records ++ before.clrs) x.txn ≡ [] = sym (ap (left_open (records ++ before.clrs)) before.same) ∙ none_of (left_open (records ++ before.clrs) c.loop-at.at.txn) (omega (arith, none, count)) in
-    all_work tt _ (left_open records x.txn) both.1.done c.args.pages.now c.loop-at.pages old mid
-    (both.1.are ∙ ap (λ (l : List Entry). both.1.done ++ l) empty ∙ append-nil both.1.done) both.1.asks

@@ -6,7 +6,7 @@ use Rattle.redo_undo.proofs.Found.{unfinished_of, room_to_end, end_may, owes_end
 use Rattle.log_records.specs.Unfinished.{left_open}
 use Rattle.redo_undo.proofs.LeftUpdates.{none_of}
 use Rattle.redo_undo.proofs.UndoneUpdates.{end_updates}
-use Rattle.redo_undo.proofs.Calling.{keeps_appended, beside_foreign}
+use Rattle.redo_undo.proofs.Calling.{keeps_appended}
 use Rattle.redo_undo.proofs.undo_losers.end_one.Goals as goal
 
 pub returns-clause-updates : goal.returns-clause-updates
@@ -33,15 +33,11 @@ returns-then-not-has_room-clause-keeps g c pages newest records table commits kn
     let x : Unfinished = record { txn = c.args.txn; last = n.x.last; next = next_of records c.args.txn; remaining = length n.x.updates } in
     let u = unfinished_of c.found_laws.ensures c.undo_laws.ensures log pages site newest records table commits c.args.found.now h.holds h.analysis c.args.txn n.x n.there in
     let room = room_to_end c.page_laws.ensures c.undo_laws.ensures log pages site newest records table commits h.holds x u (ap length n.none) in
-    let all = ap (λ (k : Geometry). k.blocks) going.sizes in
     let many = c.requires.going.limits.blocks in
-    absurd (true≢false (sym (c.has_room.ensures.1 (omega (arith, room, all, many))) ∙ c.if-not-has_room.true))
+    absurd (true≢false (sym (c.has_room.ensures.1 (omega (arith, room, ap (λ (k : Geometry). k.blocks) going.sizes, many))) ∙ c.if-not-has_room.true))
 
 pub returns-in-Err-clause-keeps : goal.returns-in-Err-clause-keeps
 returns-in-Err-clause-keeps g c pages newest records table commits known going h = keeps_appended going c.in-Err.ensures.stops (c.in-Err.ensures.keeps pages newest records table commits h.holds)
 
 pub returns-clause-keeps : goal.returns-clause-keeps
 returns-clause-keeps g c pages newest records table commits known going h = keeps_appended going tt (c.in-Ok.ensures.keeps pages newest records table commits h.holds)
-
-pub returns-then-not-has_room-clause-works : goal.returns-then-not-has_room-clause-works
-returns-then-not-has_room-clause-works g c = beside_foreign c.requires.going

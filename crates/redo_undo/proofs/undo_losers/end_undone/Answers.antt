@@ -43,9 +43,6 @@ loop-txn-preserved g c =
 pub returns-in-Err-clause-works : goal.returns-in-Err-clause-works
 returns-in-Err-clause-works g c = beside_then c.loop-txn.invariant.works c.in-Err.ensures.works
 
-pub returns-clause-works : goal.returns-clause-works
-returns-clause-works g c = beside_answered c.loop-txn.invariant.works
-
 pub returns-in-Err-clause-keeps : goal.returns-in-Err-clause-keeps
 returns-in-Err-clause-keeps g c pages newest records table commits going h =
     let inv = c.loop-txn.invariant in

@@ -1,5 +1,5 @@
-use Rattle.std.proofs.Common.{◌≡◌, ◌++◌, ◌+◌, ◌≤◌, [], ◌∙◌, arith, Ok, ◌*◌}
-use Rattle.std.specs.Prelude.{⊤, IsErrOf}
+use Rattle.std.proofs.Common.{true, false, ℕ, List, ◌≡◌, ◌++◌, ◌+◌, ◌≤◌, [], ◌∙◌, arith, Ok, ◌*◌}
+use Rattle.std.specs.Prelude.{⊤, IsErrOf, Option, option_map}
 use Rattle.std.specs.List.{AllByRecursion}
 use Rattle.analysis.specs.Table.{listed}
 use Rattle.redo_undo.proofs.Opens.{none_listed, if_none, some_owed}
@@ -12,10 +12,51 @@ use Rattle.redo_undo.specs.Works.{undo_works}
 use Rattle.page_store.proofs.StagingLaws.{stages_ok, stages_err}
 use Rattle.redo_undo.proofs.Asking.{asks_nothing, stages_log}
 use Rattle.redo_undo.proofs.AskingUndo.{none_read, not_worn_either, asks_refused}
-use Rattle.redo_undo.proofs.UndoneUpdates.{next_is_last, none_is_next, updates_asked_more, updates_asked_stopped, updates_asked}
+use Rattle.checkpoint.specs.declared.master.Master.{Master}
+use Rattle.record_model.specs.State.{Content}
+use Rattle.log_records.specs.Log.{Entry, txn_of, last_where}
+use Rattle.log_records.specs.Unfinished.{pending}
+use Rattle.analysis.specs.Read.{IsTable}
+use Rattle.log_store.specs.Held.{has_tail}
+use Rattle.redo_undo.specs.Holding.{Holds}
+use Rattle.redo_undo.proofs.UndoneUpdates.{AsksUpdates, next_is_last, none_is_next, updates_asked_more, updates_asked_stopped, updates_asked}
 use Rattle.redo_undo.specs.UndoingAll.{IsUndoing}
-use Rattle.redo_undo.proofs.Calling.{ends_stop, keeps_answered, keeps_counted, keeps_failed, keeps_few, keeps_then, works_answered, works_beside, works_failed, works_stopped, works_then}
+use Rattle.redo_undo.proofs.Calling.{keeps_answered, keeps_counted, keeps_failed, keeps_few, keeps_then, works_answered, works_beside, works_then}
+use Rattle.redo_undo.proofs.undo_losers.undo_all.Given.{Over}
+use Rattle.redo_undo.proofs.undo_losers.undo_all.Goals.{After-end_undone, After-next_undo}
 use Rattle.redo_undo.proofs.undo_losers.undo_all.Goals as goal
+
+module _ (g : Over) (c : After-end_undone g) (newest : Option Master) (records : List Entry) (table : List Content) (commits : ℕ)
+    (none : has_tail c.args.log.now ≡ false)
+    (h : Holds c.args.log.now c.args.pages.now (g.S.Site.state c.args.site.now) newest records table commits)
+    (is : IsTable [] records (listed c.args.found.now.table)) where
+  undoing : IsUndoing c.args.log.now c.args.pages.now (g.S.Site.state c.args.site.now) newest records table commits c.args.found.now
+      (c.sealed_end-sealed.result + 1)
+  undoing = record {
+    holds = h;
+    analysis = is;
+    up_to = sealed_up_to c.page_laws.ensures c.undo_laws.ensures c.args.log.now c.args.pages.now (g.S.Site.state c.args.site.now) newest records table commits
+        (c.sealed_end-sealed.result + 1) h none
+        (omega (arith, c.sealed_end-sealed.ensures));
+  }
+
+-- the Update that is undone next is the last one
+module _ (g : Over) (c : After-next_undo g) (newest : Option Master) (records : List Entry) (table : List Content) (commits : ℕ)
+    (none : has_tail c.args.log.now ≡ false)
+    (h : Holds c.args.log.now c.args.pages.now (g.S.Site.state c.args.site.now) newest records table commits)
+    (is : IsTable [] records (listed c.args.found.now.table)) where
+  before : AsksUpdates c.loop-next.log c.loop-next.pages (g.S.Site.state c.loop-next.site) newest records table commits c.loop-next.found c.loop-next.known c.args.pages.now (g.S.Site.state c.args.site.now)
+  before = c.loop-next.invariant.asked newest records table commits none h is
+
+  next_is : c.next_undo.result ≡ option_map (λ (u : Entry). record { 0 = txn_of u; 1 = u.lsn })
+      (last_where (λ v. true) (pending (records ++ before.updates.some.more)))
+  next_is =
+      let mid = g.S.Site.state c.loop-next.site in
+      let now = before.updates.some.now in
+      let all = records ++ before.updates.some.more in
+      c.next_undo.ensures.of_table [] all (512 * kept_by newest) _ now.analysis
+      (own_known c.found_laws.ensures c.undo_laws.ensures c.loop-next.log c.loop-next.pages mid newest all table commits c.loop-next.found now.holds now.analysis)
+      (order c.found_laws.ensures c.undo_laws.ensures c.loop-next.log c.loop-next.pages mid newest all table commits c.loop-next.found now.holds now.analysis)
 
 pub loop-next-init : goal.loop-next-init
 loop-next-init g c =
@@ -34,11 +75,11 @@ loop-next-init g c =
       asked = λ newest records table commits none h is. record {
         done = [];
         updates = c.in-Ok.ensures.updates c.args.pages.now newest records table commits c.requires.going
-            (record { holds = h; analysis = is; up_to = sealed_up_to c.page_laws.ensures c.undo_laws.ensures c.args.log.now c.args.pages.now old newest records table commits (c.sealed_end-sealed.result + 1) h none (omega (arith, c.sealed_end-sealed.ensures)) });
+            (undoing g (goal.at.loop-next-init g c).After-end_undone newest records table commits none h is);
         asks = asks_nothing {T = ⊤} (Ok tt) c.args.pages.now old (g.S.Site.state c.end_undone.new.site) c.end_undone.ensures.works.reads (λ (worn : IsErrOf {T = ⊤} (Ok tt) (Worn Flash)). cc) (stages_ok (stages_log c.in-Ok.ensures.works));
       };
       keeps = λ newest records table commits none h is.
-          let undoing : IsUndoing c.args.log.now c.args.pages.now old newest records table commits c.args.found.now (c.sealed_end-sealed.result + 1) = (record { holds = h; analysis = is; up_to = sealed_up_to c.page_laws.ensures c.undo_laws.ensures c.args.log.now c.args.pages.now old newest records table commits (c.sealed_end-sealed.result + 1) h none (omega (arith, c.sealed_end-sealed.ensures)) }) in
+          let undoing = undoing g (goal.at.loop-next-init g c).After-end_undone newest records table commits none h is in
           let undone = (c.in-Ok.ensures.updates c.args.pages.now newest records table commits c.requires.going undoing).some in
           keeps_counted (c.end_undone.ensures.works.geometry ∙ c.requires.going.sizes) undone.now.holds.log_holds.ready.blocks.hi (omega (arith, few, fewer)) (c.in-Ok.ensures.keeps c.args.pages.now newest records table commits c.requires.going undoing);
     }
@@ -54,6 +95,7 @@ loop-next-preserved g c =
     let falls = c.in-Ok-undo_next.ensures.falls in
     let fewer = inv.fewer in
     let works = works_then inv.works c.in-Ok-undo_next.ensures.works in
+    let s = (goal.at.loop-next-preserved g c).After-next_undo in
     record {
       works = works_answered works;
       found_going = c.undo_next.ensures.found.going;
@@ -64,26 +106,20 @@ loop-next-preserved g c =
       fewer = omega (arith, falls, fewer);
       log_reads = let reads = inv.log_reads in let one = c.undo_next.ensures.log_reads in omega (arith, falls, reads, one);
       asked = λ newest records table commits none h is.
-          let before = inv.asked newest records table commits none h is in
+          let before = before g s newest records table commits none h is in
           let undone = before.updates.some in
           let all = records ++ undone.more in
-          let ordered = order c.found_laws.ensures c.undo_laws.ensures c.loop-next.log c.loop-next.pages mid newest all table commits c.loop-next.found undone.now.holds undone.now.analysis in
-          let last = next_is_last all c.next_undo.result c.in-Some.next c.in-Some.is (c.next_undo.ensures.of_table [] all (512 * kept_by newest) _ undone.now.analysis (own_known c.found_laws.ensures c.undo_laws.ensures c.loop-next.log c.loop-next.pages mid newest all table commits c.loop-next.found undone.now.holds undone.now.analysis) ordered) in
+          let last = next_is_last all c.next_undo.result c.in-Some.next c.in-Some.is (next_is g s newest records table commits none h is) in
           updates_asked_more c.in-Ok-undo_next.lsn c.loop-next.log c.undo_next.new.log c.loop-next.pages c.undo_next.new.pages mid new newest records table commits c.loop-next.found c.undo_next.new.found c.loop-next.known c.in-Ok-undo_next.lsn c.args.pages.now old
           before last.0 (c.in-Ok-undo_next.ensures.updates newest all table commits last.0 undone.now last.1) (c.in-Ok-undo_next.ensures.asks newest all table commits last.0 undone.now last.1);
       keeps = λ newest records table commits none h is.
-          let before = inv.asked newest records table commits none h is in
-          let undone = before.updates.some in
+          let undone = (before g s newest records table commits none h is).updates.some in
           let all = records ++ undone.more in
-          let ordered = order c.found_laws.ensures c.undo_laws.ensures c.loop-next.log c.loop-next.pages mid newest all table commits c.loop-next.found undone.now.holds undone.now.analysis in
-          let last = next_is_last all c.next_undo.result c.in-Some.next c.in-Some.is (c.next_undo.ensures.of_table [] all (512 * kept_by newest) _ undone.now.analysis (own_known c.found_laws.ensures c.undo_laws.ensures c.loop-next.log c.loop-next.pages mid newest all table commits c.loop-next.found undone.now.holds undone.now.analysis) ordered) in
+          let last = next_is_last all c.next_undo.result c.in-Some.next c.in-Some.is (next_is g s newest records table commits none h is) in
           let after = c.in-Ok-undo_next.ensures.updates newest all table commits last.0 undone.now last.1 in
           keeps_counted (works.log_geometry ∙ c.requires.going.sizes) after.some.now.holds.log_holds.ready.blocks.hi (omega (arith, few, less, falls, fewer))
           (keeps_then h.log_holds.ready.blocks.honest inv.works.geometry inv.works.geometry inv.works.calls (inv.keeps newest records table commits none h is) (c.in-Ok-undo_next.ensures.keeps newest all table commits last.0 undone.now last.1));
     }
-
-pub undo_next-requires-clause-going : goal.undo_next-requires-clause-going
-undo_next-requires-clause-going g c = c.loop-next.invariant.works.going
 
 pub returns-clause-none : goal.returns-clause-none
 returns-clause-none g c = none_listed (listed c.loop-next.found.table) c.loop-next.invariant.remain (if_none c.next_undo.result (AllByRecursion (λ x. x.updates ≡ []) (listed c.loop-next.found.table)) (λ at some. c.in_default.not-Some at some) c.next_undo.ensures.none)
@@ -91,15 +127,13 @@ returns-clause-none g c = none_listed (listed c.loop-next.found.table) c.loop-ne
 pub returns-clause-undone : goal.returns-clause-undone
 returns-clause-undone g c newest records table commits none h is =
     all_undone c.found_laws.ensures c.undo_laws.ensures c.loop-next.log c.loop-next.pages (g.S.Site.state c.loop-next.site) newest records table commits c.loop-next.found c.loop-next.known (c.loop-next.invariant.asked newest records table commits none h is).updates.some
-    (none_listed (listed c.loop-next.found.table) c.loop-next.invariant.remain (if_none c.next_undo.result (AllByRecursion (λ x. x.updates ≡ []) (listed c.loop-next.found.table)) (λ at some. c.in_default.not-Some at some) c.next_undo.ensures.none))
+    (returns-clause-none g c)
 
 pub returns-in-Err-undo_next-clause-log_reads : goal.returns-in-Err-undo_next-clause-log_reads
 returns-in-Err-undo_next-clause-log_reads g c =
     let remains = c.in-Some.ensures.remains in
-    let some = some_owed (listed c.loop-next.found.table) c.in-Some.next.0 remains.x remains.there in
-    let reads = c.loop-next.invariant.log_reads in
     let one = c.undo_next.ensures.log_reads in
-    omega (arith, some, reads, one)
+    omega (arith, some_owed (listed c.loop-next.found.table) c.in-Some.next.0 remains.x remains.there, c.loop-next.invariant.log_reads, one)
 
 pub returns-in-Err-clause-asks : goal.returns-in-Err-clause-asks
 returns-in-Err-clause-asks g c newest records table commits none h is =
@@ -116,49 +150,34 @@ returns-in-Err-undo_next-clause-asks g c newest records table commits none h is 
     let old = g.S.Site.state c.args.site.now in
     let mid = g.S.Site.state c.loop-next.site in
     let new = g.S.Site.state c.undo_next.new.site in
-    let inv = c.loop-next.invariant in
-    let before = inv.asked newest records table commits none h is in
+    let s = (goal.at.returns-in-Err-undo_next-clause-asks g c).After-next_undo in
+    let before = before g s newest records table commits none h is in
     let undone = before.updates.some in
     let all = records ++ undone.more in
-    let ordered = order c.found_laws.ensures c.undo_laws.ensures c.loop-next.log c.loop-next.pages mid newest all table commits c.loop-next.found undone.now.holds undone.now.analysis in
-    let last = next_is_last all c.next_undo.result c.in-Some.next c.in-Some.is (c.next_undo.ensures.of_table [] all (512 * kept_by newest) _ undone.now.analysis (own_known c.found_laws.ensures c.undo_laws.ensures c.loop-next.log c.loop-next.pages mid newest all table commits c.loop-next.found undone.now.holds undone.now.analysis) ordered) in
+    let last = next_is_last all c.next_undo.result c.in-Some.next c.in-Some.is (next_is g s newest records table commits none h is) in
     updates_asked_stopped c.in-Err-undo_next.stop c.loop-next.log c.loop-next.pages c.undo_next.new.pages mid new newest records table commits c.loop-next.found c.loop-next.known pages old some before last.0 c.in-Some.next.0 c.in-Some.next.1 last.1
     (c.in-Err-undo_next.ensures.asks newest all table commits last.0 undone.now last.1)
 
 pub returns-clause-asks : goal.returns-clause-asks
 returns-clause-asks g c newest records table commits none h is =
-    let mid = g.S.Site.state c.loop-next.site in
-    let before = c.loop-next.invariant.asked newest records table commits none h is in
-    let undone = before.updates.some in
-    let all = records ++ undone.more in
-    let ordered = order c.found_laws.ensures c.undo_laws.ensures c.loop-next.log c.loop-next.pages mid newest all table commits c.loop-next.found undone.now.holds undone.now.analysis in
-    updates_asked tt c.loop-next.log c.loop-next.pages mid newest records table commits c.loop-next.found c.loop-next.known c.args.pages.now (g.S.Site.state c.args.site.now) before
-    (none_is_next all c.next_undo.result (λ at is_some. c.in_default.not-Some at is_some) (c.next_undo.ensures.of_table [] all (512 * kept_by newest) _ undone.now.analysis (own_known c.found_laws.ensures c.undo_laws.ensures c.loop-next.log c.loop-next.pages mid newest all table commits c.loop-next.found undone.now.holds undone.now.analysis) ordered))
-
-pub returns-in-Err-clause-works : goal.returns-in-Err-clause-works
-returns-in-Err-clause-works g c = works_failed (works_beside c.requires.going tt (ends_stop c.in-Err.stop c.in-Err.ensures.stops) c.in-Err.ensures.works)
-
-pub returns-in-Err-undo_next-clause-works : goal.returns-in-Err-undo_next-clause-works
-returns-in-Err-undo_next-clause-works g c = works_stopped c.loop-next.invariant.works c.in-Err-undo_next.ensures.works
-
-pub returns-clause-works : goal.returns-clause-works
-returns-clause-works g c = works_answered c.loop-next.invariant.works
+    let s = (goal.at.returns-clause-asks g c).After-next_undo in
+    let before = before g s newest records table commits none h is in
+    updates_asked tt c.loop-next.log c.loop-next.pages (g.S.Site.state c.loop-next.site) newest records table commits c.loop-next.found c.loop-next.known c.args.pages.now (g.S.Site.state c.args.site.now) before
+    (none_is_next (records ++ before.updates.some.more) c.next_undo.result (λ at is_some. c.in_default.not-Some at is_some)
+    (next_is g s newest records table commits none h is))
 
 pub returns-in-Err-clause-keeps : goal.returns-in-Err-clause-keeps
-returns-in-Err-clause-keeps g c newest records table commits none h is =
-    let old = g.S.Site.state c.args.site.now in
-    keeps_failed (c.in-Err.ensures.keeps c.args.pages.now newest records table commits c.requires.going
-    (record { holds = h; analysis = is; up_to = sealed_up_to c.page_laws.ensures c.undo_laws.ensures c.args.log.now c.args.pages.now old newest records table commits (c.sealed_end-sealed.result + 1) h none (omega (arith, c.sealed_end-sealed.ensures)) }))
+returns-in-Err-clause-keeps g c newest records table commits none h is = keeps_failed
+    (c.in-Err.ensures.keeps c.args.pages.now newest records table commits c.requires.going
+    (undoing g (goal.at.returns-in-Err-clause-keeps g c).After-end_undone newest records table commits none h is))
 
 pub returns-in-Err-undo_next-clause-keeps : goal.returns-in-Err-undo_next-clause-keeps
 returns-in-Err-undo_next-clause-keeps g c newest records table commits none h is =
-    let mid = g.S.Site.state c.loop-next.site in
+    let s = (goal.at.returns-in-Err-undo_next-clause-keeps g c).After-next_undo in
     let inv = c.loop-next.invariant in
-    let before = inv.asked newest records table commits none h is in
-    let undone = before.updates.some in
+    let undone = (before g s newest records table commits none h is).updates.some in
     let all = records ++ undone.more in
-    let ordered = order c.found_laws.ensures c.undo_laws.ensures c.loop-next.log c.loop-next.pages mid newest all table commits c.loop-next.found undone.now.holds undone.now.analysis in
-    let last = next_is_last all c.next_undo.result c.in-Some.next c.in-Some.is (c.next_undo.ensures.of_table [] all (512 * kept_by newest) _ undone.now.analysis (own_known c.found_laws.ensures c.undo_laws.ensures c.loop-next.log c.loop-next.pages mid newest all table commits c.loop-next.found undone.now.holds undone.now.analysis) ordered) in
+    let last = next_is_last all c.next_undo.result c.in-Some.next c.in-Some.is (next_is g s newest records table commits none h is) in
     let fewer = inv.fewer in
     keeps_few (omega (arith, fewer)) (keeps_failed (keeps_then h.log_holds.ready.blocks.honest inv.works.geometry inv.works.geometry inv.works.calls (inv.keeps newest records table commits none h is)
     (c.in-Err-undo_next.ensures.keeps newest all table commits last.0 undone.now last.1)))

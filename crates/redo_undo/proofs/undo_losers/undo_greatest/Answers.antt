@@ -5,7 +5,7 @@ use Rattle.redo_undo.proofs.Found.{order, unfinished_loser, each_remains}
 use Rattle.redo_undo.specs.UndoWorks.{works_of}
 use Rattle.redo_undo.proofs.Asking.{asks_err, asks_ok}
 use Rattle.redo_undo.proofs.UndoneUpdates.{last_is_left, clr_updates}
-use Rattle.redo_undo.proofs.Calling.{keeps_answered, keeps_failed, works_answered, works_failed}
+use Rattle.redo_undo.proofs.Calling.{keeps_answered, keeps_failed}
 use Rattle.redo_undo.proofs.undo_losers.undo_greatest.Goals as goal
 
 pub returns-in-Err-clause-asks : goal.returns-in-Err-clause-asks
@@ -13,12 +13,11 @@ returns-in-Err-clause-asks g c newest records table commits known u h last =
     let log = c.args.log.now in
     let pages = c.args.pages.now in
     let site = g.S.Site.state c.args.site.now in
-    let new = g.S.Site.state c.undo_update.new.site in
     let found = c.args.found.now in
     let x : Unfinished = record { txn = c.args.loser.txn; last = c.args.loser.last; next = c.args.lsn; remaining = c.args.loser.remaining } in
     let standing = unfinished_loser c.found_laws.ensures c.undo_laws.ensures log pages site newest records table commits found h.holds h.analysis c.args.loser c.args.lsn c.requires.there c.requires.greatest in
     let left = last_is_left c.found_laws.ensures c.undo_laws.ensures log pages site newest records table commits found h.holds h.analysis c.args.loser.txn c.args.lsn u c.requires.greatest last in
-    asks_err c.in-Err.stop (works_of (u ∷ [])) pages c.undo_update.new.pages site new
+    asks_err c.in-Err.stop (works_of (u ∷ [])) pages c.undo_update.new.pages site (g.S.Site.state c.undo_update.new.site)
     (c.in-Err.ensures.asks newest records table commits x u left.0 h.holds standing.0 (record { txn = refl; last = refl; next = refl }) left.1)
 
 pub returns-clause-asks : goal.returns-clause-asks
@@ -26,12 +25,11 @@ returns-clause-asks g c newest records table commits known u h last =
     let log = c.args.log.now in
     let pages = c.args.pages.now in
     let site = g.S.Site.state c.args.site.now in
-    let new = g.S.Site.state c.undo_update.new.site in
     let found = c.args.found.now in
     let x : Unfinished = record { txn = c.args.loser.txn; last = c.args.loser.last; next = c.args.lsn; remaining = c.args.loser.remaining } in
     let standing = unfinished_loser c.found_laws.ensures c.undo_laws.ensures log pages site newest records table commits found h.holds h.analysis c.args.loser c.args.lsn c.requires.there c.requires.greatest in
     let left = last_is_left c.found_laws.ensures c.undo_laws.ensures log pages site newest records table commits found h.holds h.analysis c.args.loser.txn c.args.lsn u c.requires.greatest last in
-    asks_ok c.in-Ok.now _ (works_of (u ∷ [])) pages c.undo_update.new.pages site new
+    asks_ok c.in-Ok.now _ (works_of (u ∷ [])) pages c.undo_update.new.pages site (g.S.Site.state c.undo_update.new.site)
     (c.in-Ok.ensures.asks newest records table commits x u left.0 h.holds standing.0 (record { txn = refl; last = refl; next = refl }) left.1)
 
 pub returns-clause-updates : goal.returns-clause-updates
@@ -61,9 +59,3 @@ returns-clause-keeps g c newest records table commits known h =
     let x : Unfinished = record { txn = c.args.loser.txn; last = c.args.loser.last; next = c.args.lsn; remaining = c.args.loser.remaining } in
     let u = unfinished_loser c.found_laws.ensures c.undo_laws.ensures c.args.log.now c.args.pages.now (g.S.Site.state c.args.site.now) newest records table commits c.args.found.now h.holds h.analysis c.args.loser c.args.lsn c.requires.there c.requires.greatest in
     keeps_answered (c.in-Ok.ensures.keeps newest records table commits x h.holds u.0 (record { txn = refl; last = refl; next = refl }) u.1)
-
-pub returns-in-Err-clause-works : goal.returns-in-Err-clause-works
-returns-in-Err-clause-works g c = works_failed c.in-Err.ensures.works
-
-pub returns-clause-works : goal.returns-clause-works
-returns-clause-works g c = works_answered c.in-Ok.ensures.works

@@ -1,4 +1,4 @@
-use Rattle.std.proofs.Common.{◌∙◌, ◌++◌, [], ◌∷◌, ◌≤◌, inr, refl, drop, sym, subst, arith, ℕ}
+use Rattle.std.proofs.Common.{◌++◌, [], ◌∷◌, ◌≤◌, inr, refl, drop, sym, subst, arith, ℕ}
 use Rattle.analysis.specs.Open.{Open, Replaces, TakesOut}
 use Rattle.analysis.specs.Table.{listed}
 use Rattle.redo_undo.specs.UndoingAll.{Remain, HasNone}
@@ -13,8 +13,7 @@ use Rattle.redo_undo.proofs.Asking.{stages_log}
 use Rattle.redo_undo.proofs.AskingUndo.{none_read, not_worn, never_worn, asks_refused, asks_before}
 use Rattle.redo_undo.proofs.UndoneUpdates.{more_updates}
 use Rattle.redo_undo.proofs.Opens.{some_owed}
-use Rattle.redo_undo.proofs.Calling.{ends_stop, keeps_few, keeps_then, works_at_once, works_beside, works_then}
-use Rattle.std.proofs.lemmas.Option.{none-some}
+use Rattle.redo_undo.proofs.Calling.{keeps_few, keeps_then, ends_stop, works_beside, works_then}
 use Rattle.site.specs.declared.outside.Dev.TheVariants.{Log}
 use Rattle.site.proofs.Working.{err_as}
 use Rattle.redo_undo.proofs.undo_losers.undo_next.Goals as goal
@@ -79,18 +78,6 @@ returns-clause-asks g c newest records table commits u h last =
     (never_worn c.end_one.result c.end_one.ensures.stops) (stages_log c.end_one.ensures.works)
     (c.in-Ok.ensures.asks newest records table commits c.args.known u h (subst (λ (t : ℕ). IsLastAt records t c.args.next.1 u) (sym c.in-Some.ensures.named) last))
 
-pub returns-in_default-clause-works : goal.returns-in_default-clause-works
-returns-in_default-clause-works g c = works_at_once c.requires.going
-
-pub returns-then-loser-known-clause-works : goal.returns-then-loser-known-clause-works
-returns-then-loser-known-clause-works g c = works_at_once c.requires.going
-
-pub returns-clause-works : goal.returns-clause-works
-returns-clause-works g c = works_then c.in-Ok.ensures.works (works_beside c.in-Ok.ensures.works.going c.end_one.ensures.rises (err_as c.end_one.result _ _ ends_stop c.end_one.ensures.stops) c.end_one.ensures.works)
-
-pub returns-in_default-clause-keeps : goal.returns-in_default-clause-keeps
-returns-in_default-clause-keeps g c newest records table commits u h last = absurd (none-some c.requires.greatest.x (sym c.in_default.ensures.absent ∙ c.requires.greatest.there))
-
 pub returns-then-loser-known-clause-keeps : goal.returns-then-loser-known-clause-keeps
 returns-then-loser-known-clause-keeps g c newest records table commits u h last =
     let less = last_known c.found_laws.ensures c.undo_laws.ensures c.args.log.now c.args.pages.now (g.S.Site.state c.args.site.now) newest records table commits c.args.found.now h.holds h.analysis c.args.known c.in-Some.loser h.up_to c.in-Some.ensures.there in
@@ -118,3 +105,8 @@ returns-clause-keeps g c newest records table commits u h last =
 
 pub returns-clause-log_reads : goal.returns-clause-log_reads
 returns-clause-log_reads g c = let one = c.in-Ok.ensures.log_reads in omega (arith, one, c.end_one.ensures.works.reads Log)
+
+pub returns-clause-works : goal.returns-clause-works
+returns-clause-works g c =
+    let stops = err_as c.end_one.result _ _ ends_stop c.end_one.ensures.stops in
+    works_then c.in-Ok.ensures.works (works_beside c.in-Ok.ensures.works.going c.end_one.ensures.rises stops c.end_one.ensures.works)

@@ -14,8 +14,7 @@ use Rattle.engine.proofs.engine.Engine.carry_out_abort.Goals as goal
 pub roll_back-requires-clause-few : goal.roll_back-requires-clause-few
 roll_back-requires-clause-few g c =
     let part = owes c.args.self.now.active c.args.entry.session c.args.entry c.requires.going.table c.requires.active in
-    let bounded = c.requires.going.bounded in
-    omega (arith, part, bounded)
+    omega (arith, part, c.requires.going.bounded)
 
 pub overflow_add-owed : goal.overflow_add-owed
 overflow_add-owed g c =
@@ -25,33 +24,30 @@ overflow_add-owed g c =
 pub overflow_sub-owed : goal.overflow_sub-owed
 overflow_sub-owed g c =
     let part = owes c.args.self.now.active c.args.entry.session c.args.entry c.requires.going.table c.requires.active in
-    let all = c.owed.ensures in
-    omega (arith, part, all)
+    omega (arith, part, c.owed.ensures)
 
 pub returns-in-Ok-clause-does : goal.returns-in-Ok-clause-does
 returns-in-Ok-clause-does g c s fits =
     let engine = c.args.self.now in
     let found = some_active fits.newest fits.records engine.active s fits.sessions c.args.entry.session c.args.entry c.requires.active in
     let count = sym found.under_way.count in
-    let many = ap (λ (o : Option Session). length (writes_of o)) found.is in
     let part = owes engine.active c.args.entry.session c.args.entry c.requires.going.table c.requires.active in
     let are = fits.sessions.owes in
     let all = c.owed.ensures in
     let old = g.S.Site.state c.args.site.now in
     let new = g.S.Site.state c.roll_back.new.site in
     let mid : Engine = record engine { store = c.roll_back.new.self } in
-    does_of (omega (arith, count, many))
+    does_of (omega (arith, count, ap (λ (o : Option Session). length (writes_of o)) found.is))
     (aborted_fits engine mid _ old new s c.args.entry fits c.requires.going.table c.requires.active (stays_honest old new c.roll_back.ensures.works.calls.goes fits.honest) (c.in-Ok.ensures.undone fits.newest fits.records s.table s.commits fits.holds found.session.writes found.under_way.is_active count)
     refl c.in-Ok.ensures.works.made c.release.ensures c.remove.ensures.entry c.remove.ensures.owed refl refl refl)
     (keeps_answered (c.in-Ok.ensures.keeps fits.newest fits.records s.table s.commits fits.holds found.session.writes found.under_way.is_active count (omega (arith, are, all, part))))
 
 pub returns-in-Err-clause-does : goal.returns-in-Err-clause-does
 returns-in-Err-clause-does g c s fits =
-    let engine = c.args.self.now in
-    let found = some_active fits.newest fits.records engine.active s fits.sessions c.args.entry.session c.args.entry c.requires.active in
+    let found = some_active fits.newest fits.records c.args.self.now.active s fits.sessions c.args.entry.session c.args.entry c.requires.active in
     let count = sym found.under_way.count in
     let many = ap (λ (o : Option Session). length (writes_of o)) found.is in
-    let part = owes engine.active c.args.entry.session c.args.entry c.requires.going.table c.requires.active in
+    let part = owes c.args.self.now.active c.args.entry.session c.args.entry c.requires.going.table c.requires.active in
     let are = fits.sessions.owes in
     let all = c.owed.ensures in
     does_of (omega (arith, count, many)) tt (keeps_failed (c.in-Err.ensures.keeps fits.newest fits.records s.table s.commits fits.holds found.session.writes found.under_way.is_active count (omega (arith, are, all, part))))

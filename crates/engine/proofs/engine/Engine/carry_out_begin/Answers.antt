@@ -1,4 +1,3 @@
-use Rattle.redo_undo.proofs.Asking.{asks_ok, asks_err}
 use Rattle.std.proofs.Common.{◌++◌, ◌∷◌, [], None, refl, arith}
 use Rattle.site.specs.Laws.{stays_honest}
 use Rattle.record_model.specs.State.{writes_of, reads_of}
@@ -6,8 +5,8 @@ use Rattle.engine.proofs.Meanings.{begins_late, fresh_behind}
 use Rattle.engine.proofs.Settings.{begin_at, may_begin}
 use Rattle.engine.proofs.Actives.{begun, none_active}
 use Rattle.engine.proofs.Locks.{locks_stay, at_set}
-use Rattle.engine.proofs.Calling.{does_of, serves_of}
-use Rattle.redo_undo.proofs.StoreCalling.{keeps_failed, keeps_answered, works_failed}
+use Rattle.engine.proofs.Calling.{does_of}
+use Rattle.redo_undo.proofs.StoreCalling.{keeps_failed, keeps_answered}
 use Rattle.engine.proofs.engine.Engine.carry_out_begin.Goals as goal
 
 pub returns-in-Err-clause-does : goal.returns-in-Err-clause-does
@@ -17,12 +16,10 @@ pub returns-clause-does : goal.returns-clause-does
 returns-clause-does g c s fits =
     let engine = c.args.self.now in
     let old = g.S.Site.state c.args.site.now in
-    let new = g.S.Site.state c.begin.new.site in
     let lsn = c.in-Ok.begin in
     let n = c.args.session in
-    let going = c.requires.going in
     let behind = c.in-Ok.ensures.rises.0 in
-    let may = may_begin engine old s fits lsn behind c.requires.may.room going.store.blocks going.cap in
+    let may = may_begin engine old s fits lsn behind c.requires.may.room c.requires.going.store.blocks c.requires.going.cap in
     let fresh = fresh_behind engine.store old fits.newest fits.records s.table s.commits lsn fits.holds behind in
     let late = begins_late engine.store old fits.newest fits.records s.table s.commits lsn fits.holds behind in
     let none = none_active fits.newest fits.records engine.active s fits.sessions n c.requires.may.absent in
@@ -31,7 +28,7 @@ returns-clause-does g c s fits =
     let made = c.in-Ok.ensures.works.made in
     let more = c.add.ensures.owed in
     does_of (omega arith) (record {
-      honest = stays_honest old new c.begin.ensures.works.calls.goes fits.honest;
+      honest = stays_honest old (g.S.Site.state c.begin.new.site) c.begin.ensures.works.calls.goes fits.honest;
       newest = fits.newest;
       records = fits.records ++ begin_at lsn ∷ [];
       holds = c.in-Ok.ensures.holds fits.newest fits.records s.table s.commits fits.holds may;
@@ -40,12 +37,3 @@ returns-clause-does g c s fits =
       locks_are = locks_stay engine.locks s _ (at_set writes_of s.sessions n _ None (omega (arith, small, count)) none refl) (at_set reads_of s.sessions n _ None (omega (arith, small, count)) none refl) fits.locks_are;
     })
     (keeps_answered (c.in-Ok.ensures.keeps fits.newest fits.records s.table s.commits fits.holds))
-
-pub returns-in-Err-clause-serves : goal.returns-in-Err-clause-serves
-returns-in-Err-clause-serves g c = serves_of (works_failed c.in-Err.ensures.works) tt
-
-pub returns-in-Err-clause-asks : goal.returns-in-Err-clause-asks
-returns-in-Err-clause-asks g c = asks_err c.in-Err.stop [] _ _ _ _ c.in-Err.ensures.asks
-
-pub returns-clause-asks : goal.returns-clause-asks
-returns-clause-asks g c = asks_ok c.in-Ok.begin _ [] _ _ _ _ c.in-Ok.ensures.asks

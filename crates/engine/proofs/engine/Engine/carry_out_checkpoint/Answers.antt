@@ -1,5 +1,5 @@
 use Rattle.std.specs.Prelude.{Ok}
-use Rattle.std.proofs.Common.{Err, ◌≤◌, ◌+◌, List, refl, sym, subst, arith, ℕ}
+use Rattle.std.proofs.Common.{Err, ◌≤◌, ◌+◌, List, refl, sym, subst, arith, ℕ, rules}
 use Rattle.site.specs.Laws.{stays_honest}
 use Rattle.checkpoint.specs.declared.pairs.Pair.{Pair}
 use Rattle.image_meaning.specs.Flushed.{first_block}
@@ -39,20 +39,33 @@ count_from-requires g c =
     let go = subst (LetsGo c.args.self.now) (sym c.unwrap_or-first.ensures) (lets_go c.args.self.now (g.S.Site.state c.args.site.now) c.oldest_born.result c.requires.going c.oldest_born.ensures) in
     record { born = go.early }
 
-pub returns-in-Ok-clause-does : goal.returns-in-Ok-clause-does
-returns-in-Ok-clause-does g c s fits =
+pub returns-in-Ok : goal.returns-in-Ok
+returns-in-Ok g c =
     let engine = c.args.self.now in
     let old = g.S.Site.state c.args.site.now in
     let new = g.S.Site.state c.checkpoint.new.site in
-    let holds = subst (λ (n : ℕ). both.Holds engine.store.log engine.store.pages old fits.newest fits.records s.table n) (sym fits.counts.commits) fits.holds.both in
-    let may = subst (MayBeMade engine.store.masters old fits.records) (sym c.named-named.ensures.named) (may_be_made engine old s fits c.requires.going.table) in
     let go = subst (LetsGo engine) (sym c.unwrap_or-first.ensures) (lets_go engine old c.oldest_born.result c.requires.going c.oldest_born.ensures) in
-    let made = c.in-Ok.ensures.checkpoint fits.newest fits.records s.table holds may in
-    let has = subst (λ (n : ℕ). HasCheckpoint c.checkpoint.new.self new fits.records s.table n c.named-named.result) fits.counts.commits made in
-    does_of (omega arith)
-    (fits_after c.sessions_outlive.ensures engine _ old new s c.unwrap_or-first.result fits c.requires.going.table go (stays_honest old new c.checkpoint.ensures.calls.goes fits.honest)
-    (subst (HasCheckpoint c.checkpoint.new.self new fits.records s.table s.commits) c.named-named.ensures.named has) c.count_from.ensures.entries c.count_from.ensures.owed c.in-Ok.ensures.made refl refl refl)
-    (keeps_answered (subst (λ (n : ℕ). Keeps {T = Unit {0}} (Ok c.in-Ok.field-0) engine.store c.checkpoint.new.self old new (LeavesTable (sizes_of engine.store) s.table n old.told) 0 1) fits.counts.commits (c.in-Ok.ensures.keeps fits.newest fits.records s.table holds may)))
+    record {
+      does = λ s fits.
+          let holds = subst (λ (n : ℕ). both.Holds engine.store.log engine.store.pages old fits.newest fits.records s.table n) (sym fits.counts.commits) fits.holds.both in
+          let may = subst (MayBeMade engine.store.masters old fits.records) (sym c.named-named.ensures.named) (may_be_made engine old s fits c.requires.going.table) in
+          let made = c.in-Ok.ensures.checkpoint fits.newest fits.records s.table holds may in
+          let has = subst (λ (n : ℕ). HasCheckpoint c.checkpoint.new.self new fits.records s.table n c.named-named.result) fits.counts.commits made in
+          does_of (omega arith)
+          (fits_after c.sessions_outlive.ensures engine _ old new s c.unwrap_or-first.result fits c.requires.going.table go (stays_honest old new c.checkpoint.ensures.calls.goes fits.honest)
+          (subst (HasCheckpoint c.checkpoint.new.self new fits.records s.table s.commits) c.named-named.ensures.named has) c.count_from.ensures.entries c.count_from.ensures.owed c.in-Ok.ensures.made refl refl refl)
+          (keeps_answered (subst (λ (n : ℕ). Keeps {T = Unit {0}} (Ok c.in-Ok.field-0) engine.store c.checkpoint.new.self old new (LeavesTable (sizes_of engine.store) s.table n old.told) 0 1) fits.counts.commits (c.in-Ok.ensures.keeps fits.newest fits.records s.table holds may)));
+      serves =
+          record {
+            calls = calls_answered c.in-Ok.ensures.calls;
+            going = goes_on engine _ old new c.unwrap_or-first.result c.requires.going go c.in-Ok.ensures.going c.requires.going.going refl c.checkpoint.ensures.sizes c.count_from.ensures.table
+                c.count_from.ensures.entries c.count_from.ensures.owed c.in-Ok.ensures.made c.in-Ok.ensures.blocks c.in-Ok.ensures.kept c.in-Ok.ensures.end
+                refl;
+            sizes = c.checkpoint.ensures.sizes;
+            stops = tt;
+          };
+      asks = search rules;
+    }
 
 pub returns-in-Err-clause-does : goal.returns-in-Err-clause-does
 returns-in-Err-clause-does g c s fits =
@@ -63,17 +76,3 @@ returns-in-Err-clause-does g c s fits =
     let may = subst (MayBeMade engine.store.masters old fits.records) (sym c.named-named.ensures.named) (may_be_made engine old s fits c.requires.going.table) in
     does_of (omega arith) tt
     (keeps_failed (subst (λ (n : ℕ). Keeps {T = Unit {0}} (Err c.in-Err.stop) engine.store c.checkpoint.new.self old new (LeavesTable (sizes_of engine.store) s.table n old.told) 0 1) fits.counts.commits (c.in-Err.ensures.keeps fits.newest fits.records s.table holds may)))
-
-pub returns-in-Ok-clause-serves : goal.returns-in-Ok-clause-serves
-returns-in-Ok-clause-serves g c =
-    let engine = c.args.self.now in
-    let old = g.S.Site.state c.args.site.now in
-    let new = g.S.Site.state c.checkpoint.new.site in
-    let go = subst (LetsGo engine) (sym c.unwrap_or-first.ensures) (lets_go engine old c.oldest_born.result c.requires.going c.oldest_born.ensures) in
-    record {
-      calls = calls_answered c.in-Ok.ensures.calls;
-      going = goes_on engine _ old new c.unwrap_or-first.result c.requires.going go c.in-Ok.ensures.going c.requires.going.going refl c.checkpoint.ensures.sizes c.count_from.ensures.table
-          c.count_from.ensures.entries c.count_from.ensures.owed c.in-Ok.ensures.made c.in-Ok.ensures.blocks c.in-Ok.ensures.kept c.in-Ok.ensures.end refl;
-      sizes = c.checkpoint.ensures.sizes;
-      stops = tt;
-    }

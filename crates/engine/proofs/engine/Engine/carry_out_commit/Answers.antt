@@ -1,19 +1,16 @@
-use Rattle.redo_undo.proofs.Asking.{asks_ok, asks_err}
-use Rattle.std.proofs.Common.{refl, arith, []}
+use Rattle.std.proofs.Common.{refl, arith}
 use Rattle.site.specs.Laws.{stays_honest}
 use Rattle.engine.proofs.Owing.{owes}
 use Rattle.engine.proofs.Commits.{may_commit, commits_either, committed_fits}
-use Rattle.engine.proofs.Calling.{does_of, serves_of}
-use Rattle.redo_undo.proofs.StoreCalling.{keeps_failed, keeps_weaker, works_failed}
+use Rattle.engine.proofs.Calling.{does_of}
+use Rattle.redo_undo.proofs.StoreCalling.{keeps_failed, keeps_weaker}
 use Rattle.engine.proofs.engine.Engine.carry_out_commit.Goals as goal
 
 pub seal_commit-requires-clause-may : goal.seal_commit-requires-clause-may
 seal_commit-requires-clause-may g c =
     let part = owes c.args.self.now.active c.args.entry.session c.args.entry c.requires.going.table c.requires.active in
-    let room = c.requires.going.room in
-    let cap = c.requires.going.cap in
     let bounded = c.requires.going.bounded in
-    record { going = c.requires.going.store; room = omega (arith, part, room, cap); few = omega (arith, part, bounded) }
+    record { going = c.requires.going.store; room = omega (arith, part, c.requires.going.room, c.requires.going.cap); few = omega (arith, part, bounded) }
 
 pub returns-in-Err-clause-does : goal.returns-in-Err-clause-does
 returns-in-Err-clause-does g c s fits = does_of (omega arith) tt (keeps_weaker (commits_either c.args.self.now s c.args.entry fits c.requires.active) (keeps_failed (c.in-Err.ensures.keeps fits.newest fits.records s.table s.commits fits.holds (may_commit c.args.self.now (g.S.Site.state c.args.site.now) s c.args.entry fits c.requires.active))))
@@ -28,12 +25,3 @@ returns-in-Ok-clause-does g c s fits =
     (committed_fits engine c.seal_commit.new.self _ old new s c.args.entry sealed.0 fits c.requires.going.table c.requires.active (stays_honest old new c.seal_commit.ensures.works.calls.goes fits.honest) sealed.1
     c.seal_commit.ensures.rest c.in-Ok.ensures.commits c.in-Ok.ensures.works.made c.release.ensures c.remove.ensures.entry c.remove.ensures.owed refl refl refl)
     (keeps_weaker (commits_either c.args.self.now s c.args.entry fits c.requires.active) (c.in-Ok.ensures.keeps fits.newest fits.records s.table s.commits fits.holds (may_commit c.args.self.now (g.S.Site.state c.args.site.now) s c.args.entry fits c.requires.active)))
-
-pub returns-in-Err-clause-serves : goal.returns-in-Err-clause-serves
-returns-in-Err-clause-serves g c = serves_of (works_failed c.in-Err.ensures.works) tt
-
-pub returns-in-Err-clause-asks : goal.returns-in-Err-clause-asks
-returns-in-Err-clause-asks g c = asks_err c.in-Err.stop [] _ _ _ _ c.in-Err.ensures.asks
-
-pub returns-in-Ok-clause-asks : goal.returns-in-Ok-clause-asks
-returns-in-Ok-clause-asks g c = asks_ok c.in-Ok.reply _ [] _ _ _ _ c.in-Ok.ensures.asks

@@ -1,6 +1,6 @@
 use Rattle.redo_undo.specs.Works.{one_touch}
-use Rattle.redo_undo.proofs.Asking.{asks_ok, asks_err}
-use Rattle.std.proofs.Common.{◌≡◌, ◌*◌, ◌<◌, None, sym, ap, ◌∙◌, arith, ◌/◌}
+use Rattle.redo_undo.proofs.Asking.{asks_ok}
+use Rattle.std.proofs.Common.{◌≡◌, ◌*◌, ◌<◌, None, sym, ap, ◌∙◌, arith, ◌/◌, rules}
 use Rattle.site.specs.declared.geometry.Geometry.{Geometry}
 use Rattle.site.specs.Laws.{stays_honest}
 use Rattle.record_model.specs.State as model
@@ -10,41 +10,32 @@ use Rattle.engine.specs.Going.{sizes_of}
 use Rattle.engine.specs.Fits.{Fits}
 use Rattle.engine.proofs.Meanings.{busy_read_is, got_is}
 use Rattle.engine.proofs.Writes.{touched_fits}
-use Rattle.engine.proofs.Calling.{does_of, serves_of}
-use Rattle.redo_undo.proofs.StoreCalling.{keeps_failed, keeps_answered, works_failed}
+use Rattle.engine.proofs.Calling.{does_of}
+use Rattle.redo_undo.proofs.StoreCalling.{keeps_failed, keeps_answered}
 use Rattle.engine.proofs.engine.Engine.carry_out_get.Goals as goal
 
-pub returns-in-Ok-clause-reply : goal.returns-in-Ok-clause-reply
-returns-in-Ok-clause-reply g c s fits =
+pub returns-in-Ok : goal.returns-in-Ok
+returns-in-Ok g c =
     let engine = c.args.self.now in
     let old = g.S.Site.state c.args.site.now in
     let new = g.S.Site.state c.touch.new.site in
     let number = c.args.number in
-    let holds = c.in-Ok.ensures.holds fits.newest fits.records s.table s.commits fits.holds in
     let mid : Engine = record engine { store = c.touch.new.self } in
-    let fits_mid : Fits mid new s = touched_fits engine c.touch.new.self old new s fits (stays_honest old new c.touch.ensures.works.calls.goes fits.honest) holds c.touch.ensures.made in
-    let same = ap (λ (x : Geometry). x.pages) c.touch.ensures.works.sizes in
     let some = c.requires.may.number in
-    let less : number < 32 * (sizes_of c.touch.new.self).pages = omega (arith, same, some) in
-    let free : model.busy_read s None number ≡ None = sym (busy_read_is engine.locks s fits.locks_are None number) ∙ c.requires.may.free in
-    c.found.ensures ∙ ap found (c.shown.ensures.shown new fits.newest fits.records s.table s.commits holds ∙ sym (got_is mid new s fits_mid number c.requires.going.table less free))
+    let less : number < 32 * (sizes_of c.touch.new.self).pages = omega (arith, ap (λ (x : Geometry). x.pages) c.touch.ensures.works.sizes, some) in
+    record {
+      reply = λ s fits.
+          let holds = c.in-Ok.ensures.holds fits.newest fits.records s.table s.commits fits.holds in
+          let fits_mid : Fits mid new s = touched_fits engine c.touch.new.self old new s fits (stays_honest old new c.touch.ensures.works.calls.goes fits.honest) holds c.touch.ensures.made in
+          let free : model.busy_read s None number ≡ None = sym (busy_read_is engine.locks s fits.locks_are None number) ∙ c.requires.may.free in
+          c.found.ensures ∙ ap found (c.shown.ensures.shown new fits.newest fits.records s.table s.commits holds ∙ sym (got_is mid new s fits_mid number c.requires.going.table less free));
+      does = λ s fits.
+          let holds = c.in-Ok.ensures.holds fits.newest fits.records s.table s.commits fits.holds in
+          does_of (omega arith) (touched_fits c.args.self.now c.touch.new.self old new s fits (stays_honest old new c.touch.ensures.works.calls.goes fits.honest) holds c.touch.ensures.made)
+          (keeps_answered (c.in-Ok.ensures.keeps fits.newest fits.records s.table s.commits fits.holds));
+      serves = search rules;
+      asks = asks_ok c.in-Ok.field-0 _ (one_touch (c.args.number / 32)) _ _ _ _ c.in-Ok.ensures.asks;
+    }
 
 pub returns-in-Err-clause-does : goal.returns-in-Err-clause-does
 returns-in-Err-clause-does g c s fits = does_of (omega arith) tt (keeps_failed (c.in-Err.ensures.keeps fits.newest fits.records s.table s.commits fits.holds))
-
-pub returns-in-Ok-clause-does : goal.returns-in-Ok-clause-does
-returns-in-Ok-clause-does g c s fits =
-    let old = g.S.Site.state c.args.site.now in
-    let new = g.S.Site.state c.touch.new.site in
-    let holds = c.in-Ok.ensures.holds fits.newest fits.records s.table s.commits fits.holds in
-    does_of (omega arith) (touched_fits c.args.self.now c.touch.new.self old new s fits (stays_honest old new c.touch.ensures.works.calls.goes fits.honest) holds c.touch.ensures.made)
-    (keeps_answered (c.in-Ok.ensures.keeps fits.newest fits.records s.table s.commits fits.holds))
-
-pub returns-in-Err-clause-serves : goal.returns-in-Err-clause-serves
-returns-in-Err-clause-serves g c = serves_of (works_failed c.in-Err.ensures.works) tt
-
-pub returns-in-Err-clause-asks : goal.returns-in-Err-clause-asks
-returns-in-Err-clause-asks g c = asks_err c.in-Err.stop (one_touch (c.args.number / 32)) _ _ _ _ c.in-Err.ensures.asks
-
-pub returns-in-Ok-clause-asks : goal.returns-in-Ok-clause-asks
-returns-in-Ok-clause-asks g c = asks_ok c.in-Ok.field-0 _ (one_touch (c.args.number / 32)) _ _ _ _ c.in-Ok.ensures.asks

@@ -1,7 +1,6 @@
-use Rattle.site.specs.declared.outside.Stop.TheVariants.{Memory}
 use Rattle.redo_undo.specs.Works.{one_touch}
-use Rattle.redo_undo.proofs.Asking.{asks_ok, asks_err, asks_fails}
-use Rattle.std.proofs.Common.{◌≡◌, ◌*◌, ◌<◌, None, Some, sym, ap, ◌∙◌, arith, ◌/◌}
+use Rattle.redo_undo.proofs.Asking.{asks_ok}
+use Rattle.std.proofs.Common.{◌≡◌, ◌*◌, ◌<◌, None, Some, sym, ap, ◌∙◌, arith, ◌/◌, rules}
 use Rattle.site.specs.declared.geometry.Geometry.{Geometry}
 use Rattle.site.specs.Laws.{stays_honest}
 use Rattle.record_model.specs.State as model
@@ -12,80 +11,57 @@ use Rattle.engine.proofs.Meanings.{busy_read_is, seen_is}
 use Rattle.engine.proofs.Replies.{has}
 use Rattle.engine.proofs.Writes.{read_fits, touched_fits}
 use Rattle.engine.proofs.Calling.{does_of, serves_of}
-use Rattle.redo_undo.proofs.StoreCalling.{keeps_failed, keeps_answered, keeps_no_memory, works_failed, works_answered, works_no_memory}
+use Rattle.redo_undo.proofs.StoreCalling.{keeps_failed, keeps_answered, keeps_no_memory, works_answered}
 use Rattle.engine.proofs.engine.Engine.carry_out_read.Goals as goal
 
-pub returns-in-Ok-add-clause-content : goal.returns-in-Ok-add-clause-content
-returns-in-Ok-add-clause-content g c s fits =
+pub returns-in-Ok-add : goal.returns-in-Ok-add
+returns-in-Ok-add g c =
     let engine = c.args.self.now in
     let old = g.S.Site.state c.args.site.now in
     let new = g.S.Site.state c.touch.new.site in
     let number = c.args.number in
-    let holds = c.in-Ok.ensures.holds fits.newest fits.records s.table s.commits fits.holds in
     let mid : Engine = record engine { store = c.touch.new.self } in
-    let fits_mid : Fits mid new s = touched_fits engine c.touch.new.self old new s fits (stays_honest old new c.touch.ensures.works.calls.goes fits.honest) holds c.touch.ensures.made in
-    let same = ap (λ (x : Geometry). x.pages) c.touch.ensures.works.sizes in
     let some = c.requires.may.shown.number in
-    let less : number < 32 * (sizes_of c.touch.new.self).pages = omega (arith, same, some) in
+    let less : number < 32 * (sizes_of c.touch.new.self).pages = omega (arith, ap (λ (x : Geometry). x.pages) c.touch.ensures.works.sizes, some) in
     let n = c.args.session in
     let own = has _ c.requires.may.active in
-    let free : model.busy_read s (Some n) number ≡ None = sym (busy_read_is engine.locks s fits.locks_are (Some n) number) ∙ c.requires.may.shown.free in
-    c.shown.ensures.shown new fits.newest fits.records s.table s.commits holds ∙ sym (seen_is mid new s fits_mid n number own.own c.requires.going.table less own.is free)
+    let going = c.requires.going in
+    let blocks = c.in-Ok.ensures.blocks in
+    let made = c.touch.ensures.made in
+    let rises = c.in-Ok.ensures.works.rises in
+    record {
+      content = λ s fits.
+          let holds = c.in-Ok.ensures.holds fits.newest fits.records s.table s.commits fits.holds in
+          let fits_mid : Fits mid new s = touched_fits engine c.touch.new.self old new s fits (stays_honest old new c.touch.ensures.works.calls.goes fits.honest) holds c.touch.ensures.made in
+          let free : model.busy_read s (Some n) number ≡ None = sym (busy_read_is engine.locks s fits.locks_are (Some n) number) ∙ c.requires.may.shown.free in
+          c.shown.ensures.shown new fits.newest fits.records s.table s.commits holds ∙ sym (seen_is mid new s fits_mid n number own.own c.requires.going.table less own.is free);
+      does = λ s fits.
+          let holds = c.in-Ok.ensures.holds fits.newest fits.records s.table s.commits fits.holds in
+          let fits_mid : Fits mid new s = touched_fits engine c.touch.new.self old new s fits (stays_honest old new c.touch.ensures.works.calls.goes fits.honest) holds c.touch.ensures.made in
+          does_of (omega arith) (read_fits mid c.add.new.self new s c.args.session number own.own fits_mid c.requires.going.table own.is c.in-Ok-add.ensures.ok)
+          (keeps_answered (c.in-Ok.ensures.keeps fits.newest fits.records s.table s.commits fits.holds));
+      serves =
+          serves_of (works_answered c.in-Ok.ensures.works) (record {
+            store = c.in-Ok.ensures.works.going;
+            going = going.going;
+            cap = going.cap ∙ ap (λ (x : Geometry). x.blocks) (sym c.touch.ensures.works.sizes);
+            table = going.table;
+            room = let room = going.room in omega (arith, blocks, room, c.touch.ensures.works.kept);
+            since = λ n entry at. let since = going.since n entry at in omega (arith, blocks, made, since);
+            bounded = let bounded = going.bounded in omega (arith, bounded, made);
+            budget = let budget = going.budget in omega (arith, budget, made);
+            commits = let commits = going.commits in omega (arith, commits, rises);
+            lasts = λ n entry at. let lasts = going.lasts n entry at in (lasts.0, omega (arith, lasts.1, rises));
+            differ = going.differ;
+          });
+      asks = asks_ok c.in-Ok.field-0 _ (one_touch (c.args.number / 32)) _ _ _ _ c.in-Ok.ensures.asks;
+      locks = search rules;
+      active = search rules;
+      kept = search rules;
+    }
 
 pub returns-in-Err-clause-does : goal.returns-in-Err-clause-does
 returns-in-Err-clause-does g c s fits = does_of (omega arith) tt (keeps_failed (c.in-Err.ensures.keeps fits.newest fits.records s.table s.commits fits.holds))
 
 pub returns-in-Err-add-clause-does : goal.returns-in-Err-add-clause-does
 returns-in-Err-add-clause-does g c s fits = does_of (omega arith) tt (keeps_no_memory fits.honest c.in-Ok.ensures.works (c.in-Ok.ensures.keeps fits.newest fits.records s.table s.commits fits.holds))
-
-pub returns-in-Ok-add-clause-does : goal.returns-in-Ok-add-clause-does
-returns-in-Ok-add-clause-does g c s fits =
-    let engine = c.args.self.now in
-    let old = g.S.Site.state c.args.site.now in
-    let new = g.S.Site.state c.touch.new.site in
-    let number = c.args.number in
-    let holds = c.in-Ok.ensures.holds fits.newest fits.records s.table s.commits fits.holds in
-    let mid : Engine = record engine { store = c.touch.new.self } in
-    let fits_mid : Fits mid new s = touched_fits engine c.touch.new.self old new s fits (stays_honest old new c.touch.ensures.works.calls.goes fits.honest) holds c.touch.ensures.made in
-    let same = ap (λ (x : Geometry). x.pages) c.touch.ensures.works.sizes in
-    let some = c.requires.may.shown.number in
-    let less : number < 32 * (sizes_of c.touch.new.self).pages = omega (arith, same, some) in
-    let own = has _ c.requires.may.active in
-    does_of (omega arith) (read_fits mid c.add.new.self new s c.args.session number own.own fits_mid c.requires.going.table own.is c.in-Ok-add.ensures.ok)
-    (keeps_answered (c.in-Ok.ensures.keeps fits.newest fits.records s.table s.commits fits.holds))
-
-pub returns-in-Err-clause-serves : goal.returns-in-Err-clause-serves
-returns-in-Err-clause-serves g c = serves_of (works_failed c.in-Err.ensures.works) tt
-
-pub returns-in-Err-add-clause-serves : goal.returns-in-Err-add-clause-serves
-returns-in-Err-add-clause-serves g c = serves_of (works_no_memory c.in-Ok.ensures.works) tt
-
-pub returns-in-Ok-add-clause-serves : goal.returns-in-Ok-add-clause-serves
-returns-in-Ok-add-clause-serves g c =
-    let going = c.requires.going in
-    let blocks = c.in-Ok.ensures.blocks in
-    let made = c.touch.ensures.made in
-    let kept = c.touch.ensures.works.kept in
-    let rises = c.in-Ok.ensures.works.rises in
-    serves_of (works_answered c.in-Ok.ensures.works) (record {
-      store = c.in-Ok.ensures.works.going;
-      going = going.going;
-      cap = going.cap ∙ ap (λ (x : Geometry). x.blocks) (sym c.touch.ensures.works.sizes);
-      table = going.table;
-      room = let room = going.room in omega (arith, blocks, room, kept);
-      since = λ n entry at. let since = going.since n entry at in omega (arith, blocks, made, since);
-      bounded = let bounded = going.bounded in omega (arith, bounded, made);
-      budget = let budget = going.budget in omega (arith, budget, made);
-      commits = let commits = going.commits in omega (arith, commits, rises);
-      lasts = λ n entry at. let lasts = going.lasts n entry at in (lasts.0, omega (arith, lasts.1, rises));
-      differ = going.differ;
-    })
-
-pub returns-in-Err-clause-asks : goal.returns-in-Err-clause-asks
-returns-in-Err-clause-asks g c = asks_err c.in-Err.stop (one_touch (c.args.number / 32)) _ _ _ _ c.in-Err.ensures.asks
-
-pub returns-in-Err-add-clause-asks : goal.returns-in-Err-add-clause-asks
-returns-in-Err-add-clause-asks g c = asks_fails c.in-Ok.field-0 Memory (one_touch (c.args.number / 32)) _ _ _ _ (λ is. cc) c.in-Ok.ensures.asks
-
-pub returns-in-Ok-add-clause-asks : goal.returns-in-Ok-add-clause-asks
-returns-in-Ok-add-clause-asks g c = asks_ok c.in-Ok.field-0 _ (one_touch (c.args.number / 32)) _ _ _ _ c.in-Ok.ensures.asks

@@ -63,57 +63,49 @@ loop-offset-preserved g c =
           (reads_more s c.args.session (number + offset) (range_with_len number offset) (omega (arith, eight, count)) ∙ ap (with_reads s c.args.session) (sym (range_more number offset)))
           (does_answered (does_then fits.honest refl (λ x p. p) (late_table inv.serves.sizes) inv.serves (inv.does s fits) (c.in-Ok.ensures.does (with_reads s c.args.session (range_with_len c.args.number c.loop-offset.offset)) (inv.does s fits).after_fits)));
       items = λ s fits.
-          let count = fits.sessions.count in
-          items_next s c.args.session number offset c.loop-offset.items c.add_item.new.items _ (omega (arith, eight, count)) (inv.items s fits)
+          items_next s c.args.session number offset c.loop-offset.items c.add_item.new.items _ (omega (arith, eight, fits.sessions.count)) (inv.items s fits)
           (c.in-Ok.ensures.content (with_reads s c.args.session (range_with_len number offset)) (inv.does s fits).after_fits) c.in-Ok-add_item.ensures.items;
       asks = scan_more tt (Ok tt) number offset _ _ _ old mid new inv.asks (asks_ok c.in-Ok.content tt _ _ _ _ _ c.in-Ok.ensures.asks);
     }
 
-pub returns-in-Err-clause-does : goal.returns-in-Err-clause-does
-returns-in-Err-clause-does g c s fits =
+pub returns-in-Err : goal.returns-in-Err
+returns-in-Err g c =
     let inv = c.loop-offset.invariant in
-    does_failed (omega arith) (does_then fits.honest refl (λ x p. p) (late_table inv.serves.sizes) inv.serves (inv.does s fits) (c.in-Err.ensures.does (with_reads s c.args.session (range_with_len c.args.number c.loop-offset.offset)) (inv.does s fits).after_fits))
+    record {
+      items = search rules;
+      does = λ s fits.
+          does_failed (omega arith) (does_then fits.honest refl (λ x p. p) (late_table inv.serves.sizes) inv.serves (inv.does s fits) (c.in-Err.ensures.does (with_reads s c.args.session (range_with_len c.args.number c.loop-offset.offset)) (inv.does s fits).after_fits));
+      serves = serves_failed (serves_then c.loop-offset.invariant.serves c.in-Err.ensures.serves);
+      asks =
+          scan_stops c.in-Err.stop c.args.number c.loop-offset.offset c.args.count _ _ _ _ (has_group c.requires.going) c.loop-offset-test.true
+          (scan_more tt _ c.args.number c.loop-offset.offset _ _ _ _ _ _ c.loop-offset.invariant.asks c.in-Err.ensures.asks);
+    }
 
-pub returns-in-Err-add_item-clause-does : goal.returns-in-Err-add_item-clause-does
-returns-in-Err-add_item-clause-does g c s fits =
+pub returns-in-Err-add_item : goal.returns-in-Err-add_item
+returns-in-Err-add_item g c =
     let inv = c.loop-offset.invariant in
-    does_no_memory c.in-Err-add_item.ensures.stops fits.honest (omega arith) (serves_then inv.serves c.in-Ok.ensures.serves)
-    (does_then fits.honest refl (λ x p. p) (late_table inv.serves.sizes) inv.serves (inv.does s fits) (c.in-Ok.ensures.does (with_reads s c.args.session (range_with_len c.args.number c.loop-offset.offset)) (inv.does s fits).after_fits))
+    record {
+      items = search rules;
+      does = λ s fits.
+          does_no_memory c.in-Err-add_item.ensures.stops fits.honest (omega arith) (serves_then inv.serves c.in-Ok.ensures.serves)
+          (does_then fits.honest refl (λ x p. p) (late_table inv.serves.sizes) inv.serves (inv.does s fits) (c.in-Ok.ensures.does (with_reads s c.args.session (range_with_len c.args.number c.loop-offset.offset)) (inv.does s fits).after_fits));
+      serves = serves_no_memory c.in-Err-add_item.ensures.stops (serves_then c.loop-offset.invariant.serves c.in-Ok.ensures.serves);
+      asks =
+          scan_stops c.in-Err-add_item.stop c.args.number c.loop-offset.offset c.args.count _ _ _ _ (has_group c.requires.going) c.loop-offset-test.true
+          (scan_more tt _ c.args.number c.loop-offset.offset _ _ _ _ _ _ c.loop-offset.invariant.asks
+          (asks_fails {B = Unit {0}} c.in-Ok.content c.in-Err-add_item.stop _ _ _ _ _ (memory_only c.in-Err-add_item.stop c.in-Err-add_item.ensures.stops) c.in-Ok.ensures.asks));
+    }
 
-pub returns-clause-does : goal.returns-clause-does
-returns-clause-does g c s fits =
+pub returns : goal.returns
+returns g c =
     let same : c.loop-offset.offset ≡ c.args.count = search rules in
     let old = g.S.Site.state c.args.site.now in
-    does_answered (subst (λ (k : ℕ). Does {T = Unit {0}} (Ok tt) c.args.self.now c.loop-offset.self old (g.S.Site.state c.loop-offset.site) s (with_reads s c.args.session (range_with_len c.args.number k)) (LeavesTable (sizes_of c.args.self.now.store) s.table s.commits old.told) 0) same (c.loop-offset.invariant.does s fits))
-
-pub returns-in-Err-clause-serves : goal.returns-in-Err-clause-serves
-returns-in-Err-clause-serves g c = serves_failed (serves_then c.loop-offset.invariant.serves c.in-Err.ensures.serves)
-
-pub returns-in-Err-add_item-clause-serves : goal.returns-in-Err-add_item-clause-serves
-returns-in-Err-add_item-clause-serves g c = serves_no_memory c.in-Err-add_item.ensures.stops (serves_then c.loop-offset.invariant.serves c.in-Ok.ensures.serves)
-
-pub returns-clause-serves : goal.returns-clause-serves
-returns-clause-serves g c = serves_answered c.loop-offset.invariant.serves
-
-pub returns-clause-items : goal.returns-clause-items
-returns-clause-items g c s fits =
-    let same : c.loop-offset.offset ≡ c.args.count = search rules in
-    c.loop-offset.invariant.items s fits ∙ ap (λ (k : ℕ). items_seen s c.args.session (range_with_len c.args.number k)) same
-
-pub returns-in-Err-clause-asks : goal.returns-in-Err-clause-asks
-returns-in-Err-clause-asks g c =
-    let inv = c.loop-offset.invariant in
-    scan_stops c.in-Err.stop c.args.number c.loop-offset.offset c.args.count _ _ _ _ (has_group c.requires.going) c.loop-offset-test.true
-    (scan_more tt _ c.args.number c.loop-offset.offset _ _ _ _ _ _ inv.asks c.in-Err.ensures.asks)
-
-pub returns-in-Err-add_item-clause-asks : goal.returns-in-Err-add_item-clause-asks
-returns-in-Err-add_item-clause-asks g c =
-    let inv = c.loop-offset.invariant in
-    scan_stops c.in-Err-add_item.stop c.args.number c.loop-offset.offset c.args.count _ _ _ _ (has_group c.requires.going) c.loop-offset-test.true
-    (scan_more tt _ c.args.number c.loop-offset.offset _ _ _ _ _ _ inv.asks
-    (asks_fails {B = Unit {0}} c.in-Ok.content c.in-Err-add_item.stop _ _ _ _ _ (memory_only c.in-Err-add_item.stop c.in-Err-add_item.ensures.stops) c.in-Ok.ensures.asks))
-
-pub returns-clause-asks : goal.returns-clause-asks
-returns-clause-asks g c =
-    let same : c.loop-offset.offset ≡ c.args.count = search rules in
-    asks_same _ _ _ _ _ _ _ (ap (λ (k : ℕ). map read_touch (range_with_len c.args.number k)) (sym same)) (asks_ok tt _ _ _ _ _ _ c.loop-offset.invariant.asks)
+    record {
+      items = λ s fits. c.loop-offset.invariant.items s fits ∙ ap (λ (k : ℕ). items_seen s c.args.session (range_with_len c.args.number k)) same;
+      does = λ s fits.
+          does_answered (subst (λ (k : ℕ). Does {T = Unit {0}} (Ok tt) c.args.self.now c.loop-offset.self old (g.S.Site.state c.loop-offset.site) s (with_reads s c.args.session (range_with_len c.args.number k)) (LeavesTable (sizes_of c.args.self.now.store) s.table s.commits old.told) 0) same (c.loop-offset.invariant.does s fits));
+      serves = serves_answered c.loop-offset.invariant.serves;
+      asks =
+          asks_same _ _ _ _ _ _ _ (ap (λ (k : ℕ). map read_touch (range_with_len c.args.number k)) (sym same))
+          (asks_ok tt _ _ _ _ _ _ c.loop-offset.invariant.asks);
+    }

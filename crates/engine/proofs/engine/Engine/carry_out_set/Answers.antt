@@ -10,8 +10,8 @@ use Rattle.engine.specs.Going.{sizes_of}
 use Rattle.engine.proofs.Settings.{may_commit_one, set_fits}
 use Rattle.engine.proofs.Apart.{AreApart}
 use Rattle.engine.proofs.Calling.{early, late_commit, serves_of, does_of}
-use Rattle.redo_undo.proofs.StoreCalling.{works_then, works_failed, keeps_then, keeps_weaker, keeps_failed}
-use Rattle.redo_undo.proofs.Asking.{asks_err, asks_then}
+use Rattle.redo_undo.proofs.StoreCalling.{works_then, keeps_then, keeps_weaker, keeps_failed}
+use Rattle.redo_undo.proofs.Asking.{asks_then}
 use Rattle.engine.proofs.engine.Engine.carry_out_set.Goals as goal
 
 pub returns-in-Err-clause-does : goal.returns-in-Err-clause-does
@@ -50,12 +50,6 @@ returns-in-Ok-seal_commit-clause-does g c s fits =
     (keeps_then fits.honest (early (sizes_of engine.store) s after old.told) (late_commit (sizes_of engine.store) (sizes_of one.store) old between s c.args.number c.args.after.now (writes_in c.in-Ok.txn w.log) c.log_set.ensures.works.sizes (sym w.active.writes_are))
     c.in-Ok.ensures.works (c.in-Ok.ensures.keeps s fits) (c.in-Ok-seal_commit.ensures.keeps fits.newest w.log s.table s.commits w.holds may))
 
-pub returns-in-Err-clause-serves : goal.returns-in-Err-clause-serves
-returns-in-Err-clause-serves g c = serves_of (works_failed c.in-Err.ensures.works) tt
-
-pub returns-in-Err-seal_commit-clause-serves : goal.returns-in-Err-seal_commit-clause-serves
-returns-in-Err-seal_commit-clause-serves g c = serves_of (works_then c.in-Ok.ensures.works c.in-Err-seal_commit.ensures.works) tt
-
 pub returns-in-Ok-seal_commit-clause-serves : goal.returns-in-Ok-seal_commit-clause-serves
 returns-in-Ok-seal_commit-clause-serves g c =
     let going = c.requires.going in
@@ -71,30 +65,21 @@ returns-in-Ok-seal_commit-clause-serves g c =
     let rises = c.in-Ok.ensures.works.rises in
     let rises_then = c.in-Ok-seal_commit.ensures.rises in
     let commits = ap (λ (x : Engine). x.commits) c.log_set.ensures.rest in
-    let commits_then = c.in-Ok-seal_commit.ensures.commits in
-    let commits_before = going.commits in
-    let kept = c.log_set.ensures.works.kept in
-    let kept_then = c.seal_commit.ensures.works.kept in
-    let below = going.store.blocks in
     let cap = going.cap in
-    let few = going.store.both.pages_going.flash.limits.few_blocks in
     let room = c.requires.may.room in
     serves_of (works_then c.in-Ok.ensures.works c.in-Ok-seal_commit.ensures.works) (record {
       store = c.in-Ok-seal_commit.ensures.works.going;
       going = ap (λ (x : Engine). x.ended) engine_is ∙ going.going;
       cap = ap (λ (n : ℕ). n + 1) cap_is ∙ cap ∙ ap (λ (x : Geometry). x.blocks) (sym (c.seal_commit.ensures.works.sizes ∙ c.log_set.ensures.works.sizes));
       table = subst IsTable (sym (ap (λ (x : Engine). x.active) engine_is)) going.table;
-      room = omega (arith, blocks, blocks_then, owed_is, cap_is, room, below, kept, kept_then);
+      room = omega (arith, blocks, blocks_then, owed_is, cap_is, room, going.store.blocks, c.log_set.ensures.works.kept, c.seal_commit.ensures.works.kept);
       since = λ m other at. let before = going.since m other (sym (ap (λ (x : Engine). entry_of x.active m) engine_is) ∙ at) in omega (arith, before, blocks, blocks_then, made, made_then);
-      bounded = omega (arith, made, made_then, owed_is, room, cap, few);
+      bounded = omega (arith, made, made_then, owed_is, room, cap, going.store.both.pages_going.flash.limits.few_blocks);
       budget = omega (arith, made, made_then, owed_is, room, cap_is);
-      commits = omega (arith, commits, commits_then, commits_before, rises, rises_then);
+      commits = omega (arith, commits, c.in-Ok-seal_commit.ensures.commits, going.commits, rises, rises_then);
       lasts = λ m other at. let before = going.lasts m other (sym (ap (λ (x : Engine). entry_of x.active m) engine_is) ∙ at) in (before.0, omega (arith, before.1, rises, rises_then));
       differ = subst AreApart (sym (ap (λ (x : Engine). x.active) engine_is)) going.differ;
     })
-
-pub returns-in-Err-clause-asks : goal.returns-in-Err-clause-asks
-returns-in-Err-clause-asks g c = asks_err c.in-Err.stop (one_change (c.args.number / 32)) _ _ _ _ c.in-Err.ensures.asks
 
 pub returns-in-Err-seal_commit-clause-asks : goal.returns-in-Err-seal_commit-clause-asks
 returns-in-Err-seal_commit-clause-asks g c = asks_then c.in-Ok.txn _ (one_change (c.args.number / 32)) [] _ _ _ _ _ _ c.in-Ok.ensures.asks c.in-Err-seal_commit.ensures.asks

@@ -1,6 +1,5 @@
-use Rattle.site.specs.declared.outside.Stop.TheVariants.{Memory, Worn}
-use Rattle.engine.proofs.Asking.{has_group, change_ok, memory_only}
-use Rattle.std.proofs.Common.{◌≡◌, ◌+◌, ◌*◌, ◌<◌, ◌≤◌, ⊎_elim, refl, sym, ap, subst, ◌∙◌, arith, ◌/◌}
+use Rattle.engine.proofs.Asking.{has_group, change_ok}
+use Rattle.std.proofs.Common.{◌≡◌, ◌+◌, ◌*◌, ◌<◌, ◌≤◌, ⊎_elim, refl, sym, ap, subst, ◌∙◌, arith, ◌/◌, rules}
 use Rattle.std.proofs.lemmas.Option.{same_Some}
 use Rattle.std.proofs.lemmas.Bool.{cases_eq}
 use Rattle.log_store.specs.Held.{end_of}
@@ -17,12 +16,10 @@ use Rattle.engine.proofs.Owing.{entry_is, owes}
 use Rattle.engine.proofs.Writes.{touched_fits, may_write, write_fits}
 use Rattle.engine.proofs.Apart.{below_wrote, apart_wrote}
 use Rattle.engine.proofs.Calling.{does_of, serves_of}
-use Rattle.redo_undo.proofs.StoreCalling.{works_then, works_failed, works_answered, works_no_memory, keeps_failed, keeps_answered, keeps_both, keeps_no_memory}
+use Rattle.redo_undo.proofs.StoreCalling.{works_then, works_answered, keeps_failed, keeps_answered, keeps_both, keeps_no_memory}
 use Rattle.std.specs.Prelude.{Err}
-use Rattle.redo_undo.proofs.AskingUndo.{change_stopped, change_made, never_worn}
-use Rattle.site.specs.declared.outside.Dev.TheVariants.{Flash}
-use Rattle.redo_undo.proofs.Asking.{stop_is}
-use Rattle.page_store.proofs.StagingLaws.{stages_none, stages_err, stages_ok}
+use Rattle.redo_undo.proofs.AskingUndo.{change_made, never_worn}
+use Rattle.page_store.proofs.StagingLaws.{stages_err, stages_ok}
 use Rattle.engine.proofs.engine.Engine.carry_out_write.Goals as goal
 
 pub add-requires : goal.add-requires
@@ -31,10 +28,7 @@ add-requires g c = (entry_is c.args.self.now.active c.args.entry.session c.args.
 pub wrote-requires-clause-room : goal.wrote-requires-clause-room
 wrote-requires-clause-room g c =
     let part = owes c.args.self.now.active c.args.entry.session c.args.entry c.requires.going.table c.requires.active in
-    let room = c.requires.may.room in
-    let cap = c.requires.going.cap in
-    let few = c.requires.going.store.both.pages_going.flash.limits.few_blocks in
-    omega (arith, part, room, cap, few)
+    omega (arith, part, c.requires.may.room, c.requires.going.cap, c.requires.going.store.both.pages_going.flash.limits.few_blocks)
 
 pub returns-in-Err-clause-does : goal.returns-in-Err-clause-does
 returns-in-Err-clause-does g c s fits = does_of (omega arith) tt (keeps_failed (c.in-Err.ensures.keeps fits.newest fits.records s.table s.commits fits.holds))
@@ -46,18 +40,15 @@ pub returns-in-Err-update-clause-does : goal.returns-in-Err-update-clause-does
 returns-in-Err-update-clause-does g c s fits =
     does_of (omega arith) tt (keeps_failed (keeps_both fits.honest c.in-Ok.ensures.works (c.in-Ok.ensures.keeps fits.newest fits.records s.table s.commits fits.holds) (c.in-Err-update.ensures.keeps fits.newest fits.records s.table s.commits (c.in-Ok.ensures.holds fits.newest fits.records s.table s.commits fits.holds))))
 
-pub returns-in-Ok-update-clause-does : goal.returns-in-Ok-update-clause-does
-returns-in-Ok-update-clause-does g c s fits =
+pub returns-in-Ok-update : goal.returns-in-Ok-update
+returns-in-Ok-update g c =
     let engine = c.args.self.now in
     let old = g.S.Site.state c.args.site.now in
     let new = g.S.Site.state c.touch.new.site in
     let number = c.args.number in
-    let holds = c.in-Ok.ensures.holds fits.newest fits.records s.table s.commits fits.holds in
     let mid : Engine = record engine { store = c.touch.new.self } in
-    let fits_mid : Fits mid new s = touched_fits engine c.touch.new.self old new s fits (stays_honest old new c.touch.ensures.works.calls.goes fits.honest) holds c.touch.ensures.made in
     let same = ap (λ (x : Geometry). x.pages) c.touch.ensures.works.sizes in
-    let some = c.requires.may.number in
-    let less : number < 32 * (sizes_of c.touch.new.self).pages = omega (arith, same, some) in
+    let less : number < 32 * (sizes_of c.touch.new.self).pages = omega (arith, same, c.requires.may.number) in
     let entry = c.args.entry in
     let going = c.requires.going in
     let last = g.S.Site.state c.update.new.site in
@@ -69,73 +60,51 @@ returns-in-Ok-update-clause-does g c s fits =
     let count = ap (λ (x : Geometry). x.blocks) c.touch.ensures.works.sizes in
     let cap = going.cap in
     let room = c.requires.may.room in
-    let may = may_write mid new s fits_mid entry number lsn after going.table c.requires.active less c.requires.may.free (omega (arith, made, room)) (let kept = c.touch.ensures.works.kept in omega (arith, blocks, few, made, kept)) (omega (arith, cap, count)) in
-    does_of (omega arith)
-    (write_fits mid _ new last s entry number lsn (shown_in c.touch.new.self new fits.records number) after fits_mid going.table c.requires.active
-    (stays_honest old last (goes_in_sequence old new last c.touch.ensures.works.calls.goes c.update.ensures.works.calls.goes) fits.honest)
-    (c.in-Ok-update.ensures.holds fits.newest fits.records s.table s.commits holds may)
-    c.in-Ok-update.ensures.works.made refl refl c.in-Ok-add.ensures.ok c.wrote.ensures.entry c.wrote.ensures.owed)
-    (keeps_answered (keeps_both fits.honest c.in-Ok.ensures.works (c.in-Ok.ensures.keeps fits.newest fits.records s.table s.commits fits.holds) (c.in-Ok-update.ensures.keeps fits.newest fits.records s.table s.commits (c.in-Ok.ensures.holds fits.newest fits.records s.table s.commits fits.holds))))
-
-pub returns-in-Err-clause-serves : goal.returns-in-Err-clause-serves
-returns-in-Err-clause-serves g c = serves_of (works_failed c.in-Err.ensures.works) tt
-
-pub returns-in-Err-add-clause-serves : goal.returns-in-Err-add-clause-serves
-returns-in-Err-add-clause-serves g c = serves_of (works_no_memory c.in-Ok.ensures.works) tt
-
-pub returns-in-Err-update-clause-serves : goal.returns-in-Err-update-clause-serves
-returns-in-Err-update-clause-serves g c = serves_of (works_failed (works_then c.in-Ok.ensures.works c.in-Err-update.ensures.works)) tt
-
-pub returns-in-Ok-update-clause-serves : goal.returns-in-Ok-update-clause-serves
-returns-in-Ok-update-clause-serves g c =
-    let going = c.requires.going in
     let n = c.args.entry.session in
     let changes = c.wrote.ensures.entry in
     let touched = c.in-Ok.ensures.works.rises in
     let rises = c.in-Ok-update.ensures.rises in
-    let same = c.in-Ok.ensures.blocks in
-    let blocks = c.in-Ok-update.ensures.works.blocks in
     let made_before = c.touch.ensures.made in
-    let made = c.in-Ok-update.ensures.works.made in
     let owed_is = c.wrote.ensures.owed in
-    let room = c.requires.may.room in
-    let below = going.store.blocks in
-    let cap = going.cap in
-    let few = going.store.both.pages_going.flash.limits.few_blocks in
-    let commits = going.commits in
-    let kept_before = c.touch.ensures.works.kept in
-    let kept = c.update.ensures.works.kept in
-    serves_of (works_answered (works_then c.in-Ok.ensures.works c.in-Ok-update.ensures.works)) (record {
-      store = c.in-Ok-update.ensures.works.going;
-      going = going.going;
-      cap = cap ∙ ap (λ (x : Geometry). x.blocks) (sym (c.update.ensures.works.sizes ∙ c.touch.ensures.works.sizes));
-      table = c.wrote.ensures.table;
-      room = omega (arith, blocks, same, owed_is, room, below, kept, kept_before);
-      since = λ m other at. ⊎_elim
-          (λ (equal : m ≡ n).
-          let is = same_Some _ other (sym changes.own ∙ ap (entry_of c.wrote.new.active) (sym equal) ∙ at) in
-          let before = going.since n c.args.entry c.requires.active in
-          subst (λ (x : Active). blocks_to c.update.new.self.log + x.born ≤ x.begin / 512 + c.update.new.self.made) is (omega (arith, before, blocks, same, made, made_before)))
-          (λ differ. let before = going.since m other (sym (changes.others m differ) ∙ at) in omega (arith, before, blocks, same, made, made_before))
-          (cases_eq m n);
-      bounded = omega (arith, made, made_before, owed_is, room, cap, few);
-      budget = omega (arith, made, made_before, owed_is, room);
-      commits = let later = rises.0 in let last = rises.1 in omega (arith, touched, later, last, commits);
-      lasts = below_wrote c.args.self.now.active c.wrote.new.active n (end_of c.args.self.now.store.log) (end_of c.update.new.self.log) _ c.args.entry going.lasts c.requires.active changes (omega (arith, touched, rises.0)) rises.1;
-      differ = apart_wrote c.args.self.now.active c.wrote.new.active n _ c.args.entry going.differ c.requires.active changes;
-    })
-
-pub returns-in-Err-clause-asks : goal.returns-in-Err-clause-asks
-returns-in-Err-clause-asks g c = change_stopped c.in-Err.stop (c.args.number / 32) _ _ _ _ (has_group c.requires.going) c.in-Err.ensures.asks
-
-pub returns-in-Err-add-clause-asks : goal.returns-in-Err-add-clause-asks
-returns-in-Err-add-clause-asks g c =
-    change_made c.in-Ok.field-0 (Err Memory) (c.args.number / 32) _ _ _ _ _ _ (has_group c.requires.going) c.touch_then_change.ensures c.in-Ok.ensures.asks tt refl (λ dev. refl) (λ is. memory_only Memory refl (stop_is Memory (Worn Flash) is)) (stages_none (omega arith) refl)
+    record {
+      done = search rules;
+      does = λ s fits.
+          let holds = c.in-Ok.ensures.holds fits.newest fits.records s.table s.commits fits.holds in
+          let fits_mid : Fits mid new s = touched_fits engine c.touch.new.self old new s fits (stays_honest old new c.touch.ensures.works.calls.goes fits.honest) holds c.touch.ensures.made in
+          let may = may_write mid new s fits_mid entry number lsn after going.table c.requires.active less c.requires.may.free (omega (arith, made, room)) (let kept = c.touch.ensures.works.kept in omega (arith, blocks, few, made, kept)) (omega (arith, cap, count)) in
+          does_of (omega arith)
+          (write_fits mid _ new last s entry number lsn (shown_in c.touch.new.self new fits.records number) after fits_mid going.table c.requires.active
+          (stays_honest old last (goes_in_sequence old new last c.touch.ensures.works.calls.goes c.update.ensures.works.calls.goes) fits.honest)
+          (c.in-Ok-update.ensures.holds fits.newest fits.records s.table s.commits holds may)
+          c.in-Ok-update.ensures.works.made refl refl c.in-Ok-add.ensures.ok c.wrote.ensures.entry c.wrote.ensures.owed)
+          (keeps_answered (keeps_both fits.honest c.in-Ok.ensures.works (c.in-Ok.ensures.keeps fits.newest fits.records s.table s.commits fits.holds) (c.in-Ok-update.ensures.keeps fits.newest fits.records s.table s.commits (c.in-Ok.ensures.holds fits.newest fits.records s.table s.commits fits.holds))));
+      serves =
+          let same = c.in-Ok.ensures.blocks in
+          let blocks = c.in-Ok-update.ensures.works.blocks in
+          let made = c.in-Ok-update.ensures.works.made in
+          serves_of (works_answered (works_then c.in-Ok.ensures.works c.in-Ok-update.ensures.works)) (record {
+            store = c.in-Ok-update.ensures.works.going;
+            going = going.going;
+            cap = going.cap ∙ ap (λ (x : Geometry). x.blocks) (sym (c.update.ensures.works.sizes ∙ c.touch.ensures.works.sizes));
+            table = c.wrote.ensures.table;
+            room = omega (arith, blocks, same, owed_is, room, going.store.blocks, c.update.ensures.works.kept, c.touch.ensures.works.kept);
+            since = λ m other at. ⊎_elim
+                (λ (equal : m ≡ n).
+                let is = same_Some _ other (sym changes.own ∙ ap (entry_of c.wrote.new.active) (sym equal) ∙ at) in
+                let before = going.since n c.args.entry c.requires.active in
+                subst (λ (x : Active). blocks_to c.update.new.self.log + x.born ≤ x.begin / 512 + c.update.new.self.made) is (omega (arith, before, blocks, same, made, made_before)))
+                (λ differ. let before = going.since m other (sym (changes.others m differ) ∙ at) in omega (arith, before, blocks, same, made, made_before))
+                (cases_eq m n);
+            bounded = omega (arith, made, made_before, owed_is, room, going.cap, going.store.both.pages_going.flash.limits.few_blocks);
+            budget = omega (arith, made, made_before, owed_is, room);
+            commits = let later = rises.0 in let last = rises.1 in omega (arith, touched, later, last, going.commits);
+            lasts = below_wrote c.args.self.now.active c.wrote.new.active n (end_of c.args.self.now.store.log) (end_of c.update.new.self.log) _ c.args.entry going.lasts c.requires.active changes (omega (arith, touched, rises.0)) rises.1;
+            differ = apart_wrote c.args.self.now.active c.wrote.new.active n _ c.args.entry going.differ c.requires.active changes;
+          });
+      asks =
+          change_ok c.in-Ok.field-0 _ (c.args.number / 32) _ _ _ _ _ _ (has_group c.requires.going) c.touch_then_change.ensures c.in-Ok.ensures.asks c.in-Ok-update.ensures.machine c.update.ensures.rules_stay c.update.ensures.reads (stages_ok c.in-Ok-update.ensures.stages);
+    }
 
 pub returns-in-Err-update-clause-asks : goal.returns-in-Err-update-clause-asks
 returns-in-Err-update-clause-asks g c =
     change_made c.in-Ok.field-0 (Err c.in-Err-update.stop) (c.args.number / 32) _ _ _ _ _ _ (has_group c.requires.going) c.touch_then_change.ensures c.in-Ok.ensures.asks tt c.update.ensures.rules_stay c.update.ensures.reads (never_worn (Err c.in-Err-update.stop) c.in-Err-update.ensures.stops) (stages_err c.in-Err-update.ensures.stages)
-
-pub returns-in-Ok-update-clause-asks : goal.returns-in-Ok-update-clause-asks
-returns-in-Ok-update-clause-asks g c =
-    change_ok c.in-Ok.field-0 _ (c.args.number / 32) _ _ _ _ _ _ (has_group c.requires.going) c.touch_then_change.ensures c.in-Ok.ensures.asks c.in-Ok-update.ensures.machine c.update.ensures.rules_stay c.update.ensures.reads (stages_ok c.in-Ok-update.ensures.stages)

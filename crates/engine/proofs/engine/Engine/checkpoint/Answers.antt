@@ -1,6 +1,6 @@
 use Rattle.std.proofs.Common.{refl, arith}
 use Rattle.redo_undo.proofs.Asking.{asks_ok, asks_err}
-use Rattle.engine.proofs.Calling.{does_answered, does_failed, serves_answered, serves_failed}
+use Rattle.engine.proofs.Calling.{does_answered, does_failed}
 use Rattle.engine.proofs.engine.Engine.checkpoint.Goals as goal
 
 pub returns-in-Ok-clause-answers : goal.returns-in-Ok-clause-answers
@@ -8,9 +8,3 @@ returns-in-Ok-clause-answers g c s fits = record { reply = refl; asks = asks_ok 
 
 pub returns-in-Err-clause-answers : goal.returns-in-Err-clause-answers
 returns-in-Err-clause-answers g c s fits = record { reply = tt; asks = asks_err c.in-Err.stop _ _ _ _ _ c.in-Err.ensures.asks; does = does_failed (omega arith) (c.in-Err.ensures.does s fits) }
-
-pub returns-in-Ok-clause-serves : goal.returns-in-Ok-clause-serves
-returns-in-Ok-clause-serves g c = serves_answered c.in-Ok.ensures.serves
-
-pub returns-in-Err-clause-serves : goal.returns-in-Err-clause-serves
-returns-in-Err-clause-serves g c = serves_failed c.in-Err.ensures.serves

@@ -5,15 +5,22 @@ use Rattle.engine.specs.Fits.{checkpointed_if}
 use Rattle.engine.specs.Leaves.{LeavesTable}
 use Rattle.engine.specs.Calls.{Does}
 use Rattle.redo_undo.specs.Works.{Asks, checkpoint_works}
-use Rattle.engine.proofs.Calling.{does_nothing, does_answered, does_failed, serves_nothing, serves_answered, serves_ended, still, asks_rest}
+use Rattle.engine.proofs.Calling.{does_nothing, does_answered, does_failed, serves_nothing, still, asks_rest}
 use Rattle.engine.proofs.engine.Engine.checkpoint_if.Goals as goal
 
-pub returns-then-not-wanted-clause-does : goal.returns-then-not-wanted-clause-does
-returns-then-not-wanted-clause-does g c s fits =
+pub returns-then-not-wanted : goal.returns-then-not-wanted
+returns-then-not-wanted g c =
     let is : c.args.wanted ≡ false = search rules in
     let old = g.S.Site.state c.args.site.now in
-    subst (λ (b : Bool). Does {T = Unit {0}} (Ok tt) c.args.self.now c.args.self.now old old s (checkpointed_if b s) (LeavesTable (sizes_of c.args.self.now.store) s.table s.commits old.told) (if b then 1 else 0)) (sym is)
-    (does_nothing fits c.requires.going (still c.hold_together.ensures.moment fits c.requires.going))
+    let pages = c.args.self.now.store.pages in
+    record {
+      does = λ s fits.
+          subst (λ (b : Bool). Does {T = Unit {0}} (Ok tt) c.args.self.now c.args.self.now old old s (checkpointed_if b s) (LeavesTable (sizes_of c.args.self.now.store) s.table s.commits old.told) (if b then 1 else 0)) (sym is)
+          (does_nothing fits c.requires.going (still c.hold_together.ensures.moment fits c.requires.going));
+      serves = serves_nothing c.requires.going;
+      ended = search rules;
+      asks = subst (λ (b : Bool). Asks {T = Unit {0}} (Ok tt) (if b then checkpoint_works else []) pages pages old old) (sym is) asks_rest;
+    }
 
 pub returns-in-Ok-clause-does : goal.returns-in-Ok-clause-does
 returns-in-Ok-clause-does g c s fits =
@@ -28,19 +35,3 @@ returns-in-Err-clause-does g c s fits =
     let old = g.S.Site.state c.args.site.now in
     subst (λ (b : Bool). Does {T = Unit {0}} (Err c.in-Err.stop) c.args.self.now (record c.carry_out_checkpoint.new.self { ended = true }) old (g.S.Site.state c.carry_out_checkpoint.new.site) s (checkpointed_if b s) (LeavesTable (sizes_of c.args.self.now.store) s.table s.commits old.told) (if b then 1 else 0)) (sym is)
     (does_failed (omega arith) (c.in-Err.ensures.does s fits))
-
-pub returns-then-not-wanted-clause-serves : goal.returns-then-not-wanted-clause-serves
-returns-then-not-wanted-clause-serves g c = serves_nothing c.requires.going
-
-pub returns-in-Ok-clause-serves : goal.returns-in-Ok-clause-serves
-returns-in-Ok-clause-serves g c = serves_answered c.in-Ok.ensures.serves
-
-pub returns-in-Err-clause-serves : goal.returns-in-Err-clause-serves
-returns-in-Err-clause-serves g c = serves_ended true c.in-Err.ensures.serves
-
-pub returns-then-not-wanted-clause-asks : goal.returns-then-not-wanted-clause-asks
-returns-then-not-wanted-clause-asks g c =
-    let is : c.args.wanted ≡ false = search rules in
-    let pages = c.args.self.now.store.pages in
-    let old = g.S.Site.state c.args.site.now in
-    subst (λ (b : Bool). Asks {T = Unit {0}} (Ok tt) (if b then checkpoint_works else []) pages pages old old) (sym is) asks_rest

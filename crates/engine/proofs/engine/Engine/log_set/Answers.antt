@@ -1,9 +1,9 @@
 use Rattle.redo_undo.specs.Works.{one_change}
 use Rattle.engine.proofs.Asking.{has_group, store_has_group, change_ok}
-use Rattle.std.proofs.Common.{◌++◌, ◌∷◌, [], ◌∙◌, arith, ◌/◌}
+use Rattle.std.proofs.Common.{◌++◌, ◌∷◌, [], ◌∙◌, arith, ◌/◌, rules}
 use Rattle.record_model.specs.State.{Content}
 use Rattle.redo_undo.specs.Stores.{shown_in}
-use Rattle.redo_undo.proofs.StoreCalling.{works_then, works_before, works_stopped, works_answered, keeps_both, keeps_before, keeps_answered}
+use Rattle.redo_undo.proofs.StoreCalling.{works_then, works_answered, keeps_both, keeps_before, keeps_answered}
 use Rattle.engine.proofs.Settings.{begin_at, may_begin, may_update, one_write}
 use Rattle.redo_undo.proofs.Asking.{asks_then, asks_stopped}
 use Rattle.std.specs.Prelude.{Err}
@@ -11,72 +11,13 @@ use Rattle.redo_undo.proofs.AskingUndo.{change_stopped, change_made, never_worn}
 use Rattle.page_store.proofs.StagingLaws.{stages_err, stages_ok}
 use Rattle.engine.proofs.engine.Engine.log_set.Goals as goal
 
-pub returns-in-Err-clause-works : goal.returns-in-Err-clause-works
-returns-in-Err-clause-works g c = works_before c.in-Err.ensures.works
-
-pub returns-in-Err-touch-clause-works : goal.returns-in-Err-touch-clause-works
-returns-in-Err-touch-clause-works g c = works_stopped c.in-Ok.ensures.works c.in-Err-touch.ensures.works
-
-pub returns-in-Err-update-clause-works : goal.returns-in-Err-update-clause-works
-returns-in-Err-update-clause-works g c = works_stopped (works_then c.in-Ok.ensures.works c.in-Ok-touch.ensures.works) c.in-Err-update.ensures.works
-
-pub returns-in-Ok-update-clause-works : goal.returns-in-Ok-update-clause-works
-returns-in-Ok-update-clause-works g c = works_then (works_then c.in-Ok.ensures.works c.in-Ok-touch.ensures.works) (works_answered c.in-Ok-update.ensures.works)
-
-pub returns-in-Err-clause-keeps : goal.returns-in-Err-clause-keeps
-returns-in-Err-clause-keeps g c s fits = keeps_before (omega arith) (c.in-Err.ensures.keeps fits.newest fits.records s.table s.commits fits.holds)
-
-pub returns-in-Err-touch-clause-keeps : goal.returns-in-Err-touch-clause-keeps
-returns-in-Err-touch-clause-keeps g c s fits =
-    let engine = c.args.self.now in
-    let old = g.S.Site.state c.args.site.now in
+pub returns-in-Ok-update : goal.returns-in-Ok-update
+returns-in-Ok-update g c =
     let going = c.requires.going in
     let room = c.requires.may.room in
     let behind = c.in-Ok.ensures.rises.0 in
-    let log = fits.records ++ begin_at c.in-Ok.txn ∷ [] in
-    let may = may_begin engine old s fits c.in-Ok.txn behind (omega (arith, room)) going.store.blocks going.cap in
-    let holds = c.in-Ok.ensures.holds fits.newest fits.records s.table s.commits fits.holds may in
-    keeps_before (omega arith) (keeps_both fits.honest c.in-Ok.ensures.works (c.in-Ok.ensures.keeps fits.newest fits.records s.table s.commits fits.holds) (c.in-Err-touch.ensures.keeps fits.newest log s.table s.commits holds))
-
-pub returns-in-Err-update-clause-keeps : goal.returns-in-Err-update-clause-keeps
-returns-in-Err-update-clause-keeps g c s fits =
     let engine = c.args.self.now in
     let old = g.S.Site.state c.args.site.now in
-    let going = c.requires.going in
-    let room = c.requires.may.room in
-    let behind = c.in-Ok.ensures.rises.0 in
-    let log = fits.records ++ begin_at c.in-Ok.txn ∷ [] in
-    let may = may_begin engine old s fits c.in-Ok.txn behind (omega (arith, room)) going.store.blocks going.cap in
-    let holds = c.in-Ok.ensures.holds fits.newest fits.records s.table s.commits fits.holds may in
-    let held = c.in-Ok-touch.ensures.holds fits.newest log s.table s.commits holds in
-    let touched = keeps_both fits.honest c.in-Ok.ensures.works (c.in-Ok.ensures.keeps fits.newest fits.records s.table s.commits fits.holds) (c.in-Ok-touch.ensures.keeps fits.newest log s.table s.commits holds) in
-    keeps_before (omega arith) (keeps_both fits.honest (works_then c.in-Ok.ensures.works c.in-Ok-touch.ensures.works) touched (c.in-Err-update.ensures.keeps fits.newest log s.table s.commits held))
-
-pub returns-in-Ok-update-clause-keeps : goal.returns-in-Ok-update-clause-keeps
-returns-in-Ok-update-clause-keeps g c s fits =
-    let engine = c.args.self.now in
-    let old = g.S.Site.state c.args.site.now in
-    let going = c.requires.going in
-    let room = c.requires.may.room in
-    let behind = c.in-Ok.ensures.rises.0 in
-    let log = fits.records ++ begin_at c.in-Ok.txn ∷ [] in
-    let may = may_begin engine old s fits c.in-Ok.txn behind (omega (arith, room)) going.store.blocks going.cap in
-    let holds = c.in-Ok.ensures.holds fits.newest fits.records s.table s.commits fits.holds may in
-    let held = c.in-Ok-touch.ensures.holds fits.newest log s.table s.commits holds in
-    let touched = keeps_both fits.honest c.in-Ok.ensures.works (c.in-Ok.ensures.keeps fits.newest fits.records s.table s.commits fits.holds) (c.in-Ok-touch.ensures.keeps fits.newest log s.table s.commits holds) in
-    keeps_both fits.honest (works_then c.in-Ok.ensures.works c.in-Ok-touch.ensures.works) touched (keeps_answered (c.in-Ok-update.ensures.keeps fits.newest log s.table s.commits held))
-
-pub returns-in-Ok-update-clause-logged : goal.returns-in-Ok-update-clause-logged
-returns-in-Ok-update-clause-logged g c s fits =
-    let engine = c.args.self.now in
-    let old = g.S.Site.state c.args.site.now in
-    let going = c.requires.going in
-    let room = c.requires.may.room in
-    let behind = c.in-Ok.ensures.rises.0 in
-    let log = fits.records ++ begin_at c.in-Ok.txn ∷ [] in
-    let may = may_begin engine old s fits c.in-Ok.txn behind (omega (arith, room)) going.store.blocks going.cap in
-    let holds = c.in-Ok.ensures.holds fits.newest fits.records s.table s.commits fits.holds may in
-    let held = c.in-Ok-touch.ensures.holds fits.newest log s.table s.commits holds in
     let two = g.S.Site.state c.touch.new.site in
     let txn = c.in-Ok.txn in
     let number = c.args.number in
@@ -84,10 +25,53 @@ returns-in-Ok-update-clause-logged g c s fits =
     let lsn = c.in-Ok-update.field-0 in
     let blocks = c.in-Ok.ensures.works.blocks in
     let same = c.in-Ok-touch.ensures.blocks in
-    let before : Content = shown_in c.touch.new.self two log number in
-    let may = may_update engine old s number fits going.table c.requires.may.number c.requires.may.room going.store.blocks going.cap c.requires.may.free txn behind c.touch.new.self two lsn after (c.touch.ensures.works.sizes ∙ c.begin.ensures.works.sizes) (c.touch.ensures.works.kept ∙ c.begin.ensures.works.kept) (omega (arith, blocks, same)) in
-    one_write engine old s number fits going.table c.requires.may.number c.requires.may.room going.store.blocks going.cap c.requires.may.free txn behind c.update.new.self (g.S.Site.state c.update.new.site) lsn before after
-    (c.in-Ok-update.ensures.holds fits.newest log s.table s.commits held may)
+    record {
+      logged = λ s fits.
+          let log = fits.records ++ begin_at c.in-Ok.txn ∷ [] in
+          let may = may_begin engine old s fits c.in-Ok.txn behind (omega (arith, c.requires.may.room)) going.store.blocks going.cap in
+          let holds = c.in-Ok.ensures.holds fits.newest fits.records s.table s.commits fits.holds may in
+          let before : Content = shown_in c.touch.new.self two log number in
+          let may = may_update engine old s number fits going.table c.requires.may.number c.requires.may.room going.store.blocks going.cap c.requires.may.free txn behind c.touch.new.self two lsn after (c.touch.ensures.works.sizes ∙ c.begin.ensures.works.sizes) (c.touch.ensures.works.kept ∙ c.begin.ensures.works.kept) (omega (arith, blocks, same)) in
+          one_write engine old s number fits going.table c.requires.may.number c.requires.may.room going.store.blocks going.cap c.requires.may.free txn behind c.update.new.self (g.S.Site.state c.update.new.site) lsn before after
+          (c.in-Ok-update.ensures.holds fits.newest log s.table s.commits (c.in-Ok-touch.ensures.holds fits.newest log s.table s.commits holds) may);
+      keeps = λ s fits.
+          let log = fits.records ++ begin_at c.in-Ok.txn ∷ [] in
+          let may = may_begin c.args.self.now (g.S.Site.state c.args.site.now) s fits c.in-Ok.txn behind (omega (arith, room)) going.store.blocks going.cap in
+          let holds = c.in-Ok.ensures.holds fits.newest fits.records s.table s.commits fits.holds may in
+          let held = c.in-Ok-touch.ensures.holds fits.newest log s.table s.commits holds in
+          let touched = keeps_both fits.honest c.in-Ok.ensures.works (c.in-Ok.ensures.keeps fits.newest fits.records s.table s.commits fits.holds) (c.in-Ok-touch.ensures.keeps fits.newest log s.table s.commits holds) in
+          keeps_both fits.honest (works_then c.in-Ok.ensures.works c.in-Ok-touch.ensures.works) touched (keeps_answered (c.in-Ok-update.ensures.keeps fits.newest log s.table s.commits held));
+      works = works_then (works_then c.in-Ok.ensures.works c.in-Ok-touch.ensures.works) (works_answered c.in-Ok-update.ensures.works);
+      rest = search rules;
+      asks =
+          asks_then c.in-Ok.txn _ [] (one_change (c.args.number / 32)) _ _ _ _ _ _ c.in-Ok.ensures.asks
+          (change_ok c.in-Ok-touch.field-0 _ (c.args.number / 32) _ _ _ _ _ _ (store_has_group c.in-Ok.ensures.works.going) c.touch_then_change.ensures c.in-Ok-touch.ensures.asks c.in-Ok-update.ensures.machine c.update.ensures.rules_stay c.update.ensures.reads (stages_ok c.in-Ok-update.ensures.stages));
+    }
+
+pub returns-in-Err-clause-keeps : goal.returns-in-Err-clause-keeps
+returns-in-Err-clause-keeps g c s fits = keeps_before (omega arith) (c.in-Err.ensures.keeps fits.newest fits.records s.table s.commits fits.holds)
+
+pub returns-in-Err-touch-clause-keeps : goal.returns-in-Err-touch-clause-keeps
+returns-in-Err-touch-clause-keeps g c s fits =
+    let going = c.requires.going in
+    let room = c.requires.may.room in
+    let behind = c.in-Ok.ensures.rises.0 in
+    let log = fits.records ++ begin_at c.in-Ok.txn ∷ [] in
+    let may = may_begin c.args.self.now (g.S.Site.state c.args.site.now) s fits c.in-Ok.txn behind (omega (arith, room)) going.store.blocks going.cap in
+    let holds = c.in-Ok.ensures.holds fits.newest fits.records s.table s.commits fits.holds may in
+    keeps_before (omega arith) (keeps_both fits.honest c.in-Ok.ensures.works (c.in-Ok.ensures.keeps fits.newest fits.records s.table s.commits fits.holds) (c.in-Err-touch.ensures.keeps fits.newest log s.table s.commits holds))
+
+pub returns-in-Err-update-clause-keeps : goal.returns-in-Err-update-clause-keeps
+returns-in-Err-update-clause-keeps g c s fits =
+    let going = c.requires.going in
+    let room = c.requires.may.room in
+    let behind = c.in-Ok.ensures.rises.0 in
+    let log = fits.records ++ begin_at c.in-Ok.txn ∷ [] in
+    let may = may_begin c.args.self.now (g.S.Site.state c.args.site.now) s fits c.in-Ok.txn behind (omega (arith, room)) going.store.blocks going.cap in
+    let holds = c.in-Ok.ensures.holds fits.newest fits.records s.table s.commits fits.holds may in
+    let held = c.in-Ok-touch.ensures.holds fits.newest log s.table s.commits holds in
+    let touched = keeps_both fits.honest c.in-Ok.ensures.works (c.in-Ok.ensures.keeps fits.newest fits.records s.table s.commits fits.holds) (c.in-Ok-touch.ensures.keeps fits.newest log s.table s.commits holds) in
+    keeps_before (omega arith) (keeps_both fits.honest (works_then c.in-Ok.ensures.works c.in-Ok-touch.ensures.works) touched (c.in-Err-update.ensures.keeps fits.newest log s.table s.commits held))
 
 pub returns-in-Err-clause-asks : goal.returns-in-Err-clause-asks
 returns-in-Err-clause-asks g c =
@@ -102,8 +86,3 @@ pub returns-in-Err-update-clause-asks : goal.returns-in-Err-update-clause-asks
 returns-in-Err-update-clause-asks g c =
     asks_then c.in-Ok.txn _ [] (one_change (c.args.number / 32)) _ _ _ _ _ _ c.in-Ok.ensures.asks
     (change_made c.in-Ok-touch.field-0 (Err c.in-Err-update.stop) (c.args.number / 32) _ _ _ _ _ _ (store_has_group c.in-Ok.ensures.works.going) c.touch_then_change.ensures c.in-Ok-touch.ensures.asks tt c.update.ensures.rules_stay c.update.ensures.reads (never_worn (Err c.in-Err-update.stop) c.in-Err-update.ensures.stops) (stages_err c.in-Err-update.ensures.stages))
-
-pub returns-in-Ok-update-clause-asks : goal.returns-in-Ok-update-clause-asks
-returns-in-Ok-update-clause-asks g c =
-    asks_then c.in-Ok.txn _ [] (one_change (c.args.number / 32)) _ _ _ _ _ _ c.in-Ok.ensures.asks
-    (change_ok c.in-Ok-touch.field-0 _ (c.args.number / 32) _ _ _ _ _ _ (store_has_group c.in-Ok.ensures.works.going) c.touch_then_change.ensures c.in-Ok-touch.ensures.asks c.in-Ok-update.ensures.machine c.update.ensures.rules_stay c.update.ensures.reads (stages_ok c.in-Ok-update.ensures.stages))

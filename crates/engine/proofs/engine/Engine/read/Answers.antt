@@ -1,8 +1,7 @@
-use Rattle.std.proofs.Common.{refl, ap, ◌∙◌, arith, true}
+use Rattle.std.proofs.Common.{refl, ap, ◌∙◌, arith}
 use Rattle.record_model.specs.Step.{found}
-use Rattle.site.proofs.Working.{err_again}
 use Rattle.redo_undo.proofs.Asking.{asks_ok, asks_err}
-use Rattle.engine.proofs.Calling.{answered, does_nothing, does_answered, does_failed, asks_rest, still, serves_answered, serves_ended}
+use Rattle.engine.proofs.Calling.{answered, does_nothing, does_answered, does_failed, asks_rest, still}
 use Rattle.engine.proofs.engine.Engine.read.Goals as goal
 
 pub returns-in-Some-clause-answers : goal.returns-in-Some-clause-answers
@@ -16,12 +15,3 @@ returns-in-Ok-clause-answers g c s fits =
 pub returns-in-Err-clause-answers : goal.returns-in-Err-clause-answers
 returns-in-Err-clause-answers g c s fits =
     answered (c.in_default.ensures.accepted s (g.S.Site.state c.args.site.now) fits) (does_failed (omega arith) (c.in-Err.ensures.does s fits)) tt (asks_err c.in-Err.stop _ _ _ _ _ c.in-Err.ensures.asks)
-
-pub returns-in-Ok-clause-serves : goal.returns-in-Ok-clause-serves
-returns-in-Ok-clause-serves g c = serves_answered c.in-Ok.ensures.serves
-
-pub returns-in-Err-clause-serves : goal.returns-in-Err-clause-serves
-returns-in-Err-clause-serves g c = serves_ended true c.in-Err.ensures.serves
-
-pub returns-in-Err-clause-worn_flash : goal.returns-in-Err-clause-worn_flash
-returns-in-Err-clause-worn_flash g c is = c.in-Err.ensures.asks.worn (err_again _ _ is)

@@ -23,47 +23,38 @@ returns-clause-may c =
 
 pub returns-in_default-clause-refused : goal.returns-in_default-clause-refused
 returns-in_default-clause-refused c s site fits =
-    let engine = c.args.self.now in
-    let n = c.args.session in
     let last = c.args.number + c.args.count - 1 in
     let big : 2 ^ 32 ≤ c.args.number + c.args.count = search rules in
-    let active = is_active engine site s n fits (search rules) in
-    let lacks = lacks_record engine site s last fits (past_all (sizes_of engine.store) c.requires.going.1.store.both.pages_going.flash.limits last (omega (arith, big))) in
-    refused s (Scan n c.args.number c.args.count) _ (λ i. first_refusal (active i ∷ lacks i ∷ map (may_read s (Some n)) (range_with_len c.args.number c.args.count)))
+    let active = is_active c.args.session fits (search rules) in
+    let lacks = lacks_record last fits (past_all (sizes_of c.args.self.now.store) c.requires.going.1.store.both.pages_going.flash.limits last (omega (arith, big))) in
+    refused s (Scan c.args.session c.args.number c.args.count) _ (λ i. first_refusal (active i ∷ lacks i ∷ map (may_read s (Some c.args.session)) (range_with_len c.args.number c.args.count)))
 
 pub returns-then-lacks-clause-refused : goal.returns-then-lacks-clause-refused
 returns-then-lacks-clause-refused c s site fits =
-    let engine = c.args.self.now in
-    let n = c.args.session in
-    let last = c.args.number + c.args.count - 1 in
     let end : c.in-Some.end ≡ c.args.number + c.args.count = search rules in
-    let past : 32 * (sizes_of engine.store).pages ≤ c.in-Some.end - 1 = search rules in
-    let active = is_active engine site s n fits (search rules) in
-    let lacks = lacks_record engine site s last fits (omega (arith, end, past)) in
-    refused s (Scan n c.args.number c.args.count) _ (λ i. first_refusal (active i ∷ lacks i ∷ map (may_read s (Some n)) (range_with_len c.args.number c.args.count)))
+    let past : 32 * (sizes_of c.args.self.now.store).pages ≤ c.in-Some.end - 1 = search rules in
+    let active = is_active c.args.session fits (search rules) in
+    let lacks = lacks_record (c.args.number + c.args.count - 1) fits (omega (arith, end, past)) in
+    refused s (Scan c.args.session c.args.number c.args.count) _ (λ i. first_refusal (active i ∷ lacks i ∷ map (may_read s (Some c.args.session)) (range_with_len c.args.number c.args.count)))
 
 pub returns-in-Some-first_busy-clause-refused : goal.returns-in-Some-first_busy-clause-refused
 returns-in-Some-first_busy-clause-refused c s site fits =
-    let engine = c.args.self.now in
-    let n = c.args.session in
-    let last = c.args.number + c.args.count - 1 in
     let end : c.in-Some.end ≡ c.args.number + c.args.count = search rules in
-    let below : c.in-Some.end - 1 < 32 * (sizes_of engine.store).pages = search rules in
-    let active = is_active engine site s n fits (search rules) in
-    let there = has_record engine site s last fits (omega (arith, end, below)) in
+    let below : c.in-Some.end - 1 < 32 * (sizes_of c.args.self.now.store).pages = search rules in
+    let active = is_active c.args.session fits (search rules) in
+    let there = has_record (c.args.number + c.args.count - 1) fits (omega (arith, end, below)) in
     let numbers = range_with_len c.args.number c.args.count in
-    let busy : first_refusal (map (may_read s (Some n)) numbers) ≡ Some c.in-Some-first_busy.busy = sym (busy_is engine.locks s fits.locks_are n numbers) ∙ sym c.first_busy.ensures ∙ c.in-Some-first_busy.is in
-    refused s (Scan n c.args.number c.args.count) _ ((λ i. first_refusal (active i ∷ there i ∷ map (may_read s (Some n)) numbers)) ∙ busy)
+    let busy : first_refusal (map (may_read s (Some c.args.session)) numbers) ≡ Some c.in-Some-first_busy.busy = sym (busy_is c.args.self.now.locks s fits.locks_are c.args.session numbers) ∙ sym c.first_busy.ensures ∙ c.in-Some-first_busy.is in
+    refused s (Scan c.args.session c.args.number c.args.count) _
+    ((λ i. first_refusal (active i ∷ there i ∷ map (may_read s (Some c.args.session)) numbers)) ∙ busy)
 
 pub returns-clause-accepted : goal.returns-clause-accepted
 returns-clause-accepted c s site fits =
-    let engine = c.args.self.now in
-    let n = c.args.session in
-    let last = c.args.number + c.args.count - 1 in
     let end : c.in-Some.end ≡ c.args.number + c.args.count = search rules in
-    let below : c.in-Some.end - 1 < 32 * (sizes_of engine.store).pages = search rules in
-    let active = is_active engine site s n fits (search rules) in
-    let there = has_record engine site s last fits (omega (arith, end, below)) in
+    let below : c.in-Some.end - 1 < 32 * (sizes_of c.args.self.now.store).pages = search rules in
+    let active = is_active c.args.session fits (search rules) in
+    let there = has_record (c.args.number + c.args.count - 1) fits (omega (arith, end, below)) in
     let numbers = range_with_len c.args.number c.args.count in
-    let free : first_refusal (map (may_read s (Some n)) numbers) ≡ None = sym (busy_is engine.locks s fits.locks_are n numbers) ∙ sym c.first_busy.ensures ∙ c.in_default-first_busy.is in
-    carried_out s (Scan n c.args.number c.args.count) ((λ i. first_refusal (active i ∷ there i ∷ map (may_read s (Some n)) numbers)) ∙ free) refl
+    let free : first_refusal (map (may_read s (Some c.args.session)) numbers) ≡ None = sym (busy_is c.args.self.now.locks s fits.locks_are c.args.session numbers) ∙ sym c.first_busy.ensures ∙ c.in_default-first_busy.is in
+    carried_out s (Scan c.args.session c.args.number c.args.count)
+    ((λ i. first_refusal (active i ∷ there i ∷ map (may_read s (Some c.args.session)) numbers)) ∙ free) refl

@@ -8,19 +8,15 @@ use Rattle.engine.specs.Leaves.{LeavesEither}
 use Rattle.site.proofs.Working.{err_again}
 use Rattle.engine.proofs.Asking.{has_group}
 use Rattle.engine.proofs.Firsts.{overflows_before}
-use Rattle.engine.proofs.Calling.{first_then, first_failed, early, late_either, serves_then}
+use Rattle.engine.proofs.Calling.{first_then, first_failed, early, late_either}
 use Rattle.engine.proofs.engine.Engine.set.Goals as goal
 
 pub returns-in-Ok-clause-answers : goal.returns-in-Ok-clause-answers
 returns-in-Ok-clause-answers g c s fits =
     let old = g.S.Site.state c.args.site.now in
-    let wanted = c.wants_checkpoint_to_set-wanted.result in
     first_then (Set c.args.number c.args.value.now) (c.wants_checkpoint_to_set-wanted.ensures s old fits) (λ o. LeavesEither (sizes_of c.args.self.now.store) s o.after old.told) fits.honest
     (early (sizes_of c.args.self.now.store) s _ old.told) (late_either refl refl c.in-Ok.ensures.serves.sizes) c.in-Ok.ensures.serves (c.in-Ok.ensures.does s fits) c.in-Ok.ensures.asks
-    (c.set_now.ensures.answers (checkpointed_if wanted s) (c.in-Ok.ensures.does s fits).after_fits)
-
-pub returns-in-Ok-clause-serves : goal.returns-in-Ok-clause-serves
-returns-in-Ok-clause-serves g c = serves_then c.in-Ok.ensures.serves c.set_now.ensures.serves
+    (c.set_now.ensures.answers (checkpointed_if c.wants_checkpoint_to_set-wanted.result s) (c.in-Ok.ensures.does s fits).after_fits)
 
 pub returns-in-Err-clause-answers : goal.returns-in-Err-clause-answers
 returns-in-Err-clause-answers g c s fits =

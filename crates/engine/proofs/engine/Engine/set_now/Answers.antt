@@ -9,7 +9,6 @@ use Rattle.engine.specs.declared.engine.Engine.{Engine}
 use Rattle.engine.specs.Going.{sizes_of}
 use Rattle.engine.specs.Leaves.{LeavesEither}
 use Rattle.engine.specs.Calls.{Does}
-use Rattle.site.proofs.Working.{err_again}
 use Rattle.engine.proofs.Calling.{answered_as, does_nothing, does_weaker, does_failed, asks_rest, early, still}
 use Rattle.engine.proofs.engine.Engine.set_now.Goals as goal
 
@@ -36,6 +35,3 @@ pub returns-in-Err-clause-answers : goal.returns-in-Err-clause-answers
 returns-in-Err-clause-answers g c s fits =
     answered_as (λ o. LeavesEither (sizes_of c.args.self.now.store) s o.after (g.S.Site.state c.args.site.now).told) (c.in_default.ensures.accepted s (g.S.Site.state c.args.site.now) fits)
     (does_failed (omega arith) (written c.args.number c.value_of-after.ensures (c.in-Err.ensures.does s fits))) tt c.in-Err.ensures.asks
-
-pub returns-in-Err-clause-worn_flash : goal.returns-in-Err-clause-worn_flash
-returns-in-Err-clause-worn_flash g c is = c.in-Err.ensures.asks.worn (err_again _ _ is)

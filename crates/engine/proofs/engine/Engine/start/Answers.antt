@@ -1,11 +1,10 @@
-use Rattle.engine.proofs.Asking.{from_other, from_other_err, from_other_fails, memory_only}
+use Rattle.engine.proofs.Asking.{from_other, from_other_fails, memory_only}
 use Rattle.std.proofs.Common.{◌∙◌, refl, ap, rules}
 use Rattle.site.specs.Laws.{stays_honest}
 use Rattle.site.specs.declared.geometry.Geometry.{Geometry}
-use Rattle.engine.proofs.Calling.{calls_no_memory, ends_failed, ends_answered, ends_no_memory}
+use Rattle.engine.proofs.Calling.{ends_failed, ends_answered, ends_no_memory}
 use Rattle.engine.proofs.Starts.{started}
 use Rattle.engine.proofs.RingCounts.{restart_again, restart_stopped, restart_answered}
-use Rattle.site.proofs.Working.{calls_failed, calls_answered}
 use Rattle.engine.proofs.engine.Engine.start.Goals as goal
 
 pub returns-clause-opens : goal.returns-clause-opens
@@ -25,32 +24,11 @@ returns-in-Err-new-clause-ends g c honest k table commits stands = ends_no_memor
 pub returns-clause-ends : goal.returns-clause-ends
 returns-clause-ends g c honest k table commits stands = ends_answered (c.in-Ok.ensures.ends honest k table commits stands)
 
-pub returns-in-Err-clause-calls : goal.returns-in-Err-clause-calls
-returns-in-Err-clause-calls g c = calls_failed c.in-Err.ensures.restarts.calls
-
-pub returns-in-Err-new-clause-calls : goal.returns-in-Err-new-clause-calls
-returns-in-Err-new-clause-calls g c = calls_no_memory c.in-Err-new.ensures.memory c.in-Ok.ensures.restarts.calls
-
-pub returns-clause-calls : goal.returns-clause-calls
-returns-clause-calls g c = calls_answered c.in-Ok.ensures.restarts.calls
-
-pub returns-in-Err-clause-asks : goal.returns-in-Err-clause-asks
-returns-in-Err-clause-asks g c honest k newest blocks sound = from_other_err c.in-Err.stop _ _ _ _ _ _ _ _ (c.in-Err.ensures.asks honest k newest blocks sound)
-
 pub returns-in-Err-new-clause-asks : goal.returns-in-Err-new-clause-asks
 returns-in-Err-new-clause-asks g c honest k newest blocks sound = from_other_fails c.in-Ok.restarted c.in-Err-new.stop _ _ _ _ _ _ _ _ (memory_only c.in-Err-new.stop c.in-Err-new.ensures.memory) (c.in-Ok.ensures.asks honest k newest blocks sound)
 
 pub returns-clause-asks : goal.returns-clause-asks
 returns-clause-asks g c honest k newest blocks sound = from_other c.in-Ok.restarted _ _ _ _ _ _ _ _ _ refl (c.in-Ok.ensures.asks honest k newest blocks sound)
-
-pub returns-in-Err-clause-writes : goal.returns-in-Err-clause-writes
-returns-in-Err-clause-writes g c = c.in-Err.ensures.writes
-
-pub returns-in-Err-new-clause-writes : goal.returns-in-Err-new-clause-writes
-returns-in-Err-new-clause-writes g c = c.in-Ok.ensures.writes
-
-pub returns-clause-writes : goal.returns-clause-writes
-returns-clause-writes g c = c.in-Ok.ensures.writes
 
 pub returns-in-Err-clause-numbers : goal.returns-in-Err-clause-numbers
 returns-in-Err-clause-numbers g c honest quiet k newest blocks sound = restart_again c.in-Err.stop _ _ k _ _ _ (c.in-Err.ensures.numbers honest quiet k newest blocks sound)

@@ -8,8 +8,7 @@ use Rattle.engine.proofs.engine.Engine.stat.Goals as goal
 pub returns : goal.returns
 returns c s site fits =
     let engine = c.args.self.now in
-    let made = fits.counts.made in
-    let used_is : engine.store.made ≡ used s = omega (arith, made) in
+    let used_is : engine.store.made ≡ used s = omega (arith, fits.counts.made) in
     let owed_is = c.owed.ensures ∙ owed_same engine site s fits c.len.ensures.table in
     let active_is = c.len.ensures.len ∙ active_same engine site s fits c.len.ensures.table in
     λ i. reply.Stat (record { commits = fits.counts.commits i; used = used_is i; owed = owed_is i; cap = fits.counts.cap i; active = active_is i })

@@ -1,7 +1,6 @@
 use Rattle.std.proofs.Common.{subst, sym, Some, ap, ◌∙◌, refl, arith, ℕ}
 use Rattle.engine.specs.Permits.{MayWrite}
 use Rattle.txn_table.specs.Entries.{entry_of}
-use Rattle.site.proofs.Working.{err_again}
 use Rattle.engine.proofs.Owing.{entry_is}
 use Rattle.engine.proofs.Calling.{answered, written, does_nothing, does_failed, asks_rest, still}
 use Rattle.engine.proofs.engine.Engine.write.Goals as goal
@@ -29,6 +28,3 @@ pub returns-in-Err-clause-answers : goal.returns-in-Err-clause-answers
 returns-in-Err-clause-answers g c s fits =
     answered (c.in_default.ensures.accepted s (g.S.Site.state c.args.site.now) fits)
     (does_failed (omega arith) (written c.args.number (entry_is c.args.self.now.active c.args.session c.entry-entry.result c.requires.going.table c.entry-entry.ensures).session c.value_of-after.ensures (c.in-Err.ensures.does s fits))) tt c.in-Err.ensures.asks
-
-pub returns-in-Err-clause-worn_flash : goal.returns-in-Err-clause-worn_flash
-returns-in-Err-clause-worn_flash g c is = c.in-Err.ensures.asks.worn (err_again _ _ is)

@@ -31,9 +31,6 @@ returns-in-Ok-clause-disk_reads g c =
     let queue = ap {B = ℕ} (λ (k : Cache). if has_frame k.queue c.args.page then 0 else 1) c.in-Ok.ensures.machine in
     omega (arith, c.make_room.ensures.pushes.others Disk (λ same. cc), c.read_in.ensures.reads.disk_reads, queue)
 
-pub returns-in-Err-clause-keeps : goal.returns-in-Err-clause-keeps
-returns-in-Err-clause-keeps g c = c.in-Err.ensures.keeps
-
 pub returns-in-Ok-clause-works : goal.returns-in-Ok-clause-works
 returns-in-Ok-clause-works g c =
     let first = c.in-Ok.ensures.pushes.works in
@@ -84,9 +81,6 @@ returns-in-Ok-clause-stands g c list ready =
       reaches = subst (λ (i : Image). Reaches store.flash.geometry changes old.image i) (sym same.image) stands.reaches;
     })
     (read.fits fits) (c.read_in.ensures.current fits) c.read_in.ensures.put (c.read_in.ensures.read fits)
-
-pub returns-in-Err-clause-stages : goal.returns-in-Err-clause-stages
-returns-in-Err-clause-stages g c = c.in-Err.ensures.stages
 
 pub returns-in-Ok-clause-stages : goal.returns-in-Ok-clause-stages
 returns-in-Ok-clause-stages g c =

@@ -11,8 +11,7 @@ use Rattle.page_store.proofs.store.PageStore.clear_all.Goals as goal
 pub clear_changed-requires : goal.clear_changed-requires
 clear_changed-requires c =
     let page = get_or c.args.pages.now c.loop-page.page-index 0 in
-    let frames = ap (λ (s : PageStore). s.pool.frames) c.loop-page.invariant.cleared in
-    subst (λ (l : List Frame). IsSome (frame_of l page)) (sym frames)
+    subst (λ (l : List Frame). IsSome (frame_of l page)) (sym (ap (λ (s : PageStore). s.pool.frames) c.loop-page.invariant.cleared))
     (still_there c.frames_of_pages.ensures.cleared (take c.loop-page.page-index c.args.pages.now) c.args.self.now.pool.frames page (c.requires.there c.loop-page.page-index 0 c.loop-page-test.true))
 
 pub loop-page-preserved : goal.loop-page-preserved

@@ -1,4 +1,4 @@
-use Rattle.std.proofs.Common.{rules, ◌+◌, ◌≡◌, true, false, ◌&&◌, [], length, cond, arith, sym, ap, refl, ◌∙◌}
+use Rattle.std.proofs.Common.{rules, ◌+◌, ◌≡◌, true, false, ◌&&◌, [], length, cond, arith, ap, refl, ◌∙◌}
 use Rattle.std.specs.Prelude.{nat_le}
 use Rattle.std.proofs.lemmas.Bool.Decides.{nat_tests}
 use Rattle.site.proofs.Working.{ok_as}
@@ -6,11 +6,15 @@ use Rattle.page_store.specs.Caching.{cache_of, is_pushed}
 use Rattle.page_store.specs.Ahead.{forces, evicted, pushed_for_room}
 use Rattle.page_store.specs.Changing.{eviction_changes, room_changes}
 use Rattle.page_store.specs.Calls.{Stands}
+use Rattle.site.specs.State.{Image}
+use Rattle.log_store.specs.LogList.{LogList}
 use Rattle.page_store.proofs.Evictions.{not_forced}
-use Rattle.page_store.proofs.Calling.{pushes_as, stops_as, keeps_as, stands_as, keeps_nothing, stands_still}
+use Rattle.page_store.proofs.Calling.{keeps_as, stands_as, keeps_nothing, stands_still}
 use Rattle.page_store.proofs.StagingLaws.{stages_none, stages_as}
 use Rattle.page_store.specs.Caching.{rules as rules_for, next_group}
 use Rattle.page_store.specs.Staging.{staged_by_eviction}
+use Rattle.page_store.proofs.store.PageStore.make_room.Given.{Over}
+use Rattle.page_store.proofs.store.PageStore.make_room.Goals.{After-evict}
 use Rattle.page_store.proofs.store.PageStore.make_room.Goals as goal
 
 pub returns-then-not-is_full-clause-keeps : goal.returns-then-not-is_full-clause-keeps
@@ -23,46 +27,36 @@ returns-then-not-is_full-clause-stands g c list ready =
     let is : nat_le store.pool.size (length store.pool.frames) ≡ false = search rules in
     stands_still c.requires.going.sizes refl (ap (λ b. forces log (cond b (evicted store) [])) is ∙ not_forced log) (ap (λ b. cond b (eviction_changes log list store (g.S.Site.state c.args.site.now).image) []) is) ready ready (search rules) (λ logged. logged)
 
+-- the pool is full
+
+module _ (g : Over) (c : After-evict g) where
+  is_full : true ≡ nat_le c.args.self.now.pool.size (length c.args.self.now.pool.frames)
+  is_full = let full : length c.args.self.now.pool.frames ≡ c.args.self.now.pool.size = c.is_full.ensures.full.0 c.if-not-is_full.false in grind
+      (arith, nat_tests)
+
+  all_forced : forces c.args.log.now (evicted c.args.self.now) ≡ forces c.args.log.now (pushed_for_room c.args.self.now)
+  all_forced = ap (λ b. forces c.args.log.now (cond b (evicted c.args.self.now) [])) is_full
+
+  all_changes : (list : LogList) (image : Image) → eviction_changes c.args.log.now list c.args.self.now image ≡ room_changes c.args.log.now list
+      c.args.self.now image
+  all_changes list image = ap (λ b. cond b (eviction_changes c.args.log.now list c.args.self.now image) []) is_full
+
 pub returns-clause-keeps : goal.returns-clause-keeps
-returns-clause-keeps g c list ready =
-    let store = c.args.self.now in
-    let log = c.args.log.now in
-    let full : length store.pool.frames ≡ store.pool.size = c.is_full.ensures.full.0 c.if-not-is_full.false in
-    let is : nat_le store.pool.size (length store.pool.frames) ≡ true = grind (arith, nat_tests) in
-    keeps_as (sym (ap (λ b. forces log (cond b (evicted store) [])) is)) (sym (ap (λ b. cond b (eviction_changes log list store (g.S.Site.state c.args.site.now).image) []) is)) (c.evict.ensures.keeps list ready)
+returns-clause-keeps g c list ready = keeps_as (all_forced g c) (all_changes g c list (g.S.Site.state c.args.site.now).image) (c.evict.ensures.keeps list ready)
 
 pub returns-clause-stands : goal.returns-clause-stands
 returns-clause-stands g c list ready =
     let store = c.args.self.now in
     let log = c.args.log.now in
-    let full : length store.pool.frames ≡ store.pool.size = c.is_full.ensures.full.0 c.if-not-is_full.false in
-    let is : nat_le store.pool.size (length store.pool.frames) ≡ true = grind (arith, nat_tests) in
-    ok_as c.evict.result _ (Stands log c.evict.new.log store c.evict.new.self (g.S.Site.state c.args.site.now) (g.S.Site.state c.evict.new.site) list (forces log (pushed_for_room store)) (room_changes log list store (g.S.Site.state c.args.site.now).image))
-    (λ stands. stands_as (sym (ap (λ b. forces log (cond b (evicted store) [])) is)) (sym (ap (λ b. cond b (eviction_changes log list store (g.S.Site.state c.args.site.now).image) []) is)) stands) (c.evict.ensures.stands list ready)
-
-pub returns-clause-pushes : goal.returns-clause-pushes
-returns-clause-pushes g c =
-    let store = c.args.self.now in
-    let log = c.args.log.now in
-    let full : length store.pool.frames ≡ store.pool.size = c.is_full.ensures.full.0 c.if-not-is_full.false in
-    let is : nat_le store.pool.size (length store.pool.frames) ≡ true = grind (arith, nat_tests) in
-    pushes_as (sym (ap (λ b. forces log (cond b (evicted store) [])) is)) c.evict.ensures.pushes
-
-pub returns-clause-worn : goal.returns-clause-worn
-returns-clause-worn g c =
-    let store = c.args.self.now in
-    let log = c.args.log.now in
-    let full : length store.pool.frames ≡ store.pool.size = c.is_full.ensures.full.0 c.if-not-is_full.false in
-    let is : nat_le store.pool.size (length store.pool.frames) ≡ true = grind (arith, nat_tests) in
-    stops_as (sym (ap (λ b. forces log (cond b (evicted store) [])) is)) (sym (ap (λ b. b && is_pushed (cache_of store)) is)) c.evict.ensures.worn
+    let old = g.S.Site.state c.args.site.now in
+    ok_as c.evict.result _ (Stands log c.evict.new.log store c.evict.new.self old (g.S.Site.state c.evict.new.site) list (forces log (pushed_for_room store)) (room_changes log list store old.image))
+    (stands_as (all_forced g c) (all_changes g c list old.image)) (c.evict.ensures.stands list ready)
 
 pub returns-then-not-is_full-clause-stages : goal.returns-then-not-is_full-clause-stages
 returns-then-not-is_full-clause-stages g c = stages_none (omega arith) refl
 
 pub returns-clause-stages : goal.returns-clause-stages
 returns-clause-stages g c =
-    let store = c.args.self.now in
-    let full : length store.pool.frames ≡ store.pool.size = c.is_full.ensures.full.0 c.if-not-is_full.false in
-    let is : nat_le store.pool.size (length store.pool.frames) ≡ true = grind (arith, nat_tests) in
-    stages_as (sym (ap (λ b. cond b (staged_by_eviction (rules_for store) (cache_of store)) []) is))
-    (sym (ap (λ b. next_group (cache_of store) + (cond (b && is_pushed (cache_of store)) 1 0)) is)) c.evict.ensures.stages
+    let cache = cache_of c.args.self.now in
+    stages_as (ap (λ b. cond b (staged_by_eviction (rules_for c.args.self.now) cache) []) (is_full g c))
+    (ap (λ b. next_group cache + (cond (b && is_pushed cache) 1 0)) (is_full g c)) c.evict.ensures.stages

@@ -15,16 +15,15 @@ no_frame = record { page = 0; changed = false; content = [] }
 
 pub unreachable-requires : goal.unreachable-requires
 unreachable-requires c =
-    let store = c.args.self.now in
     let k = c.loop-place.place in
-    let xs : List Frame = pulled store in
+    let xs : List Frame = pulled c.args.self.now in
     let count : length c.args.pages.now ≡ length xs = ap length c.requires.pages ∙ length-map xs page_of in
     let less : k < length xs = omega (arith, c.loop-place-test.true, c.len-place-end.ensures.len, count) in
     let at : slice_get (map page_of xs) k ≡ Some c.at-page.result = ap (λ (l : List ℕ). slice_get l k) (sym c.requires.pages) ∙ c.at-page.ensures in
     none-some (get_or xs k no_frame) (
     sym c.in_default.ensures.none
     ∙ ap (λ (s : PageStore). frame_of s.pool.frames c.at-page.result) c.loop-place.invariant.kept
-    ∙ next_pulled c.frames_of_pages.ensures.without store c.requires.store k no_frame less c.at-page.result at
+    ∙ next_pulled c.frames_of_pages.ensures.without c.args.self.now c.requires.store k no_frame less c.at-page.result at
     )
 
 pub returns-in_err-push-clause-part : goal.returns-in_err-push-clause-part
@@ -48,8 +47,7 @@ loop-place-preserved c =
     let count : length c.args.pages.now ≡ length xs = ap length c.requires.pages ∙ length-map xs page_of in
     let less : k < length xs = omega (arith, c.loop-place-test.true, c.len-place-end.ensures.len, count) in
     let at : slice_get ps k ≡ Some page = ap (λ (l : List ℕ). slice_get l k) (sym c.requires.pages) ∙ c.at-page.ensures in
-    let law = c.frames_of_pages.ensures.without in
-    let next = next_pulled law store c.requires.store k no_frame less page at in
+    let next = next_pulled c.frames_of_pages.ensures.without store c.requires.store k no_frame less page at in
     let taken : frame_of c.loop-place.self.pool.frames page ≡ Some (record { page = page; changed = c.in-Some.changed; content = c.in-Some.content }) = c.in-Some.ensures.some in
     let f : Frame = record { page = page; changed = c.in-Some.changed; content = c.in-Some.content } in
     let both : Some f ≡ Some (get_or xs k no_frame) =
@@ -73,7 +71,3 @@ loop-place-preserved c =
       where
         one : (a b : ℕ) → Some a ≡ Some b → a ≡ b
         one a b same = cc
-
-pub returns-clause-part : goal.returns-clause-part
-returns-clause-part c =
-    record { pages = take c.loop-place.place (map page_of (pulled c.args.self.now)); left = ap (λ (s : PageStore). s.pool.frames) c.loop-place.invariant.kept }

@@ -1,11 +1,12 @@
 use Rattle.std.specs.Prelude.{Ok}
-use Rattle.std.proofs.Common.{rules, refl, [], length, ◌≡◌, ◌++◌, ◌<◌, ◌+◌, ◌*◌, ℕ, Bool, arith, sym, ap, ◌∙◌, subst, List}
+use Rattle.std.specs.List.{AllByRecursion}
+use Rattle.std.proofs.Common.{rules, refl, [], length, ◌≡◌, ◌++◌, ◌+◌, ◌*◌, ℕ, Bool, arith, sym, ap, ◌∙◌, subst, List}
 use Rattle.site.specs.declared.outside.Dev.TheVariants.{Log, Flash}
 use Rattle.site.specs.declared.geometry.Geometry.{Geometry}
 use Rattle.site.specs.State.{IsQuiet, snapshot_of}
 use Rattle.site.specs.Moments.{Leaves, LeavesOnly}
 use Rattle.site.specs.Laws.{leaves_weaker, in_sequence, quiet_settled, holds_now}
-use Rattle.log_store.specs.LogList.{sealed_if, changes_if}
+use Rattle.log_store.specs.LogList.{LogList, sealed_if, changes_if}
 use Rattle.flash_cache.specs.Pushed.{pushed_groups, frames_pushed, changes_of_group}
 use Rattle.slotted_page.specs.Layout.{IsSound}
 use Rattle.flash_cache.specs.Kept.{GivesVersions}
@@ -15,14 +16,14 @@ use Rattle.image_changes.specs.Reached.{LeavesFront}
 use Rattle.page_store.specs.declared.store.PageStore.{PageStore}
 use Rattle.page_store.specs.Ahead.{LeavesSealed, sealed_end, forces}
 use Rattle.page_store.specs.Calls.{StandsGiven}
-use Rattle.page_store.specs.Leaves.{LeavesPages, LeavesRings}
+use Rattle.page_store.specs.Leaves.{AreReady, LeavesPages, LeavesRings}
 use Rattle.page_store.specs.Stopping.{IsLogAtEnd}
 use Rattle.second_chance.specs.Queue.{Queue}
 use Rattle.page_store.proofs.Rings.{sealing_keeps, sound_pushed, pushing_keeps, rings_front}
 use Rattle.page_store.proofs.PushLaws.{version_same, group_changes_since, kept_where, masters_kept, own_sealing, force_leaves, force_sealed, between, Pushed, pushed, pushed_now, pushed_pages, push_leaves, pushed_sealed, reached_all, clean_given_same, gives_since, ok_under, ok_six, fits_behind, log_fits, log_found, log_units_same}
 use Rattle.page_store.specs.Changing.{given_changes}
 use Rattle.page_store.proofs.Changing.{front_more}
-use Rattle.second_chance.specs.Machine.{Staged, staged_in_push}
+use Rattle.second_chance.specs.Machine.{staged_in_push}
 use Rattle.page_store.specs.Caching.{cache_of, rules as rules_for, next_group}
 use Rattle.page_store.specs.Staging.{Stages}
 use Rattle.tail_rebuild.specs.Saving.{is_due}
@@ -33,42 +34,10 @@ use Rattle.page_store.proofs.store.PageStore.push.Goals as goal
 pub returns-in-Err-clause-reads : goal.returns-in-Err-clause-reads
 returns-in-Err-clause-reads g c = omega (arith, c.force_for.ensures.reads Flash)
 
-pub returns-in-Ok-clause-reads : goal.returns-in-Ok-clause-reads
-returns-in-Ok-clause-reads g c = omega (arith, c.force_for.ensures.reads Flash, c.push_group.ensures.reads)
-
 pub returns-in-Err-clause-pushes : goal.returns-in-Err-clause-pushes
-returns-in-Err-clause-pushes g c = record {
-  works = record {
-    calls = search rules;
-    forces = search rules;
-    going = search rules;
-    log_going = search rules;
-    geometry = search rules;
-    size = search rules;
-    log_reads = c.force_for.ensures.reads Log;
-    stops = search rules;
-  };
-  logged = search rules;
-  ended = search rules;
-  others = search rules;
-}
-
-pub returns-in-Ok-clause-pushes : goal.returns-in-Ok-clause-pushes
-returns-in-Ok-clause-pushes g c = record {
-  works = record {
-    calls = search rules;
-    forces = search rules;
-    going = search rules;
-    log_going = search rules;
-    geometry = search rules;
-    size = search rules;
-    log_reads = c.push_group.ensures.others Log (λ same. cc) ∙ c.force_for.ensures.reads Log;
-    stops = search rules;
-  };
-  logged = search rules;
-  ended = search rules;
-  others = search rules;
-}
+returns-in-Err-clause-pushes g c =
+    let log_reads = c.force_for.ensures.reads Log in
+    search rules
 
 pub returns-in-Err-clause-keeps : goal.returns-in-Err-clause-keeps
 returns-in-Err-clause-keeps g c list ready =
@@ -96,67 +65,11 @@ returns-in-Err-clause-keeps g c list ready =
       readable = search rules;
     }
 
-pub returns-in-Ok-clause-keeps : goal.returns-in-Ok-clause-keeps
-returns-in-Ok-clause-keeps g c list ready =
-    let old = g.S.Site.state c.args.site.now in
-    let mid = g.S.Site.state c.force_for.new.site in
-    let new = g.S.Site.state c.push_group.new.site in
-    let store = c.args.self.now in
-    let h = store.flash.geometry in
-    let log' = c.force_for.new.log in
-    let pages = c.args.pages.now in
-    let changed = c.args.changed.now in
-    let contents = c.args.contents.now in
-    let sealing : Bool = forces c.args.log.now contents in
-    let first : List Change = changes_if sealing list in
-    let second : List Change = changes_of_group store.flash mid.image pages changed contents in
-    let sizes = c.requires.going.sizes in
-    let groups = ready.pages.groups in
-    let changes = c.force_for.ensures.changes ready.blocks.honest in
-    let still = c.in-Ok.ensures.calls.stays_quiet ready.blocks.honest in
-    let b = between store c.args.log.now log' sealing list old mid ready changes c.force_for.ensures.calls.goes (c.in-Ok.ensures.finds ready.blocks) (c.in-Ok.ensures.holds list ready.blocks ready.records) in
-    let has = c.push_group.ensures.frames groups b.fits b.holds in
-    let same = group_changes_since store.flash pages changed contents old.image mid.image b.flash b.disk in
-    let versions_sound = λ (page : ℕ) (exists : page < h.pages). subst IsSound (sym (version_same h old.image mid.image page b.flash b.disk)) (ready.pages.sound page exists) in
-    let fits = λ (quiet : IsQuiet old). log_fits c.args.log.now old quiet ready.blocks in
-    let leaves = λ (quiet : IsQuiet old). subst (λ (k : Geometry). LeavesOnly old mid (LeavesLog k sealing list old.told)) sizes (c.force_for.ensures.any_moment list (fits quiet) ready.records) in
-    let front = λ (quiet : IsQuiet old). subst (λ (k : Geometry). LeavesFront k first old mid) sizes (c.force_for.ensures.front list (fits quiet) ready.records quiet) in
-    let pushing = λ (quiet : IsQuiet old). c.push_group.ensures.front groups b.fits b.holds (still quiet) in
-    let versions = λ (quiet : IsQuiet old). c.push_group.ensures.versions groups b.fits b.holds (still quiet) b.clean in
-    let untouched = (c.push_group.ensures.changes b.honest).log in
-    record {
-      any_moment = λ given quiet are clean.
-          let before = force_leaves h sealing list old mid (leaves quiet) changes quiet c.ring_kept.ensures (front quiet) (record { first = store.flash.directory.first; groups = groups; has = ready.pages.holds.has; saved = ready.pages.holds.saved }) given ready.pages.clean in
-          in_sequence old mid new (Leaves (LeavesPages h given sealing list old)) before
-          (push_leaves store.flash groups pages changed contents old mid new b.flash b.disk b.told c.ring_kept.ensures (quiet_settled Log mid (still quiet)) (versions quiet) untouched (pushing quiet)
-          (holds_now old mid (LeavesPages h given sealing list old) before).masters given sealing list are
-          (subst (λ (k : Geometry). HasBlocks k (sealed_if sealing list).first (sealed_if sealing list).blocks mid.image) (c.force_for.ensures.forces.geometry ∙ sizes) b.log_holds.blocks)
-          (c.push_group.ensures.clean_moment groups b.fits b.holds (still quiet) b.clean (clean_given_same store.flash pages changed contents old.image mid.image b.disk clean)));
-      ahead_moment = λ quiet sealed logged.
-          let then : log'.geometry ≡ h = c.force_for.ensures.forces.geometry ∙ sizes in
-          let end : 512 * log'.ring.hi ≡ sealed_end h mid.image = ap (λ (n : ℕ). 512 * n) b.log_fits.hi ∙ ap (λ (k : Geometry). sealed_end k mid.image) then in
-          let at_first : 512 * c.args.log.now.ring.hi ≡ sealed_end h old.image = ap (λ (n : ℕ). 512 * n) ready.blocks.hi ∙ ap (λ (k : Geometry). sealed_end k old.image) sizes in
-          let more = c.force_for.ensures.forces.rises in
-          in_sequence old mid new (Leaves (LeavesSealed h))
-          (force_sealed h sealing list old mid (leaves quiet) changes quiet (subst (λ (k : Geometry). HasBlocks k list.first list.blocks old.image) sizes ready.records.blocks) sealed)
-          (leaves_weaker mid new (Pushed store.flash groups pages changed contents old mid new b.flash b.disk b.told) (LeavesSealed h)
-          (pushed_sealed store.flash groups pages changed contents old mid new b.flash b.disk b.told (512 * log'.ring.hi) end (omega (arith, at_first, more)) c.requires.lists (c.in-Ok.ensures.sealed logged) sealed)
-          (pushed store.flash groups pages changed contents old mid new b.flash b.disk b.told (quiet_settled Log mid (still quiet)) (versions quiet) untouched));
-      rings_moment = λ newest quiet rings sound.
-          let before = rings_front newest (c.rings_kept_under.ensures newest) h first old mid rings (sealing_keeps h old.image sealing list) (front quiet) in
-          in_sequence old mid new (Leaves (LeavesRings newest h)) before
-          (rings_front newest (c.rings_kept_under.ensures newest) h _ mid new (holds_now old mid (LeavesRings newest h) before) (pushing_keeps store.flash mid groups pages changed contents b.fits b.holds (sound_pushed store.flash mid.image pages changed contents versions_sound sound has.exist) has.is_group) (pushing quiet));
-      front_moment = λ quiet. subst (λ (l : List Change). LeavesFront h (first ++ l) old new) same (c.fronts_add_up.ensures h first second old mid new (front quiet)
-          (subst (λ (k : Geometry). Reaches k first old.image mid.image) sizes (c.in-Ok.ensures.reaches list ready.blocks ready.records)) b.told (pushing quiet));
-      quiet = λ quiet. c.push_group.ensures.quiet_err b.honest (still quiet);
-      worn_log = search rules;
-      worn = c.push_group.ensures.worn_end b.fits;
-      readable = c.push_group.ensures.foreign groups b.fits b.holds;
-    }
+pub returns-in-Err-clause-stages : goal.returns-in-Err-clause-stages
+returns-in-Err-clause-stages g c = stages_beside (omega arith) c.force_for.ensures.changes c.in-Err.ensures.calls refl
 
--- what stands behind the push, whatever is loose
-pub returns-in-Ok-clause-stands : goal.returns-in-Ok-clause-stands
-returns-in-Ok-clause-stands g c list ready =
+pub returns-in-Ok : goal.returns-in-Ok
+returns-in-Ok g c =
     let old = g.S.Site.state c.args.site.now in
     let mid = g.S.Site.state c.force_for.new.site in
     let new = g.S.Site.state c.push_group.new.site in
@@ -169,74 +82,113 @@ returns-in-Ok-clause-stands g c list ready =
     let changed = c.args.changed.now in
     let contents = c.args.contents.now in
     let sealing : Bool = forces log contents in
-    let first : List Change = changes_if sealing list in
+    let first = λ (list : LogList). changes_if sealing list in
     let second : List Change = changes_of_group store.flash mid.image pages changed contents in
     let sizes = c.requires.going.sizes in
-    let groups = ready.pages.groups in
-    let b = between store log log' sealing list old mid ready (c.force_for.ensures.changes ready.blocks.honest) c.force_for.ensures.calls.goes (c.in-Ok.ensures.finds ready.blocks) (c.in-Ok.ensures.holds list ready.blocks ready.records) in
-    let own = c.push_group.ensures.changes b.honest in
-    let units = log_units_same log'.geometry mid.image new.image own.log.now.content in
-    let sealed_by = subst (λ (k : Geometry). Reaches k first old.image mid.image) sizes (c.in-Ok.ensures.reaches list ready.blocks ready.records) in
-    let cleaned = clean_given_same store.flash pages changed contents old.image mid.image b.disk in
-    let has = c.push_group.ensures.frames groups b.fits b.holds in
-    let same = group_changes_since store.flash pages changed contents old.image mid.image b.flash b.disk in
-    let versions_sound = λ (page : ℕ) (exists : page < h.pages). subst IsSound (sym (version_same h old.image mid.image page b.flash b.disk)) (ready.pages.sound page exists) in
-    ok_six c.push_group.result _ _ _ _ _ _ (StandsGiven log log' store store' pages changed contents old new list (given_changes log list store old.image pages changed contents))
-    (λ queue is reaches clean fits holds.
-    let gives = gives_since h pages contents old.image mid.image new.image b.flash b.disk (record { given = is.given; others = is.others }) in
-    let now = pushed_now store.flash groups pages changed contents old mid new b.flash b.disk b.told (sym own.log.now.content) own.told
-    (subst (λ (q : Queue). GivesVersions h q.first (pushed_groups store.flash groups (frames_pushed store.flash mid.image pages changed contents)) pages contents mid.image new.image) queue is) in
+    let same_sizes : log'.geometry ≡ h = c.force_for.ensures.forces.geometry ∙ sizes in
+    let rises = c.force_for.ensures.forces.rises in
+    let b = λ (list : LogList) (ready : AreReady store log list old). between store log log' sealing list old mid ready
+    (c.force_for.ensures.changes ready.blocks.honest) c.force_for.ensures.calls.goes (c.in-Ok.ensures.finds ready.blocks)
+    (c.in-Ok.ensures.holds list ready.blocks ready.records) in
+    let has = λ (list : LogList) (ready : AreReady store log list old). c.push_group.ensures.frames ready.pages.groups (b list ready).fits
+    (b list ready).holds in
+    let same = λ (list : LogList) (ready : AreReady store log list old). group_changes_since store.flash pages changed contents old.image mid.image
+    (b list ready).flash (b list ready).disk in
+    let reached = λ (list : LogList) (ready : AreReady store log list old). subst (λ (k : Geometry). Reaches k (first list) old.image mid.image) sizes
+    (c.in-Ok.ensures.reaches list ready.blocks ready.records) in
+    let sealed_blocks = λ (list : LogList) (ready : AreReady store log list old).
+    subst (λ (k : Geometry). HasBlocks k (sealed_if sealing list).first (sealed_if sealing list).blocks mid.image) same_sizes (b list ready).log_holds.blocks in
+    let kept_rings = λ (list : LogList) (ready : AreReady store log list old) (sound : AllByRecursion IsSound contents). pushing_keeps store.flash mid
+    ready.pages.groups pages changed contents (b list ready).fits (b list ready).holds
+    (sound_pushed store.flash mid.image pages changed contents (λ page exists. subst IsSound
+    (sym (version_same h old.image mid.image page (b list ready).flash (b list ready).disk)) (ready.pages.sound page exists)) sound (has list ready).exist)
+    (has list ready).is_group in
+    let end = λ (list : LogList) (ready : AreReady store log list old).
+    let now : 512 * log'.ring.hi ≡ sealed_end h mid.image = ap (λ (n : ℕ). 512 * n) (b list ready).log_fits.hi ∙ ap (λ (k : Geometry). sealed_end k mid.image) same_sizes in now in
+    let before = λ (list : LogList) (ready : AreReady store log list old).
+    let now : 512 * log.ring.hi ≡ sealed_end h old.image = ap (λ (n : ℕ). 512 * n) ready.blocks.hi ∙ ap (λ (k : Geometry). sealed_end k old.image) sizes in now in
+    let by_forcing : Stages {T = Unit {0}} (Ok tt) [] (next_group (cache_of store)) store store old mid = stages_beside (omega arith) c.force_for.ensures.changes c.in-Ok.ensures.calls refl in
     record {
-      gives = gives;
-      reaches = subst (λ (l : List Change). Reaches h (first ++ l) old.image new.image) same (c.changes_add_up.ensures h first second old.image mid.image new.image sealed_by reaches);
-      leaves = λ given are given_clean. pushed_pages store.flash groups pages changed contents old mid new b.flash b.disk b.told c.ring_kept.ensures
-          (masters_kept c.ring_kept.ensures h first old (snapshot_of mid) (own_sealing sealing list) (reached_all h first old mid b.told sealed_by)) given sealing list are
-          (subst (λ (k : Geometry). HasBlocks k (sealed_if sealing list).first (sealed_if sealing list).blocks mid.image) (c.force_for.ensures.forces.geometry ∙ sizes) b.log_holds.blocks)
-          (snapshot_of new) now (clean (cleaned given_clean)) (reached_all h _ mid new own.told reaches);
-      sealed = λ sealed logged.
-          let then : log'.geometry ≡ h = c.force_for.ensures.forces.geometry ∙ sizes in
-          let end : 512 * log'.ring.hi ≡ sealed_end h mid.image = ap (λ (n : ℕ). 512 * n) b.log_fits.hi ∙ ap (λ (k : Geometry). sealed_end k mid.image) then in
-          let at_first : 512 * log.ring.hi ≡ sealed_end h old.image = ap (λ (n : ℕ). 512 * n) ready.blocks.hi ∙ ap (λ (k : Geometry). sealed_end k old.image) sizes in
-          let more = c.force_for.ensures.forces.rises in
-          pushed_sealed store.flash groups pages changed contents old mid new b.flash b.disk b.told (512 * log'.ring.hi) end (omega (arith, at_first, more)) c.requires.lists (c.in-Ok.ensures.sealed logged) sealed (snapshot_of new) now;
-      rings = λ newest rings sound.
-          (c.rings_kept_under.ensures newest) h _ mid.image new.image ((c.rings_kept_under.ensures newest) h first old.image mid.image rings (sealing_keeps h old.image sealing list) sealed_by)
-          (pushing_keeps store.flash mid groups pages changed contents b.fits b.holds (sound_pushed store.flash mid.image pages changed contents versions_sound sound has.exist) has.is_group) reaches;
-      ready = λ given_clean sound marked. record {
-        pages = fits_behind store c.push_group.new.self log list old ready c.push_group.ensures.geometry pages contents new _ fits holds (clean (cleaned given_clean)) gives c.requires.lists sound marked;
-        blocks = log_found log' mid new units c.push_group.ensures.goes b.log_fits;
-        records = c.stays_beside.ensures.holds log' mid.image new.image (sealed_if sealing list) units b.log_holds;
-      };
-    })
-    c.push_group.ensures.directory (c.push_group.ensures.gives groups b.fits b.holds b.clean) (c.push_group.ensures.reaches groups b.fits b.holds)
-    (ok_under c.push_group.result _ _ (c.push_group.ensures.clean groups b.fits b.holds b.clean)) (c.push_group.ensures.fits b.fits) (c.push_group.ensures.holds groups b.fits b.holds)
-
-pub returns-in-Ok-clause-worn_at : goal.returns-in-Ok-clause-worn_at
-returns-in-Ok-clause-worn_at g c says =
-    let before = c.push_group.ensures.worn says in
-    let next = c.push_group.ensures.going.next in
-    let first = c.requires.going.pages_going.flash.next in
-    let kept = kept_where c.push_group.result _ _ says c.push_group.ensures.kept in
-    let same = ap (λ (q : Queue). q.first + length q.groups) kept in
-    omega (arith, before, next, first, same)
-
-pub returns-in-Err-clause-stages : goal.returns-in-Err-clause-stages
-returns-in-Err-clause-stages g c = stages_beside (omega arith) c.force_for.ensures.changes c.in-Err.ensures.calls refl
-
-pub returns-in-Ok-clause-stages : goal.returns-in-Ok-clause-stages
-returns-in-Ok-clause-stages g c =
-    let store = c.args.self.now in
-    let store' : PageStore = record store { flash = c.push_group.new.self } in
-    let old = g.S.Site.state c.args.site.now in
-    let mid = g.S.Site.state c.force_for.new.site in
-    let new = g.S.Site.state c.push_group.new.site in
-    let staged : List Staged = staged_in_push (rules_for store) store.flash.directory in
-    let next : ℕ = next_group (cache_of store) in
-    let first : Stages {T = Unit {0}} (Ok tt) [] next store store old mid = stages_beside (omega arith) c.force_for.ensures.changes c.in-Ok.ensures.calls refl in
-    let second : Stages c.push_group.result staged (next + 1) store store' mid new = record {
-      holds = λ has. queue_pushed c.push_group.result c.push_group.new.self store _ new c.push_group.ensures.going (c.push_group.ensures.fits has.fits) (c.push_group.ensures.holds has.groups has.fits has.holds);
-      quiet = λ has quiet. c.push_group.ensures.quiet has.fits.honest quiet;
-      writes = λ has quiet. push_writes store (is_due store.flash.ring.hi store.flash.segments.hi) (groups_on store.flash.geometry mid.image) _ mid new has (c.push_group.ensures.front has.groups has.fits has.holds quiet);
-      sizes = c.push_group.ensures.geometry;
-    } in
-    stages_then (λ has. omega arith) first second
+      keeps = λ list ready.
+          let b = b list ready in
+          let groups = ready.pages.groups in
+          let changes = c.force_for.ensures.changes ready.blocks.honest in
+          let still = c.in-Ok.ensures.calls.stays_quiet ready.blocks.honest in
+          let fits = λ (quiet : IsQuiet old). log_fits log old quiet ready.blocks in
+          let leaves = λ (quiet : IsQuiet old). subst (λ (k : Geometry). LeavesOnly old mid (LeavesLog k sealing list old.told)) sizes (c.force_for.ensures.any_moment list (fits quiet) ready.records) in
+          let front = λ (quiet : IsQuiet old). subst (λ (k : Geometry). LeavesFront k (first list) old mid) sizes (c.force_for.ensures.front list (fits quiet) ready.records quiet) in
+          let pushing = λ (quiet : IsQuiet old). c.push_group.ensures.front groups b.fits b.holds (still quiet) in
+          let versions = λ (quiet : IsQuiet old). c.push_group.ensures.versions groups b.fits b.holds (still quiet) b.clean in
+          let untouched = (c.push_group.ensures.changes b.honest).log in
+          record {
+            any_moment = λ given quiet are clean.
+                let forced = force_leaves h sealing list old mid (leaves quiet) changes quiet c.ring_kept.ensures (front quiet) (record { first = store.flash.directory.first; groups = groups; has = ready.pages.holds.has; saved = ready.pages.holds.saved }) given ready.pages.clean in
+                in_sequence old mid new (Leaves (LeavesPages h given sealing list old)) forced
+                (push_leaves store.flash groups pages changed contents old mid new b.flash b.disk b.told c.ring_kept.ensures (quiet_settled Log mid (still quiet)) (versions quiet) untouched (pushing quiet)
+                (holds_now old mid (LeavesPages h given sealing list old) forced).masters given sealing list are (sealed_blocks list ready)
+                (c.push_group.ensures.clean_moment groups b.fits b.holds (still quiet) b.clean (clean_given_same store.flash pages changed contents old.image mid.image b.disk clean)));
+            ahead_moment = λ quiet sealed logged.
+                let at_first = before list ready in
+                in_sequence old mid new (Leaves (LeavesSealed h))
+                (force_sealed h sealing list old mid (leaves quiet) changes quiet (subst (λ (k : Geometry). HasBlocks k list.first list.blocks old.image) sizes ready.records.blocks) sealed)
+                (leaves_weaker mid new (Pushed store.flash groups pages changed contents old mid new b.flash b.disk b.told) (LeavesSealed h)
+                (pushed_sealed store.flash groups pages changed contents old mid new b.flash b.disk b.told (512 * log'.ring.hi) (end list ready) (omega (arith, at_first, rises)) c.requires.lists (c.in-Ok.ensures.sealed logged) sealed)
+                (pushed store.flash groups pages changed contents old mid new b.flash b.disk b.told (quiet_settled Log mid (still quiet)) (versions quiet) untouched));
+            rings_moment = λ newest quiet rings sound.
+                let forced = rings_front newest (c.rings_kept_under.ensures newest) h (first list) old mid rings (sealing_keeps h old.image sealing list) (front quiet) in
+                in_sequence old mid new (Leaves (LeavesRings newest h)) forced
+                (rings_front newest (c.rings_kept_under.ensures newest) h _ mid new (holds_now old mid (LeavesRings newest h) forced)
+                (kept_rings list ready sound) (pushing quiet));
+            front_moment = λ quiet. subst (λ (l : List Change). LeavesFront h (first list ++ l) old new) (same list ready) (c.fronts_add_up.ensures h (first list) second old mid new (front quiet) (reached list ready) b.told (pushing quiet));
+            quiet = λ quiet. c.push_group.ensures.quiet_err b.honest (still quiet);
+            worn_log = search rules;
+            worn = c.push_group.ensures.worn_end b.fits;
+            readable = c.push_group.ensures.foreign groups b.fits b.holds;
+          };
+      -- what stands behind the push, whatever is loose
+      stands = λ list ready.
+          let b = b list ready in
+          let groups = ready.pages.groups in
+          let own = c.push_group.ensures.changes b.honest in
+          let units = log_units_same log'.geometry mid.image new.image own.log.now.content in
+          let cleaned = clean_given_same store.flash pages changed contents old.image mid.image b.disk in
+          ok_six c.push_group.result _ _ _ _ _ _ (StandsGiven log log' store store' pages changed contents old new list (given_changes log list store old.image pages changed contents))
+          (λ queue is reaches clean fits holds.
+          let gives = gives_since h pages contents old.image mid.image new.image b.flash b.disk (record { given = is.given; others = is.others }) in
+          let now = pushed_now store.flash groups pages changed contents old mid new b.flash b.disk b.told (sym own.log.now.content) own.told
+          (subst (λ (q : Queue). GivesVersions h q.first (pushed_groups store.flash groups (frames_pushed store.flash mid.image pages changed contents)) pages contents mid.image new.image) queue is) in
+          record {
+            gives = gives;
+            reaches = subst (λ (l : List Change). Reaches h (first list ++ l) old.image new.image) (same list ready) (c.changes_add_up.ensures h (first list) second old.image mid.image new.image (reached list ready) reaches);
+            leaves = λ given are given_clean. pushed_pages store.flash groups pages changed contents old mid new b.flash b.disk b.told c.ring_kept.ensures
+                (masters_kept c.ring_kept.ensures h (first list) old (snapshot_of mid) (own_sealing sealing list) (reached_all h (first list) old mid b.told (reached list ready))) given sealing list are (sealed_blocks list ready)
+                (snapshot_of new) now (clean (cleaned given_clean)) (reached_all h _ mid new own.told reaches);
+            sealed = λ sealed logged.
+                let at_first = before list ready in
+                pushed_sealed store.flash groups pages changed contents old mid new b.flash b.disk b.told (512 * log'.ring.hi) (end list ready) (omega (arith, at_first, rises)) c.requires.lists (c.in-Ok.ensures.sealed logged) sealed (snapshot_of new) now;
+            rings = λ newest rings sound.
+                (c.rings_kept_under.ensures newest) h _ mid.image new.image ((c.rings_kept_under.ensures newest) h (first list) old.image mid.image rings (sealing_keeps h old.image sealing list) (reached list ready)) (kept_rings list ready sound) reaches;
+            ready = λ given_clean sound marked. record {
+              pages = fits_behind store c.push_group.new.self log list old ready c.push_group.ensures.geometry pages contents new _ fits holds (clean (cleaned given_clean)) gives c.requires.lists sound marked;
+              blocks = log_found log' mid new units c.push_group.ensures.goes b.log_fits;
+              records = c.stays_beside.ensures.holds log' mid.image new.image (sealed_if sealing list) units b.log_holds;
+            };
+          })
+          c.push_group.ensures.directory (c.push_group.ensures.gives groups b.fits b.holds b.clean) (c.push_group.ensures.reaches groups b.fits b.holds)
+          (ok_under c.push_group.result _ _ (c.push_group.ensures.clean groups b.fits b.holds b.clean)) (c.push_group.ensures.fits b.fits) (c.push_group.ensures.holds groups b.fits b.holds);
+      pushes = (let log_reads = c.push_group.ensures.others Log (λ same. cc) ∙ c.force_for.ensures.reads Log in search rules);
+      stages = stages_then {more = staged_in_push (rules_for store) store.flash.directory} {next' = next_group (cache_of store) + 1} (λ has. omega arith)
+          by_forcing (record {
+            holds = λ has. queue_pushed c.push_group.result c.push_group.new.self store _ new c.push_group.ensures.going (c.push_group.ensures.fits has.fits) (c.push_group.ensures.holds has.groups has.fits has.holds);
+            quiet = λ has quiet. c.push_group.ensures.quiet has.fits.honest quiet;
+            writes = λ has quiet. push_writes store (is_due store.flash.ring.hi store.flash.segments.hi) (groups_on store.flash.geometry mid.image) _ mid new has (c.push_group.ensures.front has.groups has.fits has.holds quiet);
+            sizes = c.push_group.ensures.geometry;
+          });
+      worn = search rules;
+      worn_at = λ says.
+          let kept = ap (λ (q : Queue). q.first + length q.groups) (kept_where c.push_group.result _ _ says c.push_group.ensures.kept) in
+          omega (arith, c.push_group.ensures.worn says, c.push_group.ensures.going.next, c.requires.going.pages_going.flash.next, kept);
+      pool = refl;
+      directory = c.push_group.ensures.directory;
+      reads = omega (arith, c.force_for.ensures.reads Flash, c.push_group.ensures.reads);
+    }

@@ -9,7 +9,7 @@ use Rattle.page_store.specs.Caching.{pool_page, cache_of}
 use Rattle.site.proofs.Working.{ok_as, ok_always}
 use Rattle.page_store.proofs.Pools.{in_front_absent}
 use Rattle.page_store.proofs.Entering.{put_fits, put_going}
-use Rattle.page_store.proofs.StagingLaws.{stages_between, stages_err, stages_result}
+use Rattle.page_store.proofs.StagingLaws.{stages_between, stages_result}
 use Rattle.page_store.proofs.store.PageStore.read_in.Goals as goal
 
 pub returns-in-Ok-clause-reads : goal.returns-in-Ok-clause-reads
@@ -49,9 +49,6 @@ returns-in-Ok-clause-machine g c =
     ∙ ap (λ (l : List Frame). let k : Cache = record { pool = record { page = c.args.page; changed = false } ∷ map pool_page l; queue = with_read c.args.page store.flash.directory } in k) frames
     ∙ in_front_absent store.pool.frames store.flash.directory c.args.page c.requires.absent)
     c.put.ensures.ok
-
-pub returns-in-Err-clause-stages : goal.returns-in-Err-clause-stages
-returns-in-Err-clause-stages g c = stages_err c.in-Err.ensures.stages
 
 pub returns-in-Ok-clause-stages : goal.returns-in-Ok-clause-stages
 returns-in-Ok-clause-stages g c = stages_between refl refl (stages_result (λ P p. ok_always c.put.result P p) c.in-Ok.ensures.stages)

@@ -11,25 +11,20 @@ use Rattle.site.specs.Laws.{unchanged_in_sequence, stays_honest}
 use Rattle.site.proofs.Working.{ok_as, ok_always}
 use Rattle.second_chance.specs.Queue.{has_frame, with_read}
 use Rattle.flash_cache.specs.declared.cache.FlashCache.{FlashCache}
-use Rattle.page_store.specs.Held.{Fits}
+use Rattle.page_store.specs.Held.{MayGoOn, Fits}
 use Rattle.page_store.proofs.PushLaws.{flash_fits_same, flash_holds_same, kept_where}
 use Rattle.page_store.proofs.Versions.{read_same, flash_later, store_with, fits_with}
 use Rattle.page_store.proofs.StagingLaws.{stages_still, queue_same, queue_pushed}
+use Rattle.page_store.proofs.store.PageStore.read_version.Given.{Over}
+use Rattle.page_store.proofs.store.PageStore.read_version.Goals.{After-read_disk}
 use Rattle.page_store.proofs.store.PageStore.read_version.Goals as goal
 
 pub returns-in-Err-clause-reads : goal.returns-in-Err-clause-reads
-returns-in-Err-clause-reads g c = record {
-  calls = search rules;
-  same = c.fetch.ensures.same;
-  fits = λ fits. tt;
-  going = search rules;
-  geometry = search rules;
-  ended = refl;
-  flash_reads = search rules;
-  disk_reads = omega (arith, c.fetch.ensures.others Disk (λ same. cc));
-  log_reads = c.fetch.ensures.others Log (λ same. cc);
-  foreign = search rules;
-}
+returns-in-Err-clause-reads g c =
+    let same = c.fetch.ensures.same in
+    let disk = c.fetch.ensures.others Disk (λ same. cc) in
+    let log = c.fetch.ensures.others Log (λ same. cc) in
+    search rules
 
 pub returns-then-found-clause-reads : goal.returns-then-found-clause-reads
 returns-then-found-clause-reads g c =
@@ -53,6 +48,21 @@ returns-then-found-clause-reads g c =
           (subst IsSound (sym (c.in-Ok.ensures.fetched fits.groups fits.flash fits.holds c.if-found.true)) (fits.sound c.args.page c.requires.exists));
     }
 
+-- no frame was found
+
+module _ (g : Over) (c : After-read_disk g) where
+  unframed : has_frame c.args.self.now.flash.directory c.args.page ≡ false
+  unframed = sym c.in-Ok.ensures.found ∙ c.if-found.false
+
+  same_geometry : c.fetch.new.self.geometry ≡ c.args.self.now.flash.geometry
+  same_geometry = ap (λ (f : FlashCache). f.geometry) (c.fetch.ensures.none unframed).1
+
+  goes_on : MayGoOn (record c.args.self.now { flash = c.fetch.new.self }) (g.S.Site.state c.read_disk.new.site)
+  goes_on =
+      let new = g.S.Site.state c.read_disk.new.site in
+      let flash = flash_later c.fetch.new.self (g.S.Site.state c.fetch.new.site) new c.read_disk.ensures.calls.goes c.fetch.ensures.going in
+      store_with c.args.self.now c.fetch.new.self (g.S.Site.state c.args.site.now) new same_geometry flash c.requires.going
+
 pub returns-in-Ok-read_disk-clause-reads : goal.returns-in-Ok-read_disk-clause-reads
 returns-in-Ok-read_disk-clause-reads g c =
     let old = g.S.Site.state c.args.site.now in
@@ -60,9 +70,7 @@ returns-in-Ok-read_disk-clause-reads g c =
     let new = g.S.Site.state c.read_disk.new.site in
     let store = c.args.self.now in
     let cache = c.fetch.new.self in
-    let has : has_frame store.flash.directory c.args.page ≡ false = sym c.in-Ok.ensures.found ∙ c.if-found.false in
-    let geometry = ap (λ (f : FlashCache). f.geometry) (c.fetch.ensures.none has).1 in
-    let goes = c.read_disk.ensures.calls.goes in
+    let s = (goal.at.returns-in-Ok-read_disk-clause-reads g c).After-read_disk in
     record {
       calls = search rules;
       same = search rules;
@@ -71,11 +79,11 @@ returns-in-Ok-read_disk-clause-reads g c =
           let honest = stays_honest old mid c.fetch.ensures.goes fits.flash.honest in
           let second = c.read_disk.ensures.same honest in
           let flash = ap (λ i. i.flash) second.image in
-          ok_as c.sound_page-in-Ok-read_disk.result _ (Fits (record store { flash = cache }) new) (λ x. fits_with store cache old new fits geometry (unchanged_in_sequence old mid new first second)
-          (flash_fits_same cache mid new flash (stays_honest mid new goes honest) (c.in-Ok.ensures.fits fits.flash))
+          ok_as c.sound_page-in-Ok-read_disk.result _ (Fits (record store { flash = cache }) new) (λ x. fits_with store cache old new fits (same_geometry g s) (unchanged_in_sequence old mid new first second)
+          (flash_fits_same cache mid new flash (stays_honest mid new c.read_disk.ensures.calls.goes honest) (c.in-Ok.ensures.fits fits.flash))
           (flash_holds_same cache mid.image new.image fits.groups flash (c.in-Ok.ensures.holds fits.groups fits.flash fits.holds))) c.sound_page-in-Ok-read_disk.ensures.sound;
-      going = store_with store cache old new geometry (flash_later cache mid new goes c.fetch.ensures.going) c.requires.going;
-      geometry = search rules;
+      going = goes_on g s;
+      geometry = same_geometry g s;
       ended = refl;
       flash_reads = search rules;
       disk_reads = search rules;
@@ -84,36 +92,21 @@ returns-in-Ok-read_disk-clause-reads g c =
           let first = c.fetch.ensures.same fits.flash.honest in
           let read = c.in-Ok-read_disk.ensures.read (stays_honest old mid c.fetch.ensures.goes fits.flash.honest) in
           kept_where c.sound_page-in-Ok-read_disk.result Foreign _ is c.sound_page-in-Ok-read_disk.ensures.unsound
-          (subst IsSound (sym (read ∙ ap (λ (i : Image). page_on c.args.page i.disk) first.image ∙ sym (c.unframed_is_disk.ensures store.flash old.image fits.groups c.args.page fits.holds has))) (fits.sound c.args.page c.requires.exists));
+          (subst IsSound (sym (read ∙ ap (λ (i : Image). page_on c.args.page i.disk) first.image ∙ sym (c.unframed_is_disk.ensures store.flash old.image fits.groups c.args.page fits.holds (unframed g s)))) (fits.sound c.args.page c.requires.exists));
     }
 
 pub returns-in-Ok-read_disk-clause-queue : goal.returns-in-Ok-read_disk-clause-queue
 returns-in-Ok-read_disk-clause-queue g c =
-    let store = c.args.self.now in
-    let has : has_frame store.flash.directory c.args.page ≡ false = sym c.in-Ok.ensures.found ∙ c.if-found.false in
-    let is : c.fetch.new.self.directory ≡ with_read c.args.page store.flash.directory = ap (λ (f : FlashCache). f.directory) (c.fetch.ensures.none has).1 ∙ sym (read_same c.args.page store.flash.directory has) in
-    ok_as c.sound_page-in-Ok-read_disk.result _ (c.fetch.new.self.directory ≡ with_read c.args.page store.flash.directory) (λ x. is) c.sound_page-in-Ok-read_disk.ensures.sound
+    let directory = c.args.self.now.flash.directory in
+    let none = unframed g (goal.at.returns-in-Ok-read_disk-clause-queue g c).After-read_disk in
+    ok_always c.sound_page-in-Ok-read_disk.result (c.fetch.new.self.directory ≡ with_read c.args.page directory)
+    (ap (λ (f : FlashCache). f.directory) (c.fetch.ensures.none none).1 ∙ sym (read_same c.args.page directory none))
 
 pub returns-in-Err-read_disk-clause-reads : goal.returns-in-Err-read_disk-clause-reads
 returns-in-Err-read_disk-clause-reads g c =
-    let old = g.S.Site.state c.args.site.now in
-    let mid = g.S.Site.state c.fetch.new.site in
-    let new = g.S.Site.state c.read_disk.new.site in
-    let store = c.args.self.now in
-    let has : has_frame store.flash.directory c.args.page ≡ false = sym c.in-Ok.ensures.found ∙ c.if-found.false in
-    let geometry = ap (λ (f : FlashCache). f.geometry) (c.fetch.ensures.none has).1 in
-    record {
-      calls = search rules;
-      same = search rules;
-      fits = λ fits. tt;
-      going = store_with store c.fetch.new.self old new geometry (flash_later c.fetch.new.self mid new c.read_disk.ensures.calls.goes c.fetch.ensures.going) c.requires.going;
-      geometry = search rules;
-      ended = refl;
-      flash_reads = search rules;
-      disk_reads = search rules;
-      log_reads = search rules;
-      foreign = search rules;
-    }
+    let going = goes_on g (goal.at.returns-in-Err-read_disk-clause-reads g c).After-read_disk in
+    let none = unframed g (goal.at.returns-in-Err-read_disk-clause-reads g c).After-read_disk in
+    search rules
 
 pub returns-in-Err-clause-stages : goal.returns-in-Err-clause-stages
 returns-in-Err-clause-stages g c = stages_still (omega arith) c.fetch.ensures.same c.fetch.ensures.geometry (λ has. tt)

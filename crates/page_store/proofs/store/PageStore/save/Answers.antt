@@ -1,5 +1,5 @@
-use Rattle.std.proofs.Common.{rules, ◌≢◌, ◌<◌, ◌++◌, ℕ, List, length, length-append, map, arith, ap, subst, sym, ◌∙◌, refl}
-use Rattle.std.specs.Prelude.{All, AllPairs, IsSome}
+use Rattle.std.proofs.Common.{◌≡◌, ◌≢◌, ◌<◌, ◌++◌, ℕ, List, length, length-append, map, arith, ap, subst, sym, ◌∙◌, refl}
+use Rattle.std.specs.Prelude.{Ok, All, AllPairs, IsSome}
 use Rattle.std.specs.List.{AllByRecursion}
 use Rattle.std.proofs.lemmas.List.{length-map}
 use Rattle.site.specs.declared.geometry.Geometry.{Geometry}
@@ -11,10 +11,10 @@ use Rattle.flash_cache.specs.Pushed.{chance_marks, pushed_queue}
 use Rattle.page_store.specs.Leaves.{Gives}
 use Rattle.second_chance.specs.Plans.{Placed}
 use Rattle.page_store.specs.declared.store.PageStore.{PageStore}
-use Rattle.page_store.specs.Held.{IsPage, MayGoOn}
+use Rattle.page_store.specs.Held.{IsPage}
 use Rattle.page_store.specs.Caching.{pool_page, cache_of, rules as rules_for}
-use Rattle.page_store.specs.Ahead.{IsLogged, end_forced, forces}
-use Rattle.page_store.specs.Calls.{Stands}
+use Rattle.page_store.specs.Ahead.{IsLogged, AreLogged, end_forced, forces}
+use Rattle.page_store.specs.Calls.{Pushes, Stands}
 use Rattle.page_store.specs.Changing.{standing, push_changes}
 use Rattle.page_store.specs.Pulling.{room_for_pages}
 use Rattle.page_store.specs.Flushing.{saved_next, flushed_first, cleared_all}
@@ -24,15 +24,14 @@ use Rattle.page_store.proofs.Touching.{pool_going}
 use Rattle.page_store.proofs.Clearing.{all_contents}
 use Rattle.page_store.proofs.Flushes.{is_saving, saved_fits, saved_current, machine_saved, pages_cleared}
 use Rattle.page_store.proofs.Changing.{known_pages}
-use Rattle.page_store.proofs.Calling.{pushes_as, keeps_as, stands_as, keeps_given, stands_given}
+use Rattle.page_store.proofs.Calling.{pushes_as, pushes_with, keeps_as, stands_as, keeps_given, stands_given}
 use Rattle.page_store.proofs.StagingLaws.{stages_between}
 use Rattle.page_store.proofs.store.PageStore.save.Goals as goal
 
 pub push-requires-clause-some : goal.push-requires-clause-some
 push-requires-clause-some g c =
     let some = some_chosen (room_for_pages (rules_for c.args.self.now) c.args.self.now.flash.directory) c.args.self.now.pool.frames (room_some (rules_for c.args.self.now) c.args.self.now.flash.directory) c.requires.some in
-    let count = ap length c.requires.pages in
-    omega (arith, some, count, length-map (saved_next c.args.self.now) (λ (f : Frame). f.page))
+    omega (arith, some, ap length c.requires.pages, length-map (saved_next c.args.self.now) (λ (f : Frame). f.page))
 
 pub push-requires-clause-few : goal.push-requires-clause-few
 push-requires-clause-few g c =
@@ -57,122 +56,86 @@ clear_all-requires-clause-there g c =
     subst (λ (p : Pool). All (λ (page : ℕ). IsSome (frame_of p.frames page)) c.args.pages.now) (sym c.push.ensures.pool)
     (subst (All (λ (page : ℕ). IsSome (frame_of frames page))) (sym c.requires.pages) (pages_there (room_for_pages (rules_for c.args.self.now) c.args.self.now.flash.directory) frames c.requires.going.pages_going.own.pool.distinct))
 
-pub returns-in-Err-clause-keeps : goal.returns-in-Err-clause-keeps
-returns-in-Err-clause-keeps g c list ready =
+pub returns-in-Err : goal.returns-in-Err
+returns-in-Err g c =
+    let log = c.args.log.now in
+    let image = (g.S.Site.state c.args.site.now).image in
     let facts = is_saving c.args.self.now c.args.pages.now c.args.contents.now c.requires.going.pages_going.own c.requires.pages c.requires.contents in
-    keeps_as (ap (forces c.args.log.now) facts.chosen_are.first) (facts.changes c.args.log.now list (g.S.Site.state c.args.site.now).image)
-    (keeps_given (facts.own c.args.log.now (g.S.Site.state c.args.site.now).image) (c.in-Err.ensures.keeps list ready))
-
-pub returns-in-Err-clause-pushes : goal.returns-in-Err-clause-pushes
-returns-in-Err-clause-pushes g c =
-    let facts = is_saving c.args.self.now c.args.pages.now c.args.contents.now c.requires.going.pages_going.own c.requires.pages c.requires.contents in
-    pushes_as (ap (forces c.args.log.now) facts.chosen_are.first) c.in-Err.ensures.pushes
-
-pub returns-in-Err-clause-saves : goal.returns-in-Err-clause-saves
-returns-in-Err-clause-saves g c =
-    let facts = is_saving c.args.self.now c.args.pages.now c.args.contents.now c.requires.going.pages_going.own c.requires.pages c.requires.contents in
+    let first = ap (forces log) facts.chosen_are.first in
     record {
-      machine = tt;
-      frames = tt;
-      directory = tt;
-      gives = λ list ready. tt;
-      reads = c.push.ensures.reads;
-      worn_log = λ says. (let both = c.in-Err.ensures.worn.worn_log says in (sym (ap (forces c.args.log.now) facts.chosen_are.first) ∙ both.0, both.1));
-      worn_flash = λ says. (c.in-Err.ensures.worn.worn_flash says).1;
-      worn_at = c.in-Err.ensures.worn_at;
-      never_past = λ past. tt;
+      keeps = λ list ready. keeps_as first (facts.changes log list image) (keeps_given (facts.own log image) (c.in-Err.ensures.keeps list ready));
+      stands = λ list ready. tt;
+      pushes = pushes_as first c.in-Err.ensures.pushes;
+      stages = c.in-Err.ensures.stages;
+      saves = record {
+        machine = tt;
+        frames = tt;
+        directory = tt;
+        gives = λ list ready. tt;
+        reads = c.push.ensures.reads;
+        worn_log = λ says. (let both = c.in-Err.ensures.worn.worn_log says in (sym first ∙ both.0, both.1));
+        worn_flash = λ says. (c.in-Err.ensures.worn.worn_flash says).1;
+        worn_at = c.in-Err.ensures.worn_at;
+        never_past = λ past. tt;
+      };
     }
 
-pub returns-in-Ok-clause-keeps : goal.returns-in-Ok-clause-keeps
-returns-in-Ok-clause-keeps g c list ready =
-    let facts = is_saving c.args.self.now c.args.pages.now c.args.contents.now c.requires.going.pages_going.own c.requires.pages c.requires.contents in
-    keeps_as (ap (forces c.args.log.now) facts.chosen_are.first) (facts.changes c.args.log.now list (g.S.Site.state c.args.site.now).image)
-    (keeps_given (facts.own c.args.log.now (g.S.Site.state c.args.site.now).image) (c.in-Ok.ensures.keeps list ready))
-
-pub returns-in-Ok-clause-pushes : goal.returns-in-Ok-clause-pushes
-returns-in-Ok-clause-pushes g c =
-    let store = c.args.self.now in
-    let mid = c.push.new.self in
-    let site = g.S.Site.state c.push.new.site in
-    let pages = c.args.pages.now in
-    let facts = is_saving store pages c.args.contents.now c.requires.going.pages_going.own c.requires.pages c.requires.contents in
-    let push = c.in-Ok.ensures.pushes in
-    let pool : Pool = record mid.pool { frames = cleared_all pages mid.pool.frames } in
-    let first = subst (λ (h : Geometry). AllByRecursion (IsPage h.pages) store.pool.frames) (sym push.works.geometry) c.requires.going.pages_going.own.pages in
-    let before = subst (λ (p : Pool). AllByRecursion (IsPage mid.flash.geometry.pages) p.frames) (sym c.push.ensures.pool) first in
-    let P = λ (content : List ℕ). IsLogged (end_forced c.push.new.log) content in
-    pushes_as (ap (forces c.args.log.now) facts.chosen_are.first) (record {
-      works = record {
-        calls = push.works.calls;
-        forces = push.works.forces;
-        going = subst (λ (s : PageStore). MayGoOn s site) (sym c.clear_all.ensures.cleared)
-            (pool_going mid pool site refl (subst (λ (s : PageStore). IsPool s.pool) c.clear_all.ensures.cleared c.clear_all.ensures.pool)
-            (pages_cleared mid.flash.geometry.pages pages mid.pool.frames before) push.works.going);
-        log_going = push.works.log_going;
-        geometry = search rules;
-        size = search rules;
-        log_reads = push.works.log_reads;
-        stops = tt;
-      };
-      logged = λ all. subst (λ (s : PageStore). AllByRecursion (λ (f : Frame). P f.content) s.pool.frames) (sym c.clear_all.ensures.cleared) (all_contents P pages mid.pool.frames (push.logged all));
-      ended = search rules;
-      others = push.others;
-    })
-
-pub returns-in-Ok-clause-stands : goal.returns-in-Ok-clause-stands
-returns-in-Ok-clause-stands g c list ready =
+pub returns-in-Ok : goal.returns-in-Ok
+returns-in-Ok g c =
     let store = c.args.self.now in
     let mid = c.push.new.self in
     let log = c.args.log.now in
     let log' = c.push.new.log in
     let pages = c.args.pages.now in
     let contents = c.args.contents.now in
+    let frames = store.pool.frames in
     let old = g.S.Site.state c.args.site.now in
     let new = g.S.Site.state c.push.new.site in
     let facts = is_saving store pages contents c.requires.going.pages_going.own c.requires.pages c.requires.contents in
     let own = facts.own log old.image in
+    let forced = ap (forces log) facts.chosen_are.first in
     let push = c.in-Ok.ensures.pushes in
-    let stands = c.in-Ok.ensures.stands list ready in
-    let after = stands.ready own.clean own.sound facts.chosen_are.are_changed in
-    let saved : PageStore = record mid { pool = record mid.pool { frames = cleared_all pages mid.pool.frames } } in
-    let P = λ (content : List ℕ). IsLogged (end_forced log') content in
-    subst (λ (s : PageStore). Stands log log' store s old new list (forces log (flushed_first store)) (push_changes (standing log list store old.image) (saved_next store))) (sym c.clear_all.ensures.cleared)
-    (stands_as {pages' = saved} (ap (forces log) facts.chosen_are.first) (facts.changes log list old.image)
-    (stands_given own push.works.geometry
-    (record { pages = saved_fits c.frames_of_pages.ensures.cleared store mid pages contents old new c.push.ensures.pool push.works.geometry stands.gives facts.chosen_are.each after.pages; blocks = after.blocks; records = after.records })
-    (saved_current c.frames_of_pages.ensures.cleared store mid pages contents old new c.push.ensures.pool push.works.geometry stands.gives facts.chosen_are.each facts.chosen_are.there)
-    (λ all. all_contents P pages mid.pool.frames (push.logged all)) stands))
-
-pub returns-in-Ok-clause-saves : goal.returns-in-Ok-clause-saves
-returns-in-Ok-clause-saves g c =
-    let store = c.args.self.now in
-    let pages = c.args.pages.now in
-    let frames = store.pool.frames in
-    let queue = c.push.new.self.flash.directory in
-    let facts = is_saving store pages c.args.contents.now c.requires.going.pages_going.own c.requires.pages c.requires.contents in
-    let after = c.in-Ok.ensures.directory ∙ ap (λ (l : List Known). pushed_queue store.flash (map chance_frame (chance_marks store.flash) ++ l)) facts.known in
+    let pool : Pool = record mid.pool { frames = cleared_all pages mid.pool.frames } in
+    let saved : PageStore = record mid { pool = pool } in
+    let cleared : c.clear_all.new.self ≡ saved = c.clear_all.ensures.cleared in
+    let exist = subst (λ (h : Geometry). AllByRecursion (IsPage h.pages) frames) (sym push.works.geometry) c.requires.going.pages_going.own.pages in
+    let exist_now = subst (λ (p : Pool). AllByRecursion (IsPage mid.flash.geometry.pages) p.frames) (sym c.push.ensures.pool) exist in
+    let logged = λ (all : AreLogged (end_forced log) frames). all_contents (λ (content : List ℕ). IsLogged (end_forced log') content) pages mid.pool.frames
+    (push.logged all) in
+    let queue = λ (l : List Known). pushed_queue store.flash (map chance_frame (chance_marks store.flash) ++ l) in
+    let directory = c.in-Ok.ensures.directory ∙ ap queue facts.known in
     record {
-      machine = ap cache_of c.clear_all.ensures.cleared
-          ∙ ap (λ (p : Pool). let k : Cache = record { pool = map pool_page (cleared_all pages p.frames); queue = queue } in k) c.push.ensures.pool
-          ∙ ap (λ (l : List ℕ). let k : Cache = record { pool = map pool_page (cleared_all l frames); queue = queue } in k) c.requires.pages
-          ∙ machine_saved store queue (after ∙ ap (λ (l : List Known). pushed_queue store.flash (map chance_frame (chance_marks store.flash) ++ l)) (sym (known_pages (saved_next store))));
-      frames = ap (λ (s : PageStore). s.pool.frames) c.clear_all.ensures.cleared ∙ ap (λ (p : Pool). cleared_all pages p.frames) c.push.ensures.pool ∙ ap (λ (l : List ℕ). cleared_all l frames) c.requires.pages;
-      directory = ap (λ (s : PageStore). s.flash.directory) c.clear_all.ensures.cleared ∙ after;
-      gives = λ list ready.
-          let h = store.flash.geometry in
-          let old = g.S.Site.state c.args.site.now in
-          let new = g.S.Site.state c.push.new.site in
-          subst (λ (l : List ℕ). Gives h l (flushed_first store) old.image new.image) c.requires.pages
-          (subst (λ (l : List (List ℕ)). Gives h pages l old.image new.image) facts.chosen_are.first (c.in-Ok.ensures.stands list ready).gives);
-      reads = c.push.ensures.reads;
-      worn_log = search rules;
-      worn_flash = search rules;
-      worn_at = search rules;
-      never_past = c.in-Ok.ensures.worn.never_past refl;
+      keeps = λ list ready. keeps_as forced (facts.changes log list old.image) (keeps_given own (c.in-Ok.ensures.keeps list ready));
+      stands = λ list ready.
+          let stands = c.in-Ok.ensures.stands list ready in
+          let after = stands.ready own.clean own.sound facts.chosen_are.are_changed in
+          subst (λ (s : PageStore). Stands log log' store s old new list (forces log (flushed_first store)) (push_changes (standing log list store old.image) (saved_next store))) (sym cleared)
+          (stands_as {pages' = saved} forced (facts.changes log list old.image)
+          (stands_given own push.works.geometry
+          (record { pages = saved_fits c.frames_of_pages.ensures.cleared store mid pages contents old new c.push.ensures.pool push.works.geometry stands.gives facts.chosen_are.each after.pages; blocks = after.blocks; records = after.records })
+          (saved_current c.frames_of_pages.ensures.cleared store mid pages contents old new c.push.ensures.pool push.works.geometry stands.gives facts.chosen_are.each facts.chosen_are.there) logged stands));
+      pushes = pushes_as forced (subst (λ (s : PageStore). Pushes (Ok tt) log log' store s old new (forces log contents)) (sym cleared)
+          (pushes_with push (pool_going mid pool new refl (subst (λ (s : PageStore). IsPool s.pool) cleared c.clear_all.ensures.pool)
+          (pages_cleared mid.flash.geometry.pages pages mid.pool.frames exist_now) push.works.going)
+          push.works.geometry push.works.size push.ended logged));
+      stages = stages_between refl (ap (λ (s : PageStore). s.flash) cleared) c.in-Ok.ensures.stages;
+      saves = record {
+        machine = ap cache_of cleared
+            ∙ ap (λ (p : Pool). let k : Cache = record { pool = map pool_page (cleared_all pages p.frames); queue = c.push.new.self.flash.directory } in k)
+            c.push.ensures.pool
+            ∙ ap (λ (l : List ℕ). let k : Cache = record { pool = map pool_page (cleared_all l frames); queue = c.push.new.self.flash.directory } in k)
+            c.requires.pages
+            ∙ machine_saved store c.push.new.self.flash.directory (directory ∙ ap queue (sym (known_pages (saved_next store))));
+        frames = ap (λ (s : PageStore). s.pool.frames) cleared ∙ ap (λ (p : Pool). cleared_all pages p.frames) c.push.ensures.pool ∙ ap (λ (l : List ℕ). cleared_all l frames) c.requires.pages;
+        directory = ap (λ (s : PageStore). s.flash.directory) cleared ∙ directory;
+        gives = λ list ready.
+            subst (λ (l : List ℕ). Gives store.flash.geometry l (flushed_first store) old.image new.image) c.requires.pages
+            (subst (λ (l : List (List ℕ)). Gives store.flash.geometry pages l old.image new.image) facts.chosen_are.first
+            (c.in-Ok.ensures.stands list ready).gives);
+        reads = c.push.ensures.reads;
+        worn_log = λ says. absurd cc;
+        worn_flash = λ says. absurd cc;
+        worn_at = λ says. absurd cc;
+        never_past = c.in-Ok.ensures.worn.never_past refl;
+      };
     }
-
-pub returns-in-Err-clause-stages : goal.returns-in-Err-clause-stages
-returns-in-Err-clause-stages g c = c.in-Err.ensures.stages
-
-pub returns-in-Ok-clause-stages : goal.returns-in-Ok-clause-stages
-returns-in-Ok-clause-stages g c = stages_between refl (ap (λ (s : PageStore). s.flash) c.clear_all.ensures.cleared) c.in-Ok.ensures.stages

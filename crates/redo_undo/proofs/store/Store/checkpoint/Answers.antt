@@ -9,24 +9,22 @@ use Rattle.redo_undo.proofs.AskingFlush.{never_worn_flash, asks_around, flush_th
 use Rattle.redo_undo.proofs.Saved.{may_still}
 use Rattle.redo_undo.proofs.Calling.{keeps_answered, keeps_failed, keeps_appended, keeps_saved, keeps_then, keeps_unsaved}
 use Rattle.redo_undo.proofs.StoreCalling.{keeps_of}
-use Rattle.site.proofs.Working.{no_error, calls_then, calls_failed, calls_answered}
+use Rattle.site.proofs.Working.{no_error, calls_then}
 use Rattle.std.specs.Prelude.{Ok}
 use Rattle.site.specs.declared.outside.Stop.TheVariants.{Worn}
 use Rattle.redo_undo.proofs.store.Store.checkpoint.Goals as goal
 
 pub returns-in-Ok-save_master-clause-checkpoint : goal.returns-in-Ok-save_master-clause-checkpoint
 returns-in-Ok-save_master-clause-checkpoint g c newest records table h may =
-    let old = g.S.Site.state c.args.site.now in
     let mid = g.S.Site.state c.force.new.site in
     let pages = c.args.self.now.pages in
-    let going = c.requires.going.both in
     let honest = h.log_holds.ready.blocks.honest in
     let begun = c.in-Ok.ensures.keeps pages newest records table c.args.commits h in
-    let held = c.in-Ok.ensures.holds pages newest records table c.args.commits going.sizes h in
+    let held = c.in-Ok.ensures.holds pages newest records table c.args.commits c.requires.going.both.sizes h in
     let flushed = g.S.Site.state c.flush.new.site in
     let held' = c.in-Ok-flush.ensures.holds newest records table c.args.commits held in
     let may' = may_still c.args.self.now.masters mid flushed records c.args.active c.requires.going.shape ((c.in-Ok-flush.ensures.keeps newest records table c.args.commits held).masters refl)
-    (may_still c.args.self.now.masters old mid records c.args.active c.requires.going.shape begun.masters may) in
+    (may_still c.args.self.now.masters (g.S.Site.state c.args.site.now) mid records c.args.active c.requires.going.shape begun.masters may) in
     let saved = c.in-Ok-save_master.ensures.saved c.flush.new.pages newest records table c.in-Ok-flush.ensures.works.going.sizes held' c.in-Ok-flush.ensures.sealed c.in-Ok-flush.ensures.clean may' in
     record {
       master = c.in-Ok-save_master.field-0;
@@ -90,18 +88,6 @@ returns-in-Ok-save_master-clause-keeps g c newest records table h may =
     let first = keeps_then honest refl refl c.in-Ok.ensures.works.calls (keeps_appended going tt begun) (c.in-Ok-flush.ensures.keeps newest records table c.args.commits held) in
     keeps_of (λ leaves. leaves) (keeps_saved honest c.flush.ensures.works.geometry (calls_then c.in-Ok.ensures.works.calls c.in-Ok-flush.ensures.works.calls) (c.under_some_master.ensures.table newest k old flushed table c.args.commits old.told) first
     (keeps_answered (c.in-Ok-save_master.ensures.keeps c.flush.new.pages newest records table c.in-Ok-flush.ensures.works.going.sizes held' c.in-Ok-flush.ensures.sealed c.in-Ok-flush.ensures.clean may')))
-
-pub returns-in-Err-clause-calls : goal.returns-in-Err-clause-calls
-returns-in-Err-clause-calls g c = calls_failed c.in-Err.ensures.works.calls
-
-pub returns-in-Err-flush-clause-calls : goal.returns-in-Err-flush-clause-calls
-returns-in-Err-flush-clause-calls g c = calls_failed (calls_then c.in-Ok.ensures.works.calls c.in-Err-flush.ensures.works.calls)
-
-pub returns-in-Err-save_master-clause-calls : goal.returns-in-Err-save_master-clause-calls
-returns-in-Err-save_master-clause-calls g c = calls_failed (calls_then (calls_then c.in-Ok.ensures.works.calls c.in-Ok-flush.ensures.works.calls) c.in-Err-save_master.ensures.calls)
-
-pub returns-in-Ok-save_master-clause-calls : goal.returns-in-Ok-save_master-clause-calls
-returns-in-Ok-save_master-clause-calls g c = calls_answered (calls_then (calls_then c.in-Ok.ensures.works.calls c.in-Ok-flush.ensures.works.calls) c.in-Ok-save_master.ensures.calls)
 
 pub returns-in-Err-clause-asks : goal.returns-in-Err-clause-asks
 returns-in-Err-clause-asks g c =

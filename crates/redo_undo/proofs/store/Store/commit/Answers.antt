@@ -1,6 +1,6 @@
-use Rattle.std.proofs.Common.{◌≡◌, ◌∙◌, ◌∷◌, [], ◌++◌, ◌+◌, Bool, true, nat_lt, inl, inr, Err, sym, ap, subst, arith, refl}
-use Rattle.std.specs.Prelude.{if◌then◌else◌}
-use Rattle.site.specs.State.{IsQuiet}
+use Rattle.std.proofs.Common.{◌≡◌, ◌∙◌, ◌∷◌, [], ◌++◌, ◌+◌, Bool, true, nat_lt, inl, inr, Err, sym, ap, subst, arith, refl, ◌≤◌, ℕ, List}
+use Rattle.std.specs.Prelude.{if◌then◌else◌, Ok, OnOk, Option, Result}
+use Rattle.site.specs.State.{IsQuiet, State}
 use Rattle.site.specs.declared.outside.Dev.TheVariants.{Log}
 use Rattle.site.specs.declared.outside.Stop.TheVariants.{Worn}
 use Rattle.site.specs.declared.geometry.Geometry.{Geometry}
@@ -11,7 +11,7 @@ use Rattle.log_store.specs.Held.{has_tail}
 use Rattle.image_changes.specs.Rings.{Masters, KeepsUnits, master_shape}
 use Rattle.image_meaning.specs.Meaning.{kept_by, versions_on, master_of}
 use Rattle.image_meaning.proofs.Leaving.{under_leaves_either_for}
-use Rattle.redo_undo.specs.Holding.{IsLogWorn}
+use Rattle.redo_undo.specs.Holding.{IsLogWorn, blocks_to}
 use Rattle.redo_undo.proofs.Appended.{found_fits}
 use Rattle.page_store.proofs.StagingLaws.{stages_err, stages_then}
 use Rattle.redo_undo.proofs.Asking.{asks_nothing, stages_log, stages_alone}
@@ -24,15 +24,74 @@ use Rattle.redo_undo.proofs.Orderlies.{ends_orderly}
 use Rattle.redo_undo.proofs.RingNumbers.{then_skips, skips_on}
 use Rattle.redo_undo.proofs.Saved.{finds_kept}
 use Rattle.redo_undo.proofs.StoreCalling.{keeps_of, keeps_ok}
-use Rattle.redo_undo.proofs.Touched.{tail_blocks}
 use Rattle.redo_undo.proofs.WornLogs.{log_at_end}
+use Rattle.redo_undo.proofs.store.Store.commit.Given.{Over}
+use Rattle.redo_undo.proofs.store.Store.commit.Goals.{After-force}
+use Rattle.site.specs.Moments.{LeavesOnly}
+use Rattle.site.specs.declared.outside.Stop.{Stop}
+use Rattle.record_model.specs.State.{Content, table_with}
+use Rattle.log_records.specs.Log.{Entry}
+use Rattle.log_laws.specs.Follow.{writes_in}
+use Rattle.checkpoint.specs.declared.master.Master.{Master}
+use Rattle.image_meaning.specs.Moments.{LeavesEitherFor}
+use Rattle.redo_undo.specs.Committing.{MayCommit, EndsWith}
+use Rattle.redo_undo.specs.Stores.{Holds}
+use Rattle.redo_undo.specs.Numbers.{SkipsNone}
+use Rattle.page_store.specs.declared.store.PageStore.{PageStore}
+use Rattle.log_store.specs.declared.store.LogStore.{LogStore}
 use Rattle.redo_undo.proofs.store.Store.commit.Goals as goal
 
-pub force-requires-clause-room : goal.force-requires-clause-room
-force-requires-clause-room g c =
-    let one = ap tail_blocks c.in-Ok.ensures.some in
-    let same = ap (λ (k : Geometry). k.blocks) c.log_record.ensures.works.geometry in
-    omega (arith, one, same, c.in-Ok.ensures.blocks, c.log_record.ensures.works.kept, c.requires.may.room, ap (λ (k : Geometry). k.blocks) c.requires.may.going.both.sizes)
+-- The Commit is the last record, and is sealed.
+
+module _ (g : Over) (c : After-force g) (newest : Option Master) (records : List Entry) (table : List Content) (commits : ℕ)
+    (held : Holds c.args.self.now (g.S.Site.state c.args.site.now) newest records table commits)
+    (may : MayCommit newest records c.args.txn c.args.number commits) where
+  abbrev old : State
+  old = g.S.Site.state c.args.site.now
+
+  abbrev mid : State
+  mid = g.S.Site.state c.log_record.new.site
+
+  abbrev new : State
+  new = g.S.Site.state c.force.new.site
+
+  abbrev pages : PageStore
+  pages = c.args.self.now.pages
+
+  abbrev log : LogStore
+  log = c.log_record.new.log
+
+  sizes : log.geometry ≡ pages.flash.geometry
+  sizes = c.log_record.ensures.works.geometry ∙ c.requires.may.going.both.sizes
+
+  last : EndsWith pages.flash.geometry log pages mid newest records table commits (record { lsn = c.in-Ok.lsn; rec = Commit c.args.txn c.args.number })
+  last = c.in-Ok.ensures.last pages newest records table commits c.requires.may.going.both.sizes held.both
+
+  abbrev list : LogList
+  list = record { first = kept_by newest; blocks = last.blocks; tail = last.front ++ Commit c.args.txn c.args.number ∷ [] }
+
+  calm : IsQuiet old → IsQuiet mid
+  calm quiet = c.in-Ok.ensures.works.calls.stays_quiet held.both.log_holds.ready.blocks.honest quiet
+
+  fits : IsQuiet old → log_held.Fits log mid
+  fits quiet = found_fits log mid (calm quiet) last.ready.blocks
+
+  moments : IsQuiet old → LeavesOnly old new (LeavesEitherFor pages.flash.geometry table (table_with table (writes_in c.args.txn records)) commits old.told)
+  moments quiet = under_leaves_either_for newest _ _ _ table _ commits _ (either_after newest pages.flash.geometry old mid new table _ commits
+      ((c.log_record.ensures.keeps pages newest records table commits held.both).any_moment c.requires.may.going.both quiet)
+      (leaves_either c.log_laws.ensures c.page_laws.ensures c.beside_laws.ensures c.commit_laws.ensures log pages mid newest records table commits c.args.txn c.args.number c.in-Ok.lsn last sizes
+      c.in-Ok.ensures.some may new (calm quiet) (c.force.ensures.changes last.ready.blocks.honest)
+      (c.force.ensures.any_moment list (fits quiet) last.ready.records)
+      (c.force.ensures.front list (fits quiet) last.ready.records (calm quiet)) c.requires.may.going.both.pages_going.own))
+
+  skips : (r : Result ℕ Stop) → OnOk r (blocks_to c.force.new.self ≤ blocks_to log + 0) → IsQuiet old →
+      SkipsNone r pages.flash.geometry c.args.self.now.log c.force.new.self old new 1 0
+  skips r few quiet = then_skips r c.in-Ok.lsn pages.flash.geometry c.args.self.now.log log c.force.new.self old mid new 1 0 0 0 1 0
+      (skips_on _ c.args.self.now.log.geometry pages.flash.geometry c.args.self.now.log log old mid 1 0 c.requires.may.going.both.sizes
+      ((c.in-Ok.ensures.keeps pages newest records table commits held.both).numbers c.requires.may.going.both quiet))
+      (skips_on r log.geometry pages.flash.geometry log c.force.new.self mid new 0 0 sizes
+      (log_skips c.ring_kept.ensures r log.geometry log c.force.new.self list (has_tail log) mid new 0 (ready_next pages log list mid last.ready) (λ tail. tail)
+      (c.force.ensures.any_moment list (fits quiet) last.ready.records) (c.force.ensures.front list (fits quiet) last.ready.records (calm quiet)) few)) (omega arith) refl
 
 pub returns-in-Ok-force-clause-holds : goal.returns-in-Ok-force-clause-holds
 returns-in-Ok-force-clause-holds g c newest records table commits held may =
@@ -41,32 +100,32 @@ returns-in-Ok-force-clause-holds g c newest records table commits held may =
     let new = g.S.Site.state c.force.new.site in
     let pages = c.args.self.now.pages in
     let k = pages.flash.geometry in
-    let h = held.both in
-    let going = c.requires.may.going.both in
     let log = c.log_record.new.log in
     let log' = c.force.new.self in
     let lsn = c.in-Ok.lsn in
-    let sizes = c.log_record.ensures.works.geometry ∙ going.sizes in
     let some = c.in-Ok.ensures.some in
-    let m = c.in-Ok.ensures.last pages newest records table commits going.sizes h in
-    let ready = m.ready in
+    let s = (goal.at.returns-in-Ok-force-clause-holds g c).After-force in
+    let sizes = sizes g s newest records table commits held may in
+    let m = last g s newest records table commits held may in
     let list : LogList = record { first = kept_by newest; blocks = m.blocks; tail = m.front ++ Commit c.args.txn c.args.number ∷ [] } in
-    let finds = ready.blocks in
-    let changes = c.force.ensures.changes ready.blocks.honest in
-    let finds' = c.in-Ok-force.ensures.finds finds in
-    let holds : log_held.Holds log' new.image (sealed_if true list) = subst (λ (b : Bool). log_held.Holds log' new.image (sealed_if b list)) some (c.in-Ok-force.ensures.holds list finds ready.records) in
+    let changes = c.force.ensures.changes m.ready.blocks.honest in
+    let finds' = c.in-Ok-force.ensures.finds m.ready.blocks in
+    let reaches = c.in-Ok-force.ensures.reaches list m.ready.blocks m.ready.records in
+    let holds : log_held.Holds log' new.image (sealed_if true list) =
+    subst (λ (b : Bool). log_held.Holds log' new.image (sealed_if b list)) some (c.in-Ok-force.ensures.holds list m.ready.blocks m.ready.records) in
     let next : log'.ring.hi ≡ log.ring.hi + 1 = c.in-Ok-force.ensures.next ∙ ap (λ (b : Bool). if b then log.ring.hi + 1 else log.ring.hi) some in
-    let first = (c.in-Ok.ensures.keeps pages newest records table commits h).masters in
+    let first = (c.in-Ok.ensures.keeps pages newest records table commits held.both).masters in
     let second : KeepsUnits master_shape mid.image new.image =
-    c.ring_kept.ensures log.geometry Masters (changes_if (has_tail log) list) mid.image new.image (seals_only (has_tail log) list) (c.in-Ok-force.ensures.reaches list m.ready.blocks m.ready.records) in
+    c.ring_kept.ensures log.geometry Masters (changes_if (has_tail log) list) mid.image new.image (seals_only (has_tail log) list) reaches in
     record {
       both = commit_holds c.log_laws.ensures c.page_laws.ensures c.beside_laws.ensures c.commit_laws.ensures log pages mid newest records table commits c.args.txn c.args.number lsn m sizes some may log' new changes c.force.ensures.goes
-          (rings_then c.log_laws.ensures c.page_laws.ensures c.beside_laws.ensures c.commit_laws.ensures log pages mid newest records table commits c.args.txn c.args.number lsn m sizes some may new (c.in-Ok-force.ensures.reaches list finds ready.records))
-          (sealed_then c.log_laws.ensures c.page_laws.ensures c.beside_laws.ensures c.commit_laws.ensures log pages mid newest records table commits c.args.txn c.args.number lsn m sizes some may log' new changes c.force.ensures.geometry finds' c.force.ensures.at_most_one.0)
+          (rings_then c.log_laws.ensures c.page_laws.ensures c.beside_laws.ensures c.commit_laws.ensures log pages mid newest records table commits c.args.txn c.args.number lsn m sizes some may new reaches)
+          (sealed_then c.log_laws.ensures c.page_laws.ensures c.beside_laws.ensures c.commit_laws.ensures log pages mid newest records table commits c.args.txn c.args.number lsn m sizes some may log' new
+          changes c.force.ensures.geometry finds' c.force.ensures.at_most_one.0)
           finds' holds next c.force.ensures.kept c.in-Ok-force.ensures.empty c.log_record.ensures.works.log_going.high
           (ap (nat_lt 2) c.in-Ok-force.ensures.empty);
       orderly = ends_orderly c.log_laws.ensures c.orderly_goes_on.ensures.orderly k log pages mid newest records table commits (Commit c.args.txn c.args.number) lsn (versions_on k old.image)
-          m (c.log_record.ensures.pages pages newest records table commits h).versions
+          m (c.log_record.ensures.pages pages newest records table commits held.both).versions
           (c.commit_laws.ensures.follows (master_of newest) (versions_on k old.image) records lsn c.args.txn c.args.number may.begun) held.orderly;
       masters = finds_kept c.args.self.now.masters old new c.requires.may.going.shape (record { units = second.units ∙ first.units; form = λ form. second.form (first.form form) }) held.masters;
     }
@@ -79,63 +138,33 @@ returns-in-Err-clause-keeps g c newest records table commits held may =
 
 pub returns-in-Err-force-clause-keeps : goal.returns-in-Err-force-clause-keeps
 returns-in-Err-force-clause-keeps g c newest records table commits held may =
-    let old = g.S.Site.state c.args.site.now in
+    let s = (goal.at.returns-in-Err-force-clause-keeps g c).After-force in
     let mid = g.S.Site.state c.log_record.new.site in
     let new = g.S.Site.state c.force.new.site in
-    let pages = c.args.self.now.pages in
-    let k = pages.flash.geometry in
-    let h = held.both in
-    let going = c.requires.may.going.both in
-    let log = c.log_record.new.log in
-    let sizes = c.log_record.ensures.works.geometry ∙ going.sizes in
-    let m = c.in-Ok.ensures.last pages newest records table commits going.sizes h in
-    let list : LogList = record { first = kept_by newest; blocks = m.blocks; tail = m.front ++ Commit c.args.txn c.args.number ∷ [] } in
-    let calm : IsQuiet old → IsQuiet mid = λ quiet. c.in-Ok.ensures.works.calls.stays_quiet h.log_holds.ready.blocks.honest quiet in
-    let fits : IsQuiet old → log_held.Fits log mid = λ quiet. found_fits log mid (calm quiet) m.ready.blocks in
     record {
-      any_moment = λ quiet. under_leaves_either_for newest _ _ _ table _ commits _ (either_after newest k old mid new table _ commits ((c.log_record.ensures.keeps pages newest records table commits h).any_moment going quiet)
-          (leaves_either c.log_laws.ensures c.page_laws.ensures c.beside_laws.ensures c.commit_laws.ensures log pages mid newest records table commits c.args.txn c.args.number c.in-Ok.lsn m sizes c.in-Ok.ensures.some may new (calm quiet)
-          (c.force.ensures.changes m.ready.blocks.honest) (c.force.ensures.any_moment list (fits quiet) m.ready.records) (c.force.ensures.front list (fits quiet) m.ready.records (calm quiet)) going.pages_going.own));
-      numbers = λ quiet. then_skips _ c.in-Ok.lsn k c.args.self.now.log log c.force.new.self old mid new 1 0 0 0 1 0
-          (skips_on _ c.args.self.now.log.geometry k c.args.self.now.log log old mid 1 0 going.sizes ((c.in-Ok.ensures.keeps pages newest records table commits h).numbers going quiet))
-          (skips_on _ log.geometry k log c.force.new.self mid new 0 0 sizes
-          (log_skips c.ring_kept.ensures _ log.geometry log c.force.new.self list (has_tail log) mid new 0 (ready_next pages log list mid m.ready) (λ tail. tail)
-          (c.force.ensures.any_moment list (fits quiet) m.ready.records) (c.force.ensures.front list (fits quiet) m.ready.records (calm quiet)) tt)) (omega arith) refl;
+      any_moment = moments g s newest records table commits held may;
+      numbers = skips g s newest records table commits held may (Err c.in-Err-force.stop) tt;
       quiet = λ quiet other. elim c.in-Err-force.ensures.stops [
         | inl device ↦ absurd (other Log device)
-        | inr worn ↦ subst IsQuiet (ap g.S.Site.state (sym (c.force.ensures.unchanged (inr (c.in-Err-force.ensures.worn.0 (ap Err worn)).1)))) (calm quiet)
+        | inr worn ↦ subst IsQuiet (ap g.S.Site.state (sym (c.force.ensures.unchanged (inr (c.in-Err-force.ensures.worn.0 (ap Err worn)).1))))
+            (calm g s newest records table commits held may quiet)
       ];
       worn_log = λ is.
           let same : c.in-Err-force.stop ≡ Worn Log = cc in
           let worn = (c.in-Err-force.ensures.worn.0 (ap Err same)).1 in
-          subst (λ (x : Geometry). IsLogWorn x new.image) sizes (log_at_end log mid new m.ready.blocks (ap g.S.Site.state (c.force.ensures.unchanged (inr worn))) worn);
+          subst (λ (x : Geometry). IsLogWorn x new.image) (sizes g s newest records table commits held may)
+          (log_at_end c.log_record.new.log mid new (last g s newest records table commits held may).ready.blocks
+          (ap g.S.Site.state (c.force.ensures.unchanged (inr worn))) worn);
       worn = λ is. absurd (never_worn_flash (Err c.in-Err-force.stop) c.in-Err-force.ensures.stops is);
       readable = appends_foreign (Err c.in-Err-force.stop) c.in-Err-force.ensures.stops;
     }
 
 pub returns-in-Ok-force-clause-keeps : goal.returns-in-Ok-force-clause-keeps
 returns-in-Ok-force-clause-keeps g c newest records table commits held may =
-    let old = g.S.Site.state c.args.site.now in
-    let mid = g.S.Site.state c.log_record.new.site in
-    let new = g.S.Site.state c.force.new.site in
-    let pages = c.args.self.now.pages in
-    let k = pages.flash.geometry in
-    let h = held.both in
-    let going = c.requires.may.going.both in
-    let log = c.log_record.new.log in
-    let sizes = c.log_record.ensures.works.geometry ∙ going.sizes in
-    let m = c.in-Ok.ensures.last pages newest records table commits going.sizes h in
-    let list : LogList = record { first = kept_by newest; blocks = m.blocks; tail = m.front ++ Commit c.args.txn c.args.number ∷ [] } in
-    let calm : IsQuiet old → IsQuiet mid = λ quiet. c.in-Ok.ensures.works.calls.stays_quiet h.log_holds.ready.blocks.honest quiet in
-    let fits : IsQuiet old → log_held.Fits log mid = λ quiet. found_fits log mid (calm quiet) m.ready.blocks in
-    keeps_ok (λ quiet. under_leaves_either_for newest _ _ _ table _ commits _ (either_after newest k old mid new table _ commits ((c.log_record.ensures.keeps pages newest records table commits h).any_moment going quiet)
-    (leaves_either c.log_laws.ensures c.page_laws.ensures c.beside_laws.ensures c.commit_laws.ensures log pages mid newest records table commits c.args.txn c.args.number c.in-Ok.lsn m sizes c.in-Ok.ensures.some may new (calm quiet)
-    (c.force.ensures.changes m.ready.blocks.honest) (c.force.ensures.any_moment list (fits quiet) m.ready.records) (c.force.ensures.front list (fits quiet) m.ready.records (calm quiet)) going.pages_going.own)))
-    (λ quiet. then_skips _ c.in-Ok.lsn k c.args.self.now.log log c.force.new.self old mid new 1 0 0 0 1 0
-    (skips_on _ c.args.self.now.log.geometry k c.args.self.now.log log old mid 1 0 going.sizes ((c.in-Ok.ensures.keeps pages newest records table commits h).numbers going quiet))
-    (skips_on _ log.geometry k log c.force.new.self mid new 0 0 sizes
-    (log_skips c.ring_kept.ensures _ log.geometry log c.force.new.self list (has_tail log) mid new 0 (ready_next pages log list mid m.ready) (λ tail. tail)
-    (c.force.ensures.any_moment list (fits quiet) m.ready.records) (c.force.ensures.front list (fits quiet) m.ready.records (calm quiet)) (same_at_most log c.force.new.self c.in-Ok.ensures.some c.in-Ok-force.ensures.next c.in-Ok-force.ensures.empty))) (omega arith) refl)
+    let s = (goal.at.returns-in-Ok-force-clause-keeps g c).After-force in
+    keeps_ok (moments g s newest records table commits held may)
+    (skips g s newest records table commits held may (Ok c.in-Ok.lsn)
+    (same_at_most c.log_record.new.log c.force.new.self c.in-Ok.ensures.some c.in-Ok-force.ensures.next c.in-Ok-force.ensures.empty))
 
 pub returns-in-Err-clause-asks : goal.returns-in-Err-clause-asks
 returns-in-Err-clause-asks g c = asks_nothing _ c.args.self.now.pages _ _ c.log_record.ensures.works.reads (never_worn_flash (Err c.in-Err.stop) c.in-Err.ensures.stops) (stages_err (stages_log c.in-Err.ensures.works))

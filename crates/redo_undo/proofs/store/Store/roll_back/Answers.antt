@@ -32,11 +32,9 @@ pub returns-then-blocks-before-clause-keeps : goal.returns-then-blocks-before-cl
 returns-then-blocks-before-clause-keeps g c newest records table commits h writes active count owes =
     let old = g.S.Site.state c.args.site.now in
     let unfinished = active_left c.args.self.now old newest records table commits c.args.entry.begin c.args.entry.last writes h active in
-    let few = c.in-Ok.ensures.blocks newest records table commits _ h.both unfinished refl refl in
-    let before = c.blocks-before.ensures in
     let more = c.if-blocks-before.true in
     let blocks = c.blocks-blocks.ensures in
-    absurd (omega (arith, few, before, more, blocks, count))
+    absurd (omega (arith, c.in-Ok.ensures.blocks newest records table commits _ h.both unfinished refl refl, c.blocks-before.ensures, more, blocks, count))
 
 -- there is room for what the others owe
 pub returns-then-blocks-owed-clause-keeps : goal.returns-then-blocks-owed-clause-keeps
@@ -50,13 +48,9 @@ returns-then-blocks-owed-clause-keeps g c newest records table commits h writes 
     (finds_kept c.args.self.now.masters old new c.requires.going.shape ((c.in-Ok.ensures.keeps newest records table commits _ h.both unfinished refl refl).masters refl) h.masters) in
     let room = has_room last new newest records table commits c.args.entry.begin c.args.entry.writes c.args.owed back owes in
     let going = c.in-Ok.ensures.works.going in
-    let some = going.log_going.limits.blocks in
-    let more = c.if-blocks-owed.true in
-    let blocks = c.blocks-blocks.ensures in
     let sizes = ap (λ (x : Geometry). x.blocks) (c.geometry.ensures ∙ going.sizes) in
     let own = ap (λ (x : Geometry). x.blocks) c.geometry.ensures in
-    let asked = c.kept.ensures in
-    absurd (omega (arith, room, more, blocks, sizes, own, some, asked))
+    absurd (omega (arith, room, c.if-blocks-owed.true, c.blocks-blocks.ensures, sizes, own, going.log_going.limits.blocks, c.kept.ensures))
 
 pub returns-clause-keeps : goal.returns-clause-keeps
 returns-clause-keeps g c newest records table commits h writes active count owes =

@@ -12,9 +12,8 @@ returns-in-Ok-clause-holds g c newest records table commits h = λ may.
     let old = g.S.Site.state c.args.site.now in
     let new = g.S.Site.state c.log_change.new.site in
     let lsn = c.in-Ok.lsn in
-    let before = c.shown.ensures.shown old newest records table commits h in
     let is : update_by c.args.txn c.args.prev c.args.number c.shown.result c.copy_of.result ≡ update_by c.args.txn c.args.prev c.args.number (shown_in store old records c.args.number) c.args.after.now =
-    λ i. update_by c.args.txn c.args.prev c.args.number (before i) (c.copy_of.ensures i) in
+    λ i. update_by c.args.txn c.args.prev c.args.number ((c.shown.ensures.shown old newest records table commits h) i) (c.copy_of.ensures i) in
     let grows = subst (λ (rec : LogRecord). MayGrow store old newest records (record { lsn = lsn; rec = rec })) (sym is) may in
     subst (λ (rec : LogRecord). Holds (record { log = c.log_change.new.log; pages = c.log_change.new.pages; masters = store.masters; made = store.made + 1 }) new newest (records ++ record { lsn = lsn; rec = rec } ∷ []) table commits) is
     (record {
